@@ -1,0 +1,152 @@
+-- The plain and the portion changes of a table's bag.
+use Rattle.std.specs.Prelude.{ℕ, suc, Bool, true, false, not, ◌&&◌, List, [], ◌∷◌, ◌++◌, map, length, replicate, slice_set, nat_lt, ℤ, Option, Some, None, if◌then◌else◌}
+use Rattle.std.specs.List.{flat_map}
+use Rattle.tql_spec.specs.Words.{◌>>=◌, map_all}
+use Rattle.tql_spec.specs.Truth.{Truth, is_false}
+use Rattle.tql_spec.specs.Datum.{Datum, Null, Text, Row, characters, is_null}
+use Rattle.tql_spec.specs.Period.{Period, rises, share_a_point, before, inside, after, if_any}
+use Rattle.tql_spec.specs.Refusal.{Refusal, E30, E32, E33, E34, fault_if}
+use Rattle.tql_spec.specs.Expression.{Expr, Cond, eval, judge, passes}
+use Rattle.tql_spec.specs.Definition.{TableDef, Column, Application, Stamped, period_of, with_period, stamped, shown, cell}
+
+-- a column and what it is set to
+pub record Assignment : Type 0 where
+  pub column : ℕ
+  pub value : Expr
+
+-- ---- the tests of a new row
+
+-- a text with more characters than its column takes
+abbrev pub is_too_long : Option ℕ → Datum → Bool
+is_too_long (Some n) (Text t) = nat_lt n (characters t)
+is_too_long _ _ = false
+
+-- the faults of the cells, column by column
+abbrev pub cell_faults : List Column → Row → List Refusal
+cell_faults [] row = []
+cell_faults (c ∷ cs) [] = []
+cell_faults (c ∷ cs) (v ∷ vs) = fault_if (is_too_long c.limit v) E30 ++ fault_if (c.required && is_null v) E32 ++ cell_faults cs vs
+
+-- an application period without null that does not rise
+abbrev pub period_faults_by : Option Application → TableDef → Row → List Refusal
+period_faults_by None d row = []
+period_faults_by (Some a) d row =
+    fault_if (not (is_null (cell row a.start)) && not (is_null (cell row a.end)) && not (rises (period_of d row))) E33
+
+-- the fault of a new row's application period
+abbrev pub period_faults : TableDef → Row → List Refusal
+period_faults d row = period_faults_by d.application d row
+
+-- the fault of a CHECK: out of range, or false
+abbrev pub check_fault : Option Truth → List Refusal
+check_fault None = E30 ∷ []
+check_fault (Some t) = fault_if (is_false t) E34
+
+-- all that a new row can be refused for
+abbrev pub row_faults : TableDef → Row → List Refusal
+row_faults d row = cell_faults d.columns row ++ period_faults d row ++ flat_map (λ c. check_fault (judge [] row c)) d.checks
+
+-- ---- changes
+
+-- what a change gives: the table's rows after it, how many rows it inserted or touched, and the faults that are present
+pub record Outcome : Type 0 where
+  pub rows : List Stamped
+  pub count : ℕ
+  pub faults : List Refusal
+
+-- a change with an evaluation out of range
+abbrev pub out_of_range : List Stamped → Outcome
+out_of_range rows = record { rows = rows; count = 0; faults = E30 ∷ [] }
+
+-- the row that has these cells in these columns, and null elsewhere
+abbrev pub filled : Row → List ℕ → List Datum → Row
+filled row [] values = row
+filled row (c ∷ cs) [] = row
+filled row (c ∷ cs) (v ∷ vs) = filled (slice_set row c v) cs vs
+
+-- a new row with these values in these columns
+abbrev pub row_of : TableDef → List ℕ → List Datum → Row
+row_of d columns values = filled (replicate (length d.columns) Null) columns values
+
+-- the outcome where these rows are added
+abbrev pub added_to : TableDef → List Stamped → List Stamped → Outcome
+added_to d rows new = record { rows = rows ++ new; count = length new; faults = flat_map (λ r. row_faults d (shown d r)) new }
+
+-- INSERT: one new row for each tuple
+abbrev pub insert : TableDef → ℤ → List Stamped → List ℕ → Option (List (List Datum)) → Outcome
+insert d m rows columns None = out_of_range rows
+insert d m rows columns (Some tuples) = added_to d rows (map (λ values. stamped d m (row_of d columns values)) tuples)
+
+-- what becomes of a row
+pub data Fate : Type 0 where
+  Untouched : Fate
+  Replaced : List Stamped → Fate
+
+-- the rows after the change, the new rows among them, and how many were touched
+abbrev pub after_fates : List Stamped → List Fate → List Stamped
+after_fates (r ∷ rs) (Untouched ∷ fs) = r ∷ after_fates rs fs
+after_fates (r ∷ rs) (Replaced new ∷ fs) = new ++ after_fates rs fs
+after_fates _ _ = []
+
+-- the rows that replace others
+abbrev pub new_rows : List Fate → List Stamped
+new_rows [] = []
+new_rows (Untouched ∷ fs) = new_rows fs
+new_rows (Replaced new ∷ fs) = new ++ new_rows fs
+
+-- how many rows were touched
+abbrev pub touched_count : List Fate → ℕ
+touched_count [] = 0
+touched_count (Untouched ∷ fs) = touched_count fs
+touched_count (Replaced new ∷ fs) = suc (touched_count fs)
+
+-- the outcome where each row has this fate
+abbrev pub outcome_of : TableDef → List Stamped → Option (List Fate) → Outcome
+outcome_of d rows None = out_of_range rows
+outcome_of d rows (Some fates) = record { rows = after_fates rows fates; count = touched_count fates; faults = flat_map (λ r. row_faults d (shown d r)) (new_rows fates) }
+
+-- the row with the values of SET, each computed on the old row
+abbrev pub assigned : Row → Row → List Assignment → Option Row
+assigned old row [] = Some row
+assigned old row (a ∷ as') = eval [] old a.value >>= λ v. assigned old (slice_set row a.column v) as'
+
+-- what a touched row becomes where it is changed: a row under UPDATE, nothing under DELETE
+pub data Work : Type 0 where
+  Set : List Assignment → Work
+  Remove : Work
+
+-- what a touched row becomes
+abbrev pub made_of : Work → Row → Option (List Row)
+made_of (Set sets) row = assigned row row sets >>= λ new. Some (new ∷ [])
+made_of Remove row = Some []
+
+-- whether the change touches a row: it shares a point with the portion, and WHERE is true; WHERE is evaluated on such rows alone
+abbrev pub is_touched : TableDef → Option Period → List Cond → Row → Option Bool
+is_touched d None conds row = passes [] row conds
+is_touched d (Some portion) conds row = if share_a_point (period_of d row) portion then passes [] row conds else Some false
+
+-- the rows that replace a touched row: what it becomes, within the portion, and its old values before and after it
+abbrev pub pieces : TableDef → Option Period → Row → List Row → List Row
+pieces d None row made = made
+pieces d (Some portion) row made =
+    let x = period_of d row in
+    map (λ p. with_period d p row) (if_any (before portion.start x))
+    ++ map (λ r. with_period d (inside portion x) r) made
+    ++ map (λ p. with_period d p row) (if_any (after portion.end x))
+
+-- the fate of a touched row: each piece is a new row of the moment
+abbrev pub replacement : TableDef → ℤ → Option Period → Work → Row → Option Fate
+replacement d m portion work row = made_of work row >>= λ made. Some (Replaced (map (stamped d m) (pieces d portion row made)))
+
+-- a row that is not touched stays
+abbrev pub fate_where : Bool → Option Fate → Option Fate
+fate_where true o = o
+fate_where false o = Some Untouched
+
+-- what becomes of a row
+abbrev pub fate : TableDef → ℤ → Option Period → Work → List Cond → Row → Option Fate
+fate d m portion work conds row = is_touched d portion conds row >>= λ b. fate_where b (replacement d m portion work row)
+
+-- UPDATE and DELETE, plain or for a portion
+abbrev pub modify : TableDef → ℤ → List Stamped → Option Period → Work → List Cond → Outcome
+modify d m rows portion work conds = outcome_of d rows (map_all (λ r. fate d m portion work conds (shown d r)) rows)

@@ -1,0 +1,117 @@
+-- The copies of the database, newest first, and what a question finds in them.
+use Rattle.std.specs.Prelude.{ℕ, Bool, not, ◌&&◌, List, [], ◌∷◌, ◌++◌, map, filter, slice_index_or, ℤ, pos, ◌+ℤ◌, ◌<ℤ◌, int_le, int_lt, if◌then◌else◌}
+use Rattle.std.specs.List.{list_any}
+use Rattle.tql_spec.specs.Calendar.{high}
+use Rattle.tql_spec.specs.Datum.{Row}
+use Rattle.tql_spec.specs.Definition.{TableDef, Stamped, Version, same_stamped, full}
+
+-- ---- copies
+
+-- a copy of the database: for each table, in the order of the definitions, its rows
+abbrev pub Copy : Type 0
+Copy = List (List Stamped)
+
+-- the rows of a table in a copy
+abbrev pub rows_in : Copy → ℕ → List Stamped
+rows_in copy t = slice_index_or copy t []
+
+-- the copy that a commit made, with its moment
+pub record Entry : Type 0 where
+  pub moment : ℤ
+  pub copy : Copy
+
+-- the moments fall from the newest copy to the oldest, and lie below a moment
+abbrev pub FallingFrom : ℤ → List Entry → Type 0
+FallingFrom until [] = Unit {0}
+FallingFrom until (e ∷ older) = (e.moment <ℤ until) × FallingFrom e.moment older
+
+-- the moments fall, and lie below the highest
+abbrev pub Falling : List Entry → Type 0
+Falling = FallingFrom high
+
+-- what a commit left in one table, with the commit's moment
+pub record TableEntry : Type 0 where
+  pub moment : ℤ
+  pub rows : List Stamped
+
+-- a table in each copy
+abbrev pub table_history : ℕ → List Entry → List TableEntry
+table_history t entries = map (λ (e : Entry). record { moment = e.moment; rows = rows_in e.copy t }) entries
+
+-- ---- the row end
+
+-- whether a bag has the row
+abbrev pub has_row : List Stamped → Stamped → Bool
+has_row rows r = list_any (same_stamped r) rows
+
+-- where the rows of the newest copy end
+abbrev pub still : Stamped → ℤ
+still r = high
+
+-- where the rows of the copy before this one end: at this one's moment where it lacks the row, else where it ends here
+abbrev pub ends_before : TableEntry → (Stamped → ℤ) → Stamped → ℤ
+ends_before e ends r = if has_row e.rows r then ends r else e.moment
+
+-- a row with the end that it is known to have
+abbrev pub with_end : (Stamped → ℤ) → Stamped → Version
+with_end ends r = record { row = r; end = ends r }
+
+-- rows of a copy with their ends
+abbrev pub completed : (Stamped → ℤ) → List Stamped → List Version
+completed ends rows = map (with_end ends) rows
+
+-- ---- what a question finds in one table
+
+-- the rows of the table now: of the newest copy
+abbrev pub current : List TableEntry → List Version
+current [] = []
+current (e ∷ older) = completed still e.rows
+
+-- the versions at a moment, of copies of which the newest stands until a moment and its rows end as told
+abbrev pub as_of_from : ℤ → (Stamped → ℤ) → ℤ → List TableEntry → List Version
+as_of_from until ends m [] = []
+as_of_from until ends m (e ∷ older) =
+    if int_le e.moment m && int_lt m until then completed ends e.rows else as_of_from e.moment (ends_before e ends) m older
+
+-- the versions at a moment: the rows of the copy that stands then; none stands at the highest moment
+abbrev pub as_of : ℤ → List TableEntry → List Version
+as_of m entries = as_of_from high still m entries
+
+-- whether [s, e) has a point p with a ≤ p < b
+abbrev pub meets : ℤ → ℤ → ℤ → ℤ → Bool
+meets a b s e = (int_lt a b && int_lt s e) && (int_lt s b && int_lt a e)
+
+-- whether some version has the row
+abbrev pub has_version : List Version → Stamped → Bool
+has_version vs r = list_any (λ (v : Version). same_stamped r v.row) vs
+
+-- the versions in the copies that the range meets, each as often as in the oldest of them that has it
+abbrev pub found_from : ℤ → (Stamped → ℤ) → ℤ → ℤ → List TableEntry → List Version
+found_from until ends a b [] = []
+found_from until ends a b (e ∷ older) =
+    let earlier = found_from e.moment (ends_before e ends) a b older in
+    filter (λ v. not (has_version earlier v.row)) (if meets a b e.moment until then completed ends e.rows else []) ++ earlier
+
+-- the versions from a moment to a moment, without the last
+abbrev pub from_to : ℤ → ℤ → List TableEntry → List Version
+from_to a b entries = found_from high still a b entries
+
+-- ---- table references
+
+-- which versions a table reference asks for
+pub data When : Type 0 where
+  Now : When
+  AsOf : ℤ → When
+  FromTo : ℤ → ℤ → When
+  Between : ℤ → ℤ → When
+
+-- the versions that a reference finds in a table's copies; FROM .. TO ends before its last moment, and BETWEEN .. AND with it
+abbrev pub found : When → List TableEntry → List Version
+found Now entries = current entries
+found (AsOf m) entries = as_of m entries
+found (FromTo a b) entries = from_to a b entries
+found (Between a b) entries = from_to a (b +ℤ pos 1) entries
+
+-- the rows of a table reference
+abbrev pub versions : TableDef → ℕ → When → List Entry → List Row
+versions d t when entries = map (full d) (found when (table_history t entries))

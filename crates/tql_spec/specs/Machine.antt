@@ -1,0 +1,220 @@
+-- The machine that copies the whole database at every commit: one statement, its names bound, run whole.
+use Rattle.std.specs.Prelude.{ℕ, Bool, false, not, ◌&&◌, List, [], ◌∷◌, ◌++◌, map, slice_set, remove, ℤ, pos, ◌+ℤ◌, int_le, Option, Some, None, is_some, is_none}
+use Rattle.tql_spec.specs.Words.{listed, map_all}
+use Rattle.tql_spec.specs.Calendar.{high, first_moment}
+use Rattle.tql_spec.specs.Datum.{Row}
+use Rattle.tql_spec.specs.Period.{Period}
+use Rattle.tql_spec.specs.Refusal.{Refusal, E30, E35, E36, E40, E41, fault_if, first}
+use Rattle.tql_spec.specs.Expression.{Expr, Cond, eval}
+use Rattle.tql_spec.specs.Definition.{Name, TableDef, table_at}
+use Rattle.tql_spec.specs.History.{Copy, Entry, rows_in, versions}
+use Rattle.tql_spec.specs.Query.{Query, Ref, answer, in_order}
+use Rattle.tql_spec.specs.Change.{Outcome, Work, insert, modify}
+use Rattle.tql_spec.specs.Constraint.{keys_hold, references_hold}
+
+-- ---- statements and replies
+
+-- a change of one table, by its place among the definitions
+pub data Change : Type 0 where
+  InsertTuples : (table : ℕ) → (columns : List ℕ) → List (List Expr) → Change
+  InsertQuery : (table : ℕ) → (columns : List ℕ) → Query → Change
+  Modify : (table : ℕ) → Option Period → Work → List Cond → Change
+
+-- a statement whose names are bound
+pub data Bound : Type 0 where
+  CreateTable : TableDef → Bound
+  DropTable : ℕ → Bound
+  SetClock : ℤ → Bound
+  Start : Bound
+  Commit : Bound
+  Rollback : Bound
+  Alter : Change → Bound
+  Ask : Query → Bound
+
+-- the words that replies begin with
+pub data Verb : Type 0 where
+  CreatedTable : Verb
+  DroppedTable : Verb
+  Inserted : Verb
+  Updated : Verb
+  Deleted : Verb
+  Started : Verb
+  Committed : Verb
+  RolledBack : Verb
+  ClockSet : Verb
+
+-- what a statement is answered: done with a count or none, a table, or a refusal
+pub data Reply : Type 0 where
+  Done : Verb → Option ℕ → Reply
+  Table : (headings : List Name) → (rows : List Row) → Reply
+  Refused : Refusal → Reply
+
+-- ---- the state
+
+-- the definitions, the copies of the commits, newest first, the moment of the next transaction, and an open transaction with its working copy
+pub record State : Type 0 where
+  pub definitions : List TableDef
+  pub history : List Entry
+  pub next : ℤ
+  pub transaction : Option Entry
+
+-- no table, no commit, and the clock at the first moment
+abbrev pub new_state : State
+new_state = record { definitions = []; history = []; next = first_moment; transaction = None }
+
+-- what questions see: an open transaction counts as the last commit
+abbrev pub entries : State → List Entry
+entries s = listed s.transaction ++ s.history
+
+-- the newest of some copies; before any commit every table is empty
+abbrev pub newest_copy : List TableDef → List Entry → Copy
+newest_copy defs [] = map (λ d. []) defs
+newest_copy defs (e ∷ older) = e.copy
+
+-- the last copy
+abbrev pub last_copy : State → Copy
+last_copy s = newest_copy s.definitions (entries s)
+
+-- the transaction that a change runs in: the open one, or one of its own
+abbrev pub working : State → Option Entry → Entry
+working s None = record { moment = s.next; copy = last_copy s }
+working s (Some e) = e
+
+-- the bag of a table reference
+abbrev pub bag_of : State → Ref → List Row
+bag_of s r = versions (table_at s.definitions r.table) r.table r.when (entries s)
+
+-- ---- what a state refuses
+
+-- what a statement does to the transaction and the clock; the moment of AT where its literal is valid
+pub data Manner : Type 0 where
+  Defines : Manner
+  SetsClock : Option ℤ → Manner
+  Starts : Manner
+  Ends : Manner
+  Changes : Manner
+  Asks : Manner
+
+-- the manner of a bound statement
+abbrev pub manner_of : Bound → Manner
+manner_of (CreateTable d) = Defines
+manner_of (DropTable t) = Defines
+manner_of (SetClock m) = SetsClock (Some m)
+manner_of Start = Starts
+manner_of Commit = Ends
+manner_of Rollback = Ends
+manner_of (Alter c) = Changes
+manner_of (Ask q) = Asks
+
+-- a moment that is not later than the last commit's
+abbrev pub is_not_later : ℤ → List Entry → Bool
+is_not_later m [] = false
+is_not_later m (e ∷ older) = int_le m e.moment
+
+-- whether the next moment is the highest, which is no commit's
+abbrev pub is_clock_at_end : State → Bool
+is_clock_at_end s = int_le high s.next
+
+-- the faults by the transaction and the clock
+abbrev pub state_faults : State → Manner → List Refusal
+state_faults s Defines = fault_if (is_some s.transaction) E40
+state_faults s (SetsClock None) = fault_if (is_some s.transaction) E40
+state_faults s (SetsClock (Some m)) = fault_if (is_some s.transaction) E40 ++ fault_if (is_not_later m s.history) E41
+state_faults s Starts = fault_if (is_some s.transaction) E40 ++ fault_if (is_clock_at_end s) E41
+state_faults s Ends = fault_if (is_none s.transaction) E40
+state_faults s Changes = fault_if (is_none s.transaction && is_clock_at_end s) E41
+state_faults s Asks = []
+
+-- ---- effects
+
+-- the state after a commit
+abbrev pub committed : State → Entry → State
+committed s e = record s { history = e ∷ s.history; next = e.moment +ℤ pos 1; transaction = None }
+
+-- the state with a changed working copy: in the open transaction, or at once committed
+abbrev pub with_working : State → Option Entry → Entry → State
+with_working s None e = committed s e
+with_working s (Some old) e = record s { transaction = Some e }
+
+-- the same change in each copy
+abbrev pub in_each_copy : (Copy → Copy) → State → State
+in_each_copy f s = record s { history = map (λ (e : Entry). record e { copy = f e.copy }) s.history }
+
+-- the state with one more table, empty in each copy
+abbrev pub with_table : TableDef → State → State
+with_table d s = in_each_copy (λ copy. copy ++ [] ∷ []) (record s { definitions = s.definitions ++ d ∷ [] })
+
+-- the state without a table, in each copy
+abbrev pub without_table : ℕ → State → State
+without_table t s = in_each_copy (λ copy. remove copy t) (record s { definitions = remove s.definitions t })
+
+-- a change of a working copy
+abbrev pub changed_table : Change → ℕ
+changed_table (InsertTuples t columns tuples) = t
+changed_table (InsertQuery t columns q) = t
+changed_table (Modify t portion work conds) = t
+
+-- the word of a work
+abbrev pub verb_of_work : Work → Verb
+verb_of_work (Work.Set sets) = Updated
+verb_of_work Work.Remove = Deleted
+
+-- the word that a change is answered with
+abbrev pub verb_of : Change → Verb
+verb_of (InsertTuples t columns tuples) = Inserted
+verb_of (InsertQuery t columns q) = Inserted
+verb_of (Modify t portion work conds) = verb_of_work work
+
+-- what a change makes of its table in the working copy
+abbrev pub outcome : State → ℤ → Copy → Change → Outcome
+outcome s m copy (InsertTuples t columns tuples) = insert (table_at s.definitions t) m (rows_in copy t) columns (map_all (map_all (eval [] [])) tuples)
+outcome s m copy (InsertQuery t columns q) = insert (table_at s.definitions t) m (rows_in copy t) columns (answer (bag_of s) q)
+outcome s m copy (Modify t portion work conds) = modify (table_at s.definitions t) m (rows_in copy t) portion work conds
+
+-- the faults of a whole copy
+abbrev pub constraint_faults : List TableDef → Copy → List Refusal
+constraint_faults defs copy = fault_if (not (keys_hold defs copy)) E35 ++ fault_if (not (references_hold defs copy)) E36
+
+-- the reply and the state, unless a fault is present
+abbrev pub unless : Option Refusal → State → Reply → State → Reply × State
+unless None old reply new = (reply, new)
+unless (Some e) old reply new = (Refused e, old)
+
+-- a change, with keys and references tested on the copy after it
+abbrev pub altered : State → Change → Reply × State
+altered s c =
+    let e = working s s.transaction in
+    let o = outcome s e.moment e.copy c in
+    let copy = slice_set e.copy (changed_table c) o.rows in
+    unless (first (o.faults ++ constraint_faults s.definitions copy)) s
+    (Done (verb_of c) (Some o.count)) (with_working s s.transaction (record { moment = e.moment; copy = copy }))
+
+-- a query answered: its rows in order, or out of range
+abbrev pub asked : State → Query → Option (List Row) → Reply × State
+asked s q None = (Refused E30, s)
+asked s q (Some rows) = (Table q.headings (in_order q.ordering rows), s)
+
+-- COMMIT of the open transaction
+abbrev pub with_commit : State → Option Entry → State
+with_commit s None = s
+with_commit s (Some e) = committed s e
+
+-- what a statement does where the state does not refuse it
+abbrev pub effect : State → Bound → Reply × State
+effect s (CreateTable d) = (Done CreatedTable None, with_table d s)
+effect s (DropTable t) = (Done DroppedTable None, without_table t s)
+effect s (SetClock m) = (Done ClockSet None, record s { next = m })
+effect s Start = (Done Started None, record s { transaction = Some (working s None) })
+effect s Commit = (Done Committed None, with_commit s s.transaction)
+effect s Rollback = (Done RolledBack None, record s { transaction = None })
+effect s (Alter c) = altered s c
+effect s (Ask q) = asked s q (answer (bag_of s) q)
+
+-- one step
+abbrev pub step : State → Bound → Reply × State
+step s b = let r = effect s b in unless (first (state_faults s (manner_of b))) s r.0 r.1
+
+-- the replies to a list of statements, and the state after them
+abbrev pub replies : State → List Bound → List Reply
+replies s [] = []
+replies s (b ∷ bs) = let r = step s b in r.0 ∷ replies r.1 bs
