@@ -90,27 +90,27 @@ pub both : (a b : Bool) → (a && b) ≡ true → (a ≡ true) × (b ≡ true)
 both true b e = (refl, e)
 both false b e = cc
 
-cells_self : (as' : List Datum) → same_row as' as' ≡ true
-cells_self [] = refl
-cells_self (a ∷ as') = ap (λ b. b && same_row as' as') (same-self a) ∙ cells_self as'
+pub same_row-self : (as' : List Datum) → same_row as' as' ≡ true
+same_row-self [] = refl
+same_row-self (a ∷ as') = ap (λ b. b && same_row as' as') (same-self a) ∙ same_row-self as'
 
-cells_are : (as' bs : List Datum) → same_row as' bs ≡ true → as' ≡ bs
-cells_are [] [] e = refl
-cells_are [] (b ∷ bs) e = cc
-cells_are (a ∷ as') [] e = cc
-cells_are (a ∷ as') (b ∷ bs) e =
+pub same_row-is : (as' bs : List Datum) → same_row as' bs ≡ true → as' ≡ bs
+same_row-is [] [] e = refl
+same_row-is [] (b ∷ bs) e = cc
+same_row-is (a ∷ as') [] e = cc
+same_row-is (a ∷ as') (b ∷ bs) e =
     let h = both (same a b) (same_row as' bs) e in
     let x = same-is a b h.0 in
-    let y = cells_are as' bs h.1 in
+    let y = same_row-is as' bs h.1 in
     cc
 
 pub same_stamped-self : (r : Stamped) → same_stamped r r ≡ true
-same_stamped-self r = ap (λ b. b && int_eq r.start r.start) (cells_self r.cells) ∙ (Decides-int_eq r.start r.start).1 refl
+same_stamped-self r = ap (λ b. b && int_eq r.start r.start) (same_row-self r.cells) ∙ (Decides-int_eq r.start r.start).1 refl
 
 pub same_stamped-is : (a b : Stamped) → same_stamped a b ≡ true → a ≡ b
 same_stamped-is a b e =
     let h = both (same_row a.cells b.cells) (int_eq a.start b.start) e in
-    ap2 (cells_are a.cells b.cells h.0) ((Decides-int_eq a.start b.start).0 h.1)
+    ap2 (same_row-is a.cells b.cells h.0) ((Decides-int_eq a.start b.start).0 h.1)
   where
     ap2 : a.cells ≡ b.cells → a.start ≡ b.start → a ≡ b
     ap2 p q = ap (λ (x : List Datum). record { cells = x; start = a.start }) p ∙ ap (λ (s : ℤ). record { cells = b.cells; start = s }) q

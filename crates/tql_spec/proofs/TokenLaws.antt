@@ -78,7 +78,7 @@ content_reads : (q : ℕ) (t : List ℕ) → content_from q false (doubled q t +
 content_reads q [] = rw (same_self q) refl
 content_reads q (b ∷ t) = by (b == q) refl (content_reads q t) where
   by : (s : Bool) → (b == q) ≡ s → content_from q false (doubled q t ++ q ∷ []) ≡ t → content_from q false (doubled q (b ∷ t) ++ q ∷ []) ≡ b ∷ t
-  by true e h = rw (e, e, h, eqb-true b q e) refl
+  by true e h = rw (e, e, h) refl
   by false e h = rw (e, e, h) refl
 
 abbrev behind : Bool → ℕ → List ℕ → List ℕ
@@ -125,7 +125,7 @@ quote_sound q true (b ∷ bs) n e = by (b == q) refl e (quote_sound q false bs) 
         rest = r.rest;
         parts = ap (λ (z : List ℕ). b ∷ z) r.parts;
         size = ap suc r.size ∙ sym k.2;
-        closed = rw (same_self q, eqb-true b q t) (ap (λ (z : List ℕ). q ∷ q ∷ z) r.closed);
+        closed = rw t (ap (λ (z : ℕ). z ∷ b ∷ r.text) (sym (eqb-true b q t)) ∙ ap (λ (z : List ℕ). b ∷ b ∷ z) r.closed);
         other = r.other;
       }
   by false t e h = record { text = []; rest = b ∷ bs; parts = refl; size = some_is 0 n (rw t at e); closed = refl; other = t }
@@ -181,7 +181,7 @@ pub record Reads (bytes : List ℕ) (s : Sort) (n : ℕ) : Type 0 where
   pub spelled : Spells (token_with s text) text
   pub longest : IsLongest (token_with s text) rest
 
-abbrev read : Sort → ℕ → Reading
+abbrev pub read : Sort → ℕ → Reading
 read s n = Some (s, n)
 
 as_read : (bytes : List ℕ) (x s : Sort) (k n : ℕ) → read x k ≡ read s n → Reads bytes x k → Reads bytes s n
@@ -413,7 +413,7 @@ blank_starts b e = let P : ℕ → Type 0 = λ (c : ℕ). start_of c ≡ NoStart
 blank_no_dash : (b : ℕ) → is_blank b ≡ true → (b == 45) ≡ false
 blank_no_dash b e = let P : ℕ → Type 0 = λ (c : ℕ). (c == 45) ≡ false in blank_is b P refl refl refl refl e
 
-blank_no_comment : (b : ℕ) (bs : List ℕ) → is_blank b ≡ true → begins_comment b bs ≡ false
+pub blank_no_comment : (b : ℕ) (bs : List ℕ) → is_blank b ≡ true → begins_comment b bs ≡ false
 blank_no_comment b bs e = rw (blank_no_dash b e) refl
 
 dash_begins : (bs : List ℕ) → starts_with_dash bs ≡ true → begins (λ b. b == 45) bs ≡ true
@@ -425,7 +425,7 @@ comment_unread b bs e =
     let h = and_parts (b == 45) (starts_with_dash bs) e in
     rw (eqb-true b 45 h.0, dash_begins bs h.1) refl
 
-none_some : {X : Type 0} (x : X) → Option.None ≡ Option.Some x → ⊥
+pub none_some : {X : Type 0} (x : X) → Option.None ≡ Option.Some x → ⊥
 none_some x e = cc
 
 -- what is read is neither a blank nor a comment
@@ -450,7 +450,7 @@ gap_skipped gap more nothing = refl
 gap_skipped gap more (blank {b} {bs} e g) = rw (e, blank_no_comment b (bs ++ more) e) (gap_skipped bs more g)
 gap_skipped gap more (comment words {bs} one g parts) = rw parts (ap (without_lead true) (append_assoc words (10 ∷ bs) more) ∙ line_skipped words (bs ++ more) one ∙ gap_skipped bs more g)
 
-end_skipped : (bytes : List ℕ) → IsEnd bytes → without_lead false bytes ≡ []
+pub end_skipped : (bytes : List ℕ) → IsEnd bytes → without_lead false bytes ≡ []
 end_skipped bytes (inl g) = ap (without_lead false) (sym (append-nil bytes)) ∙ gap_skipped bytes [] g
 end_skipped bytes (inr h) = ap (without_lead false) h.4 ∙ gap_skipped h.0 (45 ∷ 45 ∷ h.1) h.2 ∙ line_end h.1 h.3
 
@@ -472,11 +472,11 @@ token_stands t bytes gap text rest parts g spelled longest =
     let r = first_token_complete t text rest spelled longest in
     ap (without_lead false) (parts ∙ append_assoc gap text rest) ∙ gap_skipped gap (text ++ rest) g ∙ no_lead (text ++ rest) r.sort (length text) r.read_again
 
-record SameFirst (t u : Token) (rest left : List ℕ) : Type 0 where
-  token : t ≡ u
-  left_same : left ≡ rest
+pub record SameFirst (t u : Token) (rest left : List ℕ) : Type 0 where
+  pub token : t ≡ u
+  pub left_same : left ≡ rest
 
-same_first : (t u : Token) (text rest other left : List ℕ) → IsRead t text rest → IsRead u other left → text ++ rest ≡ other ++ left → SameFirst t u rest left
+pub same_first : (t u : Token) (text rest other left : List ℕ) → IsRead t text rest → IsRead u other left → text ++ rest ≡ other ++ left → SameFirst t u rest left
 same_first t u text rest other left r q e =
     let pair = some_is {X = Sort × ℕ} (r.sort, length text) (q.sort, length other) (sym r.read_again ∙ ap first_token e ∙ q.read_again) in
     let sorts : r.sort ≡ q.sort = ap (λ (z : Sort × ℕ). z.0) pair in

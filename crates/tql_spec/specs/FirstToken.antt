@@ -16,12 +16,16 @@ pub data Sort : Type 0 where
 abbrev pub content_from : ℕ → Bool → List ℕ → List ℕ
 content_from q again [] = []
 content_from q false (b ∷ bs) = if b == q then content_from q true bs else b ∷ content_from q false bs
-content_from q true (b ∷ bs) = q ∷ content_from q false bs
+content_from q true (b ∷ bs) = b ∷ content_from q false bs
+
+-- without a quote at the front
+abbrev pub without_quote : ℕ → List ℕ → List ℕ
+without_quote q [] = []
+without_quote q (b ∷ bs) = if b == q then bs else b ∷ bs
 
 -- what stands in quotes
 abbrev pub content : ℕ → List ℕ → List ℕ
-content q [] = []
-content q (b ∷ bs) = content_from q false bs
+content q text = content_from q false (without_quote q text)
 
 -- the token of this sort that is written so
 abbrev pub token_with : Sort → List ℕ → Token

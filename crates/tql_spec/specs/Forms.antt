@@ -138,3 +138,7 @@ Runs s tokens = (f : Form) × (s ≡ tree_of_form f) × form f tokens []
 -- the law: what runs is a statement of the whole grammar
 abbrev pub FormsAreStatements : Type 0
 FormsAreStatements = (s : Statement) (tokens : List Token) → Runs s tokens → IsStatement s tokens
+
+-- the law: a token list is of one form at most
+abbrev pub HasOneForm : Type 0
+HasOneForm = (tokens : List Token) (f g : Form) → form f tokens [] → form g tokens [] → f ≡ g

@@ -1,0 +1,21 @@
+use Rattle.std.proofs.Common.{rules, sym, subst, ◌≡◌, false}
+use Rattle.std.proofs.Math.Facts.{to_z-of_z}
+use Rattle.tql_spec.specs.Machine.{State, is_not_later}
+use Rattle.tql_engine.specs.Stands.{StandsFor}
+use Rattle.tql_engine.proofs.Standing.{last_law, clock_law}
+use Rattle.tql_engine.proofs.Doing.{clock_refused, clock_set}
+use Rattle.tql_engine.proofs.engine.Engine.set_clock_to.Goals as goal
+
+pub returns-then-is_not_later : goal.returns-then-is_not_later
+returns-then-is_not_later c s st = clock_refused _ s _ st (search rules)
+
+pub returns : goal.returns
+returns c s st =
+    let inside = subst (λ h. StandsFor h s) (sym c.self.view_is) st in
+    rw (to_z-of_z c.ranges.moment) (clock_set _ s _ inside (search rules) c.requires.0 c.requires.1)
+
+pub invariant_of-self : goal.invariant_of-self
+invariant_of-self c =
+    let s : State = c.self.invariant.state in
+    let later : is_not_later c.args.moment s.history ≡ false = rw (last_law _ s c.args.moment c.self.invariant.stands) (search rules) in
+    rw (to_z-of_z c.ranges.moment) (record { state = record s { next = c.args.moment }; stands = clock_law _ s _ c.self.invariant.stands later c.requires.0 c.requires.1 })

@@ -1,0 +1,73 @@
+-- What an engine holds, and the state of the machine that it stands for.
+use Rattle.std.specs.Prelude.{◌≡◌, ◌≤ℤ◌, ℕ, Bool, not, List, [], ◌∷◌, map, length, nat_eq, IsTrue, ℤ, None, if◌then◌else◌}
+use Rattle.std.specs.List.{list_all}
+use Rattle.tql_spec.specs.Calendar.{first_moment, high}
+use Rattle.tql_spec.specs.Definition.{Stamped}
+use Rattle.tql_spec.specs.History.{Copy, Entry, FallingFrom}
+use Rattle.tql_spec.specs.Machine.{State}
+use Rattle.tql_store.specs.Slots as store
+use Rattle.tql_store.specs.Slots.{is_versioned, table_count}
+use Rattle.tql_store.specs.Represents.{Copies, Represents}
+use Rattle.tql_engine.specs.Plain.{PlainTable}
+use Rattle.tql_engine.specs.Steps.{IsPlain}
+
+-- a table, and the number at which the store keeps it
+pub record Placed : Type 0 where
+  pub table : PlainTable
+  pub id : ℕ
+
+-- what an engine holds: its tables in the order of their creation, the store of their rows, and the moment of the next transaction
+pub record Held : Type 0 where
+  pub tables : List Placed
+  pub rows : store.Held
+  pub next : ℤ
+
+-- the tables
+abbrev pub plain_tables : List Placed → List PlainTable
+plain_tables tables = map (λ (p : Placed). p.table) tables
+
+-- of a copy the rows of the table that is kept at a number; none where no table is
+abbrev pub rows_of_id : List Placed → Copy → ℕ → List Stamped
+rows_of_id [] copy id = []
+rows_of_id (p ∷ ps) [] id = []
+rows_of_id (p ∷ ps) (rows ∷ copy) id = if nat_eq p.id id then rows else rows_of_id ps copy id
+
+-- the copies of the history, as the store numbers its tables
+abbrev pub copies_of : List Placed → List Entry → Copies
+copies_of tables history id = map (λ (e : Entry). record { moment = e.moment; rows = rows_of_id tables e.copy id }) history
+
+-- no table is kept at this number
+abbrev pub is_free : ℕ → List Placed → Bool
+is_free id tables = list_all (λ (p : Placed). not (nat_eq p.id id)) tables
+
+-- each table is kept at a number of its own, and versioned
+abbrev pub ArePlaced : store.Held → List Placed → Type 0
+ArePlaced rows [] = Unit {0}
+ArePlaced rows (p ∷ ps) = IsTrue (is_free p.id ps) × IsTrue (is_versioned rows p.id) × ArePlaced rows ps
+
+-- no copy is older than the first moment
+abbrev pub AreSince : ℤ → List Entry → Type 0
+AreSince m [] = Unit {0}
+AreSince m (e ∷ older) = (m ≤ℤ e.moment) × AreSince m older
+
+-- the working copy where no transaction is open
+abbrev pub no_rows : ℕ → List Stamped
+no_rows id = []
+
+-- the engine stands for a state of the machine
+pub record StandsFor (h : Held) (s : State) : Type 0 where
+  pub plain : IsPlain (plain_tables h.tables) s
+  pub clock : h.next ≡ s.next
+  pub not_before : first_moment ≤ℤ s.next
+  pub not_after : s.next ≤ℤ high
+  pub falls : FallingFrom s.next s.history
+  pub since : AreSince first_moment s.history
+  pub idle : h.rows.working ≡ None
+  pub stands : Represents h.rows (copies_of h.tables s.history) no_rows
+  pub placed : ArePlaced h.rows h.tables
+  pub count : table_count h.rows ≡ length h.tables
+
+-- what is true of every engine: it stands for some state of the machine
+pub record IsSound (h : Held) : Type 0 where
+  pub state : State
+  pub stands : StandsFor h state

@@ -1,0 +1,10 @@
+// What no clause says: the printed text of whole scripts by examples, a machine that copies its tables, memory that ends,
+// and devices that fail.
+mod copies;
+mod counter;
+mod devices;
+mod faults;
+mod growths;
+mod machine;
+mod refusals;
+mod rows;

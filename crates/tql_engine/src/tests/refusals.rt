@@ -1,0 +1,219 @@
+// The refusals that the forms can have, and of several faults the first.
+use crate::engine::Engine;
+use crate::tests::devices::{assert_log_prints, assert_prints, assert_prints_in_parts};
+use std::test::Fail;
+use tql_memory::memory;
+use tql_result::reply::Reply;
+use tql_value::refusal::Refusal;
+
+const E10: &str = "REFUSED E10 not a statement\n";
+
+const E14: &str = "REFUSED E14 nested too deep\n";
+
+const E15: &str = "REFUSED E15 too many columns or tables\n";
+
+const E20: &str = "REFUSED E20 table unknown or already there\n";
+
+const E21: &str = "REFUSED E21 name unknown, ambiguous or repeated\n";
+
+const E22: &str = "REFUSED E22 types do not fit\n";
+
+const E23: &str = "REFUSED E23 form not allowed here\n";
+
+const E30: &str = "REFUSED E30 value out of range\n";
+
+const E41: &str = "REFUSED E41 moment not allowed\n";
+
+/// A text so many times.
+fn repeated(rt: &impl AllocGlobal, text: &str, times: usize) -> Result<String, Fail> {
+    let mut all = String::new(rt.alloc());
+    for _ in 0..times {
+        all.push_str(text)?;
+    }
+    Ok(all)
+}
+
+#[test]
+fn refuses_bytes_that_are_not_utf_8(rt: HostRuntime) -> Result<(), Fail> {
+    assert_prints_in_parts(&rt, b"\x27\x3b\xff\x27\x3b", "REFUSED E11 not UTF-8\n")?;
+    assert_prints_in_parts(&rt, b"SELECT -- \xff\n;", "REFUSED E11 not UTF-8\n")?;
+    assert_prints_in_parts(&rt, b"\xff", "REFUSED E11 not UTF-8\n")
+}
+
+#[test]
+fn refuses_what_is_no_statement(rt: HostRuntime) -> Result<(), Fail> {
+    for statement in [
+        "SELECT",
+        "INSERT INTO log VALUES ()",
+        "INSERT INTO log VALUES (1",
+        "INSERT INTO log VALUES (1) 2",
+        "INSERT INTO table VALUES (1)",
+        "INSERT INTO log VALUES (- - 1)",
+        "INSERT INTO log VALUES (1a)",
+        "AT '2011-01-01 00:00:00'",
+        "AT TIMESTAMP \"2011-01-01 00:00:00\"",
+        "SELECT * FROM log FOR SYSTEM_TIME AS OF TIMESTAMP",
+        "\u{e9}",
+        "?",
+    ] {
+        let script = format!(in rt.alloc(); "{statement};")?;
+        assert_log_prints(&rt, script.as_bytes(), E10)?;
+    }
+    Ok(())
+}
+
+#[test]
+fn refuses_the_65th_parenthesis(rt: HostRuntime) -> Result<(), Fail> {
+    let deepest = repeated(&rt, "(", 64)?;
+    let script = format!(in rt.alloc(); "{deepest}; ({deepest}; ({deepest} ?;")?;
+    let text = format!(in rt.alloc(); "{E10}{E14}{E10}")?;
+    assert_prints(&rt, script.as_bytes(), &text)
+}
+
+/// CREATE of a table with so many integer columns; two more are generated.
+fn wide_table(rt: &impl AllocGlobal, name: &str, integers: u64) -> Result<String, Fail> {
+    let mut columns = String::new(rt.alloc());
+    for number in 0..integers {
+        write!(columns, "c{number} INTEGER, ")?;
+    }
+    Ok(format!(in rt.alloc();
+        "CREATE TABLE {name} ({columns}s TIMESTAMP GENERATED ALWAYS AS ROW START, e TIMESTAMP GENERATED ALWAYS AS ROW END, \
+         PERIOD FOR SYSTEM_TIME (s, e)) WITH SYSTEM VERSIONING;"
+    )?)
+}
+
+#[test]
+fn refuses_the_65th_column(rt: HostRuntime) -> Result<(), Fail> {
+    let fits = wide_table(&rt, "wide", 62)?;
+    let wider = wide_table(&rt, "wider", 63)?;
+    let script = format!(in rt.alloc(); "{fits}{wider}INSERT INTO wider VALUES (1);")?;
+    let text = format!(in rt.alloc(); "CREATE TABLE\n{E15}{E20}")?;
+    assert_prints(&rt, script.as_bytes(), &text)
+}
+
+#[test]
+fn refuses_moments(rt: HostRuntime) -> Result<(), Fail> {
+    let text = format!(in rt.alloc(); "INSERT 1\n{E41}{E41}AT\nAT\n{E41}{E30}{E30}")?;
+    assert_log_prints(
+        &rt,
+        b"INSERT INTO log VALUES (1); AT TIMESTAMP '2011-01-01 00:00:00'; AT TIMESTAMP '0001-01-01 00:00:00';
+          AT TIMESTAMP '2011-01-01 00:00:00.000001'; AT TIMESTAMP '9999-12-31 23:59:59.999999';
+          INSERT INTO log VALUES (1); AT TIMESTAMP '2011-02-29 00:00:00'; AT TIMESTAMP '10000-01-01 00:00:00';",
+        &text,
+    )
+}
+
+#[test]
+fn commits_last_one_microsecond_before_the_end(rt: HostRuntime) -> Result<(), Fail> {
+    let text = format!(in rt.alloc();
+        "AT\nINSERT 1\n{E41}X|S|E\n1|9999-12-31 23:59:59.999998|9999-12-31 23:59:59.999999\n(1 rows)\n"
+    )?;
+    assert_log_prints(
+        &rt,
+        b"AT TIMESTAMP '9999-12-31 23:59:59.999998'; INSERT INTO log VALUES (1); INSERT INTO log VALUES (2);
+          SELECT * FROM log FOR SYSTEM_TIME AS OF TIMESTAMP '9999-12-31 23:59:59.999998';",
+        &text,
+    )
+}
+
+#[test]
+fn refuses_values_and_tables(rt: HostRuntime) -> Result<(), Fail> {
+    let text = format!(in rt.alloc(); "{E30}{E30}{E22}{E22}{E20}{E20}{E30}X|S|E\n(0 rows)\n")?;
+    assert_log_prints(
+        &rt,
+        b"INSERT INTO log VALUES (1), (9223372036854775808); INSERT INTO log VALUES (-9223372036854775809);
+          INSERT INTO log VALUES (1), (1, 2); INSERT INTO log VALUES (1, 9223372036854775808);
+          INSERT INTO nowhere VALUES (1, 9223372036854775808);
+          SELECT * FROM nowhere FOR SYSTEM_TIME AS OF TIMESTAMP '2011-02-30 00:00:00';
+          SELECT * FROM log FOR SYSTEM_TIME AS OF TIMESTAMP '2011-02-30 00:00:00';
+          SELECT * FROM log FOR SYSTEM_TIME AS OF TIMESTAMP '2011-01-01 00:00:00';",
+        &text,
+    )
+}
+
+/// CREATE of a table with one integer column, by the names of its columns and of its period's.
+fn table_of(
+    rt: &impl AllocGlobal,
+    name: &str,
+    columns: [&str; 3],
+    period: [&str; 2],
+) -> Result<String, Fail> {
+    let [number, start, end] = columns;
+    let [first, last] = period;
+    Ok(format!(in rt.alloc();
+        "CREATE TABLE {name} ({number} INTEGER, {start} TIMESTAMP GENERATED ALWAYS AS ROW START, \
+         {end} TIMESTAMP GENERATED ALWAYS AS ROW END, PERIOD FOR SYSTEM_TIME ({first}, {last})) WITH SYSTEM VERSIONING;"
+    )?)
+}
+
+#[test]
+fn refuses_definitions(rt: HostRuntime) -> Result<(), Fail> {
+    for (name, columns, period, reply) in [
+        ("log", ["x", "x", "x"], ["y", "y"], E20),
+        ("LOG", ["x", "s", "e"], ["s", "e"], E20),
+        ("t", ["x", "X", "e"], ["x", "e"], E21),
+        ("t", ["x", "s", "s"], ["s", "s"], E21),
+        ("t", ["x", "s", "e"], ["s", "f"], E21),
+        ("t", ["x", "s", "e"], ["x", "f"], E21),
+        ("t", ["x", "s", "e"], ["x", "e"], E22),
+        ("t", ["x", "s", "e"], ["e", "x"], E22),
+        ("t", ["x", "s", "e"], ["e", "s"], E23),
+        ("t", ["x", "s", "e"], ["s", "s"], E23),
+        ("t", ["x", "s", "e"], ["S", "E"], "CREATE TABLE\n"),
+    ] {
+        let script = table_of(&rt, name, columns, period)?;
+        assert_log_prints(&rt, script.as_bytes(), reply)?;
+    }
+    Ok(())
+}
+
+#[test]
+fn refuses_the_1001st_table(rt: HostRuntime) -> Result<(), Fail> {
+    let memory = memory(rt.alloc(), u64::MAX)?;
+    let mut engine = Engine::new(memory);
+    for number in 0..1001u64 {
+        let mut name = String::new(rt.alloc());
+        write!(name, "t{number}")?;
+        let mut create = table_of(&rt, &name, ["x", "s", "e"], ["s", "e"])?;
+        create.pop();
+        match engine.step(create.as_bytes()) {
+            Reply::Done(_, None) => assert!(rt; number < 1000),
+            Reply::Refused(refusal) => {
+                assert_eq!(rt; refusal, Refusal::TooManyTablesOrReaders);
+                assert_eq!(rt; number, 1000);
+            }
+            _ => assert!(rt; false),
+        }
+    }
+    Ok(())
+}
+
+#[test]
+fn refuses_a_semicolon_in_a_step(rt: HostRuntime) -> Result<(), Fail> {
+    let mut engine = Engine::new(memory(rt.alloc(), u64::MAX)?);
+    let reply = engine.step(b"AT TIMESTAMP '2011-01-01 00:00:00';");
+    assert!(rt; matches!(&reply, Reply::Refused(Refusal::NotAStatement)));
+    let reply = engine.step(b"AT TIMESTAMP '2011-01-01 00:00:00'");
+    assert!(rt; matches!(&reply, Reply::Done(_, None)));
+    Ok(())
+}
+
+#[test]
+fn refuses_more_than_a_mebibyte(rt: HostRuntime) -> Result<(), Fail> {
+    let mut longest = Vec::new(rt.alloc());
+    longest.resize(1_048_576, b'x')?;
+    let mut engine = Engine::new(memory(rt.alloc(), u64::MAX)?);
+    let reply = engine.step(&longest);
+    assert!(rt; matches!(&reply, Reply::Refused(Refusal::NotAStatement)));
+    longest.push(b'\xff')?;
+    let reply = engine.step(&longest);
+    assert!(rt; matches!(&reply, Reply::Refused(Refusal::StatementTooLong)));
+    longest.extend_from_slice(b" ;AT")?;
+    assert_prints(
+        &rt,
+        &longest,
+        "REFUSED E13 statement too long\nREFUSED E12 unfinished statement\n",
+    )?;
+    longest.truncate(1_048_577);
+    assert_prints(&rt, &longest, "REFUSED E13 statement too long\n")
+}

@@ -1,0 +1,7 @@
+mod Around
+mod Bags
+mod Branches
+mod Finding
+mod Listing
+mod Order
+mod Removing

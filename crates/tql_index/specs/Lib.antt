@@ -1,0 +1,4 @@
+pub mod Entry
+pub mod Held
+pub mod Nodes
+pub mod Tree

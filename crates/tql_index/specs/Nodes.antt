@@ -1,0 +1,43 @@
+-- The trees of the code, level by level.
+use Rattle.std.specs.Prelude.{◌≡◌, ◌+◌, ◌≤◌, max, [], ◌∷◌, ◌++◌}
+use Rattle.tql_period.specs.Points.{points_of}
+use Rattle.tql_index.specs.Entry.{Entry}
+use Rattle.tql_index.specs.Tree.{Contents, IsBranch, IsAround, DifferByAtMost}
+use Rattle.tql_index.specs.declared.tree.Branch.{Branch}
+use Rattle.tql_index.specs.declared.tree.Parts.{Parts}
+use Rattle.tql_index.specs.declared.edit.Least.{Least}
+use Rattle.tql_index.specs.declared.tree.Root.{Root}
+use Rattle.tql_index.specs.declared.tree.Root.TheVariants.{Empty, At}
+
+-- the entry at a branch
+abbrev pub entry_of : {A : Type 0} → Branch A → Entry
+entry_of b = record { period = points_of b.period; id = b.id }
+
+-- the entries and the height that a branch stands for
+abbrev pub contents_of : {A : Type 0} → Root A → Contents
+contents_of Empty = record { entries = []; height = 0 }
+contents_of (At b) = record { entries = b.value.left.entries ++ entry_of b.value ∷ b.value.right.entries; height = b.value.height }
+
+-- what holds at the top of a tree
+abbrev pub IsTree : {A : Type 0} → Root A → Type 0
+IsTree Empty = Unit {0}
+IsTree (At b) = IsBranch b.value.left (entry_of b.value) b.value.height b.value.greatest b.value.right
+
+-- the parts of a tree
+pub record IsParted {A : Type 0} (tree : Contents) (parts : Parts A) : Type 0 where
+  pub entries : tree.entries ≡ parts.left.entries ++ entry_of parts.top.value ∷ parts.right.entries
+  pub height : tree.height ≡ max parts.left.height parts.right.height + 1
+  pub around : IsAround (entry_of parts.top.value) parts.left.entries parts.right.entries
+  pub balanced : DifferByAtMost 1 parts.left.height parts.right.height
+
+-- the top of a tree
+pub record IsTop {A : Type 0} (tree : Contents) (top : Branch A) : Type 0 where
+  pub entries : tree.entries ≡ top.left.entries ++ entry_of top ∷ top.right.entries
+  pub branch : IsBranch top.left (entry_of top) top.height top.greatest top.right
+
+-- a tree without its first entry, which stands before none of the others
+pub record IsWithoutLeast {A : Type 0} (tree : Contents) (parts : Least A) : Type 0 where
+  pub entries : tree.entries ≡ entry_of parts.least.value ∷ parts.rest.entries
+  pub around : IsAround (entry_of parts.least.value) [] parts.rest.entries
+  pub not_higher : parts.rest.height ≤ tree.height
+  pub at_most_one_lower : tree.height ≤ parts.rest.height + 1

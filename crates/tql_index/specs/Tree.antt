@@ -1,0 +1,51 @@
+-- What a tree of entries is seen as, and what holds at each of its branches.
+use Rattle.std.specs.Prelude.{◌≡◌, ℕ, ◌+◌, ◌*◌, ◌^◌, ◌<◌, ◌≤◌, max, Bool, List, [], ◌∷◌, ◌++◌, length, count_by, ℤ, pos, neg_ℤ}
+use Rattle.std.specs.Int.{int_max}
+use Rattle.std.specs.declared.cmp.Ordering.{Ordering}
+use Rattle.std.specs.Ordering.{nat_cmp, int_cmp, is_lt, ordering_then}
+use Rattle.tql_index.specs.Entry.{Entry}
+
+-- the entries in order, and how many branches lie on the longest way down
+pub record Contents : Type 0 where
+  pub entries : List Entry
+  pub height : ℕ
+
+-- the order of entries: by start, then end, then number
+abbrev pub entry_cmp : Entry → Entry → Ordering
+entry_cmp a b = ordering_then (int_cmp a.period.start b.period.start) (ordering_then (int_cmp a.period.end b.period.end) (nat_cmp a.id b.id))
+
+-- whether the first stands before the second
+abbrev pub is_before : Entry → Entry → Bool
+is_before a b = is_lt (entry_cmp a b)
+
+-- the entries of the left list do not stand after e, and those of the right list not before it
+pub record IsAround (e : Entry) (left right : List Entry) : Type 0 where
+  pub none_after : count_by (λ x. is_before e x) left ≡ 0
+  pub none_before : count_by (λ x. is_before x e) right ≡ 0
+
+-- the greatest end, and the least of 64 bits where there is none
+abbrev pub greatest_end : List Entry → ℤ
+greatest_end [] = neg_ℤ (pos (2 ^ 63))
+greatest_end (e ∷ es) = int_max e.period.end (greatest_end es)
+
+-- neither height is more than this above the other
+abbrev pub DifferByAtMost : ℕ → ℕ → ℕ → Type 0
+DifferByAtMost by l r = (l ≤ r + by) × (r ≤ l + by)
+
+-- the depth is at most twice the number of binary digits of the count: k of them suffice for a count below 2 ^ k
+abbrev pub IsShallow : ℕ → ℕ → Type 0
+IsShallow depth count = (k : ℕ) → count < 2 ^ k → depth ≤ 2 * k
+
+-- what holds at a branch: the entries to its left and right are in order around it, its sides are about
+-- equally high, and it knows its height and the greatest end
+pub record IsBranch (l : Contents) (e : Entry) (height : ℕ) (greatest : ℤ) (r : Contents) : Type 0 where
+  pub around : IsAround e l.entries r.entries
+  pub balanced : DifferByAtMost 1 l.height r.height
+  pub height_is : height ≡ max l.height r.height + 1
+  pub greatest_is : greatest ≡ greatest_end (l.entries ++ e ∷ r.entries)
+  pub shallow : IsShallow height (length (l.entries ++ e ∷ r.entries))
+  pub deep : length (l.entries ++ e ∷ r.entries) < 2 ^ height
+
+-- the height h of what an entry between sides of the heights l and r settles to
+abbrev pub IsHeightAfterBalance : ℕ → ℕ → ℕ → Type 0
+IsHeightAfterBalance l r h = (max l r ≤ h) × (h ≤ max l r + 1) × (DifferByAtMost 1 l r → h ≡ max l r + 1)

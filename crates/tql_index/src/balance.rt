@@ -1,0 +1,95 @@
+// Trees from sides whose heights differ by at most two.
+ghost use Rattle.std.specs.Prelude.{◌≡◌, ◌+◌, ◌^◌, ◌≤◌, max, ◌∷◌, ◌++◌};
+ghost use Rattle.tql_index.specs.Tree.{DifferByAtMost, IsAround, IsHeightAfterBalance};
+ghost use Rattle.tql_index.specs.Nodes.{entry_of};
+
+use crate::tree::{Branch, Parts, Tree, link};
+use std::alloc::Allocator;
+
+// A balanced tree of two sides and the entry between them.
+pub fn balance<A: Allocator>(left: Tree<A>, top: Box<Branch<A>, A>, right: Tree<A>) -> Tree<A>
+    requires around { IsAround (entry_of top.value) left.entries right.entries }
+    requires near { DifferByAtMost 2 left.height right.height }
+    requires room { max left.height right.height ≤ 2 ^ 63 }
+    ensures entries { result.entries ≡ left.entries ++ entry_of top.value ∷ right.entries }
+    ensures height { IsHeightAfterBalance left.height right.height result.height }
+{
+    let (left_height, right_height) = (left.height(), right.height());
+    if left_height > right_height + 1 {
+        lean_right(left, top, right)
+    } else if right_height > left_height + 1 {
+        lean_left(left, top, right)
+    } else {
+        link(left, top, right)
+    }
+}
+
+// The left side is two higher: its top, or that of its inner side, becomes the top.
+fn lean_right<A: Allocator>(left: Tree<A>, top: Box<Branch<A>, A>, right: Tree<A>) -> Tree<A>
+    requires around { IsAround (entry_of top.value) left.entries right.entries }
+    requires two_higher { left.height ≡ right.height + 2 }
+    requires room { left.height ≤ 2 ^ 63 }
+    ensures entries { result.entries ≡ left.entries ++ entry_of top.value ∷ right.entries }
+    ensures not_lower { left.height ≤ result.height }
+    ensures at_most_one_higher { result.height ≤ left.height + 1 }
+{
+    let Some(
+        Parts {
+            left: outer,
+            top: side,
+            right: inner,
+        },
+    ) = left.unlink()
+    else {
+        unreachable!()
+    };
+    if outer.height() >= inner.height() {
+        return link(outer, side, link(inner, top, right));
+    }
+    let Some(
+        Parts {
+            left: low,
+            top: middle,
+            right: high,
+        },
+    ) = inner.unlink()
+    else {
+        unreachable!()
+    };
+    link(link(outer, side, low), middle, link(high, top, right))
+}
+
+// The right side is two higher: its top, or that of its inner side, becomes the top.
+fn lean_left<A: Allocator>(left: Tree<A>, top: Box<Branch<A>, A>, right: Tree<A>) -> Tree<A>
+    requires around { IsAround (entry_of top.value) left.entries right.entries }
+    requires two_higher { right.height ≡ left.height + 2 }
+    requires room { right.height ≤ 2 ^ 63 }
+    ensures entries { result.entries ≡ left.entries ++ entry_of top.value ∷ right.entries }
+    ensures not_lower { right.height ≤ result.height }
+    ensures at_most_one_higher { result.height ≤ right.height + 1 }
+{
+    let Some(
+        Parts {
+            left: inner,
+            top: side,
+            right: outer,
+        },
+    ) = right.unlink()
+    else {
+        unreachable!()
+    };
+    if outer.height() >= inner.height() {
+        return link(link(left, top, inner), side, outer);
+    }
+    let Some(
+        Parts {
+            left: low,
+            top: middle,
+            right: high,
+        },
+    ) = inner.unlink()
+    else {
+        unreachable!()
+    };
+    link(link(left, top, low), middle, link(high, side, outer))
+}

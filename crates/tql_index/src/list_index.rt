@@ -1,0 +1,105 @@
+// The index as a plain list.
+ghost use Rattle.std.specs.Prelude.{◌≡◌, ◌↔◌, ◌<◌, [], length, map, slice_index_or, Contains, IsTrue, IfSome, IfNone};
+ghost use Rattle.tql_index.specs.Held.{entry_held};
+
+use crate::index::{Id, IntervalIndex};
+use crate::search::push_if;
+use std::marker::Model;
+use tql_memory::Memory;
+use tql_period::period::Period;
+use tql_value::refusal::Refusal;
+
+// An entry of the list.
+#[derive(Clone, Copy, PartialEq, Eq)]
+struct Held {
+    period: Period,
+    id: Id,
+}
+
+// The first place of an entry.
+fn place_of(entries: &[Held], wanted: Held) -> Option<usize>
+    ensures within { IfSome result (λ k. k < length entries.now) }
+    ensures found { IfSome result (λ k. (d : _) →
+        entry_held (slice_index_or entries.now k d) ≡ entry_held wanted) }
+    ensures missing { IfNone result (¬ Contains (map entry_held entries.now) (entry_held wanted)) }
+{
+    for (place, entry) in entries.iter().enumerate() {
+        if *entry == wanted {
+            return Some(place);
+        }
+    }
+    None
+}
+
+/// An index that is a plain list, each of whose entries is looked at. It is seen as its entries.
+#[derive(Drop)]
+pub struct ListIndex {
+    memory: Memory,
+    held: Vec<Held, Memory>,
+}
+
+impl Model for ListIndex {
+    ghost use Rattle.std.specs.Prelude.{List, map};
+    ghost use Rattle.tql_index.specs.Entry.{Entry};
+    ghost use Rattle.tql_index.specs.Held.{entry_held};
+
+    ghost Value = { List Entry };
+
+    ghost view = { λ l. map entry_held l.held.items };
+}
+
+impl ListIndex {
+    /// How many entries it has.
+    pub fn len(&self) -> usize
+        ensures { result ≡ length self.now }
+    {
+        self.held.len()
+    }
+
+    /// Whether it has no entry.
+    pub fn is_empty(&self) -> bool
+        ensures { IsTrue result ↔ (self.now ≡ []) }
+    {
+        self.held.is_empty()
+    }
+}
+
+impl IntervalIndex for ListIndex {
+    ghost entries = { λ l. l };
+
+    fn new(memory: Memory) -> Self {
+        ListIndex {
+            memory,
+            held: Vec::new(memory),
+        }
+    }
+
+    fn add(&mut self, period: Period, id: Id) -> Result<(), Refusal> {
+        self.held.push(Held { period, id })?;
+        Ok(())
+    }
+
+    fn remove(&mut self, period: Period, id: Id) -> bool {
+        let Some(place) = place_of(&self.held, Held { period, id }) else {
+            return false;
+        };
+        self.held.swap_remove(place);
+        true
+    }
+
+    fn stab(&self, point: i64) -> Result<Vec<Id, Memory>, Refusal> {
+        let mut found = Vec::new(self.memory);
+        for held in &self.held {
+            push_if(&mut found, held.period.holds(point), held.id)?;
+        }
+        Ok(found)
+    }
+
+    fn overlapping(&self, period: Period) -> Result<Vec<Id, Memory>, Refusal> {
+        let mut found = Vec::new(self.memory);
+        for held in &self.held {
+            push_if(&mut found, held.period.shares_a_point(period), held.id)?;
+        }
+        Ok(found)
+    }
+}

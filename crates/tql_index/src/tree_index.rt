@@ -1,0 +1,123 @@
+// The index as a balanced tree.
+ghost use Rattle.std.specs.Prelude.{◌≡◌, ◌↔◌, ◌^◌, ◌<◌, ◌≤◌, [], length, IsTrue};
+ghost use Rattle.tql_index.specs.Tree.{IsShallow};
+
+use crate::edit::{Removed, insert, remove};
+use crate::index::{Id, IntervalIndex};
+use crate::search::{overlapping, stab};
+use crate::tree::{Branch, Tree};
+use std::alloc::Allocator;
+use std::marker::Model;
+use std::mem;
+use tql_memory::Memory;
+use tql_period::period::Period;
+use tql_value::refusal::Refusal;
+
+/// An index whose search passes by each part of its entries that ends too early or starts too late.
+///
+/// It is a balanced tree in the order of the entries' starts, in which each branch knows the greatest end
+/// below it. It is seen as its entries.
+#[derive(Drop)]
+pub struct TreeIndex {
+    memory: Memory,
+    tree: Tree<Memory>,
+    count: usize,
+}
+
+impl Model for TreeIndex {
+    ghost use Rattle.std.specs.Prelude.{◌≡◌, List, length};
+    ghost use Rattle.tql_index.specs.Entry.{Entry};
+
+    ghost Value = { List Entry };
+
+    ghost view = { λ t. t.tree.entries };
+
+    ghost invariant = { λ t. t.count ≡ length t.tree.entries };
+}
+
+impl TreeIndex {
+    /// How many entries it has.
+    pub fn len(&self) -> usize
+        ensures { result ≡ length self.now }
+    {
+        self.count
+    }
+
+    /// Whether it has no entry.
+    pub fn is_empty(&self) -> bool
+        ensures { IsTrue result ↔ (self.now ≡ []) }
+    {
+        self.len() == 0
+    }
+
+    /// How many branches lie on the longest way down: at most twice the number of binary digits of its count
+    /// of entries, so 0 where it has none.
+    pub fn depth(&self) -> usize
+        ensures shallow { IsShallow result (length self.now) }
+
+        // No tree of fewer levels has room for its entries.
+        ensures deep { length self.now < 2 ^ result }
+    {
+        self.tree.height()
+    }
+}
+
+// Takes the tree out, to be changed: it leaves an empty one. A count of 64 bits keeps the tree low.
+fn take<A: Allocator>(tree: &mut Tree<A>) -> Tree<A>
+    requires { length tree.old.entries < 2 ^ 64 }
+    ensures whole { result ≡ tree.old }
+    ensures low { result.height ≤ 128 }
+{
+    let height = tree.height();
+    prove!(height <= 128);
+    mem::replace(tree, Tree::new())
+}
+
+impl IntervalIndex for TreeIndex {
+    ghost entries = { λ t. t };
+
+    fn new(memory: Memory) -> Self {
+        TreeIndex {
+            memory,
+            tree: Tree::new(),
+            count: 0,
+        }
+    }
+
+    fn add(&mut self, period: Period, id: Id) -> Result<(), Refusal> {
+        // No memory has room for so many branches.
+        if self.count == usize::MAX {
+            return Err(Refusal::OutOfMemory);
+        }
+        let entry = Box::new(self.memory, Branch::new(period, id))?;
+        let tree = take(&mut self.tree);
+        self.tree = insert(tree, entry);
+        self.count += 1;
+        Ok(())
+    }
+
+    fn remove(&mut self, period: Period, id: Id) -> bool {
+        if self.count == 0 {
+            return false;
+        }
+        let tree = take(&mut self.tree);
+        let Removed { tree, found } = remove(tree, period, id);
+        self.tree = tree;
+        if found {
+            self.count -= 1;
+        }
+        found
+    }
+
+    fn stab(&self, point: i64) -> Result<Vec<Id, Memory>, Refusal> {
+        let mut found = Vec::new(self.memory);
+        stab(&self.tree, point, &mut found)?;
+        Ok(found)
+    }
+
+    fn overlapping(&self, period: Period) -> Result<Vec<Id, Memory>, Refusal> {
+        let mut found = Vec::new(self.memory);
+        overlapping(&self.tree, period, &mut found)?;
+        Ok(found)
+    }
+}

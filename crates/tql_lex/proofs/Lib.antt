@@ -1,0 +1,7 @@
+pub mod CuttingLemmas
+pub mod QuoteLemmas
+pub mod GapLemmas
+pub mod TokensLemmas
+pub mod EdgeLemmas
+pub mod PlaceLemmas
+pub mod WordLemmas

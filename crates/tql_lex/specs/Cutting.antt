@@ -1,0 +1,50 @@
+-- Where the pieces of a script are cut.
+use Rattle.std.specs.Prelude.{◌≡◌, ℕ, ◌==◌, ◌&&◌, Bool, true, false, suc, List, [], ◌∷◌, ◌++◌, Option, Some, None, if◌then◌else◌}
+use Rattle.tql_spec.specs.Script as script
+use Rattle.tql_spec.specs.Script.{statements, place_after, can_end}
+use Rattle.tql_lex.specs.declared.places.Place as code
+use Rattle.tql_lex.specs.declared.places.Place.TheVariants as c
+use Rattle.tql_lex.specs.declared.scan.Found.{Found}
+
+-- the place that a value of the code stands for
+abbrev pub place_of : code.Place → script.Place
+place_of c.Outside = script.Outside
+place_of c.AfterDash = script.AfterDash
+place_of c.InText = script.InText
+place_of c.InName = script.InName
+place_of c.InComment = script.InComment
+
+abbrev pub one_more : Option ℕ → Option ℕ
+one_more None = None
+one_more (Some n) = Some (suc n)
+
+-- how many bytes stand before the first `;` that ends a piece
+abbrev pub end_from : script.Place → List ℕ → Option ℕ
+end_from p [] = None
+end_from p (b ∷ bs) = if (b == 59) && can_end p then Some 0 else one_more (end_from (place_after p b) bs)
+
+abbrev pub finished_piece : List ℕ → script.Piece
+finished_piece text = record { text = text; finished = true }
+
+abbrev pub unfinished_piece : List ℕ → script.Piece
+unfinished_piece text = record { text = text; finished = false }
+
+-- these bytes begin with a statement, and go on with the rest
+pub record BeginsWith (bytes text rest : List ℕ) : Type 0 where
+  pub used : List ℕ
+  pub parts : bytes ≡ used ++ rest
+  pub given : (more : List ℕ) → statements (bytes ++ more) ≡ finished_piece text ∷ statements (rest ++ more)
+
+-- these bytes hold one statement that no `;` ends
+pub record HoldsUnfinished (bytes text rest : List ℕ) : Type 0 where
+  pub at_end : rest ≡ []
+  pub given : statements bytes ≡ unfinished_piece text ∷ []
+
+abbrev pub Begins : Bool → List ℕ → List ℕ → List ℕ → Type 0
+Begins true = BeginsWith
+Begins false = HoldsUnfinished
+
+-- the first statement of these bytes
+abbrev pub IsFirst : List ℕ → Option Found → Type 0
+IsFirst bytes None = statements bytes ≡ []
+IsFirst bytes (Some f) = Begins f.finished bytes f.text.now f.rest.now

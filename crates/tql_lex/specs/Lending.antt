@@ -1,0 +1,11 @@
+-- What a splitter is once the piece that it gave is no longer borrowed.
+use Rattle.std.specs.Prelude.{Option}
+use Rattle.std.specs.Borrow.{Fml, MutBor}
+use Rattle.std.specs.Io.BufRead.{Rests}
+use Rattle.tql_lex.specs.Stream.{Stream}
+use Rattle.tql_lex.specs.Pieces.{Gives}
+use Rattle.tql_lex.specs.declared.splitter.Piece.{Piece}
+use Rattle.tql_lex.specs.contracts.splitter.Splitter.{the_row}
+
+abbrev pub EndsAs : MutBor Stream → Option Piece → Fml
+EndsAs s result = Rests the_row s (Gives s.now result)

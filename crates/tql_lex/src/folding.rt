@@ -1,0 +1,76 @@
+//! Words in upper case, and quotes taken off.
+ghost use Rattle.std.specs.Prelude.{◌≡◌, ◌<◌, map, false, IfOk, IfErr, string_bytes};
+ghost use Rattle.tql_spec.specs.Token as token;
+ghost use Rattle.tql_spec.specs.FirstToken as spec;
+ghost use Rattle.tql_spec.specs.Words.{same_text};
+
+use tql_memory::Memory;
+use tql_value::refusal::Refusal;
+
+/// A letter in upper case, any other byte as it is.
+fn upper(byte: u8) -> u8
+    ensures { result ≡ token.upper byte }
+{
+    if b'a' <= byte && byte <= b'z' {
+        byte - 32
+    } else {
+        byte
+    }
+}
+
+/// Whether bytes are these in upper case.
+#[tactic(auto, using(crate::proofs::WordLemmas::same_bytes))]
+pub fn is_folded(bytes: &[u8], wanted: &[u8]) -> bool
+    ensures { result ≡ same_text (map token.upper bytes.now) wanted.now }
+{
+    let mut left = bytes;
+    let mut others = wanted;
+    while let [byte, behind @ ..] = left {
+        match others {
+            [other, more @ ..] if upper(*byte) == *other => others = more,
+            _ => return false,
+        }
+        left = behind;
+    }
+    others.is_empty()
+}
+
+/// A word in upper case.
+pub fn folded(memory: Memory, word: &str) -> Result<String<Memory>, Refusal>
+    ensures value { IfOk result (λ s. string_bytes s ≡ map token.upper word.now) }
+    ensures reason { IfErr result (λ e. e ≡ Refusal.OutOfMemory) }
+{
+    let mut folded = String::from_str(memory, word)?;
+    folded.make_ascii_uppercase();
+    Ok(folded)
+}
+
+/// A text without this quote at its front.
+fn without_quote(quote: char, text: &str) -> &str
+    requires { quote < 128 }
+    ensures { result.now ≡ spec.without_quote quote text.now }
+{
+    match text.strip_prefix(quote) {
+        Some(rest) => rest,
+        None => text,
+    }
+}
+
+/// What stands in these quotes, each doubled quote once.
+pub fn unquoted(memory: Memory, quote: char, text: &str) -> Result<String<Memory>, Refusal>
+    requires { quote < 128 }
+    ensures value { IfOk result (λ s. string_bytes s ≡ spec.content quote text.now) }
+    ensures reason { IfErr result (λ e. e ≡ Refusal.OutOfMemory) }
+{
+    let mut content = String::new(memory);
+    let mut rest = without_quote(quote, text);
+    while let Some((before, behind)) = rest.split_once(quote) {
+        content.push_str(before)?;
+        rest = without_quote(quote, behind);
+        if rest.len() < behind.len() {
+            content.push(quote)?;
+        }
+    }
+    content.push_str(rest)?;
+    Ok(content)
+}

@@ -1,0 +1,68 @@
+//! The tokens of a text.
+ghost use Rattle.std.specs.Prelude.{◌≡◌, ◌⊎◌, ◌≤◌, List, IfOk, IfErr, length, map};
+ghost use Rattle.tql_spec.specs.Token as token;
+ghost use Rattle.tql_spec.specs.Token.{AreTokens};
+ghost use Rattle.tql_lex.specs.Tokens.{AreInPlace, token_of};
+ghost use Rattle.tql_lex.specs.Reading.{IsNextStart, IsTokenAt};
+
+use crate::extent::first_token;
+use crate::scan::without_lead;
+use crate::token::Token;
+use tql_memory::Memory;
+use tql_value::refusal::Refusal;
+
+/// Where the first byte from here on stands that is neither a blank nor in a comment.
+fn next_start(text: &str, from: usize) -> Option<usize>
+    requires { from ≤ length text.now }
+    ensures { IsNextStart text.now from result }
+{
+    let bytes = text.as_bytes();
+    let (_, left) = bytes.split_at(from);
+    let rest = without_lead(left);
+    if rest.is_empty() {
+        return None;
+    }
+    Some(bytes.len() - rest.len())
+}
+
+/// The token that starts here.
+fn token_at(text: &str, start: usize) -> Option<Token<'_>>
+    requires { start ≤ length text.now }
+    ensures { IsTokenAt text.now start result }
+{
+    let (_, left) = text.as_bytes().split_at(start);
+    let extent = first_token(left)?;
+    let end = start + extent.length;
+    Some(Token {
+        kind: extent.kind,
+        text: &text[start..end],
+        start,
+    })
+}
+
+/// The tokens of a statement's text: words, quoted names, numbers, texts and symbols, each as long as it can be.
+/// Blanks and comments part tokens (ISO/IEC 9075-2:2011, 5.2; the symbols are this project's choice).
+/// A text that is not all tokens is refused as not a statement.
+pub fn tokens(memory: Memory, text: &str) -> Result<Vec<Token<'_>, Memory>, Refusal>
+    ensures tokens { IfOk result (λ ts. AreTokens (map token_of ts.items) text.now) }
+    ensures places { IfOk result (λ ts. AreInPlace 0 ts.items text.now) }
+
+    // The text is not all tokens, or memory ran out.
+    ensures refused { IfErr result (λ e. e ≡ Refusal.NotAStatement
+        → (ts : List token.Token) → AreTokens ts text.now → ⊥) }
+    ensures reasons { IfErr result (λ e. (e ≡ Refusal.NotAStatement) ⊎ (e ≡ Refusal.OutOfMemory)) }
+{
+    let mut found = Vec::new(memory);
+    let mut end = 0;
+    while let Some(start) = next_start(text, end) {
+        let Some(token) = token_at(text, start) else {
+            return Err(Refusal::NotAStatement);
+        };
+        end = start + token.text.len();
+        found.push(token)?;
+    }
+    Ok(found)
+}
+
+#[cfg(test)]
+mod tests;

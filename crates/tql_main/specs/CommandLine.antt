@@ -1,0 +1,45 @@
+-- The command line of the program.
+use Rattle.std.specs.Prelude.{◌≡◌, ◌⊎◌, ◌==◌, Bool, true, not, List, [], ◌∷◌, Option, Some, None, codes, option_map, Result, MatchResult, IsErrAnd}
+use Rattle.clap.specs.Words.{App, Text, first_of, fault_of, kind_of, matches_of, new_app, new_rule, with_rule}
+use Rattle.clap.specs.Kinds.{Kinds}
+use Rattle.clap.specs.declared.error.Error.{Error}
+use Rattle.clap.specs.declared.error.kind.ErrorKind.{ErrorKind}
+use Rattle.clap.specs.declared.error.kind.ErrorKind.TheVariants as kind
+use Rattle.tql_main.specs.declared.options.CommandLine.{CommandLine}
+
+-- `tql [SCRIPT]`
+abbrev pub tql_line : App
+tql_line = with_rule (new_app (codes "tql")) (new_rule (codes "SCRIPT"))
+
+-- the word that names the script
+abbrev pub script_in : List Text → Option Text
+script_in words = first_of (codes "SCRIPT") (matches_of tql_line words)
+
+-- what is wrong with the words, or asked for in place of a run; nothing where they are taken
+abbrev pub faults_in : List Text → Kinds
+faults_in words = fault_of tql_line words
+
+-- whether a word begins with no dash
+abbrev pub is_plain_word : Text → Bool
+is_plain_word [] = true
+is_plain_word (x ∷ rest) = not (x == 45)
+
+-- the line is taken and names this script, unless memory runs out
+abbrev pub TakesScript : Option Text → Result CommandLine Error → Type 0
+TakesScript script r = MatchResult r (λ line. option_map (λ s. s.now) line.script ≡ script) (λ e. kind_of e ≡ kind.OutOfMemory)
+
+-- the line is refused for this reason, unless memory runs out
+abbrev pub RefusesLine : ErrorKind → Result CommandLine Error → Type 0
+RefusesLine k r = IsErrAnd r (λ e. (kind_of e ≡ kind.OutOfMemory) ⊎ (kind_of e ≡ k))
+
+-- what lines of the plain forms give; the first word is the program's name
+pub record ReadsLine (words : List Text) (r : Result CommandLine Error) : Type 0 where
+  -- no script, so the standard input
+  pub alone : (name : Text) → words ≡ name ∷ [] → TakesScript None r
+  -- a script
+  pub named : (name script : Text) → words ≡ name ∷ script ∷ [] → is_plain_word script ≡ true → TakesScript (Some script) r
+  -- a word too many
+  pub several : (name script more : Text) → words ≡ name ∷ script ∷ more ∷ [] → is_plain_word script ≡ true → is_plain_word more ≡ true
+      → RefusesLine kind.UnknownArgument r
+  -- help
+  pub help : (name : Text) → words ≡ name ∷ codes "--help" ∷ [] → RefusesLine kind.DisplayHelp r

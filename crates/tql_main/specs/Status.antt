@@ -1,0 +1,19 @@
+-- The exit status.
+use Rattle.std.specs.Prelude.{◌≡◌, ◌≢◌, ℕ, Result, MatchResult}
+use Rattle.tql_engine.specs.declared.run.Summary.{Summary}
+use Rattle.tql_engine.specs.declared.run.Fault.{Fault}
+use Rattle.clap.specs.declared.error.kind.ErrorKind.{ErrorKind}
+use Rattle.clap.specs.declared.error.kind.ErrorKind.TheVariants as kind
+
+-- the status after a run: 0 where nothing was refused, 1 where something was, 3 where the run stopped
+abbrev pub IsExitStatus : Result Summary Fault → ℕ → Type 0
+IsExitStatus r status = MatchResult r
+    (λ summary. (summary.refused ≡ 0 → status ≡ 0) × (summary.refused ≢ 0 → status ≡ 1))
+    (λ _. status ≡ 3)
+
+-- the status of a command line that starts no run: 0 after help, 3 where memory ran out, 2 where it is wrong
+abbrev pub status_of_line : ErrorKind → ℕ
+status_of_line kind.DisplayHelp = 0
+status_of_line kind.DisplayVersion = 0
+status_of_line kind.OutOfMemory = 3
+status_of_line _ = 2

@@ -1,0 +1,62 @@
+-- The reply and the table that a code value stands for, and which of them can be printed.
+use Rattle.std.specs.Prelude.{List, All, map, string_bytes}
+use Rattle.tql_spec.specs.Datum.{Datum, Null, Int, Text, Day, Moment, Row}
+use Rattle.tql_spec.specs.Definition.{Name}
+use Rattle.tql_spec.specs.Machine as spec
+use Rattle.tql_value.specs.Views.{datum_of_value}
+use Rattle.tql_value.specs.Refusals.{refusal_of}
+use Rattle.tql_value.specs.declared.value.Value.{Value}
+use Rattle.tql_value.specs.declared.value.Rows.{Rows}
+use Rattle.tql_value.specs.Points.{IsDay, IsMoment}
+use Rattle.tql_result.specs.declared.reply.Verb.{Verb}
+use Rattle.tql_result.specs.declared.reply.Verb.TheVariants as verb
+use Rattle.tql_result.specs.declared.reply.Reply.{Reply}
+use Rattle.tql_result.specs.declared.reply.Reply.TheVariants as reply
+
+-- the word among the definitions' words
+abbrev pub plain_verb : Verb → spec.Verb
+plain_verb verb.CreatedTable = spec.CreatedTable
+plain_verb verb.DroppedTable = spec.DroppedTable
+plain_verb verb.Inserted = spec.Inserted
+plain_verb verb.Updated = spec.Updated
+plain_verb verb.Deleted = spec.Deleted
+plain_verb verb.Started = spec.Started
+plain_verb verb.Committed = spec.Committed
+plain_verb verb.RolledBack = spec.RolledBack
+plain_verb verb.ClockSet = spec.ClockSet
+
+-- the data of a row
+abbrev pub row_of : List Value → Row
+row_of values = map datum_of_value values
+
+-- the data of a table's rows
+abbrev pub rows_of : Rows → List Row
+rows_of t = map (λ r. row_of r.items) t.rows.items
+
+-- the names that a table is headed by
+abbrev pub headings_of : Rows → List Name
+headings_of t = map string_bytes t.headings.items
+
+-- the reply among the definitions' replies
+abbrev pub reply_of : Reply → spec.Reply
+reply_of (reply.Done v n) = spec.Done (plain_verb v) n
+reply_of (reply.Table t) = spec.Table (headings_of t) (rows_of t)
+reply_of (reply.Refused e) = spec.Refused (refusal_of e)
+
+-- a value that has a text: a day or a moment that the calendar has, and any other value
+abbrev pub IsPrintable : Datum → Type 0
+IsPrintable Null = Unit {0}
+IsPrintable (Int n) = Unit {0}
+IsPrintable (Text t) = Unit {0}
+IsPrintable (Day d) = IsDay d
+IsPrintable (Moment m) = IsMoment m
+
+-- rows of such values
+abbrev pub ArePrintable : List Row → Type 0
+ArePrintable rows = All (All IsPrintable) rows
+
+-- a reply of such rows
+abbrev pub IsPrintableReply : spec.Reply → Type 0
+IsPrintableReply (spec.Done v n) = Unit {0}
+IsPrintableReply (spec.Table headings rows) = ArePrintable rows
+IsPrintableReply (spec.Refused e) = Unit {0}

@@ -1,0 +1,21 @@
+ghost use Rattle.tql_result.specs.Devices.{Pushes};
+
+use crate::device::DeviceFault;
+use crate::sink::Sink;
+
+/// Pushes all bytes, in as many pushes as the sink asks for. A push that takes none of some bytes is a
+/// failure; a beginning of the bytes was pushed then.
+pub fn push_all<S: Sink>(sink: &mut S, bytes: &[u8]) -> Result<(), DeviceFault>
+    ensures { Pushes bytes.now result
+        (S.written sink.old) (S.written sink.new) (S.failures sink.old) (S.failures sink.new) }
+{
+    let mut rest = bytes;
+    while !rest.is_empty() {
+        let taken = sink.push(rest)?;
+        if taken == 0 {
+            return Err(DeviceFault);
+        }
+        rest = &rest[taken..];
+    }
+    Ok(())
+}

@@ -1,0 +1,47 @@
+ghost use Rattle.std.specs.Prelude.{◌<◌};
+ghost use Rattle.tql_spec.specs.Datum.{Day, Moment};
+ghost use Rattle.tql_spec.specs.Text.{cell_text, fraction_text};
+ghost use Rattle.tql_value.specs.Points.{IsDay, IsMoment};
+ghost use Rattle.tql_result.specs.Devices.{Pushes};
+
+use crate::device::DeviceFault;
+use crate::number::{clock_bytes, date_bytes, fraction_bytes};
+use crate::pieces::push_all;
+use crate::sink::Sink;
+use tql_value::calendar::{day_parts, moment_parts};
+
+/// Pushes a day, given in days since 1970-01-01, as `YYYY-MM-DD`.
+pub fn push_day<S: Sink>(sink: &mut S, day: i64) -> Result<(), DeviceFault>
+    requires { IsDay day }
+    ensures { Pushes (cell_text (Day day)) result
+        (S.written sink.old) (S.written sink.new) (S.failures sink.old) (S.failures sink.new) }
+{
+    let parts = day_parts(day);
+    push_all(sink, &date_bytes(parts.year, parts.month, parts.day))
+}
+
+/// Pushes a point and six digits, where the microseconds of the second are not zero.
+fn push_fraction<S: Sink>(sink: &mut S, micros: u32) -> Result<(), DeviceFault>
+    requires { micros < 1000000 }
+    ensures { Pushes (fraction_text micros) result
+        (S.written sink.old) (S.written sink.new) (S.failures sink.old) (S.failures sink.new) }
+{
+    if micros == 0 {
+        Ok(())
+    } else {
+        push_all(sink, &fraction_bytes(micros))
+    }
+}
+
+/// Pushes a moment, given in microseconds since 1970-01-01 00:00:00, as `YYYY-MM-DD HH:MM:SS` with
+/// its fraction, if it has one.
+pub fn push_moment<S: Sink>(sink: &mut S, moment: i64) -> Result<(), DeviceFault>
+    requires { IsMoment moment }
+    ensures { Pushes (cell_text (Moment moment)) result
+        (S.written sink.old) (S.written sink.new) (S.failures sink.old) (S.failures sink.new) }
+{
+    let parts = moment_parts(moment);
+    push_all(sink, &date_bytes(parts.year, parts.month, parts.day))?;
+    push_all(sink, &clock_bytes(parts.hour, parts.minute, parts.second))?;
+    push_fraction(sink, parts.microsecond)
+}

@@ -1,0 +1,32 @@
+ghost use Rattle.std.specs.Prelude.{◌≡◌, ◌≤◌, ℕ, List, [], Option, length, take, IfOk, OnErr, is_err};
+ghost use Rattle.tql_result.specs.Devices.{Appends, Counts, is_failed_push};
+
+use crate::device::DeviceFault;
+
+/// What takes bytes. It counts its failures, so that a run can say that no failure came from elsewhere.
+pub trait Sink {
+    /// The bytes that it holds; a sink that does not tell them claims nothing of them.
+    ghost written: { Self → Option (List ℕ) };
+
+    /// How many failures it has counted.
+    ghost failures: { Self → ℕ };
+
+    /// Takes bytes from the front on, and answers how many. To take none of some bytes is a failure, and
+    /// so is an error, which takes none.
+    fn push(&mut self, bytes: &[u8]) -> Result<usize, DeviceFault>
+        ensures within { IfOk result (λ n. n ≤ length bytes.now) }
+        ensures taken { IfOk result
+            (λ n. Appends (written self.old) (take n bytes.now) (written self.new)) }
+        ensures kept { OnErr result (Appends (written self.old) [] (written self.new)) }
+        ensures counted { Counts (is_failed_push result (length bytes.now))
+            (failures self.old) (failures self.new) };
+
+    /// Passes on what the sink may have kept back.
+    fn flush(&mut self) -> Result<(), DeviceFault>
+        ensures kept { Appends (written self.old) [] (written self.new) }
+        ensures counted { Counts (is_err result) (failures self.old) (failures self.new) };
+
+    /// How many pushes and flushes have failed; the count stays at 2^64 - 1.
+    fn faults(&self) -> u64
+        ensures { result ≡ failures self.now };
+}

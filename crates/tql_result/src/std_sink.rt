@@ -1,0 +1,70 @@
+ghost use Rattle.std.specs.Prelude.{◌≡◌};
+ghost use Rattle.tql_result.specs.Devices.{HasFailed};
+
+use crate::device::DeviceFault;
+use crate::sink::Sink;
+use std::io::Write;
+
+/// A sink over a writer of the standard library. A write that fails, or takes none of some bytes, and a
+/// flush that fails are counted.
+#[derive(Drop)]
+pub struct StdSink<W> {
+    writer: W,
+    failures: u64,
+}
+
+impl<W: Write + Drop> StdSink<W> {
+    /// A sink that has counted no failure.
+    pub fn new(writer: W) -> StdSink<W>
+        ensures written { ⟦<StdSink<W> as Sink>⟧.written result ≡ W.contents writer }
+        ensures failures { ⟦<StdSink<W> as Sink>⟧.failures result ≡ 0 }
+    {
+        StdSink {
+            writer,
+            failures: 0,
+        }
+    }
+
+    /// The writer, which holds what the sink was given and has not passed on.
+    pub fn into_writer(self) -> W
+        ensures { W.contents result ≡ ⟦<StdSink<W> as Sink>⟧.written self }
+    {
+        self.writer
+    }
+
+    fn fail(&mut self) -> DeviceFault
+        ensures writer { self.new.writer ≡ self.old.writer }
+        ensures failures { HasFailed self.old.failures self.new.failures }
+    {
+        self.failures = self.failures.saturating_add(1);
+        DeviceFault
+    }
+}
+
+impl<W: Write + Drop> Sink for StdSink<W> {
+    ghost written = { λ s. W.contents s.writer };
+
+    ghost failures = { λ s. s.failures };
+
+    fn push(&mut self, bytes: &[u8]) -> Result<usize, DeviceFault> {
+        match self.writer.write(bytes) {
+            Ok(0) if !bytes.is_empty() => {
+                self.fail();
+                Ok(0)
+            }
+            Ok(taken) => Ok(taken),
+            Err(_) => Err(self.fail()),
+        }
+    }
+
+    fn flush(&mut self) -> Result<(), DeviceFault> {
+        if self.writer.flush().is_err() {
+            return Err(self.fail());
+        }
+        Ok(())
+    }
+
+    fn faults(&self) -> u64 {
+        self.failures
+    }
+}

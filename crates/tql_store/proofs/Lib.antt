@@ -1,0 +1,13 @@
+pub mod Readings
+pub mod Ranges
+pub mod Begin
+pub mod Apply
+pub mod Prune
+pub mod Laws
+pub mod SlotLaws
+pub mod StoreLaws
+pub mod TableLaws
+pub mod SlotLemmas
+pub mod Places
+pub mod Named
+pub mod Judging

@@ -1,0 +1,142 @@
+-- A store stands for the copies through a new table and a dropped one.
+use Rattle.std.proofs.Common.{◌≡◌, ℕ, Bool, true, false, List, [], ◌∷◌, arith, inl, inr, refl, sym, ap, subst, ◌∙◌}
+use Rattle.std.specs.Prelude.{ℤ, ◌<ℤ◌, nat_eq, if◌then◌else◌, Option, Some, None}
+use Rattle.std.proofs.lemmas.Bool.Decides.{nat_tests}
+use Rattle.std.proofs.lemmas.Int.{ints}
+use Rattle.tql_spec.proofs.Members.{by_bool}
+use Rattle.tql_spec.proofs.Bags.{same-trans}
+use Rattle.tql_spec.specs.Bag.{SameBag}
+use Rattle.tql_spec.specs.Calendar.{high}
+use Rattle.tql_spec.specs.Definition.{Stamped, Version}
+use Rattle.tql_spec.specs.History.{TableEntry, still}
+use Rattle.tql_store.proofs.Laws.{stands-from}
+use Rattle.tql_store.proofs.SlotLaws.{live-dropped, live-without}
+use Rattle.tql_store.proofs.StoreLaws.{at_rest, no_horizon}
+use Rattle.tql_store.specs.Changes.{newest, emptied}
+use Rattle.tql_store.specs.Represents.{Copies, Working, horizon_of, StandsWith, Represents, Takes, AddsTable, AddKeepsCopies, copies_without, DropEmpties}
+use Rattle.tql_store.specs.Slots.{Held, place_of, place_for, is_brief, live, without}
+use Rattle.tql_store.specs.Stands.{Under, Told, StandsFor}
+use Rattle.tql_store.specs.declared.tables.Place.{Place}
+use Rattle.tql_store.specs.declared.tables.Place.TheVariants.{Free}
+
+decided : (u t : ℕ) → nat_eq u t ≡ true → u ≡ t
+decided u t e = grind (arith, nat_tests)
+
+-- ---- a new table
+
+-- the newest copy lies below where the copies end
+newest-under : (horizon : Option ℤ) (rows : List Stamped) (ends : Stamped → ℤ) (until : ℤ) (entries : List TableEntry) → Told horizon rows ends until entries → Under (newest entries) until
+newest-under horizon rows ends until [] told = tt
+newest-under horizon rows ends until (e ∷ older) told = told.0
+
+under_more : (last : Option ℤ) (m n : ℤ) → Under last m → m <ℤ n → Under last n
+under_more None m n u h = tt
+under_more (Some l) m n u h = omega (arith, ints)
+
+-- what stands for all copies does so from the last commit on
+from_last : (last o : Option ℤ) (versions : List Version) (entries : List TableEntry) (rows : List Stamped) → newest entries ≡ last → StandsWith None o versions entries rows → StandsWith last o versions entries rows
+from_last last None versions entries rows e s = stands-from last versions entries (subst (λ (g : Option ℤ). Under g high) e (newest-under None s.rows s.ends high entries s.told)) s
+from_last last (Some m) versions entries rows e s =
+    let early : Under last m = subst (λ (g : Option ℤ). Under g m) e (newest-under None s.now.rows s.now.ends m entries s.now.told.1.1) in
+    let top : Under last high = under_more last m high early s.below in
+    record { since = early; below = s.below; now = stands-from last versions _ top s.now; before = stands-from last _ entries top s.before }
+
+-- a table that is versioned or not
+from_either : (b : Bool) (last o : Option ℤ) (versions : List Version) (entries : List TableEntry) (rows : List Stamped) → newest entries ≡ last → StandsWith None o versions entries rows → StandsWith (if b then last else None) o versions entries rows
+from_either true last o versions entries rows e s = from_last last o versions entries rows e s
+from_either false last o versions entries rows e s = s
+
+horizon_at : (t : ℕ) (p : Place) (old new : List Place) (last : Option ℤ) (u : ℕ) → Takes t p old new → (b : Bool) → nat_eq u t ≡ b → horizon_of new last u ≡ (if is_brief (if b then p else place_of old u) then last else None)
+horizon_at t p old new last u takes b e = ap (λ (q : Place). if is_brief q then last else None) (takes.places u ∙ ap (λ (c : Bool). if c then p else place_of old u) e)
+
+pub add-keeps : (versioned : Bool) (t : ℕ) (old new : Held) → AddsTable versioned t old new → AddKeepsCopies old new
+add-keeps versioned t old new a = λ copies working r. subst (λ (h : Held). Represents h copies working) (sym a.rest) (record {
+  dated = r.dated;
+  stands = λ u. by_bool (nat_eq u t)
+      (λ same. subst (λ (g : Option ℤ). StandsWith g old.working (live u old.slots) (copies u) (working u)) (sym (horizon_at t (place_for versioned) old.tables new.tables old.last u a.takes true same))
+      (from_either (is_brief (place_for versioned)) old.last old.working (live u old.slots) (copies u) (working u) (r.dated u)
+      (subst (λ (g : Option ℤ). StandsWith g old.working (live u old.slots) (copies u) (working u))
+      (no_horizon old.tables old.last u (ap is_brief (ap (place_of old.tables) (decided u t same) ∙ a.free))) (r.stands u))))
+      (λ other. subst (λ (g : Option ℤ). StandsWith g old.working (live u old.slots) (copies u) (working u)) (sym (horizon_at t (place_for versioned) old.tables new.tables old.last u a.takes false other)) (r.stands u));
+})
+
+-- ---- a dropped table
+
+newest-emptied : (entries : List TableEntry) → newest (emptied entries) ≡ newest entries
+newest-emptied [] = refl
+newest-emptied (e ∷ older) = refl
+
+told-emptied : (horizon : Option ℤ) (rows : List Stamped) (ends : Stamped → ℤ) (until : ℤ) (entries : List TableEntry) → Told horizon rows ends until entries → Told None [] still until (emptied entries)
+told-emptied horizon rows ends until [] told = inr (λ r m. absurd m)
+told-emptied horizon rows ends until (e ∷ older) told = (
+  told.0,
+  (
+    inr (record { copy = record { totals = λ w. refl }; starts = λ r m. absurd m; stops = λ r m. absurd m }),
+    told-emptied horizon rows ends e.moment older told.1.1,
+  ),
+)
+
+-- no version stands for copies without rows
+emptied-stands : (horizon : Option ℤ) (versions : List Version) (entries : List TableEntry) → StandsFor horizon versions entries → StandsFor None [] (emptied entries)
+emptied-stands horizon versions entries s = record {
+  rows = [];
+  ends = still;
+  top = tt;
+  made = record { totals = λ w. refl };
+  proper = λ r m. absurd m;
+  told = told-emptied horizon s.rows s.ends high entries s.told;
+}
+
+pub drop-empties : (t : ℕ) (old new : Held) → old.working ≡ None → Takes t Free old.tables new.tables → new ≡ record old { tables = new.tables; slots = without t old.slots } → DropEmpties t old new
+drop-empties t old new closed takes e = λ copies working r. subst (λ (h : Held). Represents h (copies_without t copies) working) (sym e) (record {
+  dated = λ u. dated (nat_eq u t) (copies u) ∙ r.dated u;
+  stands = λ u. subst (λ (o : Option ℤ). StandsWith (horizon_of new.tables old.last u) o (live u (without t old.slots)) (copies_without t copies u) (working u)) (sym closed)
+      (by_bool (nat_eq u t)
+      (λ same. gone copies u same (at_rest old copies working closed r u))
+      (λ other. stays copies u other (at_rest old copies working closed r u)));
+})
+  where
+    dated : (b : Bool) (entries : List TableEntry) → newest (if b then emptied entries else entries) ≡ newest entries
+    dated true entries = newest-emptied entries
+    dated false entries = refl
+
+    gone : (copies : Copies) (u : ℕ) → nat_eq u t ≡ true → StandsFor (horizon_of old.tables old.last u) (live u old.slots) (copies u) → StandsFor (horizon_of new.tables old.last u) (live u (without t old.slots)) (copies_without t copies u)
+    gone copies u same s =
+        rw (same, horizon_at t Free old.tables new.tables old.last u takes true same, ap (λ (n : ℕ). live n (without t old.slots)) (decided u t same) ∙ live-dropped t old.slots)
+        (emptied-stands _ (live u old.slots) (copies u) s)
+
+    stays : (copies : Copies) (u : ℕ) → nat_eq u t ≡ false → StandsFor (horizon_of old.tables old.last u) (live u old.slots) (copies u) → StandsFor (horizon_of new.tables old.last u) (live u (without t old.slots)) (copies_without t copies u)
+    stays copies u other s = rw (other, horizon_at t Free old.tables new.tables old.last u takes false other, live-without t u old.slots other) s
+
+-- ---- copies and working copies that are one
+
+same_first : {horizon : Option ℤ} {versions : List Version} (m : ℤ) (rows others : List Stamped) (older : List TableEntry) → SameBag others rows → StandsFor horizon versions (record { moment = m; rows = rows } ∷ older) → StandsFor horizon versions (record { moment = m; rows = others } ∷ older)
+same_first m rows others older h s = record {
+  rows = s.rows;
+  ends = s.ends;
+  top = s.top;
+  made = s.made;
+  proper = s.proper;
+  told = (
+    s.told.0,
+    (
+      elim (s.told.1.0) [
+        | inl past ↦ inl past
+        | inr f ↦ inr (record { copy = same-trans h f.copy; starts = f.starts; stops = f.stops })
+      ],
+      s.told.1.1,
+    ),
+  );
+}
+
+same_with : (horizon o : Option ℤ) (versions : List Version) (entries : List TableEntry) (rows others : List Stamped) → SameBag others rows → StandsWith horizon o versions entries rows → StandsWith horizon o versions entries others
+same_with horizon None versions entries rows others h s = s
+same_with horizon (Some m) versions entries rows others h s = record { since = s.since; below = s.below; now = same_first m rows others entries h s.now; before = s.before }
+
+-- a store stands for copies also where they are given in another way, and for working rows in another order
+pub represents-same : (h : Held) (copies others : Copies) (working changed : Working) → ((t : ℕ) → copies t ≡ others t) → ((t : ℕ) → SameBag (changed t) (working t)) → Represents h copies working → Represents h others changed
+represents-same h copies others working changed same bags r = record {
+  dated = λ t. ap newest (sym (same t)) ∙ r.dated t;
+  stands = λ t. subst (λ (entries : List TableEntry). StandsWith (horizon_of h.tables h.last t) h.working (live t h.slots) entries (changed t)) (same t)
+      (same_with _ h.working (live t h.slots) (copies t) (working t) (changed t) (bags t) (r.stands t));
+}

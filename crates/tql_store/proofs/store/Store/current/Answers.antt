@@ -1,0 +1,10 @@
+use Rattle.std.proofs.Common.{rules, arith}
+use Rattle.std.proofs.lemmas.Grind.{common_steps}
+use Rattle.tql_store.proofs.StoreLaws.{answers-now}
+use Rattle.tql_store.proofs.store.Store.current.Goals as goal
+
+pub returns-clause-slots : goal.returns-clause-slots
+returns-clause-slots c = first_of (search rules, grind (arith, common_steps))
+
+pub returns-clause-copies : goal.returns-clause-copies
+returns-clause-copies c = answers-now c.args.self.now c.args.table _ (returns-clause-slots c)

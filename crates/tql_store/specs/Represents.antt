@@ -1,0 +1,119 @@
+-- A store stands for the copies of the machine that copies each table at each commit.
+use Rattle.std.specs.Prelude.{◌≡◌, ℕ, ◌+◌, Bool, false, ◌&&◌, ◌||◌, List, [], ◌∷◌, ℤ, nat_eq, slice_get, Option, Some, None, if◌then◌else◌}
+use Rattle.tql_spec.specs.Bag.{SameBag}
+use Rattle.tql_spec.specs.Datum.{Datum}
+use Rattle.tql_spec.specs.Definition.{Stamped, Version}
+use Rattle.tql_spec.specs.History.{TableEntry, as_of, from_to, current}
+use Rattle.tql_store.specs.Stands.{StandsFor, is_current}
+use Rattle.tql_store.specs.Changes.{alive, rows_after, InTransaction, last_rows, newest, emptied}
+use Rattle.tql_store.specs.Slots.{Slot, Held, live, place_of, place_for, is_brief, table_count}
+use Rattle.tql_store.specs.declared.tables.Place.{Place}
+use Rattle.tql_store.specs.declared.tables.Place.TheVariants.{Free}
+
+-- ---- the relation
+
+-- the copies of each table that were committed, newest first; a number at which no table stands has copies without rows
+abbrev pub Copies : Type 0
+Copies = ℕ → List TableEntry
+
+-- a working copy: the rows of each table
+abbrev pub Working : Type 0
+Working = ℕ → List Stamped
+
+-- from where on the versions of a table are kept: all of them, or of an unversioned table what stands since the last commit
+abbrev pub horizon_of : List Place → Option ℤ → ℕ → Option ℤ
+horizon_of places last t = if is_brief (place_of places t) then last else None
+
+-- with no transaction open the versions of a table stand for its copies; else for these with the working one
+abbrev pub StandsWith : Option ℤ → Option ℤ → List Version → List TableEntry → List Stamped → Type 0
+StandsWith horizon None versions entries rows = StandsFor horizon versions entries
+StandsWith horizon (Some m) versions entries rows = InTransaction horizon versions (record { moment = m; rows = rows }) entries
+
+-- the store stands for these copies of each table, and, if a transaction is open, this working copy
+pub record Represents (h : Held) (copies : Copies) (working : Working) : Type 0 where
+  pub dated : (t : ℕ) → newest (copies t) ≡ h.last
+  pub stands : (t : ℕ) → StandsWith (horizon_of h.tables h.last t) h.working (live t h.slots) (copies t) (working t)
+
+-- ---- transactions
+
+-- what a beginning does: the working copy is the last one
+abbrev pub BeginCopies : Held → Held → Type 0
+BeginCopies old new = (copies : Copies) (working : Working) → Represents old copies working → Represents new copies (λ t. last_rows (copies t))
+
+-- the copies with a working one
+abbrev pub appended : ℤ → Working → Copies → Copies
+appended m working copies t = record { moment = m; rows = working t } ∷ copies t
+
+-- what a commit does to the copies
+abbrev pub CommitAppends : Held → Held → Type 0
+CommitAppends old new = (copies : Copies) (working : Working) (m : ℤ) → old.working ≡ Some m → Represents old copies working → Represents new (appended m working copies) working
+
+-- what a rollback gives back
+abbrev pub RollbackRestores : Held → Held → Type 0
+RollbackRestores old new = (copies : Copies) (working : Working) (m : ℤ) → old.working ≡ Some m → Represents old copies working → Represents new copies working
+
+-- ---- changes
+
+-- a place is listed
+abbrev pub listed : ℕ → List ℕ → Bool
+listed i [] = false
+listed i (j ∷ js) = nat_eq i j || listed i js
+
+-- the slots that a change of a table takes away, told by their rows
+abbrev pub taken : ℕ → (Stamped → Bool) → Slot → Bool
+taken t gone s = nat_eq s.table t && (alive s.version && (is_current s.version && gone s.version.row))
+
+-- the places listed are those of the slots that are taken away: what goes is told by the rows' values
+abbrev pub Judged : ℕ → (Stamped → Bool) → List ℕ → List Slot → Type 0
+Judged t gone removed slots = (i : ℕ) (s : Slot) → slice_get slots i ≡ Some s → listed i removed ≡ taken t gone s
+
+-- the working copy with other rows of one table
+abbrev pub with_rows : ℕ → List Stamped → Working → Working
+with_rows t rows working u = if nat_eq u t then rows else working u
+
+-- what a change does: of its table the rows that go are replaced by those that come
+abbrev pub ChangeReplaces : ℕ → List ℕ → List (List Datum) → Held → Held → Type 0
+ChangeReplaces t removed added old new = (copies : Copies) (working : Working) (m : ℤ) (gone : Stamped → Bool) → old.working ≡ Some m → Judged t gone removed old.slots → Represents old copies working
+    → Represents new copies (with_rows t (rows_after m gone added (working t)) working)
+
+-- ---- tables
+
+-- another place stands at a number, and nothing else is changed
+pub record Takes (t : ℕ) (place : Place) (old new : List Place) : Type 0 where
+  pub places : (u : ℕ) → place_of new u ≡ (if nat_eq u t then place else place_of old u)
+
+-- a new table is there, at a number where none was; no version, no transaction is touched
+pub record AddsTable (versioned : Bool) (t : ℕ) (old new : Held) : Type 0 where
+  pub free : place_of old.tables t ≡ Free
+  pub takes : Takes t (place_for versioned) old.tables new.tables
+  pub count : table_count new ≡ table_count old + 1
+  pub rest : new ≡ record old { tables = new.tables }
+
+-- the same copies: the new table has no row in any, as its number had none
+abbrev pub AddKeepsCopies : Held → Held → Type 0
+AddKeepsCopies old new = (copies : Copies) (working : Working) → Represents old copies working → Represents new copies working
+
+-- the copies without the rows of a table
+abbrev pub copies_without : ℕ → Copies → Copies
+copies_without t copies u = if nat_eq u t then emptied (copies u) else copies u
+
+-- what a drop does to the copies
+abbrev pub DropEmpties : ℕ → Held → Held → Type 0
+DropEmpties t old new = (copies : Copies) (working : Working) → Represents old copies working → Represents new (copies_without t copies) working
+
+-- ---- readings
+
+-- the copies that questions see: an open transaction counts as the last commit
+abbrev pub seen_by : Option ℤ → Copies → Working → Copies
+seen_by None copies working = copies
+seen_by (Some m) copies working = appended m working copies
+
+-- what a reading answers: what the definitions find in the copies
+abbrev pub AnswersAsOf : Held → ℕ → ℤ → List Version → Type 0
+AnswersAsOf h t m found = (copies : Copies) (working : Working) → Represents h copies working → SameBag found (as_of m (seen_by h.working copies working t))
+
+abbrev pub AnswersFromTo : Held → ℕ → ℤ → ℤ → List Version → Type 0
+AnswersFromTo h t a b found = (copies : Copies) (working : Working) → Represents h copies working → SameBag found (from_to a b (seen_by h.working copies working t))
+
+abbrev pub AnswersNow : Held → ℕ → List Version → Type 0
+AnswersNow h t found = (copies : Copies) (working : Working) → Represents h copies working → SameBag found (current (seen_by h.working copies working t))

@@ -1,0 +1,72 @@
+-- What the versions of a table have to do with its copies.
+use Rattle.std.specs.Prelude.{Bool, ◌&&◌, List, [], ◌∷◌, filter, ℤ, ◌≤ℤ◌, ◌<ℤ◌, int_le, int_lt, ◌⊎◌, Option, Some, None}
+use Rattle.std.specs.Ordering.{int_eq}
+use Rattle.tql_spec.specs.Bag.{SameBag, In}
+use Rattle.tql_spec.specs.Calendar.{high}
+use Rattle.tql_spec.specs.Definition.{Stamped, Version}
+use Rattle.tql_spec.specs.History.{TableEntry, completed}
+
+-- ---- horizons: what ended at one or before it may be gone; with none nothing is
+
+-- the horizon lies before a moment
+abbrev pub Under : Option ℤ → ℤ → Type 0
+Under None m = Unit {0}
+Under (Some h) m = h <ℤ m
+
+-- a moment is not before the horizon
+abbrev pub Within : Option ℤ → ℤ → Type 0
+Within None m = Unit {0}
+Within (Some h) m = h ≤ℤ m
+
+-- what stood until a moment may be gone
+abbrev pub Past : Option ℤ → ℤ → Type 0
+Past None until = ⊥
+Past (Some h) until = until ≤ℤ h
+
+-- ---- copies
+
+-- whether a row with these ends stands at a moment
+abbrev pub stands_at : (Stamped → ℤ) → ℤ → Stamped → Bool
+stands_at ends m r = int_le r.start m && int_lt m (ends r)
+
+-- nothing happens between two moments
+abbrev pub Outside : ℤ → ℤ → ℤ → Type 0
+Outside from until m = (m ≤ℤ from) ⊎ (until ≤ℤ m)
+
+-- the copy that stands until a moment is the rows that stand
+pub record Fits (rows : List Stamped) (ends : Stamped → ℤ) (e : TableEntry) (until : ℤ) : Type 0 where
+  pub copy : SameBag e.rows (filter (stands_at ends e.moment) rows)
+  pub starts : (r : Stamped) → In r rows → Outside e.moment until r.start
+  pub stops : (r : Stamped) → In r rows → Outside e.moment until (ends r)
+
+-- no row begins before a moment
+abbrev pub Unborn : List Stamped → ℤ → Type 0
+Unborn rows until = (r : Stamped) → In r rows → until ≤ℤ r.start
+
+-- so it is in each copy, newest first, that stands beyond the horizon; before the first no row begins
+abbrev pub Told : Option ℤ → List Stamped → (Stamped → ℤ) → ℤ → List TableEntry → Type 0
+Told horizon rows ends until [] = Past horizon until ⊎ Unborn rows until
+Told horizon rows ends until (e ∷ older) = (e.moment <ℤ until) × ((Past horizon until ⊎ Fits rows ends e until) × Told horizon rows ends e.moment older)
+
+-- each row begins before it ends
+abbrev pub Proper : List Stamped → (Stamped → ℤ) → Type 0
+Proper rows ends = (r : Stamped) → In r rows → (r.start <ℤ ends r) × (ends r ≤ℤ high)
+
+-- versions stand for the copies from a horizon on: they are rows, each with one end, that the copies tell of
+pub record StandsFor (horizon : Option ℤ) (versions : List Version) (entries : List TableEntry) : Type 0 where
+  pub rows : List Stamped
+  pub ends : Stamped → ℤ
+  pub top : Under horizon high
+  pub made : SameBag versions (completed ends rows)
+  pub proper : Proper rows ends
+  pub told : Told horizon rows ends high entries
+
+-- ---- what readings keep of the versions
+
+-- the versions that are not closed
+abbrev pub is_current : Version → Bool
+is_current v = int_eq v.end high
+
+-- the versions that hold a moment
+abbrev pub holds : ℤ → Version → Bool
+holds m v = int_le v.row.start m && int_lt m v.end

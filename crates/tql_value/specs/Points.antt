@@ -1,0 +1,15 @@
+-- The range of the points of time.
+use Rattle.std.specs.Prelude.{◌≡◌, ℤ, pos, neg_ℤ, ◌≤ℤ◌, IsTrue}
+use Rattle.tql_spec.specs.Calendar.{first_moment, high, start_offset, is_date, days_after_start, moment_day, moment_micros, moment_number}
+
+-- a day from 0001-01-01 to 9999-12-31
+abbrev pub IsDay : ℤ → Type 0
+IsDay d = (neg_ℤ (pos start_offset) ≤ℤ d) × (d ≤ℤ pos 2_932_896)
+
+-- a moment from 0001-01-01 00:00:00 to 9999-12-31 23:59:59.999999
+abbrev pub IsMoment : ℤ → Type 0
+IsMoment m = (first_moment ≤ℤ m) × (m ≤ℤ high)
+
+-- each moment's parts are a date and a time that lie at that moment
+abbrev pub MomentsReadBack : Type 0
+MomentsReadBack = (m : ℤ) → IsMoment m → IsTrue (is_date (moment_day m).0 (moment_day m).1 (moment_day m).2) × (moment_number (days_after_start (moment_day m).0 (moment_day m).1 (moment_day m).2) (moment_micros m) ≡ m)

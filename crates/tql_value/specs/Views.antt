@@ -1,0 +1,70 @@
+-- The pure data that the values of the code stand for.
+use Rattle.std.specs.Prelude.{Bool, true, Option, Some, None, Result, Ok, Err}
+use Rattle.tql_spec.specs.Datum.{Datum, Null, Int, Text, Day, Moment, Ints, Texts, Days, Moments, Equals, Differs, Below, AtMost, Above, AtLeast, kind_of, same_kind}
+use Rattle.tql_spec.specs.Datum as spec
+use Rattle.tql_spec.specs.Truth.{False, Unknown, True}
+use Rattle.tql_spec.specs.Truth as logic
+use Rattle.tql_value.specs.declared.arithmetic.Range.{Range}
+use Rattle.tql_value.specs.declared.comparison.Comparison.{Comparison}
+use Rattle.tql_value.specs.declared.comparison.Comparison.TheVariants as comparison
+use Rattle.tql_value.specs.declared.truth.Truth.{Truth}
+use Rattle.tql_value.specs.declared.truth.Truth.TheVariants as truth
+use Rattle.tql_value.specs.declared.value.Kind.{Kind}
+use Rattle.tql_value.specs.declared.value.Kind.TheVariants as kind
+use Rattle.tql_value.specs.declared.value.Value.{Value}
+use Rattle.tql_value.specs.declared.value.Value.TheVariants as value
+use Rattle.tql_value.specs.declared.value.View.{View}
+use Rattle.tql_value.specs.declared.value.View.TheVariants as view
+
+-- the datum of a view
+abbrev pub datum_of_view : View → Datum
+datum_of_view view.Null = Null
+datum_of_view (view.Int n) = Int n
+datum_of_view (view.Text s) = Text s.now
+datum_of_view (view.Day d) = Day d
+datum_of_view (view.Moment m) = Moment m
+
+-- the datum of a value
+abbrev pub datum_of_value : Value → Datum
+datum_of_value value.Null = Null
+datum_of_value (value.Int n) = Int n
+datum_of_value (value.Text s) = Text s
+datum_of_value (value.Day d) = Day d
+datum_of_value (value.Moment m) = Moment m
+
+-- the kind among the definitions' kinds
+abbrev pub plain_kind : Kind → spec.Kind
+plain_kind kind.Int = Ints
+plain_kind kind.Text = Texts
+plain_kind kind.Day = Days
+plain_kind kind.Moment = Moments
+
+-- the truth among the definitions' truths
+abbrev pub plain_truth : Truth → logic.Truth
+plain_truth truth.False = False
+plain_truth truth.Unknown = Unknown
+plain_truth truth.True = True
+
+-- the sign among the definitions' signs
+abbrev pub plain_comparison : Comparison → spec.Comparison
+plain_comparison comparison.Equal = Equals
+plain_comparison comparison.NotEqual = Differs
+plain_comparison comparison.Less = Below
+plain_comparison comparison.LessOrEqual = AtMost
+plain_comparison comparison.Greater = Above
+plain_comparison comparison.GreaterOrEqual = AtLeast
+
+-- whether two kinds may meet in a comparison: they are one, or a value has none
+abbrev pub kinds_meet : Option spec.Kind → Option spec.Kind → Bool
+kinds_meet (Some k) (Some l) = same_kind k l
+kinds_meet (Some k) None = true
+kinds_meet None l = true
+
+-- whether two values are of one kind, or one of them is null
+abbrev pub are_comparable : Datum → Datum → Bool
+are_comparable a b = kinds_meet (kind_of a) (kind_of b)
+
+-- what an evaluation gave, none where it left 64 bits
+abbrev pub outcome : Result View Range → Option Datum
+outcome (Ok v) = Some (datum_of_view v)
+outcome (Err e) = None

@@ -1,0 +1,15 @@
+// Values, their comparison, their order, their arithmetic, their calendar, and the refusals of statements.
+#![tactic(auto)]
+
+pub mod arithmetic;
+pub mod calendar;
+pub mod comparison;
+pub mod laws;
+pub mod literal;
+pub mod refusal;
+pub mod table;
+#[cfg(test)]
+mod tests;
+pub mod text;
+pub mod truth;
+pub mod value;

@@ -1,0 +1,43 @@
+ghost use Rattle.std.specs.Prelude.{◌≡◌, ◌↔◌, ◌<◌, ℕ, IsSome, IfSome};
+
+use std::marker::Model;
+
+/// The number of a table, below 1,000: as many tables may be there at once. Contracts see the number.
+#[derive(Clone, Copy, PartialEq, Eq, PartialOrd, Ord, Hash, Debug)]
+pub struct TableId {
+    number: u16,
+}
+
+impl Model for TableId {
+    ghost use Rattle.std.specs.Prelude.{ℕ, ◌<◌};
+
+    ghost Value = { ℕ };
+
+    ghost view = { λ t. t.number };
+
+    ghost invariant = { λ t. t.number < 1000 };
+
+    ghost inverse = { λ n. record { number = n } };
+}
+
+impl TableId {
+    /// The table of this number, none from 1,000 on.
+    pub fn new(number: u16) -> Option<TableId>
+        ensures within { IsSome result ↔ (number < 1000) }
+        ensures value { IfSome result (λ t. t ≡ number) }
+    {
+        if number < 1000 {
+            Some(TableId { number })
+        } else {
+            None
+        }
+    }
+
+    /// The number, below 1,000.
+    pub fn number(self) -> u16
+        ensures value { result ≡ self }
+        ensures within { self < 1000 }
+    {
+        self.number
+    }
+}

@@ -1,0 +1,161 @@
+ghost use Rattle.std.specs.Prelude.{◌≡◌, MatchResult, option_map};
+ghost use Rattle.tql_spec.specs.Datum.{kind_of, is_null as null_of};
+ghost use Rattle.tql_value.specs.Views.{datum_of_value, datum_of_view, plain_kind, are_comparable};
+
+use crate::refusal::Refusal;
+use crate::text::Text;
+use std::alloc::AllocError;
+use tql_memory::Memory;
+
+/// What a value that is not NULL may be.
+#[derive(Clone, Copy, PartialEq, Eq, Debug)]
+pub enum Kind {
+    /// A whole number of 64 bits: INTEGER, INT and BIGINT are one kind.
+    Int,
+    /// A text: VARCHAR.
+    Text,
+    /// A day: DATE.
+    Day,
+    /// A moment: TIMESTAMP.
+    Moment,
+}
+
+/// A value that owns its memory.
+#[derive(Drop, Debug)]
+pub enum Value {
+    /// No value.
+    Null,
+    /// A whole number.
+    Int(i64),
+    /// A text.
+    Text(Text),
+    /// A day, as days since 1970-01-01.
+    Day(i64),
+    /// A moment, as microseconds since 1970-01-01 00:00:00.
+    Moment(i64),
+}
+
+/// A value to read: it borrows its text.
+#[derive(Clone, Copy, PartialEq, Eq, Debug)]
+pub enum View<'a> {
+    /// No value.
+    Null,
+    /// A whole number.
+    Int(i64),
+    /// A text.
+    Text(&'a str),
+    /// A day, as days since 1970-01-01.
+    Day(i64),
+    /// A moment, as microseconds since 1970-01-01 00:00:00.
+    Moment(i64),
+}
+
+/// What a query answers: its headings, and its rows column by column.
+#[derive(Drop, Debug)]
+pub struct Rows {
+    /// The heading of each column.
+    pub headings: Vec<String<Memory>, Memory>,
+    /// The rows, each as wide as the headings.
+    pub rows: Vec<Vec<Value, Memory>, Memory>,
+}
+
+impl Value {
+    /// The value to read, without memory.
+    pub fn view(&self) -> View<'_>
+        ensures { datum_of_view result ≡ datum_of_value self.now }
+    {
+        match self {
+            Value::Null => View::Null,
+            Value::Int(number) => View::Int(*number),
+            Value::Text(text) => View::Text(text.as_str()),
+            Value::Day(day) => View::Day(*day),
+            Value::Moment(moment) => View::Moment(*moment),
+        }
+    }
+}
+
+impl<'a> View<'a> {
+    /// The value in memory of its own. Only a text takes memory: its refusal is the only error.
+    pub fn to_value(self, memory: Memory) -> Result<Value, Refusal>
+        ensures { MatchResult result
+            (λ v. datum_of_value v ≡ datum_of_view self.entry)
+            (λ e. e ≡ Refusal.OutOfMemory) }
+    {
+        match self {
+            View::Null => Ok(Value::Null),
+            View::Int(number) => Ok(Value::Int(number)),
+            View::Text(text) => Ok(Value::Text(Text::copy_of(memory, text)?)),
+            View::Day(day) => Ok(Value::Day(day)),
+            View::Moment(moment) => Ok(Value::Moment(moment)),
+        }
+    }
+
+    /// The kind of the value, none of NULL.
+    pub fn kind(self) -> Option<Kind>
+        ensures { option_map plain_kind result ≡ kind_of (datum_of_view self.entry) }
+    {
+        match self {
+            View::Null => None,
+            View::Int(_) => Some(Kind::Int),
+            View::Text(_) => Some(Kind::Text),
+            View::Day(_) => Some(Kind::Day),
+            View::Moment(_) => Some(Kind::Moment),
+        }
+    }
+
+    /// Whether the value is NULL.
+    pub fn is_null(self) -> bool
+        ensures { result ≡ null_of (datum_of_view self.entry) }
+    {
+        matches!(self, View::Null)
+    }
+
+    /// Whether the two values are of one kind, or one is NULL: what `compare` and `order` ask for.
+    pub fn is_comparable_with(self, other: View<'_>) -> bool
+        ensures { result ≡ are_comparable (datum_of_view self.entry) (datum_of_view other.entry) }
+    {
+        match (self.kind(), other.kind()) {
+            (Some(kind), Some(other_kind)) => kind == other_kind,
+            _ => true,
+        }
+    }
+}
+
+impl Default for Value {
+    ghost use Rattle.std.specs.Prelude.{◌≡◌};
+    ghost use Rattle.tql_value.specs.declared.value.Value.TheVariants.{Null};
+
+    ghost is_default = { λ v. v ≡ Null };
+
+    fn default() -> Self {
+        Value::Null
+    }
+}
+
+impl<'a> Default for View<'a> {
+    ghost use Rattle.std.specs.Prelude.{◌≡◌};
+    ghost use Rattle.tql_value.specs.declared.value.View.TheVariants.{Null};
+
+    ghost is_default = { λ v. v ≡ Null };
+
+    fn default() -> Self {
+        View::Null
+    }
+}
+
+impl Clone for Value {
+    ghost use Rattle.std.specs.Prelude.{◌≡◌};
+    ghost use Rattle.tql_value.specs.Views.{datum_of_value};
+
+    ghost is_clone = { λ s t. datum_of_value t ≡ datum_of_value s };
+
+    fn clone(&self) -> Result<Value, AllocError> {
+        Ok(match self {
+            Value::Null => Value::Null,
+            Value::Int(number) => Value::Int(*number),
+            Value::Text(text) => Value::Text(text.clone()?),
+            Value::Day(day) => Value::Day(*day),
+            Value::Moment(moment) => Value::Moment(*moment),
+        })
+    }
+}
