@@ -85,26 +85,30 @@ impl IntervalIndex for TreeIndex {
     }
 
     fn add(&mut self, period: Period, id: Id) -> Result<(), Refusal> {
+        let TreeIndex {
+            memory,
+            tree,
+            count,
+        } = self;
         // No memory has room for so many branches.
-        if self.count == usize::MAX {
+        if *count == usize::MAX {
             return Err(Refusal::OutOfMemory);
         }
-        let entry = Box::new(self.memory, Branch::new(period, id))?;
-        let tree = take(&mut self.tree);
-        self.tree = insert(tree, entry);
-        self.count += 1;
+        let entry = Box::new(*memory, Branch::new(period, id))?;
+        *tree = insert(take(tree), entry);
+        *count += 1;
         Ok(())
     }
 
     fn remove(&mut self, period: Period, id: Id) -> bool {
-        if self.count == 0 {
+        let TreeIndex { tree, count, .. } = self;
+        if *count == 0 {
             return false;
         }
-        let tree = take(&mut self.tree);
-        let Removed { tree, found } = remove(tree, period, id);
-        self.tree = tree;
+        let Removed { tree: rest, found } = remove(take(tree), period, id);
+        *tree = rest;
         if found {
-            self.count -= 1;
+            *count -= 1;
         }
         found
     }

@@ -11,7 +11,7 @@ use std::cell::Cell;
 /// An allocator that passes its calls on to another one, and grants only so many blocks.
 ///
 /// Each block that is asked for uses up one grant: the first block of a collection, each growth of it, and each
-/// shrinking to another block. Once no grant is left, every later request is refused, until the allocator is dropped:
+/// shrinking to another block. Once no grant is left, every later request is refused, until `grant` sets new ones:
 /// giving a block back returns no grant. A request that the inner allocator refuses has used its grant up.
 #[derive(Drop)]
 pub struct Counting<B: Allocator> {
@@ -33,6 +33,11 @@ impl<B: Allocator> Counting<B> {
     /// How many blocks it still grants.
     pub fn left(&self) -> u64 {
         self.left.get()
+    }
+
+    /// Sets how many blocks it grants from now on, whatever was left, and also after a refusal.
+    pub fn grant(&self, granted: u64) {
+        self.left.set(granted);
     }
 }
 
@@ -187,13 +192,34 @@ mod tests {
     }
 
     #[test]
+    fn grants_are_set_anew(rt: HostRuntime) -> Result<(), Fail> {
+        let memory = memory(rt.alloc(), 0)?;
+        for granted in [2u64, 1, 0, 3] {
+            memory.grant(granted);
+            assert_eq!(rt; memory.left(), granted);
+            for _ in 0..granted {
+                one_box(memory)?;
+            }
+            assert!(rt; one_box(memory).is_err(), "after {granted} blocks");
+        }
+        memory.grant(u64::MAX);
+        memory.grant(0);
+        assert!(rt; one_box(memory).is_err());
+        Ok(())
+    }
+
+    #[test]
     fn a_failed_growth_leaves_the_list_as_it_was(rt: HostRuntime) -> Result<(), Fail> {
-        let mut list = Vec::new(memory(rt.alloc(), 1)?);
+        let memory = memory(rt.alloc(), 1)?;
+        let mut list = Vec::new(memory);
         for number in 0..4u64 {
             list.push(number)?;
         }
         assert!(rt; list.push(4).is_err());
         assert_eq!(rt; list.as_slice(), [0, 1, 2, 3].as_slice());
+        memory.grant(1);
+        list.push(4)?;
+        assert_eq!(rt; list.as_slice(), [0, 1, 2, 3, 4].as_slice());
         Ok(())
     }
 }

@@ -1,21 +1,22 @@
 use Rattle.std.proofs.Common.{arith, ap, sym, ◌∙◌, length}
 use Rattle.tql_index.proofs.Bags.{length_of_one_more}
+use Rattle.tql_index.proofs.tree_index.TreeIndexIntervalIndex.remove.Goals.{then-found, else-found}
 use Rattle.tql_index.proofs.tree_index.TreeIndexIntervalIndex.remove.Goals as goal
 
-pub take-tree-requires : goal.take-tree-requires
-take-tree-requires c = omega (arith, c.self.invariant)
+pub take-requires : goal.take-requires
+take-requires c = omega (arith, c.self.invariant)
 
-pub overflow_sub-self : goal.overflow_sub-self
-overflow_sub-self c =
-    let e = rw (c.if-found.true, c.take-tree.ensures.whole) at c.remove-tree.ensures.entries in
+pub overflow_sub-count : goal.overflow_sub-count
+overflow_sub-count c =
+    let e = rw (c.if-found.true, c.take.ensures.whole) at c.remove-rest.ensures.entries in
     omega (arith, length_of_one_more _ _ _ e, c.self.invariant)
 
-pub invariant_of-self : goal.invariant_of-self
-invariant_of-self c =
-    let e = rw (c.if-found.true, c.take-tree.ensures.whole) at c.remove-tree.ensures.entries in
-    omega (arith, length_of_one_more _ _ _ e, c.self.invariant)
-
-pub invariant_of-self-else-found : goal.invariant_of-self-else-found
-invariant_of-self-else-found c =
-    let e = rw (c.if-found.false, c.take-tree.ensures.whole) at c.remove-tree.ensures.entries in
-    c.self.invariant ∙ ap length (sym e.0)
+pub invariant_of-self-2 : goal.invariant_of-self-2
+invariant_of-self-2 c = elim c.if-found.branch [
+  | then-found w ↦
+      let e = rw (w.if-found.true, c.take.ensures.whole) at c.remove-rest.ensures.entries in
+      rw w.self-inside-is (omega (arith, length_of_one_more _ _ _ e, c.self.invariant))
+  | else-found w ↦
+      let e = rw (w.if-found.false, c.take.ensures.whole) at c.remove-rest.ensures.entries in
+      rw w.self-inside-is (c.self.invariant ∙ ap length (sym e.0))
+]
