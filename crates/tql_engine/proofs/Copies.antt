@@ -105,6 +105,10 @@ fits_length (p ∷ ps) (rows ∷ copy) f = ap suc (fits_length ps copy f.1)
 pub same_copies : (h : store.Held) (copies others : Copies) (working : Working) → ((t : ℕ) → copies t ≡ others t) → Represents h copies working → Represents h others working
 same_copies h copies others working e r = subst (λ (c : Copies). Represents h c working) (λ i t. e t i) r
 
+-- and for the same working copy
+pub same_working : (h : store.Held) (copies : Copies) (working others : Working) → ((t : ℕ) → working t ≡ others t) → Represents h copies working → Represents h copies others
+same_working h copies working others e r = subst (λ (w : Working). Represents h copies w) (λ i t. e t i) r
+
 -- with no transaction open there is no working copy
 pub any_working : (h : store.Held) (copies : Copies) (working others : Working) → h.working ≡ None → Represents h copies working → Represents h copies others
 any_working h copies working others idle r = record {

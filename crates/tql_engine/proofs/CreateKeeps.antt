@@ -1,6 +1,6 @@
 -- A new table keeps an engine that stands for a state.
 use Rattle.std.proofs.Common.{◌≡◌, ℕ, ◌+◌, Bool, true, false, List, [], ◌∷◌, ◌++◌, map, length, refl, sym, ap, subst, ◌∙◌, arith, length-append}
-use Rattle.std.specs.Prelude.{ℤ, ◌&&◌, not, nat_eq, IsTrue, if◌then◌else◌}
+use Rattle.std.specs.Prelude.{ℤ, ◌&&◌, not, nat_eq, IsTrue, IsNone, Option, None, if◌then◌else◌}
 use Rattle.std.proofs.lemmas.Bool.Decides.{nat_tests}
 use Rattle.std.proofs.lemmas.List.{length-map, map-append}
 use Rattle.tql_spec.proofs.Members.{both, by_bool}
@@ -11,9 +11,10 @@ use Rattle.tql_store.specs.Slots as store
 use Rattle.tql_store.specs.Slots.{is_kept, is_versioned, table_count}
 use Rattle.tql_store.specs.Represents.{AddsTable, AddKeepsCopies}
 use Rattle.tql_store.specs.declared.tables.Place.TheVariants.{Free, Versioned}
-use Rattle.tql_engine.specs.Plain.{PlainTable, def_of, CopyFits, HistoryFits}
-use Rattle.tql_engine.specs.Stands.{Held, Placed, StandsFor, ArePlaced, AreSince, is_free, copies_of, plain_tables, no_rows}
-use Rattle.tql_engine.proofs.Copies.{turned, rows_more, fits_length, same_copies}
+use Rattle.tql_engine.specs.Plain.{PlainTable, def_of, CopyFits, HistoryFits, WorkingFits}
+use Rattle.tql_engine.specs.Stands.{Held, Placed, StandsFor, ArePlaced, AreSince, is_free, copies_of, moment_of, working_of, plain_tables}
+use Rattle.tql_engine.proofs.Standing.{closed_law}
+use Rattle.tql_engine.proofs.Copies.{turned, rows_more, fits_length, same_copies, any_working}
 
 -- ---- copies with one more table
 
@@ -81,25 +82,29 @@ module _ (old new : store.Held) (q : Placed) (a : AddsTable true q.id old new) w
 
 -- ---- the law
 
-pub create_law : (h : Held) (s : State) (p : PlainTable) (id : ℕ) (r : store.Held) → StandsFor h s → AddsTable true id h.rows r → AddKeepsCopies h.rows r
+pub create_law : (h : Held) (s : State) (p : PlainTable) (id : ℕ) (r : store.Held) → StandsFor h s → IsNone h.rows.working → AddsTable true id h.rows r → AddKeepsCopies h.rows r
     → StandsFor (record { tables = h.tables ++ record { table = p; id = id } ∷ []; rows = r; next = h.next }) (with_table (def_of p) s)
-create_law h s p id r f a keeps =
+create_law h s p id r f closed a keeps =
+    let none : s.transaction ≡ None = closed_law h s f closed in
+    let idle : r.working ≡ None = ap (λ (x : store.Held). x.working) a.rest ∙ f.opened ∙ ap moment_of none in
     let q : Placed = record { table = p; id = id } in
     let more : plain_tables (h.tables ++ q ∷ []) ≡ plain_tables h.tables ++ p ∷ [] = map-append (λ (x : Placed). x.table) h.tables (q ∷ []) in
     record {
       plain = record {
         definitions = ap (λ (ds : List TableDef). ds ++ def_of p ∷ []) f.plain.definitions ∙ sym (map-append def_of (plain_tables h.tables) (p ∷ [])) ∙ ap (map def_of) (sym more);
-        closed = f.plain.closed;
         rows = subst (λ (ps : List PlainTable). HistoryFits ps (entries_more s.history)) (sym more) (history_fits (plain_tables h.tables) p s.history f.plain.rows);
+        working = subst (λ (o : Option Entry). WorkingFits (plain_tables (h.tables ++ q ∷ [])) o) (sym none) tt;
       };
       clock = f.clock;
       not_before = f.not_before;
       not_after = f.not_after;
       falls = falls_more s.next s.history f.falls;
       since = since_more _ s.history f.since;
-      idle = ap (λ (x : store.Held). x.working) a.rest ∙ f.idle;
-      stands = same_copies r (copies_of h.tables s.history) (copies_of (h.tables ++ q ∷ []) (entries_more s.history)) no_rows (λ u. copies_more h.tables q s.history u f.plain.rows)
-          (keeps (copies_of h.tables s.history) no_rows f.stands);
+      opened = ap (λ (x : store.Held). x.working) a.rest ∙ f.opened;
+      dated = f.dated;
+      stands = same_copies r (copies_of h.tables s.history) (copies_of (h.tables ++ q ∷ []) (entries_more s.history)) (working_of (h.tables ++ q ∷ []) s.transaction) (λ u. copies_more h.tables q s.history u f.plain.rows)
+          (any_working r (copies_of h.tables s.history) (working_of h.tables s.transaction) (working_of (h.tables ++ q ∷ []) s.transaction) idle
+          (keeps (copies_of h.tables s.history) (working_of h.tables s.transaction) f.stands));
       placed = placed_more h.rows r q a h.tables f.placed;
       count = a.count ∙ ap (λ (n : ℕ). n + 1) f.count ∙ sym (length-append h.tables (q ∷ []));
     }

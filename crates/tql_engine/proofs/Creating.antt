@@ -1,6 +1,6 @@
 -- A new table, from what the code has tested and made.
 use Rattle.std.proofs.Common.{◌≡◌, refl, sym, ap, subst, ◌∙◌, ℕ, ◌<◌, ◌≤◌, Bool, true, false, List, [], ◌∷◌, ◌++◌, map, length, arith, Option, Some, None}
-use Rattle.std.specs.Prelude.{◌||◌, ℤ, not, nat_le, position, is_some, if◌then◌else◌}
+use Rattle.std.specs.Prelude.{◌||◌, ℤ, not, nat_le, position, is_some, IsNone, if◌then◌else◌}
 use Rattle.std.specs.List.{list_any}
 use denote.Ref.{Bor}
 use Rattle.std.proofs.lemmas.Bool.Decides.{nat_tests}
@@ -60,13 +60,13 @@ among_words n (w ∷ words) = ap (λ b. same_text n (name_of w) || b) (among_wor
 
 -- the engine with the new table stands for the state with it
 pub made_law : (s : State) (tables more : List Table) (table : Table) (old new : store.Held) (next : ℤ) (p : PlainTable)
-    → StandsFor (record { tables = map placed_of tables; rows = old; next = next }) s
+    → StandsFor (record { tables = map placed_of tables; rows = old; next = next }) s → IsNone old.working
     → AddsTable true (placed_of table).id old new → AddKeepsCopies old new
     → more ≡ tables ++ table ∷ [] → plain_of table.names ≡ p
     → StandsFor (record { tables = map placed_of more; rows = new; next = next }) (with_table (def_of p) s)
-made_law s tables more table old new next p st adds keeps e same =
+made_law s tables more table old new next p st closed adds keeps e same =
     let named = subst (λ q. StandsFor (record { tables = map placed_of tables ++ record { table = q; id = (placed_of table).id } ∷ []; rows = new; next = next }) (with_table (def_of q) s)) same
-    (create_law (record { tables = map placed_of tables; rows = old; next = next }) s (plain_of table.names) (placed_of table).id new st adds keeps) in
+    (create_law (record { tables = map placed_of tables; rows = old; next = next }) s (plain_of table.names) (placed_of table).id new st closed adds keeps) in
     let placed : map placed_of tables ++ record { table = p; id = (placed_of table).id } ∷ [] ≡ map placed_of more =
     ap {B = List Placed} (λ q. map placed_of tables ++ record { table = q; id = (placed_of table).id } ∷ []) (sym same)
     ∙ sym (map-append placed_of tables (table ∷ [])) ∙ ap (map placed_of) (sym e) in

@@ -1,13 +1,14 @@
 -- What `read_form` reads is the form that the tokens spell.
-use Rattle.std.specs.Prelude.{◌≡◌, refl, ℕ, zero, suc, ◌≤◌, false, List, [], ◌∷◌, ◌++◌, codes, length, Some, None}
+use Rattle.std.specs.Prelude.{◌≡◌, refl, ℕ, zero, suc, ◌≤◌, Bool, true, false, List, [], ◌∷◌, ◌++◌, codes, length, Some, None}
 use Rattle.std.proofs.Common.{sym, ◌∙◌, ap, subst, append_assoc, append-nil, arith, inl, inr}
 use Rattle.tql_spec.specs.Definition.{Name}
 use Rattle.tql_spec.specs.Token.{Token, Word, Number, Sign, Open, Close, Comma, PlusSign, MinusSign, Star}
-use Rattle.tql_spec.specs.Syntax.{MomentTree}
-use Rattle.tql_spec.specs.Grammar.{Phrase, sign, ◌⨟◌, each, commas, moment}
-use Rattle.tql_spec.specs.Forms.{NumberCell, Bare, Plus, Minus, NumberTuple, TableForm, Form, NewTable, AddRows, SetClockTo, AskAsOf, word, number_cell, number_tuple, integer_column, generated_column, system_period, table_elements, form}
-use Rattle.tql_engine.specs.Reading.{Outcome, Read, Failed, eat, word_at, number_at, separated, as_cell, plain_cell_at, cell_at, tuple_of_cells, tuple_at, rows_form, rows_at, integer_column_at, Columns, columns_from, columns_at, generated_at, Ends, period_at, versioning_at, table_form, elements_at, table_at, moment_at, clock_at, as_of_at, question_at, select_at, clock_or_question_at, rows_or_other_at, form_at, whole, read_form}
-use Rattle.tql_engine.proofs.ReadingSteps.{read_is, then_is, choose, eat_true, eat_false, expect_is, expect_of, expect_then, word_is, word_of, number_is, number_of, quote_is, quote_of, Sound, Complete, Shortens, took_separated, reads_separated}
+use Rattle.tql_spec.specs.Syntax.{MomentTree, SpanTree}
+use Rattle.tql_spec.specs.Grammar.{Phrase, key, sign, ◌⨟◌, maybe, each, commas, moment, span}
+use Rattle.tql_spec.specs.Forms.{NumberCell, Bare, Plus, Minus, NumberTuple, TableForm, Form, NewTable, AddRows, RemoveRows, SetClockTo, Ask, StartTransaction, CommitWork, RollbackWork, word, number_cell, number_tuple, integer_column, generated_column, system_period, table_elements, form}
+use Rattle.tql_engine.specs.Reading.{Outcome, Read, Failed, eat, word_at, number_at, separated, as_cell, plain_cell_at, cell_at, tuple_of_cells, tuple_at, rows_form, rows_at, integer_column_at, Columns, columns_from, columns_at, generated_at, Ends, period_at, versioning_at, table_form, elements_at, table_at, moment_at, clock_at, span_at, question_at, removal_at, behind_work, start_at, start_transaction_at, rollback_or_start_at, transaction_at, question_or_other_at, clock_or_other_at, removal_or_other_at, rows_or_other_at, form_at, whole, read_form}
+use Rattle.tql_engine.proofs.ReadingSteps.{read_is, then_is, choose, eat_true, eat_false, expect_is, expect_of, expect_then, word_is, word_of, number_is, number_of, Sound, Complete, Shortens, took_separated, reads_separated}
+use Rattle.tql_engine.proofs.SpanReading.{moment_sound, moment_complete, span_sound, span_complete}
 
 -- ---- cells
 
@@ -373,16 +374,6 @@ table_complete t ts rest s =
 
 -- ---- AT and SELECT
 
-moment_sound : Sound moment moment_at
-unfolding moment_at
-moment_sound ts m rest e =
-    let a = expect_then (Word (codes "TIMESTAMP")) ts _ m rest e in
-    (a.0, a.1, quote_is a.0 m rest a.2)
-
-moment_complete : Complete moment moment_at
-unfolding moment_at
-moment_complete ts m rest s = rw (expect_of (Word (codes "TIMESTAMP")) ts s.0 s.1, quote_of s.0 m rest s.2) refl
-
 clock_sound : (ts a : List Token) (f : Form) (rest : List Token) → ts ≡ Word (codes "AT") ∷ a → clock_at a ≡ Read f rest → form f ts rest
 unfolding clock_at
 clock_sound ts a f rest at e =
@@ -395,101 +386,169 @@ unfolding form_at clock_at
 clock_complete m ts rest s = rw (s.1, moment_complete s.0 m rest s.2) refl
 
 question_sound : (ts a : List Token) (f : Form) (rest : List Token) → ts ≡ Word (codes "SELECT") ∷ a → question_at a ≡ Read f rest → form f ts rest
-unfolding question_at as_of_at
+unfolding question_at
 question_sound ts a f rest select e =
     let star = expect_then (Sign Star) a _ f rest e in
     let from = expect_then (Word (codes "FROM")) star.0 _ f rest star.2 in
     let name = then_is (word_at from.0) _ f rest from.2 in
-    let b = then_is (as_of_at name.1) _ f rest name.3 in
-    let for = expect_then (Word (codes "FOR")) name.1 _ b.0 b.1 b.2 in
-    let system = expect_then (Word (codes "SYSTEM_TIME")) for.0 _ b.0 b.1 for.2 in
-    let behind_as = expect_then (Word (codes "AS")) system.0 _ b.0 b.1 system.2 in
-    let of = expect_is (Word (codes "OF")) behind_as.0 b.1 b.0 behind_as.2 in
-    let m = then_is (moment_at b.1) _ f rest b.3 in
-    let s = read_is (AskAsOf name.0 m.0) f m.1 rest m.3 in
-    let last = subst (λ (us : List Token). moment m.0 b.1 us) s.rest (moment_sound b.1 m.0 m.1 m.2) in
-    subst (λ (g : Form). form g ts rest) s.value (
-      b.1,
-      (
-        behind_as.0,
-        (
-          system.0,
-          (
-            for.0,
-            (
-              name.1,
-              (
-                from.0,
-                (star.0, (a, select, star.1), from.1),
-                word_is from.0 name.0 name.1 name.2,
-              ),
-              for.1,
-            ),
-            system.1,
-          ),
-          behind_as.1,
-        ),
-        of,
-      ),
-      last,
-    )
+    let clause = then_is (span_at name.1) _ f rest name.3 in
+    let s = read_is (Ask name.0 clause.0) f clause.1 rest clause.3 in
+    let last = subst (λ (us : List Token). span clause.0 name.1 us) s.rest (span_sound name.1 clause.0 clause.1 clause.2) in
+    subst (λ (g : Form). form g ts rest) s.value
+    (name.1, (from.0, (star.0, (a, select, star.1), from.1), word_is from.0 name.0 name.1 name.2), last)
 
-question_complete : (n : Name) (m : MomentTree) (ts rest : List Token) → form (AskAsOf n m) ts rest → form_at ts ≡ Read (AskAsOf n m) rest
-unfolding form_at question_at as_of_at
-question_complete n m ts rest s =
-    let behind_as = s.1.1 in
-    let system = behind_as.1 in
-    let for = system.1 in
-    let name = for.1 in
+question_complete : (n : Name) (s : SpanTree) (ts rest : List Token) → form (Ask n s) ts rest → (eat (Word (codes "FOR")) rest).0 ≡ false → form_at ts ≡ Read (Ask n s) rest
+unfolding form_at question_at
+question_complete n s ts rest q stops =
+    let name = q.1 in
     let from = name.1 in
     let star = from.1 in
     rw (
       star.1,
-      expect_of (Word (codes "SELECT")) (Word (codes "SELECT") ∷ star.0) star.0 refl,
       expect_of (Sign Star) star.0 from.0 star.2,
       expect_of (Word (codes "FROM")) from.0 name.0 from.2,
-      word_of name.0 n for.0 name.2,
-      expect_of (Word (codes "FOR")) for.0 system.0 for.2,
-      expect_of (Word (codes "SYSTEM_TIME")) system.0 behind_as.0 system.2,
-      expect_of (Word (codes "AS")) behind_as.0 s.1.0 behind_as.2,
-      expect_of (Word (codes "OF")) s.1.0 s.0 s.1.2,
-      moment_complete s.0 m rest s.2,
+      word_of name.0 n q.0 name.2,
+      span_complete s q.0 rest q.2 stops,
     ) refl
+
+-- ---- DELETE
+
+removal_sound : (ts a : List Token) (f : Form) (rest : List Token) → ts ≡ Word (codes "DELETE") ∷ a → removal_at a ≡ Read f rest → form f ts rest
+unfolding removal_at
+removal_sound ts a f rest delete e =
+    let from = expect_then (Word (codes "FROM")) a _ f rest e in
+    let name = then_is (word_at from.0) _ f rest from.2 in
+    let s = read_is (RemoveRows name.0) f name.1 rest name.3 in
+    let last = subst (λ (us : List Token). word name.0 from.0 us) s.rest (word_is from.0 name.0 name.1 name.2) in
+    subst (λ (g : Form). form g ts rest) s.value (from.0, (a, delete, from.1), last)
+
+removal_complete : (n : Name) (ts rest : List Token) → form (RemoveRows n) ts rest → form_at ts ≡ Read (RemoveRows n) rest
+unfolding form_at removal_at
+removal_complete n ts rest s =
+    let from = s.1 in
+    rw (from.1, expect_of (Word (codes "FROM")) from.0 s.0 from.2, word_of s.0 n rest s.2) refl
+
+-- ---- transactions
+
+-- [WORK]
+abbrev work : Phrase
+work = maybe (key (codes "WORK"))
+
+work_by : (b : Bool) (ts : List Token) → (eat (Word (codes "WORK")) ts).0 ≡ b → work ts (behind_work ts)
+work_by true ts e = inr (eat_true (Word (codes "WORK")) ts e)
+work_by false ts e = inl (sym (eat_false (Word (codes "WORK")) ts e))
+
+work_sound : (ts rest : List Token) → behind_work ts ≡ rest → work ts rest
+work_sound ts rest e = subst (λ (us : List Token). work ts us) e (work_by (eat (Word (codes "WORK")) ts).0 ts refl)
+
+work_complete : (ts rest : List Token) → work ts rest → (eat (Word (codes "WORK")) rest).0 ≡ false → behind_work ts ≡ rest
+work_complete ts rest (inl e) stops = rw e (eat_false (Word (codes "WORK")) rest stops)
+work_complete ts rest (inr e) stops = rw e refl
+
+start_sound : (ts : List Token) (f : Form) (rest : List Token) → start_transaction_at ts ≡ Read f rest → form f ts rest
+unfolding start_at
+start_sound ts f rest e =
+    let words = then_is (start_at ts) _ f rest e in
+    let start = expect_then (Word (codes "START")) ts _ words.0 words.1 words.2 in
+    let last = expect_is (Word (codes "TRANSACTION")) start.0 words.1 words.0 start.2 in
+    let s = read_is StartTransaction f words.1 rest words.3 in
+    subst (λ (g : Form). form g ts rest) s.value (start.0, start.1, last ∙ ap (λ (us : List Token). Word (codes "TRANSACTION") ∷ us) s.rest)
+
+transaction_sound : Sound form transaction_at
+unfolding transaction_at
+transaction_sound ts f rest e =
+    let commit : Token = Word (codes "COMMIT") in
+    let rollback : Token = Word (codes "ROLLBACK") in
+    elim (choose (eat commit ts).0 _ _ f rest e) [
+      | inl a ↦
+          let s = read_is CommitWork f _ _ a.1 in
+          let mid = (eat commit ts).1 in
+          subst (λ (g : Form). form g ts rest) s.value (mid, eat_true commit ts a.0, work_sound mid rest s.rest)
+      | inr a ↦
+          let others : rollback_or_start_at ts ≡ Read f rest = ap rollback_or_start_at (sym (eat_false commit ts a.0)) ∙ a.1 in
+          elim (choose (eat rollback ts).0 _ _ f rest others) [
+            | inl b ↦
+                let s = read_is RollbackWork f _ _ b.1 in
+                let mid = (eat rollback ts).1 in
+                subst (λ (g : Form). form g ts rest) s.value (mid, eat_true rollback ts b.0, work_sound mid rest s.rest)
+            | inr b ↦ start_sound ts f rest (ap start_transaction_at (sym (eat_false rollback ts b.0)) ∙ b.1)
+          ]
+    ]
+
+start_complete : (ts rest : List Token) → form StartTransaction ts rest → form_at ts ≡ Read StartTransaction rest
+unfolding form_at transaction_at start_at
+start_complete ts rest s =
+    rw (
+      s.1,
+      expect_of (Word (codes "START")) (Word (codes "START") ∷ s.0) s.0 refl,
+      expect_of (Word (codes "TRANSACTION")) s.0 rest s.2,
+    ) refl
+
+commit_complete : (ts rest : List Token) → form CommitWork ts rest → (eat (Word (codes "WORK")) rest).0 ≡ false → form_at ts ≡ Read CommitWork rest
+unfolding form_at transaction_at
+commit_complete ts rest s stops = rw (s.1, work_complete s.0 rest s.2 stops) refl
+
+rollback_complete : (ts rest : List Token) → form RollbackWork ts rest → (eat (Word (codes "WORK")) rest).0 ≡ false → form_at ts ≡ Read RollbackWork rest
+unfolding form_at transaction_at
+rollback_complete ts rest s stops = rw (s.1, work_complete s.0 rest s.2 stops) refl
 
 -- ---- forms
 
--- the tokens that no comma follows
-abbrev NoComma : List Token → Type 0
-NoComma ts = (eat (Sign Comma) ts).0 ≡ false
+-- tokens that go on with no form
+record Stops (ts : List Token) : Type 0 where
+  comma : (eat (Sign Comma) ts).0 ≡ false
+  for : (eat (Word (codes "FOR")) ts).0 ≡ false
+  work : (eat (Word (codes "WORK")) ts).0 ≡ false
 
-form_complete : (f : Form) (ts rest : List Token) → NoComma rest → form f ts rest → form_at ts ≡ Read f rest
+form_complete : (f : Form) (ts rest : List Token) → Stops rest → form f ts rest → form_at ts ≡ Read f rest
 form_complete (NewTable t) ts rest stops s = table_complete t ts rest s
-form_complete (AddRows n t more) ts rest stops s = rows_complete n t more ts rest s stops
+form_complete (AddRows n t more) ts rest stops s = rows_complete n t more ts rest s stops.comma
+form_complete (RemoveRows n) ts rest stops s = removal_complete n ts rest s
 form_complete (SetClockTo m) ts rest stops s = clock_complete m ts rest s
-form_complete (AskAsOf n m) ts rest stops s = question_complete n m ts rest s
+form_complete (Ask n clause) ts rest stops s = question_complete n clause ts rest s stops.for
+form_complete StartTransaction ts rest stops s = start_complete ts rest s
+form_complete CommitWork ts rest stops s = commit_complete ts rest s stops.work
+form_complete RollbackWork ts rest stops s = rollback_complete ts rest s stops.work
+
+question_or_other_sound : (ts : List Token) (f : Form) (rest : List Token) → question_or_other_at ts ≡ Read f rest → form f ts rest
+question_or_other_sound ts f rest e =
+    let select : Token = Word (codes "SELECT") in
+    elim (choose (eat select ts).0 _ _ f rest e) [
+      | inl a ↦ question_sound ts (eat select ts).1 f rest (eat_true select ts a.0) a.1
+      | inr a ↦ transaction_sound ts f rest (ap transaction_at (sym (eat_false select ts a.0)) ∙ a.1)
+    ]
+
+clock_or_other_sound : (ts : List Token) (f : Form) (rest : List Token) → clock_or_other_at ts ≡ Read f rest → form f ts rest
+clock_or_other_sound ts f rest e =
+    let at : Token = Word (codes "AT") in
+    elim (choose (eat at ts).0 _ _ f rest e) [
+      | inl a ↦ clock_sound ts (eat at ts).1 f rest (eat_true at ts a.0) a.1
+      | inr a ↦ question_or_other_sound ts f rest (ap question_or_other_at (sym (eat_false at ts a.0)) ∙ a.1)
+    ]
+
+removal_or_other_sound : (ts : List Token) (f : Form) (rest : List Token) → removal_or_other_at ts ≡ Read f rest → form f ts rest
+removal_or_other_sound ts f rest e =
+    let delete : Token = Word (codes "DELETE") in
+    elim (choose (eat delete ts).0 _ _ f rest e) [
+      | inl a ↦ removal_sound ts (eat delete ts).1 f rest (eat_true delete ts a.0) a.1
+      | inr a ↦ clock_or_other_sound ts f rest (ap clock_or_other_at (sym (eat_false delete ts a.0)) ∙ a.1)
+    ]
+
+rows_or_other_sound : (ts : List Token) (f : Form) (rest : List Token) → rows_or_other_at ts ≡ Read f rest → form f ts rest
+rows_or_other_sound ts f rest e =
+    let insert : Token = Word (codes "INSERT") in
+    elim (choose (eat insert ts).0 _ _ f rest e) [
+      | inl a ↦ rows_sound ts (eat insert ts).1 f rest (eat_true insert ts a.0) a.1
+      | inr a ↦ removal_or_other_sound ts f rest (ap removal_or_other_at (sym (eat_false insert ts a.0)) ∙ a.1)
+    ]
 
 form_sound : Sound form form_at
 unfolding form_at
 form_sound ts f rest e =
     let create : Token = Word (codes "CREATE") in
-    let insert : Token = Word (codes "INSERT") in
-    let at : Token = Word (codes "AT") in
     elim (choose (eat create ts).0 _ _ f rest e) [
       | inl a ↦ table_sound ts (eat create ts).1 f rest (eat_true create ts a.0) a.1
-      | inr a ↦
-          let others : rows_or_other_at ts ≡ Read f rest = ap rows_or_other_at (sym (eat_false create ts a.0)) ∙ a.1 in
-          elim (choose (eat insert ts).0 _ _ f rest others) [
-            | inl b ↦ rows_sound ts (eat insert ts).1 f rest (eat_true insert ts b.0) b.1
-            | inr b ↦
-                let more : clock_or_question_at ts ≡ Read f rest = ap clock_or_question_at (sym (eat_false insert ts b.0)) ∙ b.1 in
-                elim (choose (eat at ts).0 _ _ f rest more) [
-                  | inl c ↦ clock_sound ts (eat at ts).1 f rest (eat_true at ts c.0) c.1
-                  | inr c ↦
-                      let last : select_at ts ≡ Read f rest = ap select_at (sym (eat_false at ts c.0)) ∙ c.1 in
-                      let d = expect_then (Word (codes "SELECT")) ts _ f rest last in
-                      question_sound ts d.0 f rest d.1 d.2
-                ]
-          ]
+      | inr a ↦ rows_or_other_sound ts f rest (ap rows_or_other_at (sym (eat_false create ts a.0)) ∙ a.1)
     ]
 
 whole_is : {A : Type 0} (o : Outcome A) (x : A) → whole o ≡ Some x → o ≡ Read x []
@@ -503,7 +562,7 @@ read_sound ts f e = form_sound ts f [] (whole_is (form_at ts) f e)
 
 -- what is spelled is read
 pub read_complete : (ts : List Token) (f : Form) → form f ts [] → read_form ts ≡ Some f
-read_complete ts f s = ap whole (form_complete f ts [] refl s)
+read_complete ts f s = ap whole (form_complete f ts [] (record { comma = refl; for = refl; work = refl }) s)
 
 -- tokens of which nothing is read spell no form
 pub nothing_read : (ts : List Token) → read_form ts ≡ None → (f : Form) → form f ts [] → ⊥

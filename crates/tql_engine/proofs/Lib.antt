@@ -1,4 +1,4 @@
-pub mod AddKeeps
+pub mod ChangeKeeps
 pub mod Added
 pub mod Asked
 pub mod BoundTuples
@@ -23,15 +23,20 @@ pub mod Outcomes
 pub mod Periods
 pub mod Places
 pub mod ReadRows
+pub mod Removing
 pub mod ReadingSteps
 pub mod SenseLaws
+pub mod SpanReading
 pub mod Standing
 pub mod StepAdd
 pub mod StepAsk
 pub mod StepAt
 pub mod StepCreate
+pub mod StepRemove
+pub mod StepTransaction
 pub mod TableLemmas
 pub mod TestLaws
+pub mod TransactionKeeps
 pub mod TupleLemmas
 pub mod Turns
 pub mod Wide

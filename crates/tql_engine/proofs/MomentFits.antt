@@ -1,11 +1,14 @@
 -- The clock's moments fit 64 bits.
-use Rattle.std.proofs.Common.{◌≡◌, ◌∙◌, sym, ap, subst, arith, w64, to_z, of_z}
-use Rattle.std.specs.Prelude.{ℤ, pos, ◌≤ℤ◌, ◌<ℤ◌, ◌+ℤ◌, FitsSigned}
+use Rattle.std.proofs.Common.{◌≡◌, ◌∙◌, ℕ, List, refl, sym, ap, subst, arith, w64, to_z, of_z}
+use Rattle.std.specs.Prelude.{ℤ, pos, ◌≤ℤ◌, ◌<ℤ◌, ◌+ℤ◌, false, int_le, Option, Some, None, IsNone, FitsSigned}
 use Rattle.std.proofs.lemmas.Int.{ints}
 use Rattle.std.proofs.Math.Facts.{to_z-of_z}
 use Rattle.tql_spec.specs.Calendar.{first_moment, high}
 use Rattle.tql_spec.specs.Machine.{State}
+use Rattle.tql_spec.specs.Datum.{Row}
+use Rattle.tql_store.specs.Slots as store
 use Rattle.tql_store.specs.Stands.{Under}
+use Rattle.tql_engine.specs.Committing.{ChangesRows}
 use Rattle.tql_engine.specs.Stands.{Held, StandsFor}
 use Rattle.tql_engine.proofs.Standing.{under_law}
 
@@ -25,3 +28,27 @@ clock_steps h s st below =
 -- it is past the last commit
 pub clock_under : (h : Held) (s : State) → StandsFor h s → Under h.rows.last (to_z w64 (of_z w64 h.next))
 clock_under h s st = subst (λ m. Under h.rows.last m) (sym (clock_reads h s st ∙ st.clock)) (under_law h s st)
+
+-- where the clock is not at its end, it is before it
+pub clock_left : (h : Held) (s : State) → StandsFor h s → int_le high (to_z w64 (of_z w64 h.next)) ≡ false → h.next <ℤ high
+clock_left h s st e = before (h.next) (ap (int_le high) (sym (clock_reads h s st)) ∙ e)
+  where
+    before : (n : ℤ) → int_le high n ≡ false → n <ℤ high
+    before n e = grind (arith, ints, e)
+
+-- so does the clock after a change
+after_within : (w : Option ℤ) (n after : ℤ) (t : ℕ) (removed : List ℕ) (rows : List Row) (old new : store.Held) → first_moment ≤ℤ n → n ≤ℤ high → (IsNone w → n <ℤ high)
+    → ChangesRows w n after t removed rows old new → (first_moment ≤ℤ after) × (after ≤ℤ high)
+after_within None n after t removed rows old new low up below c =
+    let e = c.1 in
+    let left = below refl in
+    (omega (arith, ints), omega (arith, ints))
+after_within (Some m) n after t removed rows old new low up below c = (subst (λ k. first_moment ≤ℤ k) (sym c.1) low, subst (λ k. k ≤ℤ high) (sym c.1) up)
+
+pub after_reads : (h : Held) (s : State) (after : ℤ) (t : ℕ) (removed : List ℕ) (rows : List Row) (new : store.Held) → StandsFor h s → (IsNone h.rows.working → h.next <ℤ high)
+    → ChangesRows h.rows.working h.next after t removed rows h.rows new → to_z w64 (of_z w64 after) ≡ after
+after_reads h s after t removed rows new st below c =
+    let low : first_moment ≤ℤ h.next = subst (λ m. first_moment ≤ℤ m) (sym st.clock) st.not_before in
+    let up : h.next ≤ℤ high = subst (λ m. m ≤ℤ high) (sym st.clock) st.not_after in
+    let within = after_within h.rows.working h.next after t removed rows h.rows new low up below c in
+    to_z-of_z (moment_fits after within.0 within.1)

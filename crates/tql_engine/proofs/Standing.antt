@@ -1,6 +1,6 @@
 -- What an engine that stands for a state has in common with it, and how a new one and the clock keep that.
 use Rattle.std.proofs.Common.{◌≡◌, ℕ, zero, suc, Bool, true, false, List, [], ◌∷◌, ◌++◌, map, length, refl, sym, ap, subst, ◌∙◌, arith}
-use Rattle.std.specs.Prelude.{ℤ, ◌≤ℤ◌, slice_get, IsTrue, Option, Some, None, if◌then◌else◌}
+use Rattle.std.specs.Prelude.{ℤ, ◌≤ℤ◌, slice_get, IsTrue, IsNone, is_some, Option, Some, None, if◌then◌else◌}
 use Rattle.std.proofs.lemmas.Int.{ints}
 use Rattle.std.proofs.lemmas.List.{length-map}
 use Rattle.tql_spec.specs.Words.{same_text}
@@ -20,24 +20,43 @@ use Rattle.tql_store.specs.declared.tables.Place.TheVariants.{Free, Versioned, U
 use Rattle.tql_engine.specs.Plain.{PlainTable, def_of, column_of}
 use Rattle.tql_engine.specs.Steps.{width_at}
 use Rattle.tql_engine.specs.Effects.{not_later_than}
-use Rattle.tql_engine.specs.Stands.{Held, Placed, StandsFor, ArePlaced, copies_of, plain_tables}
+use Rattle.tql_engine.specs.Stands.{Held, Placed, StandsFor, ArePlaced, IsDated, copies_of, moment_of, plain_tables}
 
 -- ---- a new engine
 
 pub new_law : (r : store.Held) → Represents r (λ t. []) (λ t. []) → r.working ≡ None → table_count r ≡ 0
     → StandsFor (record { tables = []; rows = r; next = first_moment }) new_state
 new_law r stands idle count = record {
-  plain = record { definitions = refl; closed = refl; rows = tt };
+  plain = record { definitions = refl; rows = tt; working = tt };
   clock = refl;
   not_before = omega (arith, ints);
   not_after = omega (arith, ints);
   falls = tt;
   since = tt;
-  idle = idle;
+  opened = idle;
+  dated = tt;
   stands = stands;
   placed = tt;
   count = count;
 }
+
+-- ---- transactions
+
+-- where the store has none open, the machine has none
+closed_is : (o : Option Entry) (w : Option ℤ) → w ≡ moment_of o → IsNone w → o ≡ None
+closed_is None w e c = refl
+closed_is (Some x) w e c = absurd (let f : true ≡ false = ap is_some (sym e) ∙ c in cc)
+
+pub closed_law : (h : Held) (s : State) → StandsFor h s → IsNone h.rows.working → s.transaction ≡ None
+closed_law h s f c = closed_is s.transaction h.rows.working f.opened c
+
+-- one is open in both, or in neither
+pub open_law : (h : Held) (s : State) → StandsFor h s → is_some s.transaction ≡ is_some h.rows.working
+open_law h s f = same_test s.transaction ∙ ap is_some (sym f.opened)
+  where
+    same_test : (o : Option Entry) → is_some o ≡ is_some (moment_of o)
+    same_test None = refl
+    same_test (Some e) = refl
 
 -- ---- the clock
 
@@ -52,16 +71,17 @@ falls_below : (n m : ℤ) (es : List Entry) → FallingFrom n es → is_not_late
 falls_below n m [] f e = tt
 falls_below n m (x ∷ older) f e = (grind (arith, ints), f.1)
 
-pub clock_law : (h : Held) (s : State) (m : ℤ) → StandsFor h s → is_not_later m s.history ≡ false → first_moment ≤ℤ m → m ≤ℤ high
+pub clock_law : (h : Held) (s : State) (m : ℤ) → StandsFor h s → IsNone h.rows.working → is_not_later m s.history ≡ false → first_moment ≤ℤ m → m ≤ℤ high
     → StandsFor (record h { next = m }) (record s { next = m })
-clock_law h s m f later from until = record {
-  plain = record { definitions = f.plain.definitions; closed = f.plain.closed; rows = f.plain.rows };
+clock_law h s m f closed later from until = record {
+  plain = record { definitions = f.plain.definitions; rows = f.plain.rows; working = f.plain.working };
   clock = refl;
   not_before = from;
   not_after = until;
   falls = falls_below s.next m s.history f.falls later;
   since = f.since;
-  idle = f.idle;
+  opened = f.opened;
+  dated = subst (λ (o : Option Entry). IsDated m o) (sym (closed_law h s f closed)) tt;
   stands = f.stands;
   placed = f.placed;
   count = f.count;

@@ -1,22 +1,22 @@
 -- Rows added.
-use Rattle.std.specs.Prelude.{◌≡◌, refl, ℕ, Bool, true, false, not, ◌||◌, List, [], ◌∷◌, ◌++◌, map, length, replicate, slice_set, ℤ, Option, Some, None, if◌then◌else◌}
+use Rattle.std.specs.Prelude.{◌≡◌, refl, ℕ, Bool, true, false, not, ◌&&◌, ◌||◌, List, [], ◌∷◌, ◌++◌, map, length, replicate, slice_set, ℤ, Option, Some, None, is_none, if◌then◌else◌}
 use Rattle.std.specs.List.{list_any, range_with_len}
 use Rattle.std.proofs.Common.{sym, ap, ◌∙◌, eqb-true}
 use lib.ListN.{length-map}
 use Rattle.tql_spec.specs.Datum.{Datum, Kind, Ints}
-use Rattle.tql_spec.specs.Refusal.{Refusal, E20, E22, E30, E35, E36, E41, first, fault_if}
+use Rattle.tql_spec.specs.Refusal.{Refusal, E20, E22, E30, E35, E36, E41, earlier, first, fault_if}
 use Rattle.tql_spec.specs.Expression.{Expr}
 use Rattle.tql_spec.specs.Definition.{Name, TableDef, Stamped, place_of, table_at}
 use Rattle.tql_spec.specs.History.{Copy, Entry, rows_in}
 use Rattle.tql_spec.specs.Change.{Outcome, insert, added_to}
-use Rattle.tql_spec.specs.Machine.{Reply, Done, Inserted, State, Bound, Alter, InsertTuples, Changes, is_clock_at_end, last_copy, committed, constraint_faults, unless, effect, state_faults}
+use Rattle.tql_spec.specs.Machine.{Reply, Done, Inserted, State, Bound, Alter, InsertTuples, Changes, is_clock_at_end, with_working, constraint_faults, unless, effect, state_faults}
 use Rattle.tql_spec.specs.Names.{Checked, ◌>>=◌, sound, check_each}
 use Rattle.tql_spec.specs.Binding.{tuple, or_no_table, all_assignable, kinds_for}
 use Rattle.tql_spec.specs.Forms.{NumberCell, NumberTuple, AddRows, tuple_tree, tree_of_form}
 use Rattle.tql_spec.specs.Run.{respond}
 use Rattle.tql_engine.specs.Plain.{PlainTable, def_of, cells_of}
-use Rattle.tql_engine.specs.Steps.{refused, misfits, begun_at, with_rows, read_step, add_step}
-use Rattle.tql_engine.proofs.Faults.{plain}
+use Rattle.tql_engine.specs.Steps.{refused, working_now, if_dated, misfits, begun_at, read_step, add_step}
+use Rattle.tql_engine.proofs.Faults.{plain, before}
 use Rattle.tql_engine.proofs.TestLaws.{or_false, either_left, either_right, not_false}
 use Rattle.tql_engine.proofs.Places.{InPlace, Placed, placed}
 use Rattle.tql_engine.proofs.Cells.{datum, is_out, unless_out, rows_are, rows_of_literals, level}
@@ -33,66 +33,68 @@ all_long k (cs ∷ css) e = (
 
 -- ---- the first fault
 
--- an unknown table, before what is wrong with the tuples
-first_unknown : (b x y : Bool) (rest : List Refusal) → first rest ≡ level x y → first (fault_if b E41 ++ (E20 ∷ rest)) ≡ Some (if b then E41 else E20)
-first_unknown true true y rest f = rw f
-first_unknown true false true rest f = rw f
-first_unknown true false false rest f = rw f
-first_unknown false true y rest f = rw f
-first_unknown false false true rest f = rw f
-first_unknown false false false rest f = rw f
-
 -- the clock, before what is wrong with the tuples
-first_found : (b x y : Bool) (rest : List Refusal) → first rest ≡ level x y → first (fault_if b E41 ++ rest) ≡ if b then Some E41 else level x y
-first_found true true y rest f = rw f
-first_found true false true rest f = rw f
-first_found true false false rest f = rw f
-first_found false x y rest f = f
+clock_before : (x y : Bool) → earlier E41 (level x y) ≡ E41
+clock_before true y = refl
+clock_before false true = refl
+clock_before false false = refl
 
-unless_unknown : (b : Bool) (s new : State) (reply : Reply) → unless (Some (if b then E41 else E20)) s reply new ≡ if b then refused E41 s else refused E20 s
-unless_unknown true s new reply = refl
-unless_unknown false s new reply = refl
+-- an unknown table, before what is wrong with the tuples
+unknown_before : (x y : Bool) → Some (earlier E20 (level x y)) ≡ Some E20
+unknown_before true y = refl
+unknown_before false true = refl
+unknown_before false false = refl
 
-unless_found : (b x y : Bool) (s new : State) (reply : Reply)
-    → unless (if b then Some E41 else level x y) s reply new ≡ if b then refused E41 s else (if x then refused E22 s else (if y then refused E30 s else (reply, new)))
-unless_found true x y s new reply = refl
-unless_found false true y s new reply = refl
-unless_found false false true s new reply = refl
-unless_found false false false s new reply = refl
+-- the reply, by what is wrong with the tuples
+unless_level : (x y : Bool) (s new : State) (reply : Reply) → unless (level x y) s reply new ≡ if x then refused E22 s else (if y then refused E30 s else (reply, new))
+unless_level true y s new reply = refl
+unless_level false true s new reply = refl
+unless_level false false s new reply = refl
 
-module _ (ps : List PlainTable) (history : List Entry) (next : ℤ) where
+module _ (ps : List PlainTable) (history : List Entry) (next : ℤ) (transaction : Option Entry) where
   abbrev now : State
-  now = plain ps history next
+  now = plain ps history next transaction
+
+  -- the moment of the change, and the copy that it sees
+  abbrev moment : ℤ
+  moment = (working_now now).moment
+
+  abbrev seen : Copy
+  seen = (working_now now).copy
+
+  -- whether no moment is left
+  abbrev undated : Bool
+  undated = is_none transaction && is_clock_at_end now
 
   -- what a change gives, where its table becomes this
   abbrev altered_by : ℕ → Outcome → Reply × State
   altered_by i o =
-      let copy = slice_set (last_copy now) i o.rows in
+      let copy = slice_set seen i o.rows in
       unless (first (o.faults ++ constraint_faults now.definitions copy)) now
-      (Done Inserted (Some o.count)) (committed now (record { moment = next; copy = copy }))
+      (Done Inserted (Some o.count)) (with_working now transaction (record { moment = moment; copy = copy }))
 
   module _ (i : ℕ) (h : InPlace ps i) where
     -- the outcome of rows that fit
     outcome_is : (vss : List (List Datum)) → AllLong (length h.table.columns) vss
-        → insert (table_at now.definitions i) next (rows_in (last_copy now) i) (range_with_len 0 (length h.table.columns)) (Some vss)
-        ≡ record { rows = rows_in (last_copy now) i ++ begun_at next vss; count = length vss; faults = [] }
+        → insert (table_at now.definitions i) moment (rows_in seen i) (range_with_len 0 (length h.table.columns)) (Some vss)
+        ≡ record { rows = rows_in seen i ++ begun_at moment vss; count = length vss; faults = [] }
     outcome_is vss long =
         let d : TableDef = def_of h.table in
-        let rows : List Stamped = rows_in (last_copy now) i in
+        let rows : List Stamped = rows_in seen i in
         let is : List ℕ = range_with_len 0 (length h.table.columns) in
-        (λ j. insert (h.definition j) next rows is (Some vss))
-        ∙ ap (added_to d rows) (rows_begun h.table next vss long)
-        ∙ (λ j. record { rows = rows ++ begun_at next vss; count = length-map {B = Stamped} vss (λ cells. record { cells = cells; start = next }) j; faults = no_row_fault h.table (begun_at next vss) j })
+        (λ j. insert (h.definition j) moment rows is (Some vss))
+        ∙ ap (added_to d rows) (rows_begun h.table moment vss long)
+        ∙ (λ j. record { rows = rows ++ begun_at moment vss; count = length-map {B = Stamped} vss (λ cells. record { cells = cells; start = moment }) j; faults = no_row_fault h.table (begun_at moment vss) j })
 
     -- the rows added
     rows_added : (vss : List (List Datum)) → AllLong (length h.table.columns) vss
-        → altered_by i (insert (table_at now.definitions i) next (rows_in (last_copy now) i) (range_with_len 0 (length h.table.columns)) (Some vss))
+        → altered_by i (insert (table_at now.definitions i) moment (rows_in seen i) (range_with_len 0 (length h.table.columns)) (Some vss))
         ≡ read_step now i (Some vss)
     rows_added vss long =
-        let copy : Copy = with_rows (last_copy now) i (begun_at next vss) in
+        let copy : Copy = slice_set seen i (rows_in seen i ++ begun_at moment vss) in
         let reply : Reply = Done Inserted (Some (length vss)) in
         ap (altered_by i) (outcome_is vss long)
-        ∙ (λ j. unless (first (fault_if (not (no_key ps copy j)) E35 ++ fault_if (not (no_reference ps copy j)) E36)) now reply (committed now (record { moment = next; copy = copy })))
+        ∙ (λ j. unless (first (fault_if (not (no_key ps copy j)) E35 ++ fault_if (not (no_reference ps copy j)) E36)) now reply (with_working now transaction (record { moment = moment; copy = copy })))
 
   module _ (t : NumberTuple) (ts : List NumberTuple) where
     abbrev css : List (List NumberCell)
@@ -114,13 +116,14 @@ module _ (ps : List PlainTable) (history : List Entry) (next : ℤ) where
         unless (first (state_faults now Changes ++ b.faults)) now r.0 r.1
 
     -- an unknown table
-    unknown : (is : List ℕ) (kinds : List Kind) → machine (or_no_table None) is kinds ≡ if is_clock_at_end now then refused E41 now else refused E20 now
+    unknown : (is : List ℕ) (kinds : List Kind) → machine (or_no_table None) is kinds ≡ if_dated now (refused E20 now)
     unknown is kinds =
         let r : Reply × State = effect now (bound (or_no_table None) is kinds).value in
-        ap (λ (o : Option Refusal). unless o now r.0 r.1)
-        (first_unknown (is_clock_at_end now) (list_any (misfits_kinds kinds) css || false) (list_any (list_any is_out) css || false)
-        ((bound_rows kinds).faults ++ []) (tuples_first kinds (t ∷ ts) false false [] refl))
-        ∙ unless_unknown (is_clock_at_end now) now r.1 r.0
+        let rest : List Refusal = (bound_rows kinds).faults ++ [] in
+        let x : Bool = list_any (misfits_kinds kinds) css || false in
+        let y : Bool = list_any (list_any is_out) css || false in
+        before undated E41 (E20 ∷ rest) (Some E20) now r.0 r.1
+        (ap (λ (o : Option Refusal). Some (earlier E20 o)) (tuples_first kinds (t ∷ ts) false false [] refl) ∙ unknown_before x y) refl
 
     module _ (i : ℕ) (h : InPlace ps i) where
       abbrev width : ℕ
@@ -144,7 +147,7 @@ module _ (ps : List PlainTable) (history : List Entry) (next : ℤ) where
           → effect now (bound (or_no_table (Some i)) columns kinds).value ≡ read_step now i (Some (map (map datum) css))
       effect_is e =
           (λ j. effect now (Alter (InsertTuples i columns (tuples_value kinds (t ∷ ts) j))))
-          ∙ (λ j. altered_by i (insert (table_at now.definitions i) next (rows_in (last_copy now) i) columns (rows_of_literals css j)))
+          ∙ (λ j. altered_by i (insert (table_at now.definitions i) moment (rows_in seen i) columns (rows_of_literals css j)))
           ∙ rows_added i h (map (map datum) css) (all_long width css e)
 
       either_end : (x y : Bool) (r : Reply × State) → list_any (misfits width) css ≡ x
@@ -155,16 +158,17 @@ module _ (ps : List PlainTable) (history : List Entry) (next : ℤ) where
       either_end false false r e k = k e
 
       -- a table that is there
-      found : machine (or_no_table (Some i)) columns kinds ≡ if is_clock_at_end now then refused E41 now else add_step ps now (Some i) css
+      found : machine (or_no_table (Some i)) columns kinds ≡ if_dated now (add_step ps now (Some i) css)
       found =
-          let b : Bool = is_clock_at_end now in
           let x : Bool = list_any (misfits width) css in
           let y : Bool = list_any (list_any is_out) css in
           let r : Reply × State = effect now (bound (or_no_table (Some i)) columns kinds).value in
-          ap (λ (o : Option Refusal). unless o now r.0 r.1) (first_found b x y ((bound_rows kinds).faults ++ []) first_wrong)
-          ∙ unless_found b x y now r.1 r.0
-          ∙ (λ j. if b then refused E41 now else either_end x y r refl effect_is j)
-          ∙ sym (λ j. if b then refused E41 now else (if list_any (misfits (h.width j)) css then refused E22 now else read_step now i (rows_are css j)))
+          before undated E41 ((bound_rows kinds).faults ++ []) (level x y) now r.0 r.1 first_wrong (clock_before x y)
+          ∙ ap (if_dated now) (
+          unless_level x y now r.1 r.0
+          ∙ either_end x y r refl effect_is
+          ∙ sym (λ j. if list_any (misfits (h.width j)) css then refused E22 now else read_step now i (rows_are css j))
+          )
 
       -- the columns of that table
       columns_are : machine (sound i) (all_assignable (table_at now.definitions i)) (kinds_for (table_at now.definitions i) (all_assignable (table_at now.definitions i)))
@@ -176,10 +180,10 @@ module _ (ps : List PlainTable) (history : List Entry) (next : ℤ) where
 
     by_place : (o : Option ℕ) → Placed ps o
         → (let d = table_at now.definitions (or_no_table o).value in machine (or_no_table o) (all_assignable d) (kinds_for d (all_assignable d)))
-        ≡ if is_clock_at_end now then refused E41 now else add_step ps now o css
+        ≡ if_dated now (add_step ps now o css)
     by_place None h = unknown _ _
     by_place (Some i) h = columns_are i h ∙ found i h
 
   pub add_so : (n : Name) (t : NumberTuple) (ts : List NumberTuple)
-      → respond now (tree_of_form (AddRows n t ts)) ≡ if is_clock_at_end now then refused E41 now else add_step ps now (place_of n now.definitions) (map cells_of (t ∷ ts))
+      → respond now (tree_of_form (AddRows n t ts)) ≡ if_dated now (add_step ps now (place_of n now.definitions) (map cells_of (t ∷ ts)))
   add_so n t ts = by_place t ts (place_of n now.definitions) (placed n ps)

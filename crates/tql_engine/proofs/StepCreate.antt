@@ -4,7 +4,7 @@ use Rattle.std.specs.List.{flat_map}
 use Rattle.std.proofs.Common.{ap, ◌∙◌, append-nil, eqb-true}
 use Rattle.tql_spec.specs.Words.{same_text, listed}
 use Rattle.tql_spec.specs.Datum.{Kind, Ints, Moments, same_kind}
-use Rattle.tql_spec.specs.Refusal.{Refusal, E16, E21, E22, E23, first, fault_if}
+use Rattle.tql_spec.specs.Refusal.{Refusal, E16, E21, E22, E23, E40, earlier, first, fault_if}
 use Rattle.tql_spec.specs.Expression.{Cond}
 use Rattle.tql_spec.specs.Definition as D
 use Rattle.tql_spec.specs.Definition.{Name, TableDef, Application, System, Key, Reference, place_of}
@@ -16,13 +16,13 @@ use Rattle.tql_spec.specs.Machine.{Reply, Done, CreatedTable, State, CreateTable
 use Rattle.tql_spec.specs.Forms.{TableForm, NewTable, tree_of_form}
 use Rattle.tql_spec.specs.Run.{respond}
 use Rattle.tql_engine.specs.Plain.{PlainTable, def_of, table_of}
-use Rattle.tql_engine.specs.Steps.{refused, value_names, all_names, has_unknown, has_value_column, has_right_period, create_step}
-use Rattle.tql_engine.proofs.Faults.{plain}
+use Rattle.tql_engine.specs.Steps.{refused, unless_open, value_names, all_names, has_unknown, has_value_column, has_right_period, create_step}
+use Rattle.tql_engine.proofs.Faults.{plain, before}
 use Rattle.tql_engine.proofs.Elements.{elements, names_are, kinds_with, kinds_are, columns_are, none_bad, starts_are, stops_are, part, system_part, no_application, no_constraint}
 use Rattle.tql_engine.proofs.Numbers.{unknown_is, IsNumber, Sought, sought}
 use Rattle.tql_engine.proofs.Periods.{generated_of, two_names, not_both, alike, wrong_is, end_right}
 use Rattle.tql_engine.proofs.TestLaws.{or_false, either_left, either_right, both_left, both_right}
-use Rattle.tql_engine.proofs.Created.{whole, first_is, replied, replied_is}
+use Rattle.tql_engine.proofs.Created.{whole, of_period, first_of_all, first_is, replied, replied_is}
 
 -- ---- the definitions of a table made, by their parts
 
@@ -67,9 +67,22 @@ under : (b : Bool) (r x y : Reply × State) → (b ≡ false → x ≡ y) → (i
 under true r x y k = refl
 under false r x y k = k refl
 
-module _ (ps : List PlainTable) (history : List Entry) (next : ℤ) where
+-- a transaction that is open, before what is wrong with the table
+open_before : (there twice unknown misfits wrong many : Bool) → earlier E40 (first_of_all there twice unknown misfits wrong many) ≡ E40
+open_before true twice unknown misfits wrong many = refl
+open_before false true unknown misfits wrong many = refl
+open_before false false true misfits wrong many = refl
+open_before false false false true wrong many = refl
+open_before false false false false true many = refl
+open_before false false false false false true = refl
+open_before false false false false false false = refl
+
+module _ (ps : List PlainTable) (history : List Entry) (next : ℤ) (transaction : Option Entry) where
   abbrev now : State
-  now = plain ps history next
+  now = plain ps history next transaction
+
+  abbrev is_open : Bool
+  is_open = is_some transaction
 
   -- what the machine does with a table
   abbrev machine : Checked TableDef → Reply × State
@@ -140,19 +153,24 @@ module _ (ps : List PlainTable) (history : List Entry) (next : ℤ) where
 
     -- the reply, fault by fault
     by_faults : respond now (tree_of_form (NewTable t))
-        ≡ replied there (repeats (all_names t ++ [])) (is_none start_at || is_none end_at) (misfits start_at end_at) (wrong start_at end_at) many now
-        (Done CreatedTable None) (with_table (made start_at end_at) now)
+        ≡ unless_open now (replied there (repeats (all_names t ++ [])) (is_none start_at || is_none end_at) (misfits start_at end_at) (wrong start_at end_at) many now
+        (Done CreatedTable None) (with_table (made start_at end_at) now))
     by_faults =
         let new : State = with_table (made start_at end_at) now in
         let twice : Bool = repeats (all_names t ++ []) in
+        let unknown : Bool = is_none start_at || is_none end_at in
+        let misfit : Bool = misfits start_at end_at in
+        let amiss : Bool = wrong start_at end_at in
         let some : List Refusal = whole there twice false false false false false false many in
+        let rest : List Refusal = of_period (is_none start_at) (is_none end_at) misfit amiss in
         by_parts
-        ∙ ap (λ (faults : List Refusal). unless (first faults) now (Done CreatedTable None) new) (tidy some period.faults)
-        ∙ (λ j. unless (first (some ++ (unknown_fault start_at j ++ (unknown_fault end_at j
-        ++ (fault_if (misfits start_at end_at) E22 ++ (fault_if (wrong start_at end_at) E23 ++ [])))))) now (Done CreatedTable None) new)
-        ∙ ap (λ (e : Option Refusal). unless e now (Done CreatedTable None) new)
-        (first_is there twice (is_none start_at) (is_none end_at) (misfits start_at end_at) (wrong start_at end_at) many)
-        ∙ replied_is there twice (is_none start_at || is_none end_at) (misfits start_at end_at) (wrong start_at end_at) many now (Done CreatedTable None) new
+        ∙ ap (λ (faults : List Refusal). unless (first (fault_if is_open E40 ++ faults)) now (Done CreatedTable None) new) (tidy some period.faults)
+        ∙ (λ j. unless (first (fault_if is_open E40 ++ (some ++ (unknown_fault start_at j ++ (unknown_fault end_at j
+        ++ (fault_if misfit E22 ++ (fault_if amiss E23 ++ []))))))) now (Done CreatedTable None) new)
+        ∙ before is_open E40 (some ++ rest) (first_of_all there twice unknown misfit amiss many) now (Done CreatedTable None) new
+        (first_is there twice (is_none start_at) (is_none end_at) misfit amiss many)
+        (open_before there twice unknown misfit amiss many)
+        ∙ ap (unless_open now) (replied_is there twice unknown misfit amiss many now (Done CreatedTable None) new)
 
     -- a name is unknown where it has no number
     unknown_as : is_none start_at || is_none end_at ≡ has_unknown t
@@ -225,9 +243,11 @@ module _ (ps : List PlainTable) (history : List Entry) (next : ℤ) where
         (unknown_is t.period_end (all_names t) ∙ ap not (both_right known_start known_end u))
         (both_right known_start known_end u) r)))
 
-  pub create_so : (t : TableForm) → respond now (tree_of_form (NewTable t)) ≡ create_step now t
+  pub create_so : (t : TableForm) → respond now (tree_of_form (NewTable t)) ≡ unless_open now (create_step now t)
   create_so t =
       by_faults t
-      ∙ (λ j. replied (there t) (repeats (append-nil (all_names t) j)) (unknown_as t j) (misfits t (start_at t) (end_at t)) (wrong t (start_at t) (end_at t)) (many t) now
+      ∙ ap (unless_open now) (
+      (λ j. replied (there t) (repeats (append-nil (all_names t) j)) (unknown_as t j) (misfits t (start_at t) (end_at t)) (wrong t (start_at t) (end_at t)) (many t) now
       (Done CreatedTable None) (with_table (made t (start_at t) (end_at t)) now))
       ∙ reply_as t
+      )

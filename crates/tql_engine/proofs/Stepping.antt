@@ -1,18 +1,19 @@
 -- From a step at a form to the answer to a text.
 use Rattle.std.proofs.Common.{◌≡◌, refl, sym, subst, ◌∙◌, ap, ℕ, Bool, true, false, List, Option, Some, None, Result, Ok, Err, map, inl, inr}
-use Rattle.std.specs.Prelude.{ℤ, slice_get, if◌then◌else◌, is_some, not, nat_le, length, ◌∷◌, ◌<◌, ◌≤◌, IsTrue, IsFalse, IsUtf8, IfOk}
+use Rattle.std.specs.Prelude.{ℤ, ◌&&◌, slice_get, if◌then◌else◌, is_some, is_none, not, nat_le, length, ◌∷◌, ◌<◌, ◌≤◌, IsTrue, IsFalse, IsUtf8, IfOk}
 use Rattle.tql_spec.specs.Words.{map_all}
 use Rattle.tql_spec.specs.Datum.{Row}
 use Rattle.tql_spec.specs.Creation.{repeats}
 use Rattle.std.specs.List.{list_any}
 use Rattle.tql_spec.specs.Definition.{Name, place_of}
 use Rattle.tql_spec.specs.Calendar.{read_timestamp}
+use Rattle.tql_spec.specs.History.{Entry, When}
 use Rattle.tql_spec.specs.Refusal.{E01}
 use Rattle.tql_spec.specs.Machine as machine
 use Rattle.tql_spec.specs.Machine.{State, Refused, is_not_later, is_clock_at_end}
 use Rattle.tql_spec.specs.Script.{Piece}
 use Rattle.tql_spec.specs.Forms as spec
-use Rattle.tql_spec.specs.Forms.{NewTable, AddRows, SetClockTo, AskAsOf, tree_of_form}
+use Rattle.tql_spec.specs.Forms.{NewTable, AddRows, RemoveRows, SetClockTo, Ask, StartTransaction, CommitWork, RollbackWork, tree_of_form}
 use Rattle.tql_spec.specs.Run.{HasSense, Says, Faulty}
 use Rattle.tql_value.specs.Refusals.{refusal_of}
 use Rattle.tql_value.specs.declared.refusal.Refusal.{Refusal}
@@ -21,7 +22,7 @@ use Rattle.tql_result.specs.Replies.{IsPrintableReply, reply_of}
 use Rattle.tql_result.specs.declared.reply.Reply.{Reply}
 use Rattle.tql_engine.specs.Plain.{PlainTable, number_value, cells_of}
 use Rattle.tql_engine.specs.Stands.{Held, Placed, StandsFor, plain_tables}
-use Rattle.tql_engine.specs.Steps.{form_step, create_step, clock_step, ask_step, found_step, add_step, read_step, misfits, width_at, all_names, has_unknown, has_value_column, has_right_period}
+use Rattle.tql_engine.specs.Steps.{form_step, unless_open, if_dated, create_step, clock_step, when_of, ask_step, found_step, add_step, read_step, remove_step, start_step, commit_step, rollback_step, misfits, width_at, all_names, has_unknown, has_value_column, has_right_period}
 use Rattle.tql_engine.specs.Effects.{Does, Refuses, DoesStep, reply_by}
 use Rattle.tql_engine.specs.Sense.{finished, ReadsAs, FaultsUnfinished}
 use Rattle.tql_engine.specs.Answering.{Answered}
@@ -43,13 +44,13 @@ clock_prints : (s : State) (m : Option ℤ) → Prints (clock_step s m)
 clock_prints s None = tt
 clock_prints s (Some m) = either_prints (is_not_later m s.history) _ _ tt tt
 
-found_prints : (h : Held) (s : State) (t : ℕ) → StandsFor h s → ((p : Placed) × (slice_get h.tables t ≡ Some p)) → (m : Option ℤ) → Prints (found_step s t m)
+found_prints : (h : Held) (s : State) (t : ℕ) → StandsFor h s → ((p : Placed) × (slice_get h.tables t ≡ Some p)) → (when : Option When) → Prints (found_step s t when)
 found_prints h s t st e None = tt
-found_prints h s t st e (Some m) = printable_law h s t (e.0) m st (e.1)
+found_prints h s t st e (Some when) = printable_law h s t (e.0) when st (e.1)
 
-ask_prints : (h : Held) (s : State) (n : Name) → StandsFor h s → (o : Option ℕ) → place_of n s.definitions ≡ o → (m : Option ℤ) → Prints (ask_step s o m)
-ask_prints h s n st None e m = tt
-ask_prints h s n st (Some t) e m = found_prints h s t st (place_law n h.tables t (ap (place_of n) (sym st.plain.definitions) ∙ e)) m
+ask_prints : (h : Held) (s : State) (n : Name) → StandsFor h s → (o : Option ℕ) → place_of n s.definitions ≡ o → (when : Option When) → Prints (ask_step s o when)
+ask_prints h s n st None e when = tt
+ask_prints h s n st (Some t) e when = found_prints h s t st (place_law n h.tables t (ap (place_of n) (sym st.plain.definitions) ∙ e)) when
 
 read_prints : (s : State) (t : ℕ) (rows : Option (List Row)) → Prints (read_step s t rows)
 read_prints s t None = tt
@@ -58,6 +59,18 @@ read_prints s t (Some rows) = tt
 add_prints : (ps : List PlainTable) (s : State) (o : Option ℕ) (css : List (List spec.NumberCell)) → Prints (add_step ps s o css)
 add_prints ps s None css = tt
 add_prints ps s (Some t) css = either_prints (list_any (misfits (width_at ps t)) css) _ _ tt (read_prints s t (map_all (map_all number_value) css))
+
+remove_prints : (s : State) (o : Option ℕ) → Prints (remove_step s o)
+remove_prints s None = tt
+remove_prints s (Some t) = tt
+
+commit_prints : (s : State) (o : Option Entry) → Prints (commit_step s o)
+commit_prints s None = tt
+commit_prints s (Some e) = tt
+
+rollback_prints : (s : State) (o : Option Entry) → Prints (rollback_step s o)
+rollback_prints s None = tt
+rollback_prints s (Some e) = tt
 
 create_prints : (s : State) (t : spec.TableForm) → Prints (create_step s t)
 create_prints s t =
@@ -68,12 +81,22 @@ create_prints s t =
     (either_prints (not (has_right_period t)) _ _ tt
     (either_prints (nat_le 1000 (length s.definitions)) _ _ tt tt)))))
 
+unless_prints : (s : State) (done : machine.Reply × State) → Prints done → Prints (unless_open s done)
+unless_prints s done p = either_prints (is_some s.transaction) _ done tt p
+
+dated_prints : (s : State) (done : machine.Reply × State) → Prints done → Prints (if_dated s done)
+dated_prints s done p = either_prints (is_none s.transaction && is_clock_at_end s) _ done tt p
+
 -- the reply at a form has a text
 form_prints : (h : Held) (s : State) → StandsFor h s → (f : spec.Form) → Prints (form_step (plain_tables h.tables) s f)
-form_prints h s st (NewTable t) = create_prints s t
-form_prints h s st (AddRows n t ts) = either_prints (is_clock_at_end s) _ _ tt (add_prints (plain_tables h.tables) s (place_of n s.definitions) (map cells_of (t ∷ ts)))
-form_prints h s st (SetClockTo m) = clock_prints s (read_timestamp m)
-form_prints h s st (AskAsOf n m) = ask_prints h s n st (place_of n s.definitions) refl (read_timestamp m)
+form_prints h s st (NewTable t) = unless_prints s (create_step s t) (create_prints s t)
+form_prints h s st (AddRows n t ts) = dated_prints s _ (add_prints (plain_tables h.tables) s (place_of n s.definitions) (map cells_of (t ∷ ts)))
+form_prints h s st (RemoveRows n) = dated_prints s _ (remove_prints s (place_of n s.definitions))
+form_prints h s st (SetClockTo m) = unless_prints s _ (clock_prints s (read_timestamp m))
+form_prints h s st (Ask n span) = ask_prints h s n st (place_of n s.definitions) refl (when_of span)
+form_prints h s st StartTransaction = unless_prints s (start_step s) (either_prints (is_clock_at_end s) _ _ tt tt)
+form_prints h s st CommitWork = commit_prints s s.transaction
+form_prints h s st RollbackWork = rollback_prints s s.transaction
 
 -- so has the engine's
 pub step_prints : (old new : Held) (s : State) → StandsFor old s → (f : spec.Form) (reply : Reply) → Does new (reply_of reply) (form_step (plain_tables old.tables) s f) → IsPrintableReply (reply_of reply)

@@ -1,16 +1,15 @@
 -- The tuples of an insert, read one after another.
-use Rattle.std.specs.Prelude.{◌≡◌, refl, ◌<◌, List, [], ◌∷◌, ◌++◌, map, length, Vec, All, Option, Some, None, if◌then◌else◌}
+use Rattle.std.specs.Prelude.{◌≡◌, refl, ◌<◌, List, [], ◌∷◌, ◌++◌, map, length, Vec, All, Option, Some, None}
 use Rattle.std.proofs.Common.{◌∙◌, ap, arith}
 use Rattle.std.proofs.lemmas.List.{length-map}
 use Rattle.std.proofs.lemmas.List.Elements.{All-head, All-tail}
 use Rattle.tql_spec.specs.Definition.{Name, place_of}
-use Rattle.tql_spec.specs.Refusal.{E41}
-use Rattle.tql_spec.specs.Machine.{State, Reply, is_clock_at_end}
+use Rattle.tql_spec.specs.Machine.{State, Reply}
 use Rattle.tql_spec.specs.Forms as spec
 use Rattle.tql_spec.specs.Forms.{Bare}
 use Rattle.tql_engine.specs.Plain as plain
 use Rattle.tql_engine.specs.Plain.{PlainTable}
-use Rattle.tql_engine.specs.Steps.{refused, add_step, form_step}
+use Rattle.tql_engine.specs.Steps.{if_dated, add_step, form_step}
 use Rattle.tql_engine.specs.Reading.{first_or, behind_first, tuple_of_cells, rows_form}
 use Rattle.tql_engine.specs.Forms.{cell_of, cells_of, tuple_of, tuples_of, HasCells, HasTuples}
 use Rattle.tql_engine.specs.Tuples.{cells_of_tuples}
@@ -37,10 +36,8 @@ cells_stay (t ∷ ts) h =
 
 -- what the machine does at an insert of tuples that have cells
 pub rows_form-step : {A : Type 0} (ps : List PlainTable) (s : State) (n : Name) (tuples : Vec NumberTuple A) → HasTuples tuples
-    → form_step ps s (rows_form n (tuples_of tuples))
-    ≡ (if is_clock_at_end s then refused E41 s else add_step ps s (place_of n s.definitions) (cells_of_tuples tuples.items))
+    → form_step ps s (rows_form n (tuples_of tuples)) ≡ if_dated s (add_step ps s (place_of n s.definitions) (cells_of_tuples tuples.items))
 rows_form-step ps s n tuples h =
-    let step : List spec.NumberTuple → Reply × State = λ ts. if is_clock_at_end s then refused E41 s else add_step ps s (place_of n s.definitions) (map plain.cells_of ts) in
+    let step : List spec.NumberTuple → Reply × State = λ ts. if_dated s (add_step ps s (place_of n s.definitions) (map plain.cells_of ts)) in
     let some : 0 < length (tuples_of tuples) = rw (length-map tuples.items tuple_of) h.some in
-    ap step (whole_list (tuple_of_cells []) (tuples_of tuples) some)
-    ∙ ap (λ css. if is_clock_at_end s then refused E41 s else add_step ps s (place_of n s.definitions) css) (cells_stay tuples.items h.whole)
+    ap step (whole_list (tuple_of_cells []) (tuples_of tuples) some) ∙ ap (λ css. if_dated s (add_step ps s (place_of n s.definitions) css)) (cells_stay tuples.items h.whole)

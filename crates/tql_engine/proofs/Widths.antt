@@ -1,9 +1,10 @@
--- The rows found at a moment have a cell for each column.
-use Rattle.std.specs.Prelude.{◌≡◌, refl, ℕ, zero, suc, Bool, true, false, List, [], ◌∷◌, ◌++◌, map, length, insert, nat_lt, ℤ, int_le, int_lt, ◌&&◌, if◌then◌else◌}
+-- The rows that a question finds have a cell for each column.
+use Rattle.std.specs.Prelude.{◌≡◌, refl, ℕ, zero, suc, Bool, true, false, not, ◌&&◌, List, [], ◌∷◌, ◌++◌, map, filter, length, insert, nat_lt, ℤ, pos, ◌+ℤ◌, int_le, int_lt, if◌then◌else◌}
 use Rattle.std.proofs.Common.{sym, ap, ◌∙◌}
+use Rattle.tql_spec.specs.Calendar.{high}
 use Rattle.tql_spec.specs.Datum.{Datum, Row, Moment, Ints, Moments}
 use Rattle.tql_spec.specs.Definition.{Name, Stamped, Version, full}
-use Rattle.tql_spec.specs.History.{Entry, TableEntry, table_history, rows_in, with_end, completed, ends_before, as_of_from}
+use Rattle.tql_spec.specs.History.{Copy, Entry, TableEntry, table_history, rows_in, still, with_end, completed, ends_before, current, as_of_from, meets, has_version, found_from, When, Now, AsOf, FromTo, Between, found}
 use Rattle.tql_engine.specs.Plain.{PlainTable, def_of, column_of, RowFits, RowsFit, CopyFits, HistoryFits}
 use Rattle.tql_engine.proofs.Columns.{Wide}
 
@@ -41,12 +42,48 @@ module _ (p : PlainTable) where
   either_wide w true xs ys h k = h
   either_wide w false xs ys h k = k
 
-  pub found_wide : (ps : List PlainTable) (i : ℕ) (rows : (copy : List (List Stamped)) → CopyFits ps copy → RowsFit p (rows_in copy i))
-      (until : ℤ) (ends : Stamped → ℤ) (m : ℤ) (es : List Entry) → HistoryFits ps es
-      → Wide (length (def_of p).columns) (map (full (def_of p)) (as_of_from until ends m (table_history i es)))
-  found_wide ps i rows until ends m [] f = tt
-  found_wide ps i rows until ends m (e ∷ es) f =
-      let here : TableEntry = record { moment = e.moment; rows = rows_in e.copy i } in
-      either_wide _ (int_le e.moment m && int_lt m until) (completed ends here.rows) (as_of_from e.moment (ends_before here ends) m (table_history i es))
-      (completed_wide ends here.rows (rows e.copy f.0))
-      (found_wide ps i rows e.moment (ends_before here ends) m es f.1)
+  append_wide : (w : ℕ) (xs ys : List Version) → Wide w (map (full (def_of p)) xs) → Wide w (map (full (def_of p)) ys) → Wide w (map (full (def_of p)) (xs ++ ys))
+  append_wide w [] ys h k = k
+  append_wide w (x ∷ xs) ys h k = (h.0, append_wide w xs ys h.1 k)
+
+  filter_wide : (w : ℕ) (test : Version → Bool) (xs : List Version) → Wide w (map (full (def_of p)) xs) → Wide w (map (full (def_of p)) (filter test xs))
+  filter_wide w test [] h = tt
+  filter_wide w test (x ∷ xs) h =
+      let rest : Wide w (map (full (def_of p)) (filter test xs)) = filter_wide w test xs h.1 in
+      either_wide w (test x) (x ∷ filter test xs) (filter test xs) (h.0, rest) rest
+
+  module _ (ps : List PlainTable) (i : ℕ) (rows : (copy : Copy) → CopyFits ps copy → RowsFit p (rows_in copy i)) where
+    -- a table in a copy
+    abbrev here : Entry → TableEntry
+    here e = record { moment = e.moment; rows = rows_in e.copy i }
+
+    here_wide : (ends : Stamped → ℤ) (e : Entry) → CopyFits ps e.copy → Wide (length (def_of p).columns) (map (full (def_of p)) (completed ends (here e).rows))
+    here_wide ends e f = completed_wide ends (here e).rows (rows e.copy f)
+
+    current_wide : (es : List Entry) → HistoryFits ps es → Wide (length (def_of p).columns) (map (full (def_of p)) (current (table_history i es)))
+    current_wide [] f = tt
+    current_wide (e ∷ es) f = here_wide still e f.0
+
+    as_of_wide : (until : ℤ) (ends : Stamped → ℤ) (m : ℤ) (es : List Entry) → HistoryFits ps es
+        → Wide (length (def_of p).columns) (map (full (def_of p)) (as_of_from until ends m (table_history i es)))
+    as_of_wide until ends m [] f = tt
+    as_of_wide until ends m (e ∷ es) f =
+        either_wide _ (int_le e.moment m && int_lt m until) (completed ends (here e).rows) (as_of_from e.moment (ends_before (here e) ends) m (table_history i es))
+        (here_wide ends e f.0)
+        (as_of_wide e.moment (ends_before (here e) ends) m es f.1)
+
+    range_wide : (until : ℤ) (ends : Stamped → ℤ) (a b : ℤ) (es : List Entry) → HistoryFits ps es
+        → Wide (length (def_of p).columns) (map (full (def_of p)) (found_from until ends a b (table_history i es)))
+    range_wide until ends a b [] f = tt
+    range_wide until ends a b (e ∷ es) f =
+        let earlier : List Version = found_from e.moment (ends_before (here e) ends) a b (table_history i es) in
+        let met : List Version = if meets a b e.moment until then completed ends (here e).rows else [] in
+        append_wide _ (filter (λ v. not (has_version earlier v.row)) met) earlier
+        (filter_wide _ (λ v. not (has_version earlier v.row)) met (either_wide _ (meets a b e.moment until) (completed ends (here e).rows) [] (here_wide ends e f.0) tt))
+        (range_wide e.moment (ends_before (here e) ends) a b es f.1)
+
+    pub found_wide : (when : When) (es : List Entry) → HistoryFits ps es → Wide (length (def_of p).columns) (map (full (def_of p)) (found when (table_history i es)))
+    found_wide Now es f = current_wide es f
+    found_wide (AsOf m) es f = as_of_wide high still m es f
+    found_wide (FromTo a b) es f = range_wide high still a b es f
+    found_wide (Between a b) es f = range_wide high still a (b +ℤ pos 1) es f

@@ -1,16 +1,18 @@
--- What a transaction of its own does to the store.
-use Rattle.std.specs.Prelude.{◌≡◌, ℕ, ℤ, List, [], None, Some}
+-- What a change does to the store: in the open transaction, or in one of its own.
+use Rattle.std.specs.Prelude.{◌≡◌, ◌+ℤ◌, ℕ, ℤ, pos, List, length, Option, Some, None}
 use Rattle.tql_spec.specs.Datum.{Row}
+use Rattle.tql_spec.specs.History.{current}
 use Rattle.tql_store.specs.Slots.{Held}
-use Rattle.tql_store.specs.Represents.{BeginCopies, ChangeReplaces, CommitAppends, RollbackRestores}
+use Rattle.tql_store.specs.Represents.{Copies, Working, Represents, BeginCopies, ChangeReplaces, CommitAppends, RollbackRestores, seen_by}
 
--- begun at the moment, rows added to the table, and committed
-pub record CommitsRows (m : ℤ) (t : ℕ) (rows : List Row) (old new : Held) : Type 0 where
+-- begun at the moment, changed, and committed
+pub record CommitsRows (m : ℤ) (t : ℕ) (removed : List ℕ) (rows : List Row) (old new : Held) : Type 0 where
   pub opened : Held
   pub changed : Held
   pub begins : BeginCopies old opened
   pub is_open : opened.working ≡ Some m
-  pub changes : ChangeReplaces t [] rows opened changed
+  pub same_slots : opened.slots ≡ old.slots
+  pub changes : ChangeReplaces t removed rows opened changed
   pub still_open : changed.working ≡ Some m
   pub commits : CommitAppends changed new
   pub idle : new.working ≡ None
@@ -24,3 +26,23 @@ pub record Undoes (m : ℤ) (old new : Held) : Type 0 where
   pub restores : RollbackRestores opened new
   pub idle : new.working ≡ None
   pub places : new.tables ≡ old.tables
+
+-- changed in the open transaction of the moment
+pub record ReplacesRows (m : ℤ) (t : ℕ) (removed : List ℕ) (rows : List Row) (old new : Held) : Type 0 where
+  pub changes : ChangeReplaces t removed rows old new
+  pub still_open : new.working ≡ Some m
+  pub places : new.tables ≡ old.tables
+
+-- by the transaction that is open: the change, and the clock's moment after it
+abbrev pub ChangesRows : Option ℤ → ℤ → ℤ → ℕ → List ℕ → List Row → Held → Held → Type 0
+ChangesRows None clock next t removed rows old new = CommitsRows clock t removed rows old new × (next ≡ clock +ℤ pos 1)
+ChangesRows (Some m) clock next t removed rows old new = ReplacesRows m t removed rows old new × (next ≡ clock)
+
+-- so is what a change leaves that was given up
+abbrev pub KeepsRows : Option ℤ → ℤ → Held → Held → Type 0
+KeepsRows None clock old new = Undoes clock old new
+KeepsRows (Some m) clock old new = new ≡ old
+
+-- how many rows a table has now
+abbrev pub CountsNow : Held → ℕ → ℕ → Type 0
+CountsNow h t count = (copies : Copies) (working : Working) → Represents h copies working → count ≡ length (current (seen_by h.working copies working t))

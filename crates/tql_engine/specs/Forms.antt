@@ -1,7 +1,8 @@
 -- The forms that parsed forms stand for.
 use Rattle.std.specs.Prelude.{ℕ, ◌<◌, List, map, length, Vec, All, ⊤}
 use Rattle.tql_spec.specs.Forms as spec
-use Rattle.tql_spec.specs.Forms.{Bare, Plus, Minus, NewTable, AddRows, SetClockTo, AskAsOf}
+use Rattle.tql_spec.specs.Forms.{Bare, Plus, Minus, NewTable, AddRows, RemoveRows, SetClockTo, Ask, StartTransaction, CommitWork, RollbackWork}
+use Rattle.tql_spec.specs.Syntax.{SpanTree, NoSpan, AsOfTree, FromToTree, BetweenTree}
 use Rattle.tql_engine.specs.Reading.{Columns, Ends, tuple_of_cells, rows_form, table_form}
 use Rattle.tql_engine.specs.Parsing.{name_of, digits_of, content_of}
 use Rattle.tql_engine.specs.declared.parse.form.CellSign.{CellSign}
@@ -9,6 +10,8 @@ use Rattle.tql_engine.specs.declared.parse.form.CellSign.TheVariants as sign
 use Rattle.tql_engine.specs.declared.parse.form.NumberCell.{NumberCell}
 use Rattle.tql_engine.specs.declared.parse.form.NumberTuple.{NumberTuple}
 use Rattle.tql_engine.specs.declared.parse.form.TableForm.{TableForm}
+use Rattle.tql_engine.specs.declared.parse.form.Span.{Span}
+use Rattle.tql_engine.specs.declared.parse.form.Span.TheVariants as span
 use Rattle.tql_engine.specs.declared.parse.form.Form.{Form}
 use Rattle.tql_engine.specs.declared.parse.form.Form.TheVariants as form
 use Rattle.tql_engine.specs.declared.parse.rules.Columns as code_columns
@@ -46,12 +49,23 @@ table_of t =
     let ends : Ends = record { start = name_of t.period_start; end = name_of t.period_end } in
     table_form (name_of t.name) columns (name_of t.row_end) ends
 
+-- the clause of a question
+abbrev pub span_of : Span → SpanTree
+span_of span.Now = NoSpan
+span_of (span.AsOf moment) = AsOfTree (content_of moment)
+span_of (span.FromTo start end) = FromToTree (content_of start) (content_of end)
+span_of (span.Between first last) = BetweenTree (content_of first) (content_of last)
+
 -- the form
 abbrev pub form_of : Form → spec.Form
 form_of (form.NewTable t) = NewTable (table_of t)
 form_of (form.AddRows table tuples) = rows_form (name_of table) (tuples_of tuples)
+form_of (form.RemoveRows table) = RemoveRows (name_of table)
 form_of (form.SetClockTo moment) = SetClockTo (content_of moment)
-form_of (form.AskAsOf table moment) = AskAsOf (name_of table) (content_of moment)
+form_of (form.Ask table span) = Ask (name_of table) (span_of span)
+form_of form.StartTransaction = StartTransaction
+form_of form.CommitWork = CommitWork
+form_of form.RollbackWork = RollbackWork
 
 -- ---- a table has a column, an insert a tuple, and a tuple a cell
 
@@ -68,5 +82,9 @@ HasColumns t = 0 < length t.columns.items
 abbrev pub HasParts : Form → Type 0
 HasParts (form.NewTable t) = HasColumns t
 HasParts (form.AddRows table tuples) = HasTuples tuples
+HasParts (form.RemoveRows table) = ⊤
 HasParts (form.SetClockTo moment) = ⊤
-HasParts (form.AskAsOf table moment) = ⊤
+HasParts (form.Ask table span) = ⊤
+HasParts form.StartTransaction = ⊤
+HasParts form.CommitWork = ⊤
+HasParts form.RollbackWork = ⊤

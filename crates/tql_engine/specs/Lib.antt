@@ -14,6 +14,7 @@ pub mod Nesting
 pub mod Tuples
 pub mod Sense
 pub mod Committing
+pub mod Questions
 pub mod Answering
 pub mod Runs
 pub mod Reads

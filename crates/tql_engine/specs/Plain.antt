@@ -83,3 +83,8 @@ CopyFits _ _ = ⊥
 abbrev pub HistoryFits : List PlainTable → List Entry → Type 0
 HistoryFits ps [] = Unit {0}
 HistoryFits ps (e ∷ older) = CopyFits ps e.copy × HistoryFits ps older
+
+-- the working copy of an open transaction
+abbrev pub WorkingFits : List PlainTable → Option Entry → Type 0
+WorkingFits ps None = Unit {0}
+WorkingFits ps (Some e) = CopyFits ps e.copy

@@ -4,8 +4,8 @@ use Rattle.tql_spec.specs.Words.{same_text}
 use Rattle.tql_spec.specs.Definition.{Name}
 use Rattle.tql_spec.specs.Token.{Token, Word, QuotedName, Number, Quote, Sign, Symbol, Open, Close, Comma, PlusSign, MinusSign, Star, is_reserved}
 use Rattle.tql_lex.specs.Tests.{is_word, is_sign}
-use Rattle.tql_spec.specs.Syntax.{MomentTree}
-use Rattle.tql_spec.specs.Forms.{NumberCell, Bare, Plus, Minus, NumberTuple, TableForm, Form, NewTable, AddRows, SetClockTo, AskAsOf}
+use Rattle.tql_spec.specs.Syntax.{MomentTree, SpanTree, NoSpan, AsOfTree, FromToTree, BetweenTree}
+use Rattle.tql_spec.specs.Forms.{NumberCell, Bare, Plus, Minus, NumberTuple, TableForm, Form, NewTable, AddRows, RemoveRows, SetClockTo, Ask, StartTransaction, CommitWork, RollbackWork}
 
 -- what a rule reads, and the tokens behind it
 pub data Outcome (A : Type 0) : Type 0 where
@@ -210,36 +210,111 @@ moment_at ts = keyword (codes "TIMESTAMP") ts >>= λ _ a. quote_at a
 unfoldable pub clock_at : Parser Form
 clock_at ts = moment_at ts >>= λ m a. Read (SetClockTo m) a
 
--- the words in front of the moment
-unfoldable pub as_of_at : Parser (Unit {0})
-as_of_at ts =
-    keyword (codes "FOR") ts >>= λ _ a. keyword (codes "SYSTEM_TIME") a >>= λ _ b. keyword (codes "AS") b >>= λ _ c. keyword (codes "OF") c
+-- the rest of AS OF
+unfoldable pub as_of_at : Parser SpanTree
+as_of_at ts = keyword (codes "OF") ts >>= λ _ a. moment_at a >>= λ m b. Read (AsOfTree m) b
+
+-- the rest of FROM .. TO
+unfoldable pub from_to_at : Parser SpanTree
+from_to_at ts = moment_at ts >>= λ start a. keyword (codes "TO") a >>= λ _ b. moment_at b >>= λ end c. Read (FromToTree start end) c
+
+-- BETWEEN .. AND
+unfoldable pub between_at : Parser SpanTree
+between_at ts =
+    keyword (codes "BETWEEN") ts >>= λ _ a. moment_at a >>= λ first b. keyword (codes "AND") b >>= λ _ c.
+    moment_at c >>= λ last d. Read (BetweenTree first last) d
+
+-- FROM .. TO, or BETWEEN .. AND
+abbrev pub range_at : Parser SpanTree
+range_at ts =
+    if (eat (Word (codes "FROM")) ts).0
+    then from_to_at (eat (Word (codes "FROM")) ts).1
+    else between_at (eat (Word (codes "FROM")) ts).1
+
+-- the moments behind FOR SYSTEM_TIME
+unfoldable pub moments_at : Parser SpanTree
+moments_at ts =
+    if (eat (Word (codes "AS")) ts).0
+    then as_of_at (eat (Word (codes "AS")) ts).1
+    else range_at (eat (Word (codes "AS")) ts).1
+
+-- SYSTEM_TIME, and the moments behind it
+abbrev pub system_time_at : Parser SpanTree
+system_time_at ts = keyword (codes "SYSTEM_TIME") ts >>= λ _ a. moments_at a
+
+-- a FOR SYSTEM_TIME clause, where there is one
+unfoldable pub span_at : Parser SpanTree
+span_at ts =
+    if (eat (Word (codes "FOR")) ts).0
+    then system_time_at (eat (Word (codes "FOR")) ts).1
+    else Read NoSpan (eat (Word (codes "FOR")) ts).1
 
 -- the rest of SELECT
 unfoldable pub question_at : Parser Form
 question_at ts =
-    symbol Star ts >>= λ _ a. keyword (codes "FROM") a >>= λ _ b. word_at b >>= λ n c. as_of_at c >>= λ _ d.
-    moment_at d >>= λ m e. Read (AskAsOf n m) e
+    symbol Star ts >>= λ _ a. keyword (codes "FROM") a >>= λ _ b. word_at b >>= λ n c. span_at c >>= λ s d. Read (Ask n s) d
+
+-- ---- DELETE and transactions
+
+-- the rest of DELETE
+unfoldable pub removal_at : Parser Form
+removal_at ts = keyword (codes "FROM") ts >>= λ _ a. word_at a >>= λ n b. Read (RemoveRows n) b
+
+-- the tokens behind WORK, where it is in front
+abbrev pub behind_work : List Token → List Token
+behind_work ts = (eat (Word (codes "WORK")) ts).1
+
+-- the words of START TRANSACTION
+unfoldable pub start_at : Parser (Unit {0})
+start_at ts = keyword (codes "START") ts >>= λ _ a. keyword (codes "TRANSACTION") a
+
+-- START TRANSACTION
+abbrev pub start_transaction_at : Parser Form
+start_transaction_at ts = start_at ts >>= λ _ a. Read StartTransaction a
+
+-- ROLLBACK [WORK], or START TRANSACTION
+abbrev pub rollback_or_start_at : Parser Form
+rollback_or_start_at ts =
+    if (eat (Word (codes "ROLLBACK")) ts).0
+    then Read RollbackWork (behind_work (eat (Word (codes "ROLLBACK")) ts).1)
+    else start_transaction_at (eat (Word (codes "ROLLBACK")) ts).1
+
+-- COMMIT [WORK], ROLLBACK [WORK], or START TRANSACTION
+unfoldable pub transaction_at : Parser Form
+transaction_at ts =
+    if (eat (Word (codes "COMMIT")) ts).0
+    then Read CommitWork (behind_work (eat (Word (codes "COMMIT")) ts).1)
+    else rollback_or_start_at (eat (Word (codes "COMMIT")) ts).1
 
 -- ---- forms
 
--- SELECT and its rest
-abbrev pub select_at : Parser Form
-select_at ts = keyword (codes "SELECT") ts >>= λ _ a. question_at a
+-- SELECT, or a transaction's start or end
+abbrev pub question_or_other_at : Parser Form
+question_or_other_at ts =
+    if (eat (Word (codes "SELECT")) ts).0
+    then question_at (eat (Word (codes "SELECT")) ts).1
+    else transaction_at (eat (Word (codes "SELECT")) ts).1
 
--- AT or SELECT, and the rest
-abbrev pub clock_or_question_at : Parser Form
-clock_or_question_at ts =
+-- AT, or one of the forms above
+abbrev pub clock_or_other_at : Parser Form
+clock_or_other_at ts =
     if (eat (Word (codes "AT")) ts).0
     then clock_at (eat (Word (codes "AT")) ts).1
-    else select_at (eat (Word (codes "AT")) ts).1
+    else question_or_other_at (eat (Word (codes "AT")) ts).1
 
--- INSERT, AT or SELECT, and the rest
+-- DELETE, or one of the forms above
+abbrev pub removal_or_other_at : Parser Form
+removal_or_other_at ts =
+    if (eat (Word (codes "DELETE")) ts).0
+    then removal_at (eat (Word (codes "DELETE")) ts).1
+    else clock_or_other_at (eat (Word (codes "DELETE")) ts).1
+
+-- INSERT, or one of the forms above
 abbrev pub rows_or_other_at : Parser Form
 rows_or_other_at ts =
     if (eat (Word (codes "INSERT")) ts).0
     then rows_at (eat (Word (codes "INSERT")) ts).1
-    else clock_or_question_at (eat (Word (codes "INSERT")) ts).1
+    else removal_or_other_at (eat (Word (codes "INSERT")) ts).1
 
 -- a form
 unfoldable pub form_at : Parser Form

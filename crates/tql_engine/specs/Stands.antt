@@ -1,5 +1,5 @@
 -- What an engine holds, and the state of the machine that it stands for.
-use Rattle.std.specs.Prelude.{◌≡◌, ◌≤ℤ◌, ℕ, Bool, not, List, [], ◌∷◌, map, length, nat_eq, IsTrue, ℤ, None, if◌then◌else◌}
+use Rattle.std.specs.Prelude.{◌≡◌, ◌≤ℤ◌, ◌<ℤ◌, ℕ, Bool, not, List, [], ◌∷◌, map, length, nat_eq, IsTrue, ℤ, Option, Some, None, if◌then◌else◌}
 use Rattle.std.specs.List.{list_all}
 use Rattle.tql_spec.specs.Calendar.{first_moment, high}
 use Rattle.tql_spec.specs.Definition.{Stamped}
@@ -50,9 +50,20 @@ abbrev pub AreSince : ℤ → List Entry → Type 0
 AreSince m [] = Unit {0}
 AreSince m (e ∷ older) = (m ≤ℤ e.moment) × AreSince m older
 
--- the working copy where no transaction is open
-abbrev pub no_rows : ℕ → List Stamped
-no_rows id = []
+-- the working copy of an open transaction, as the store numbers its tables; no rows where none is open
+abbrev pub working_of : List Placed → Option Entry → ℕ → List Stamped
+working_of tables None id = []
+working_of tables (Some e) id = rows_of_id tables e.copy id
+
+-- the moment of an open transaction
+abbrev pub moment_of : Option Entry → Option ℤ
+moment_of None = None
+moment_of (Some e) = Some e.moment
+
+-- an open transaction has the clock's moment, which is below the highest
+abbrev pub IsDated : ℤ → Option Entry → Type 0
+IsDated next None = Unit {0}
+IsDated next (Some e) = (e.moment ≡ next) × (next <ℤ high)
 
 -- the engine stands for a state of the machine
 pub record StandsFor (h : Held) (s : State) : Type 0 where
@@ -62,8 +73,9 @@ pub record StandsFor (h : Held) (s : State) : Type 0 where
   pub not_after : s.next ≤ℤ high
   pub falls : FallingFrom s.next s.history
   pub since : AreSince first_moment s.history
-  pub idle : h.rows.working ≡ None
-  pub stands : Represents h.rows (copies_of h.tables s.history) no_rows
+  pub opened : h.rows.working ≡ moment_of s.transaction
+  pub dated : IsDated s.next s.transaction
+  pub stands : Represents h.rows (copies_of h.tables s.history) (working_of h.tables s.transaction)
   pub placed : ArePlaced h.rows h.tables
   pub count : table_count h.rows ≡ length h.tables
 

@@ -1,23 +1,27 @@
-//! Transactions of their own.
-ghost use Rattle.std.specs.Prelude.{◌≡◌, ◌<ℤ◌, [], map, IsNone, IsTrue, OnOk, OnErr, IfErr};
+//! Changes of the store, in the open transaction or in one of their own.
+ghost use Rattle.std.specs.Prelude.{◌≡◌, ◌<◌, ◌<ℤ◌, All, length, map, IsNone, IsTrue, IfOk, OnOk, OnErr, IfErr, true};
 ghost use Rattle.tql_spec.specs.Calendar.{high};
 ghost use Rattle.tql_store.specs.Slots.{has_table};
 ghost use Rattle.tql_store.specs.Stands.{Under};
+ghost use Rattle.tql_store.specs.Represents.{Judged};
 ghost use Rattle.tql_value.specs.Views.{datum_of_value};
 ghost use Rattle.tql_value.specs.declared.refusal.Refusal.TheVariants.{OutOfMemory};
-ghost use Rattle.tql_engine.specs.Committing.{CommitsRows, Undoes};
+ghost use Rattle.tql_engine.specs.Committing.{CommitsRows, Undoes, ChangesRows, KeepsRows, CountsNow};
 
+use tql_memory::Memory;
 use tql_store::store::{Delta, Store};
+use tql_store::version::Version;
 use tql_value::refusal::Refusal;
+use tql_value::table::TableId;
 
-/// Adds rows to a table in a transaction of the moment, or leaves the store as it was.
-pub fn commit_rows(store: &mut Store, moment: i64, delta: Delta) -> Result<(), Refusal>
+/// Makes a change in a transaction of the moment, or leaves the store as it was.
+fn commit_rows(store: &mut Store, moment: i64, delta: Delta) -> Result<(), Refusal>
     requires closed { IsNone store.old.working }
     requires later { Under store.old.last moment }
     requires below { moment <ℤ high }
     requires present { IsTrue (has_table store.old delta.table) }
-    requires none { delta.removed.items ≡ [] }
-    ensures ok { OnOk result (CommitsRows moment delta.table (map (λ row. map datum_of_value row.items) delta.added.items) store.old store.new) }
+    requires within { All (λ i. i < length store.old.slots) delta.removed.items }
+    ensures ok { OnOk result (CommitsRows moment delta.table delta.removed.items (map (λ row. map datum_of_value row.items) delta.added.items) store.old store.new) }
     ensures err { OnErr result (Undoes moment store.old store.new) }
     ensures memory { IfErr result (λ e. e ≡ OutOfMemory) }
 {
@@ -32,4 +36,56 @@ pub fn commit_rows(store: &mut Store, moment: i64, delta: Delta) -> Result<(), R
             Err(refusal)
         }
     }
+}
+
+/// Makes a change in the open transaction, or in one of its own at the clock's moment, and gives the clock's moment after it; or
+/// leaves the store as it was. The only error is a refused growth.
+pub fn change_rows(store: &mut Store, clock: i64, delta: Delta) -> Result<i64, Refusal>
+    requires later { Under store.old.last clock }
+    requires below { IsNone store.old.working → clock <ℤ high }
+    requires present { IsTrue (has_table store.old delta.table) }
+    requires within { All (λ i. i < length store.old.slots) delta.removed.items }
+    ensures ok { IfOk result (λ next. ChangesRows store.old.working clock next delta.table delta.removed.items (map (λ row. map datum_of_value row.items) delta.added.items) store.old store.new) }
+    ensures err { OnErr result (KeepsRows store.old.working clock store.old store.new) }
+    ensures memory { IfErr result (λ e. e ≡ OutOfMemory) }
+{
+    if store.has_transaction() {
+        return match store.apply(delta) {
+            Ok(()) => Ok(clock),
+            Err(refusal) => Err(refusal),
+        };
+    }
+    match commit_rows(store, clock, delta) {
+        Ok(()) => Ok(clock + 1),
+        Err(refusal) => Err(refusal),
+    }
+}
+
+/// The ids of the versions.
+fn ids_of(memory: Memory, versions: &[Version<'_>]) -> Result<Vec<usize, Memory>, Refusal>
+    ensures ids { IfOk result (λ ids. ids.items ≡ map (λ v. v.id) versions.now) }
+    ensures memory { IfErr result (λ e. e ≡ OutOfMemory) }
+{
+    let mut ids = Vec::with_capacity(memory, versions.len())?;
+    for version in versions {
+        ids.push(version.id)?;
+    }
+    Ok(ids)
+}
+
+/// The ids of all rows that a table has now.
+pub fn current_ids(
+    memory: Memory,
+    store: &Store,
+    table: TableId,
+) -> Result<Vec<usize, Memory>, Refusal>
+    requires { IsTrue (has_table store.now table) }
+    ensures judged { IfOk result (λ ids. Judged table (λ row. true) ids.items store.now.slots) }
+    ensures within { IfOk result (λ ids. All (λ i. i < length store.now.slots) ids.items) }
+    ensures count { IfOk result (λ ids. CountsNow store.now table (length ids.items)) }
+    ensures memory { IfErr result (λ e. e ≡ OutOfMemory) }
+{
+    let found = store.current(table)?;
+    let ids = ids_of(memory, &found)?;
+    Ok(ids)
 }

@@ -17,5 +17,6 @@ mod table;
 #[cfg(test)]
 mod tests;
 mod tuples;
+mod when;
 
 pub use parse::one_form;

@@ -57,7 +57,9 @@ fn is_too_wide(form: &Form<'_>) -> bool
 {
     match form {
         Form::NewTable(table) => table.columns.len() > MOST_INTEGER_COLUMNS,
-        Form::AddRows { .. } | Form::SetClockTo(_) | Form::AskAsOf { .. } => false,
+        Form::AddRows { .. } | Form::RemoveRows(_) | Form::SetClockTo(_) | Form::Ask { .. } =>
+            false,
+        Form::StartTransaction | Form::CommitWork | Form::RollbackWork => false,
     }
 }
 
@@ -65,7 +67,7 @@ fn is_too_wide(form: &Form<'_>) -> bool
 ///
 /// More than 64 parentheses open at once are refused first, as nested too deep. Tokens that are of no form are refused as not a
 /// statement, and then a table of more than 64 columns as too many columns. The forms are a part of the SQL of ISO/IEC 9075-2:2011
-/// (11.3, 14.11, 7.6); the limits, and `AT` with a moment, are this project's choice.
+/// (7.6, 11.3, 14.9, 14.11, and 17 for transactions); the limits, and `AT` with a moment, are this project's choice.
 pub fn parse<'a>(memory: Memory, tokens: &[Token<'a>]) -> Result<Form<'a>, Refusal>
     ensures { Parses (map token_of tokens.now) result }
 {

@@ -3,9 +3,9 @@ use Rattle.std.specs.Prelude.{refl, false, List, [], ◌∷◌, ◌++◌, map, c
 use Rattle.std.proofs.Common.{sym, subst, inl}
 use Rattle.tql_spec.specs.Definition.{Name}
 use Rattle.tql_spec.specs.Token.{Token, Comma, Star}
-use Rattle.tql_spec.specs.Syntax.{RowStart, RowEnd, Element, PeriodElement, MomentTree, AsOfTree, AllColumns, ChainTree, Statement}
+use Rattle.tql_spec.specs.Syntax.{RowStart, RowEnd, Element, PeriodElement, SpanTree, AllColumns, ChainTree, Statement}
 use Rattle.tql_spec.specs.Grammar.{Phrase, key, sign, ◌⨟◌, empty, each, commas, in_parens, cell, tuple, element, span, chain, distinct, items, where_clause, group_by, order_by, statement}
-use Rattle.tql_spec.specs.Forms.{NumberCell, Bare, Plus, Minus, NumberTuple, TableForm, Form, NewTable, AddRows, SetClockTo, AskAsOf, word, number_cell, number_tuple, integer_column, generated_column, system_period, table_elements, form, cell_tree, tuple_tree, integer_element, generated_element, later_elements, tree_of_form, FormsAreStatements}
+use Rattle.tql_spec.specs.Forms.{NumberCell, Bare, Plus, Minus, NumberTuple, TableForm, Form, NewTable, AddRows, RemoveRows, SetClockTo, Ask, StartTransaction, CommitWork, RollbackWork, word, number_cell, number_tuple, integer_column, generated_column, system_period, table_elements, form, cell_tree, tuple_tree, integer_element, generated_element, later_elements, tree_of_form, FormsAreStatements}
 
 -- ---- phrases within phrases
 
@@ -135,12 +135,12 @@ table_within t =
 
 -- ---- questions
 
--- one table of that moment
-abbrev past : Name → MomentTree → ChainTree
-past n m = record { first = record { table = n; span = AsOfTree m; alias = None }; joins = [] }
+-- one table, at the moments of the clause
+abbrev alone : Name → SpanTree → ChainTree
+alone n m = record { first = record { table = n; span = m; alias = None }; joins = [] }
 
-past_within : (n : Name) (m : MomentTree) → Within (word n ⨟ span (AsOfTree m)) (commas chain (past n m) [])
-past_within n m = record { gives = λ before after q. (after, (after, (after, (q.0, inl q.1, q.2), refl), refl), refl) }
+alone_within : (n : Name) (m : SpanTree) → Within (word n ⨟ span m) (commas chain (alone n m) [])
+alone_within n m = record { gives = λ before after q. (after, (after, (after, (q.0, inl q.1, q.2), refl), refl), refl) }
 
 -- all columns of
 abbrev all_of : Phrase
@@ -152,26 +152,34 @@ all_within = record { gives = λ before after q. (q.0, (q.1.0, (q.1.0, q.1.1, in
 with_no_clauses : (a : Phrase) → Within a (a ⨟ where_clause None ⨟ group_by [] ⨟ empty ⨟ order_by [])
 with_no_clauses a = record { gives = λ before after q. (after, (after, (after, (after, q, refl), refl), refl), refl) }
 
-question_within : (n : Name) (m : MomentTree) → Within (form (AskAsOf n m)) (statement (tree_of_form (AskAsOf n m)))
+question_within : (n : Name) (m : SpanTree) → Within (form (Ask n m)) (statement (tree_of_form (Ask n m)))
 question_within n m =
     record {
       gives = λ before after q.
-          let named = q.1.1.1.1 in
-          (with_no_clauses (all_of ⨟ commas chain (past n m) [])).gives before after (
-            named.1.0,
-            all_within.gives before named.1.0 named.1.1,
-            (past_within n m).gives named.1.0 after
-                (named.0, named.1.2, (q.0, (q.1.0, (q.1.1.0, (q.1.1.1.0, named.2, q.1.1.1.2), q.1.1.2), q.1.2), q.2)),
+          let named = q.1 in
+          (with_no_clauses (all_of ⨟ commas chain (alone n m) [])).gives before after (
+            named.0,
+            all_within.gives before named.0 named.1,
+            (alone_within n m).gives named.0 after (q.0, named.2, q.2),
           );
     }
+
+-- ---- changes
+
+removal_within : (n : Name) → Within (form (RemoveRows n)) (statement (tree_of_form (RemoveRows n)))
+removal_within n = record { gives = λ before after q. (after, (after, (q.0, q.1, inl q.2), refl), refl) }
 
 -- ---- the law
 
 form_within : (f : Form) → Within (form f) (statement (tree_of_form f))
 form_within (NewTable t) = table_within t
 form_within (AddRows n t ts) = rows_within n t ts
+form_within (RemoveRows n) = removal_within n
 form_within (SetClockTo m) = record { gives = λ before after q. q }
-form_within (AskAsOf n m) = question_within n m
+form_within (Ask n m) = question_within n m
+form_within StartTransaction = record { gives = λ before after q. q }
+form_within CommitWork = record { gives = λ before after q. q }
+form_within RollbackWork = record { gives = λ before after q. q }
 
 pub forms_are_statements : FormsAreStatements
 forms_are_statements s tokens runs =

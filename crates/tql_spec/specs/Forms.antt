@@ -2,8 +2,8 @@
 use Rattle.std.specs.Prelude.{◌≡◌, ℕ, true, false, IsFalse, List, [], ◌∷◌, ◌++◌, map, codes, Some, None}
 use Rattle.tql_spec.specs.Definition.{Name}
 use Rattle.tql_spec.specs.Token.{Token, Word, Number, Comma, PlusSign, MinusSign, Star, is_reserved}
-use Rattle.tql_spec.specs.Syntax.{NumberLiteral, Signed, Unsigned, Positive, Negative, Terms, NoTerm, Factors, NoFactor, IntegerType, TimestampType, Generated, RowStart, RowEnd, Element, ColumnElement, PeriodElement, MomentTree, AsOfTree, AllColumns, CellTree, ValueCell, Tuple, Statement, CreateTree, InsertValues, QueryTree, AtTree}
-use Rattle.tql_spec.specs.Grammar.{Phrase, token, key, sign, ◌⨟◌, commas, in_parens, moment, IsStatement}
+use Rattle.tql_spec.specs.Syntax.{NumberLiteral, Signed, Unsigned, Positive, Negative, Terms, NoTerm, Factors, NoFactor, IntegerType, TimestampType, Generated, RowStart, RowEnd, Element, ColumnElement, PeriodElement, MomentTree, SpanTree, AllColumns, CellTree, ValueCell, Tuple, Statement, CreateTree, InsertValues, DeleteTree, QueryTree, StartTree, CommitTree, RollbackTree, AtTree}
+use Rattle.tql_spec.specs.Grammar.{Phrase, token, key, sign, ◌⨟◌, maybe, commas, in_parens, moment, span, IsStatement}
 
 -- ---- the forms
 
@@ -32,8 +32,12 @@ pub record TableForm : Type 0 where
 pub data Form : Type 0 where
   NewTable : TableForm → Form
   AddRows : Name → NumberTuple → List NumberTuple → Form
+  RemoveRows : Name → Form
   SetClockTo : MomentTree → Form
-  AskAsOf : Name → MomentTree → Form
+  Ask : Name → SpanTree → Form
+  StartTransaction : Form
+  CommitWork : Form
+  RollbackWork : Form
 
 -- ---- their grammar
 
@@ -78,10 +82,12 @@ form (NewTable t) =
     ⨟ key (codes "WITH") ⨟ key (codes "SYSTEM") ⨟ key (codes "VERSIONING")
 form (AddRows n t ts) =
     key (codes "INSERT") ⨟ key (codes "INTO") ⨟ word n ⨟ key (codes "VALUES") ⨟ commas number_tuple t ts
+form (RemoveRows n) = key (codes "DELETE") ⨟ key (codes "FROM") ⨟ word n
 form (SetClockTo m) = key (codes "AT") ⨟ moment m
-form (AskAsOf n m) =
-    key (codes "SELECT") ⨟ sign Star ⨟ key (codes "FROM") ⨟ word n
-    ⨟ key (codes "FOR") ⨟ key (codes "SYSTEM_TIME") ⨟ key (codes "AS") ⨟ key (codes "OF") ⨟ moment m
+form (Ask n s) = key (codes "SELECT") ⨟ sign Star ⨟ key (codes "FROM") ⨟ word n ⨟ span s
+form StartTransaction = key (codes "START") ⨟ key (codes "TRANSACTION")
+form CommitWork = key (codes "COMMIT") ⨟ maybe (key (codes "WORK"))
+form RollbackWork = key (codes "ROLLBACK") ⨟ maybe (key (codes "WORK"))
 
 -- ---- their trees
 
@@ -117,17 +123,21 @@ later_elements t =
 abbrev pub tree_of_form : Form → Statement
 tree_of_form (NewTable t) = CreateTree t.name (integer_element t.first) (later_elements t) true
 tree_of_form (AddRows n t ts) = InsertValues n [] (tuple_tree t) (map tuple_tree ts)
+tree_of_form (RemoveRows n) = DeleteTree n None None
 tree_of_form (SetClockTo m) = AtTree m
-tree_of_form (AskAsOf n m) =
+tree_of_form (Ask n s) =
     QueryTree (record {
       distinct = false;
       items = AllColumns;
-      first = record { first = record { table = n; span = AsOfTree m; alias = None }; joins = [] };
+      first = record { first = record { table = n; span = s; alias = None }; joins = [] };
       more = [];
       filter = None;
       grouping = [];
       having = None;
     }) []
+tree_of_form StartTransaction = StartTree
+tree_of_form CommitWork = CommitTree
+tree_of_form RollbackWork = RollbackTree
 
 -- ---- what runs
 

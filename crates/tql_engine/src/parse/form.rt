@@ -11,13 +11,34 @@ pub enum Form<'a> {
         table: &'a str,
         tuples: Vec<NumberTuple<'a>, Memory>,
     },
+    /// DELETE FROM a table, every row.
+    RemoveRows(&'a str),
     /// AT a moment, which is kept as the quoted text of its literal.
     SetClockTo(&'a str),
-    /// SELECT all of a table as of a moment, which is kept as the quoted text of its literal.
-    AskAsOf {
+    /// SELECT all of a table, at the moments of its clause.
+    Ask {
         table: &'a str,
-        moment: &'a str,
+        span: Span<'a>,
     },
+    /// START TRANSACTION.
+    StartTransaction,
+    /// COMMIT.
+    CommitWork,
+    /// ROLLBACK.
+    RollbackWork,
+}
+
+/// The FOR SYSTEM_TIME clause of a question. Its moments are kept as the quoted texts of their literals.
+#[derive(Clone, Copy)]
+pub enum Span<'a> {
+    /// No clause: the table as it is now.
+    Now,
+    /// AS OF a moment.
+    AsOf(&'a str),
+    /// FROM a moment TO another, the second not included.
+    FromTo(&'a str, &'a str),
+    /// BETWEEN a moment AND another, both included.
+    Between(&'a str, &'a str),
 }
 
 /// The names of a new table: its integer columns, its generated columns, and the columns that its period names.

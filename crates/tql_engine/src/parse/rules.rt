@@ -2,10 +2,10 @@
 ghost use Rattle.std.specs.Prelude.{◌≡◌, ◌<◌, length, IfOk};
 ghost use Rattle.tql_engine.specs.Reading as spec;
 ghost use Rattle.tql_engine.specs.Parsing.{Reads, nothing, in_upper_case, name_of, content_of};
-ghost use Rattle.tql_engine.specs.Forms.{cell_of, cells_of, tuple_of, tuples_of, columns_of, ends_of, table_of, form_of, HasCells, HasTuples, HasColumns, HasParts};
+ghost use Rattle.tql_engine.specs.Forms.{cell_of, cells_of, tuple_of, tuples_of, columns_of, ends_of, table_of, span_of, form_of, HasCells, HasTuples, HasColumns, HasParts};
 
 use crate::parse::cursor::{Cursor, ParseError};
-use crate::parse::form::{CellSign, Form, NumberCell, NumberTuple, TableForm};
+use crate::parse::form::{CellSign, Form, NumberCell, NumberTuple, Span, TableForm};
 use tql_lex::token::Symbol;
 use tql_memory::Memory;
 
@@ -233,15 +233,63 @@ fn clock<'a>(tokens: &mut Cursor<'_, 'a>) -> Result<Form<'a>, ParseError>
     Ok(Form::SetClockTo(moment))
 }
 
-/// The words before the moment of a question.
+/// The rest of AS OF.
 #[tactic(auto, unfolding(crate::specs::Reading::as_of_at))]
-fn as_of(tokens: &mut Cursor<'_, '_>) -> Result<(), ParseError>
-    ensures { Reads nothing (spec.as_of_at tokens.old) result tokens.new }
+fn as_of<'a>(tokens: &mut Cursor<'_, 'a>) -> Result<Span<'a>, ParseError>
+    ensures { Reads span_of (spec.as_of_at tokens.old) result tokens.new }
 {
-    tokens.expect_word("FOR")?;
+    tokens.expect_word("OF")?;
+    let moment = moment(tokens)?;
+    Ok(Span::AsOf(moment))
+}
+
+/// The rest of FROM .. TO.
+#[tactic(auto, unfolding(crate::specs::Reading::from_to_at))]
+fn from_to<'a>(tokens: &mut Cursor<'_, 'a>) -> Result<Span<'a>, ParseError>
+    ensures { Reads span_of (spec.from_to_at tokens.old) result tokens.new }
+{
+    let start = moment(tokens)?;
+    tokens.expect_word("TO")?;
+    let end = moment(tokens)?;
+    Ok(Span::FromTo(start, end))
+}
+
+/// BETWEEN .. AND.
+#[tactic(auto, unfolding(crate::specs::Reading::between_at))]
+fn between<'a>(tokens: &mut Cursor<'_, 'a>) -> Result<Span<'a>, ParseError>
+    ensures { Reads span_of (spec.between_at tokens.old) result tokens.new }
+{
+    tokens.expect_word("BETWEEN")?;
+    let first = moment(tokens)?;
+    tokens.expect_word("AND")?;
+    let last = moment(tokens)?;
+    Ok(Span::Between(first, last))
+}
+
+/// The moments behind FOR SYSTEM_TIME.
+#[tactic(auto, unfolding(crate::specs::Reading::moments_at))]
+fn moments<'a>(tokens: &mut Cursor<'_, 'a>) -> Result<Span<'a>, ParseError>
+    ensures { Reads span_of (spec.moments_at tokens.old) result tokens.new }
+{
+    if tokens.eat_word("AS") {
+        return as_of(tokens);
+    }
+    if tokens.eat_word("FROM") {
+        return from_to(tokens);
+    }
+    between(tokens)
+}
+
+/// A FOR SYSTEM_TIME clause, where there is one.
+#[tactic(auto, unfolding(crate::specs::Reading::span_at))]
+fn span<'a>(tokens: &mut Cursor<'_, 'a>) -> Result<Span<'a>, ParseError>
+    ensures { Reads span_of (spec.span_at tokens.old) result tokens.new }
+{
+    if !tokens.eat_word("FOR") {
+        return Ok(Span::Now);
+    }
     tokens.expect_word("SYSTEM_TIME")?;
-    tokens.expect_word("AS")?;
-    tokens.expect_word("OF")
+    moments(tokens)
 }
 
 /// The rest of SELECT.
@@ -253,9 +301,53 @@ fn question<'a>(tokens: &mut Cursor<'_, 'a>) -> Result<Form<'a>, ParseError>
     tokens.expect_symbol(Symbol::Star)?;
     tokens.expect_word("FROM")?;
     let table = tokens.word()?;
-    as_of(tokens)?;
-    let moment = moment(tokens)?;
-    Ok(Form::AskAsOf { table, moment })
+    let span = span(tokens)?;
+    Ok(Form::Ask { table, span })
+}
+
+/// The rest of DELETE.
+#[tactic(auto, unfolding(crate::specs::Reading::removal_at))]
+fn removal<'a>(tokens: &mut Cursor<'_, 'a>) -> Result<Form<'a>, ParseError>
+    ensures reads { Reads form_of (spec.removal_at tokens.old) result tokens.new }
+    ensures parts { IfOk result HasParts }
+{
+    tokens.expect_word("FROM")?;
+    let table = tokens.word()?;
+    Ok(Form::RemoveRows(table))
+}
+
+/// The words of START TRANSACTION.
+#[tactic(auto, unfolding(crate::specs::Reading::start_at))]
+fn start(tokens: &mut Cursor<'_, '_>) -> Result<(), ParseError>
+    ensures { Reads nothing (spec.start_at tokens.old) result tokens.new }
+{
+    tokens.expect_word("START")?;
+    tokens.expect_word("TRANSACTION")
+}
+
+/// Goes past WORK, where it is in front.
+fn work(tokens: &mut Cursor<'_, '_>)
+    ensures { tokens.new ≡ spec.behind_work tokens.old }
+{
+    tokens.eat_word("WORK");
+}
+
+/// COMMIT, ROLLBACK or START TRANSACTION.
+#[tactic(auto, unfolding(crate::specs::Reading::transaction_at))]
+fn transaction<'a>(tokens: &mut Cursor<'_, 'a>) -> Result<Form<'a>, ParseError>
+    ensures reads { Reads form_of (spec.transaction_at tokens.old) result tokens.new }
+    ensures parts { IfOk result HasParts }
+{
+    if tokens.eat_word("COMMIT") {
+        work(tokens);
+        return Ok(Form::CommitWork);
+    }
+    if tokens.eat_word("ROLLBACK") {
+        work(tokens);
+        return Ok(Form::RollbackWork);
+    }
+    start(tokens)?;
+    Ok(Form::StartTransaction)
 }
 
 /// A statement of one of the forms.
@@ -270,9 +362,14 @@ pub(crate) fn form<'a>(memory: Memory, tokens: &mut Cursor<'_, 'a>) -> Result<Fo
     if tokens.eat_word("INSERT") {
         return rows(memory, tokens);
     }
+    if tokens.eat_word("DELETE") {
+        return removal(tokens);
+    }
     if tokens.eat_word("AT") {
         return clock(tokens);
     }
-    tokens.expect_word("SELECT")?;
-    question(tokens)
+    if tokens.eat_word("SELECT") {
+        return question(tokens);
+    }
+    transaction(tokens)
 }

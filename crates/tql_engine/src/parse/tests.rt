@@ -1,4 +1,4 @@
-use super::form::CellSign;
+use super::form::{CellSign, Span};
 use super::*;
 use std::alloc::AllocError;
 use std::test::Fail;
@@ -23,6 +23,36 @@ fn tokens_without<'a>(
 /// Why the tokens are refused.
 fn refusal_of(memory: Memory, tokens: &[Token<'_>]) -> Option<Refusal> {
     parse(memory, tokens).err()
+}
+
+/// Why the text is refused.
+fn refusal_of_text(memory: Memory, text: &str) -> Result<Option<Refusal>, Fail> {
+    let found = tokens(memory, text)?;
+    Ok(refusal_of(memory, &found))
+}
+
+/// The kind of a form in words, with its name, or its clause.
+fn words_of<'a>(form: &Form<'a>) -> (&'static str, &'a str, &'a str) {
+    match form {
+        Form::NewTable(table) => ("table", table.name, ""),
+        Form::AddRows { table, .. } => ("rows", table, ""),
+        Form::RemoveRows(table) => ("delete", table, ""),
+        Form::SetClockTo(moment) => ("clock", moment, ""),
+        Form::Ask { span, .. } => words_of_span(*span),
+        Form::StartTransaction => ("start", "", ""),
+        Form::CommitWork => ("commit", "", ""),
+        Form::RollbackWork => ("rollback", "", ""),
+    }
+}
+
+/// A clause in words, with its moments.
+fn words_of_span(span: Span<'_>) -> (&'static str, &str, &str) {
+    match span {
+        Span::Now => ("now", "", ""),
+        Span::AsOf(moment) => ("as of", moment, ""),
+        Span::FromTo(start, end) => ("from to", start, end),
+        Span::Between(first, last) => ("between", first, last),
+    }
 }
 
 /// A statement of a repeated part between two others.
@@ -50,6 +80,18 @@ const ROWS: &str = "INSERT INTO rooms VALUES (1, 20), (2, 30)";
 const CLOCK: &str = "AT TIMESTAMP '2011-01-01'";
 
 const QUESTION: &str = "SELECT * FROM rooms FOR SYSTEM_TIME AS OF TIMESTAMP '2011-01-02'";
+
+const RANGE: &str =
+    "SELECT * FROM rooms FOR SYSTEM_TIME FROM TIMESTAMP '2011-01-02' TO TIMESTAMP '2011-01-03'";
+
+const CLOSED_RANGE: &str =
+    "SELECT * FROM rooms FOR SYSTEM_TIME BETWEEN TIMESTAMP '2011-01-02' AND TIMESTAMP '2011-01-03'";
+
+const ALL: &str = "SELECT * FROM rooms";
+
+const REMOVAL: &str = "DELETE FROM rooms";
+
+const START: &str = "START TRANSACTION";
 
 #[test]
 fn reads_a_table(rt: HostRuntime) -> Result<(), Fail> {
@@ -95,20 +137,38 @@ fn reads_rows(rt: HostRuntime) -> Result<(), Fail> {
 }
 
 #[test]
-fn reads_moments(rt: HostRuntime) -> Result<(), Fail> {
+fn reads_a_question(rt: HostRuntime) -> Result<(), Fail> {
     let memory = memory(rt.alloc(), u64::MAX)?;
-    let clock = tokens(memory, CLOCK)?;
-    match parse(memory, &clock)? {
-        Form::SetClockTo(moment) => assert_eq!(rt; moment, "'2011-01-01'"),
-        _ => panic!(rt; "no clock"),
+    for form in [ALL, QUESTION, RANGE, CLOSED_RANGE] {
+        let found = tokens(memory, form)?;
+        match parse(memory, &found)? {
+            Form::Ask { table, .. } => assert_eq!(rt; table, "rooms", "{form}"),
+            _ => panic!(rt; "no question"),
+        }
     }
-    let question = tokens(memory, QUESTION)?;
-    match parse(memory, &question)? {
-        Form::AskAsOf { table, moment } => assert_eq!(rt;
-            (table, moment),
-            ("rooms", "'2011-01-02'")
-        ),
-        _ => panic!(rt; "no question"),
+    Ok(())
+}
+
+#[test]
+fn reads_moments_names_and_transactions(rt: HostRuntime) -> Result<(), Fail> {
+    let memory = memory(rt.alloc(), u64::MAX)?;
+    let cases = [
+        (CLOCK, ("clock", "'2011-01-01'", "")),
+        (ALL, ("now", "", "")),
+        (QUESTION, ("as of", "'2011-01-02'", "")),
+        (RANGE, ("from to", "'2011-01-02'", "'2011-01-03'")),
+        (CLOSED_RANGE, ("between", "'2011-01-02'", "'2011-01-03'")),
+        ("delete from Rooms", ("delete", "Rooms", "")),
+        ("start transaction", ("start", "", "")),
+        ("commit", ("commit", "", "")),
+        ("COMMIT WORK", ("commit", "", "")),
+        ("rollback", ("rollback", "", "")),
+        ("ROLLBACK WORK", ("rollback", "", "")),
+    ];
+    for (text, wanted) in cases {
+        let found = tokens(memory, text)?;
+        let form = parse(memory, &found)?;
+        assert_eq!(rt; words_of(&form), wanted, "{text}");
     }
     Ok(())
 }
@@ -116,7 +176,19 @@ fn reads_moments(rt: HostRuntime) -> Result<(), Fail> {
 #[test]
 fn refuses_a_form_without_one_of_its_tokens(rt: HostRuntime) -> Result<(), Fail> {
     let memory = memory(rt.alloc(), u64::MAX)?;
-    for form in [TABLE, ROWS, CLOCK, QUESTION] {
+    for form in [
+        TABLE,
+        ROWS,
+        CLOCK,
+        QUESTION,
+        RANGE,
+        CLOSED_RANGE,
+        ALL,
+        REMOVAL,
+        START,
+        "COMMIT",
+        "ROLLBACK",
+    ] {
         let whole = tokens(memory, form)?;
         assert_eq!(rt; refusal_of(memory, &whole), None, "{form}");
         for left_out in 0..whole.len() {
@@ -142,7 +214,6 @@ fn refuses_what_is_near_a_form(rt: HostRuntime) -> Result<(), Fail> {
         "SELECT ALL * FROM rooms FOR SYSTEM_TIME AS OF TIMESTAMP '2011-01-02'",
         "SELECT * FROM \"rooms\" FOR SYSTEM_TIME AS OF TIMESTAMP '2011-01-02'",
         "SELECT * FROM rooms FOR SYSTEM_TIME AS OF TIMESTAMP '2011-01-02' r",
-        "SELECT * FROM rooms",
         "INSERT INTO rooms VALUES (1),",
         "INSERT INTO rooms VALUES (- - 1)",
         "INSERT INTO rooms VALUES ()",
@@ -162,9 +233,74 @@ fn refuses_what_is_near_a_form(rt: HostRuntime) -> Result<(), Fail> {
             PERIOD FOR SYSTEM_TIME (s, e))",
     ];
     for text in texts {
-        let found = tokens(memory, text)?;
         assert_eq!(rt;
-            refusal_of(memory, &found),
+            refusal_of_text(memory, text)?,
+            Some(Refusal::NotAStatement),
+            "{text}"
+        );
+    }
+    Ok(())
+}
+
+#[test]
+fn refuses_what_is_near_a_question(rt: HostRuntime) -> Result<(), Fail> {
+    let memory = memory(rt.alloc(), u64::MAX)?;
+    let texts = [
+        "SELECT a FROM rooms",
+        "SELECT * FROM \"rooms\"",
+        "SELECT * FROM select",
+        "SELECT * FROM rooms r",
+        "SELECT * FROM rooms, rooms",
+        "SELECT * FROM rooms FOR",
+        "SELECT * FROM rooms FOR SYSTEM_TIME",
+        "SELECT * FROM rooms FOR SYSTEM_TIME TIMESTAMP '2011-01-02'",
+        "SELECT * FROM rooms FOR SYSTEM_TIME AS OF TIMESTAMP '2011-01-02' TO TIMESTAMP '2011-01-03'",
+        "SELECT * FROM rooms FOR SYSTEM_TIME FROM TIMESTAMP '2011-01-02'",
+        "SELECT * FROM rooms FOR SYSTEM_TIME FROM TIMESTAMP '2011-01-02' AND TIMESTAMP '2011-01-03'",
+        "SELECT * FROM rooms FOR SYSTEM_TIME FROM DATE '2011-01-02' TO TIMESTAMP '2011-01-03'",
+        "SELECT * FROM rooms FOR SYSTEM_TIME FROM TIMESTAMP '2011-01-02' TO '2011-01-03'",
+        "SELECT * FROM rooms FOR SYSTEM_TIME BETWEEN TIMESTAMP '2011-01-02'",
+        "SELECT * FROM rooms FOR SYSTEM_TIME BETWEEN TIMESTAMP '2011-01-02' TO TIMESTAMP '2011-01-03'",
+        "SELECT * FROM rooms FOR SYSTEM_TIME BETWEEN TIMESTAMP '2011-01-02' AND TIMESTAMP '2011-01-03' r",
+        "SELECT * FROM rooms FOR SYSTEM_TIME BETWEEN SYMMETRIC TIMESTAMP '2011-01-02' AND TIMESTAMP '2011-01-03'",
+        "SELECT * FROM rooms FOR SYSTEM_TIME FROM BETWEEN TIMESTAMP '2011-01-02' AND TIMESTAMP '2011-01-03'",
+    ];
+    for text in texts {
+        assert_eq!(rt;
+            refusal_of_text(memory, text)?,
+            Some(Refusal::NotAStatement),
+            "{text}"
+        );
+    }
+    Ok(())
+}
+
+#[test]
+fn refuses_what_is_near_a_deletion_or_a_transaction(rt: HostRuntime) -> Result<(), Fail> {
+    let memory = memory(rt.alloc(), u64::MAX)?;
+    let texts = [
+        "DELETE * FROM rooms",
+        "DELETE FROM \"rooms\"",
+        "DELETE FROM select",
+        "DELETE FROM rooms r",
+        "DELETE FROM rooms WHERE",
+        "DELETE FROM rooms FOR SYSTEM_TIME AS OF TIMESTAMP '2011-01-02'",
+        "START WORK",
+        "START TRANSACTION WORK",
+        "BEGIN TRANSACTION",
+        "\"START\" TRANSACTION",
+        "WORK",
+        "COMMIT TRANSACTION",
+        "COMMIT WORK WORK",
+        "COMMIT \"WORK\"",
+        "COMMIT ROLLBACK",
+        "ROLLBACK TRANSACTION",
+        "ROLLBACK WORK WORK",
+        "ROLLBACK TO",
+    ];
+    for text in texts {
+        assert_eq!(rt;
+            refusal_of_text(memory, text)?,
             Some(Refusal::NotAStatement),
             "{text}"
         );
@@ -223,7 +359,20 @@ fn counts_columns(rt: HostRuntime) -> Result<(), Fail> {
 #[test]
 fn each_growth_is_refused_in_turn(rt: HostRuntime) -> Result<(), Fail> {
     let plenty = memory(rt.alloc(), u64::MAX)?;
-    for (form, growths) in [(TABLE, 1), (ROWS, 3), (CLOCK, 0), (QUESTION, 0)] {
+    let forms = [
+        (TABLE, 1),
+        (ROWS, 3),
+        (CLOCK, 0),
+        (QUESTION, 0),
+        (RANGE, 0),
+        (CLOSED_RANGE, 0),
+        (ALL, 0),
+        (REMOVAL, 0),
+        (START, 0),
+        ("COMMIT WORK", 0),
+        ("ROLLBACK WORK", 0),
+    ];
+    for (form, growths) in forms {
         let found = tokens(plenty, form)?;
         for granted in 0..growths {
             let few = memory(rt.alloc(), granted)?;

@@ -10,7 +10,7 @@ use std::test::Fail;
 const BEGIN: u64 = 1_000_000;
 
 /// How many statements a script has besides its beginning.
-const LENGTH: u64 = 14;
+const LENGTH: u64 = 20;
 
 /// A script, and what the machine prints for it.
 #[derive(Drop)]

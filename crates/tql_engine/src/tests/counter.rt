@@ -1,5 +1,5 @@
 // Scripts made by a counter.
-use crate::tests::machine::{Machine, Name, Statement};
+use crate::tests::machine::{Machine, Name, Span, Statement};
 use std::alloc::{AllocError, Global};
 
 /// Numbers that look like chance, and are the same in every run.
@@ -91,22 +91,44 @@ impl Counter {
         }
     }
 
+    /// A clause whose ends lie at commits, at the next one, or beside them.
+    fn span(&mut self, machine: &Machine) -> Span {
+        let first = self.moment(machine);
+        let second = self.moment(machine);
+        match self.below(9) {
+            0..=1 => Span::Now,
+            2..=3 => Span::AsOf(first),
+            4..=5 => Span::FromTo(first, second),
+            6..=7 => Span::Between(first, second),
+            _ => Span::NoDay,
+        }
+    }
+
+    /// A statement that is mostly refused.
+    fn fault(&mut self) -> Statement {
+        match self.below(4) {
+            0 => Statement::InsertThree(self.name()),
+            1 => Statement::InsertTooLarge(self.name()),
+            2 => Statement::AtNoDay,
+            _ => Statement::Odd,
+        }
+    }
+
     /// A statement, made in view of what the machine holds.
     pub fn statement(&mut self, alloc: Global, machine: &Machine) -> Result<Statement, AllocError> {
-        Ok(match self.below(16) {
-            0..=4 => self.insert(alloc)?,
-            5..=9 => {
+        Ok(match self.below(24) {
+            0..=5 => self.insert(alloc)?,
+            6..=7 => Statement::Delete(self.name()),
+            8..=13 => {
                 let name = self.name();
-                Statement::Ask(name, self.moment(machine))
+                Statement::Ask(name, self.span(machine))
             }
-            10..=11 => Statement::At(self.clock(machine)),
-            12 => Statement::Create(self.table()),
-            13 => Statement::InsertThree(self.name()),
-            14 => Statement::InsertTooLarge(self.name()),
-            _ => match self.below(2) {
-                0 => Statement::AtNoDay,
-                _ => Statement::Odd,
-            },
+            14..=15 => Statement::At(self.clock(machine)),
+            16 => Statement::Create(self.table()),
+            17..=18 => Statement::Start,
+            19..=20 => Statement::Commit,
+            21 => Statement::Rollback,
+            _ => self.fault(),
         })
     }
 }

@@ -22,6 +22,8 @@ const E23: &str = "REFUSED E23 form not allowed here\n";
 
 const E30: &str = "REFUSED E30 value out of range\n";
 
+const E40: &str = "REFUSED E40 not in this transaction state\n";
+
 const E41: &str = "REFUSED E41 moment not allowed\n";
 
 /// A text so many times.
@@ -104,13 +106,57 @@ fn refuses_moments(rt: HostRuntime) -> Result<(), Fail> {
 }
 
 #[test]
-fn commits_last_one_microsecond_before_the_end(rt: HostRuntime) -> Result<(), Fail> {
+fn refuses_out_of_turn(rt: HostRuntime) -> Result<(), Fail> {
     let text = format!(in rt.alloc();
-        "AT\nINSERT 1\n{E41}X|S|E\n1|9999-12-31 23:59:59.999998|9999-12-31 23:59:59.999999\n(1 rows)\n"
+        "{E40}{E40}START TRANSACTION\n{E40}{E40}{E40}{E40}ROLLBACK\n{E40}AT\n"
     )?;
     assert_log_prints(
         &rt,
-        b"AT TIMESTAMP '9999-12-31 23:59:59.999998'; INSERT INTO log VALUES (1); INSERT INTO log VALUES (2);
+        b"COMMIT; ROLLBACK; START TRANSACTION; START TRANSACTION; AT TIMESTAMP '2011-02-30 00:00:00';
+          AT TIMESTAMP '2011-01-01 00:00:00';
+          CREATE TABLE log (x INTEGER, s TIMESTAMP GENERATED ALWAYS AS ROW START, e TIMESTAMP GENERATED ALWAYS AS ROW END,
+            PERIOD FOR SYSTEM_TIME (s, e)) WITH SYSTEM VERSIONING;
+          ROLLBACK; ROLLBACK WORK; AT TIMESTAMP '2011-01-01 00:00:00';",
+        &text,
+    )
+}
+
+#[test]
+fn refuses_changes_at_the_end(rt: HostRuntime) -> Result<(), Fail> {
+    let text = format!(in rt.alloc(); "AT\n{E41}{E41}{E41}{E41}X|S|E\n(0 rows)\n")?;
+    assert_log_prints(
+        &rt,
+        b"AT TIMESTAMP '9999-12-31 23:59:59.999999'; START TRANSACTION; DELETE FROM log; DELETE FROM nowhere;
+          INSERT INTO nowhere VALUES (1); SELECT * FROM log;",
+        &text,
+    )
+}
+
+#[test]
+fn refuses_questions_of_no_moment(rt: HostRuntime) -> Result<(), Fail> {
+    let text = format!(in rt.alloc(); "{E20}{E20}{E30}{E30}{E30}{E20}")?;
+    assert_log_prints(
+        &rt,
+        b"SELECT * FROM nowhere;
+          SELECT * FROM nowhere FOR SYSTEM_TIME FROM TIMESTAMP '2011-02-30 00:00:00' TO TIMESTAMP '2011-01-01 00:00:00';
+          SELECT * FROM log FOR SYSTEM_TIME FROM TIMESTAMP '2011-02-30 00:00:00' TO TIMESTAMP '2011-01-01 00:00:00';
+          SELECT * FROM log FOR SYSTEM_TIME FROM TIMESTAMP '2011-01-01 00:00:00' TO TIMESTAMP '2011-02-30 00:00:00';
+          SELECT * FROM log FOR SYSTEM_TIME BETWEEN TIMESTAMP '2011-01-01 00:00:00' AND TIMESTAMP '2011-02-30 00:00:00';
+          DELETE FROM nowhere;",
+        &text,
+    )
+}
+
+#[test]
+fn commits_last_one_microsecond_before_the_end(rt: HostRuntime) -> Result<(), Fail> {
+    let text = format!(in rt.alloc();
+        "AT\nSTART TRANSACTION\nINSERT 1\nCOMMIT\n{E41}{E41}X|S|E\n\
+         1|9999-12-31 23:59:59.999998|9999-12-31 23:59:59.999999\n(1 rows)\n"
+    )?;
+    assert_log_prints(
+        &rt,
+        b"AT TIMESTAMP '9999-12-31 23:59:59.999998'; START TRANSACTION; INSERT INTO log VALUES (1); COMMIT;
+          INSERT INTO log VALUES (2); START TRANSACTION;
           SELECT * FROM log FOR SYSTEM_TIME AS OF TIMESTAMP '9999-12-31 23:59:59.999998';",
         &text,
     )

@@ -50,6 +50,47 @@ fn answers_as_of_each_moment(rt: HostRuntime) -> Result<(), Fail> {
 }
 
 #[test]
+fn undoes_a_transaction(rt: HostRuntime) -> Result<(), Fail> {
+    assert_log_prints(
+        &rt,
+        b"INSERT INTO log VALUES (1); START TRANSACTION; DELETE FROM log; INSERT INTO log VALUES (2); SELECT * FROM log;
+          SELECT * FROM log FOR SYSTEM_TIME AS OF TIMESTAMP '2011-01-01 00:00:00'; ROLLBACK; SELECT * FROM log;",
+        "INSERT 1\nSTART TRANSACTION\nDELETE 1\nINSERT 1\nX|S|E\n\
+         2|2011-01-01 00:00:00.000001|9999-12-31 23:59:59.999999\n(1 rows)\nX|S|E\n\
+         1|2011-01-01 00:00:00|2011-01-01 00:00:00.000001\n(1 rows)\nROLLBACK\nX|S|E\n\
+         1|2011-01-01 00:00:00|9999-12-31 23:59:59.999999\n(1 rows)\n",
+    )
+}
+
+#[test]
+fn leaves_no_trace_of_a_row_of_one_transaction(rt: HostRuntime) -> Result<(), Fail> {
+    assert_log_prints(
+        &rt,
+        b"START TRANSACTION; INSERT INTO log VALUES (1); DELETE FROM log; COMMIT;
+          SELECT * FROM log FOR SYSTEM_TIME BETWEEN TIMESTAMP '0001-01-01 00:00:00' AND TIMESTAMP '9999-12-31 23:59:59.999999';",
+        "START TRANSACTION\nINSERT 1\nDELETE 1\nCOMMIT\nX|S|E\n(0 rows)\n",
+    )
+}
+
+#[test]
+fn answers_over_ranges(rt: HostRuntime) -> Result<(), Fail> {
+    assert_log_prints(
+        &rt,
+        b"INSERT INTO log VALUES (1); START TRANSACTION; COMMIT WORK; DELETE FROM log; INSERT INTO log VALUES (2);
+          SELECT * FROM log FOR SYSTEM_TIME FROM TIMESTAMP '2011-01-01 00:00:00' TO TIMESTAMP '2011-01-01 00:00:00.000003';
+          SELECT * FROM log FOR SYSTEM_TIME BETWEEN TIMESTAMP '2011-01-01 00:00:00.000001' AND TIMESTAMP '2011-01-01 00:00:00.000003';
+          SELECT * FROM log FOR SYSTEM_TIME FROM TIMESTAMP '2011-01-01 00:00:00.000002' TO TIMESTAMP '2011-01-01 00:00:00.000003';
+          SELECT * FROM log FOR SYSTEM_TIME BETWEEN TIMESTAMP '2011-01-01 00:00:00.000003' AND TIMESTAMP '2011-01-01 00:00:00.000003';
+          SELECT * FROM log FOR SYSTEM_TIME FROM TIMESTAMP '2011-01-01 00:00:00.000003' TO TIMESTAMP '2011-01-01 00:00:00.000003';",
+        "INSERT 1\nSTART TRANSACTION\nCOMMIT\nDELETE 1\nINSERT 1\nX|S|E\n\
+         1|2011-01-01 00:00:00|2011-01-01 00:00:00.000002\n(1 rows)\nX|S|E\n\
+         1|2011-01-01 00:00:00|2011-01-01 00:00:00.000002\n\
+         2|2011-01-01 00:00:00.000003|9999-12-31 23:59:59.999999\n(2 rows)\nX|S|E\n(0 rows)\nX|S|E\n\
+         2|2011-01-01 00:00:00.000003|9999-12-31 23:59:59.999999\n(1 rows)\nX|S|E\n(0 rows)\n",
+    )
+}
+
+#[test]
 fn begins_at_the_first_moment(rt: HostRuntime) -> Result<(), Fail> {
     let script =
         b"create table t (a integer, b_1 integer, since timestamp generated always as row start, \

@@ -1,7 +1,6 @@
-use Rattle.std.proofs.Common.{◌∙◌, ap, subst, Some, map}
-use Rattle.tql_value.specs.Views.{datum_of_value}
+use Rattle.std.proofs.Common.{◌∙◌, ap, subst, Some}
 use Rattle.std.proofs.Math.Facts.{to_z-of_z}
-use Rattle.tql_store.specs.Represents.{ChangeReplaces, RollbackRestores}
+use Rattle.tql_store.specs.Represents.{RollbackRestores}
 use Rattle.tql_store.specs.Slots.{Held}
 use Rattle.tql_engine.proofs.committing.commit_rows.Goals as goal
 
@@ -11,7 +10,8 @@ returns-in-Ok-clause-ok c = record {
   changed = c.apply.new.self;
   begins = c.begin.ensures.copies;
   is_open = ap (λ (h : Held). h.working) c.begin.ensures.slots ∙ ap Some (to_z-of_z c.ranges.moment);
-  changes = subst (λ removed. ChangeReplaces c.args.delta.table removed (map (λ row. map datum_of_value row.items) c.args.delta.added.items) c.begin.new.self c.apply.new.self) c.requires.none c.in-Ok.ensures.copies;
+  same_slots = ap (λ (h : Held). h.slots) c.begin.ensures.slots;
+  changes = c.in-Ok.ensures.copies;
   still_open = ap (λ (h : Held). h.working) c.in-Ok.ensures.ok ∙ ap (λ (h : Held). h.working) c.begin.ensures.slots ∙ ap Some (to_z-of_z c.ranges.moment);
   commits = c.commit.ensures.copies;
   idle = ap (λ (h : Held). h.working) c.commit.ensures.slots;

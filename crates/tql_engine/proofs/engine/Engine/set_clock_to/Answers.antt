@@ -1,7 +1,8 @@
 use Rattle.std.proofs.Common.{rules, sym, subst, ◌≡◌, false}
 use Rattle.std.proofs.Math.Facts.{to_z-of_z}
 use Rattle.tql_spec.specs.Machine.{State, is_not_later}
-use Rattle.tql_engine.specs.Stands.{StandsFor}
+use Rattle.std.specs.Prelude.{IsNone}
+use Rattle.tql_engine.specs.Stands.{Held, StandsFor}
 use Rattle.tql_engine.proofs.Standing.{last_law, clock_law}
 use Rattle.tql_engine.proofs.Doing.{clock_refused, clock_set}
 use Rattle.tql_engine.proofs.engine.Engine.set_clock_to.Goals as goal
@@ -12,10 +13,12 @@ returns-then-is_not_later c s st = clock_refused _ s _ st (search rules)
 pub returns : goal.returns
 returns c s st =
     let inside = subst (λ h. StandsFor h s) (sym c.self.view_is) st in
-    rw (to_z-of_z c.ranges.moment) (clock_set _ s _ inside (search rules) c.requires.0 c.requires.1)
+    let closed = subst (λ (h : Held). IsNone h.rows.working) (sym c.self.view_is) c.requires.closed in
+    rw (to_z-of_z c.ranges.moment) (clock_set _ s _ inside closed (search rules) c.requires.within.0 c.requires.within.1)
 
 pub invariant_of-self : goal.invariant_of-self
 invariant_of-self c =
     let s : State = c.self.invariant.state in
     let later : is_not_later c.args.moment s.history ≡ false = rw (last_law _ s c.args.moment c.self.invariant.stands) (search rules) in
-    rw (to_z-of_z c.ranges.moment) (record { state = record s { next = c.args.moment }; stands = clock_law _ s _ c.self.invariant.stands later c.requires.0 c.requires.1 })
+    let closed = subst (λ (h : Held). IsNone h.rows.working) (sym c.self.view_is) c.requires.closed in
+    rw (to_z-of_z c.ranges.moment) (record { state = record s { next = c.args.moment }; stands = clock_law _ s _ c.self.invariant.stands closed later c.requires.within.0 c.requires.within.1 })

@@ -1,0 +1,258 @@
+-- A change, or one given up on the way, keeps an engine that stands for a state.
+use Rattle.std.proofs.Common.{◌≡◌, ℕ, zero, suc, Bool, true, false, cond, List, [], ◌∷◌, ◌++◌, map, filter, refl, sym, ap, subst, ◌∙◌, arith}
+use Rattle.std.specs.Prelude.{ℤ, pos, ◌+ℤ◌, ◌≤ℤ◌, ◌<ℤ◌, ◌&&◌, not, nat_eq, slice_get, slice_set, IsNone, Option, Some, None, if◌then◌else◌}
+use Rattle.std.proofs.lemmas.Int.{ints}
+use Rattle.std.proofs.lemmas.List.{length-map}
+use Rattle.tql_spec.specs.Calendar.{first_moment, high}
+use Rattle.tql_spec.specs.Datum.{Row}
+use Rattle.tql_spec.specs.Definition.{Stamped, TableDef}
+use Rattle.tql_spec.specs.History.{Copy, Entry, rows_in}
+use Rattle.tql_spec.specs.Machine.{State, newest_copy}
+use Rattle.tql_store.specs.Slots as store
+use Rattle.tql_store.specs.Slots.{Slot}
+use Rattle.tql_store.specs.Stands.{is_current}
+use Rattle.tql_store.specs.Changes.{alive, last_rows, rows_after}
+use Rattle.tql_store.specs.Represents as represents
+use Rattle.tql_store.specs.Represents.{Copies, Working, Represents, BeginCopies, ChangeReplaces, RollbackRestores, Judged}
+use Rattle.tql_store.specs.declared.tables.Place.{Place}
+use Rattle.tql_engine.specs.Plain.{PlainTable, def_of, AreRowsOf, RowsFit, CopyFits, HistoryFits}
+use Rattle.tql_engine.specs.Steps.{begun_at, working_now, working_rows, with_table_rows}
+use Rattle.tql_engine.specs.Stands.{Held, Placed, StandsFor, ArePlaced, rows_of_id, copies_of, working_of, plain_tables}
+use Rattle.tql_engine.specs.Committing.{CommitsRows, Undoes, ReplacesRows, ChangesRows, KeepsRows}
+use Rattle.tql_engine.proofs.Standing.{some_is}
+use Rattle.tql_engine.proofs.Copies.{rows_found, rows_set, rows_empty, fits_length, same_working, any_working, same_places}
+use Rattle.tql_engine.proofs.Asked.{rows_fit}
+
+-- ---- the last copy
+
+-- its rows are those of the last copies as the store numbers its tables
+pub last_found : (tables : List Placed) (defs : List TableDef) (es : List Entry) (id : ℕ) → last_rows (copies_of tables es id) ≡ rows_of_id tables (newest_copy defs es) id
+last_found tables defs [] id = sym (rows_empty tables defs id)
+last_found tables defs (e ∷ older) id = refl
+
+empty_fits : (ps : List PlainTable) → CopyFits ps (map (λ d. []) (map def_of ps))
+empty_fits [] = tt
+empty_fits (p ∷ ps) = (tt, empty_fits ps)
+
+newest_fits : (ps : List PlainTable) (es : List Entry) → HistoryFits ps es → CopyFits ps (newest_copy (map def_of ps) es)
+newest_fits ps [] f = empty_fits ps
+newest_fits ps (e ∷ older) f = f.0
+
+-- it fits the tables
+pub last_fits : (ps : List PlainTable) (defs : List TableDef) (es : List Entry) → defs ≡ map def_of ps → HistoryFits ps es → CopyFits ps (newest_copy defs es)
+last_fits ps defs es e f = subst (λ (ds : List TableDef). CopyFits ps (newest_copy ds es)) (sym e) (newest_fits ps es f)
+
+-- ---- the rows that stay and those that come
+
+rows_both : (p : PlainTable) (xs ys : List Stamped) → RowsFit p xs → RowsFit p ys → RowsFit p (xs ++ ys)
+rows_both p [] ys f g = g
+rows_both p (x ∷ xs) ys f g = (f.0, rows_both p xs ys f.1 g)
+
+rows_left : (p : PlainTable) (stays : Stamped → Bool) (xs : List Stamped) → RowsFit p xs → RowsFit p (filter stays xs)
+rows_left p stays [] f = tt
+rows_left p stays (x ∷ xs) f = chosen (stays x) (rows_left p stays xs f.1)
+  where
+    chosen : (b : Bool) → RowsFit p (filter stays xs) → RowsFit p (cond b (x ∷ filter stays xs) (filter stays xs))
+    chosen true g = (f.0, g)
+    chosen false g = g
+
+begun_fit : (p : PlainTable) (m : ℤ) (rows : List Row) → first_moment ≤ℤ m → m <ℤ high → AreRowsOf p rows → RowsFit p (begun_at m rows)
+begun_fit p m [] from until f = tt
+begun_fit p m (cells ∷ rows) from until f = (record { width = f.0.width; ints = f.0.ints; not_before = from; below = until }, begun_fit p m rows from until f.1)
+
+set_fits : (ps : List Placed) (t : ℕ) (p : Placed) → slice_get ps t ≡ Some p → (copy : Copy) → CopyFits (plain_tables ps) copy → (rows : List Stamped) → RowsFit p.table rows
+    → CopyFits (plain_tables ps) (slice_set copy t rows)
+set_fits [] t p e copy f rows k = cc
+set_fits (q ∷ ps) t p e [] f rows k = absurd f
+set_fits (q ∷ ps) zero p e (old ∷ copy) f rows k = (subst (λ (x : Placed). RowsFit x.table rows) (sym (some_is q p e)) k, f.1)
+set_fits (q ∷ ps) (suc t) p e (old ∷ copy) f rows k = (f.0, set_fits ps t p e copy f.1 rows k)
+
+-- ---- a copy in which rows of one table are replaced
+
+-- the rows of the table after the change
+abbrev pub replaced_rows : ℤ → (Stamped → Bool) → List Row → Copy → ℕ → List Stamped
+replaced_rows m gone added copy t = rows_after m gone added (rows_in copy t)
+
+-- the copy after it
+abbrev pub replaced_copy : ℤ → (Stamped → Bool) → List Row → Copy → ℕ → Copy
+replaced_copy m gone added copy t = slice_set copy t (replaced_rows m gone added copy t)
+
+module _ (rows : store.Held) (ps : List Placed) (placed : ArePlaced rows ps) (t : ℕ) (p : Placed) (there : slice_get ps t ≡ Some p) where
+  replaced_found : (m : ℤ) (gone : Stamped → Bool) (added : List Row) (copy : Copy) → CopyFits (plain_tables ps) copy → (id : ℕ)
+      → represents.with_rows p.id (rows_after m gone added (rows_of_id ps copy p.id)) (rows_of_id ps copy) id ≡ rows_of_id ps (replaced_copy m gone added copy t) id
+  replaced_found m gone added copy fits id =
+      ap (λ (xs : List Stamped). if nat_eq id p.id then rows_after m gone added xs else rows_of_id ps copy id) (rows_found rows ps t p placed there copy)
+      ∙ sym (rows_set rows ps t p placed there copy (fits_length (plain_tables ps) copy fits ∙ length-map ps (λ (x : Placed). x.table)) (replaced_rows m gone added copy t) id)
+
+  -- what stands for the copy stands for the one after the change
+  pub replaced_stands : (r1 r2 : store.Held) (copies : Copies) (copy : Copy) (m : ℤ) (gone : Stamped → Bool) (removed : List ℕ) (added : List Row)
+      → CopyFits (plain_tables ps) copy → r1.working ≡ Some m → Judged p.id gone removed r1.slots → ChangeReplaces p.id removed added r1 r2
+      → Represents r1 copies (rows_of_id ps copy) → Represents r2 copies (rows_of_id ps (replaced_copy m gone added copy t))
+  replaced_stands r1 r2 copies copy m gone removed added fits is1 judged changes r =
+      same_working r2 copies _ (rows_of_id ps (replaced_copy m gone added copy t)) (replaced_found m gone added copy fits)
+      (changes copies (rows_of_id ps copy) m gone is1 judged r)
+
+  -- it fits the tables
+  pub replaced_fits : (m : ℤ) (gone : Stamped → Bool) (added : List Row) (copy : Copy) → first_moment ≤ℤ m → m <ℤ high → AreRowsOf p.table added
+      → CopyFits (plain_tables ps) copy → CopyFits (plain_tables ps) (replaced_copy m gone added copy t)
+  replaced_fits m gone added copy from until ok fits =
+      let old : RowsFit p.table (rows_in copy t) = rows_fit ps t p there copy fits in
+      set_fits ps t p there copy fits (replaced_rows m gone added copy t)
+      (rows_both p.table (filter (λ r. not (gone r)) (rows_in copy t)) (begun_at m added) (rows_left p.table (λ r. not (gone r)) (rows_in copy t) old)
+      (begun_fit p.table m added from until ok))
+
+-- ---- what begins
+
+-- the working copy of a transaction that begins is the last one
+pub begun_stands : (tables : List Placed) (defs : List TableDef) (es : List Entry) (old new : store.Held) → BeginCopies old new
+    → Represents old (copies_of tables es) (working_of tables None) → Represents new (copies_of tables es) (rows_of_id tables (newest_copy defs es))
+begun_stands tables defs es old new begins r =
+    same_working new (copies_of tables es) _ (rows_of_id tables (newest_copy defs es)) (last_found tables defs es) (begins (copies_of tables es) (working_of tables None) r)
+
+-- ---- the tables stay
+
+pub same_count : (old new : store.Held) (n : ℕ) → new.tables ≡ old.tables → store.table_count old ≡ n → store.table_count new ≡ n
+same_count old new n places e = ap (λ (xs : List Place). store.table_count (record old { tables = xs })) places ∙ e
+
+-- ---- the laws
+
+-- in a transaction of its own
+module _ (h : Held) (defs : List TableDef) (es : List Entry) (next : ℤ) where
+  -- the machine, with no transaction open
+  abbrev idle : State
+  idle = record { definitions = defs; history = es; next = next; transaction = None }
+
+  own_changed : (t : ℕ) (p : Placed) (gone : Stamped → Bool) (removed : List ℕ) (added : List Row) (r : store.Held) → StandsFor h idle → slice_get h.tables t ≡ Some p → next <ℤ high
+      → AreRowsOf p.table added → Judged p.id gone removed h.rows.slots → CommitsRows next p.id removed added h.rows r
+      → StandsFor (record { tables = h.tables; rows = r; next = next +ℤ pos 1 }) (with_table_rows idle t (rows_after next gone added (working_rows idle t)))
+  own_changed t p gone removed added r f there below ok judged c =
+      let copy : Copy = newest_copy defs es in
+      let fits : CopyFits (plain_tables h.tables) copy = last_fits (plain_tables h.tables) defs es f.plain.definitions f.plain.rows in
+      let opened : Represents c.opened (copies_of h.tables es) (rows_of_id h.tables copy) = begun_stands h.tables defs es h.rows c.opened c.begins f.stands in
+      let judged1 : Judged p.id gone removed c.opened.slots = subst (λ (ss : List Slot). Judged p.id gone removed ss) (sym c.same_slots) judged in
+      let changed : Represents c.changed (copies_of h.tables es) (rows_of_id h.tables (replaced_copy next gone added copy t)) =
+      replaced_stands h.rows h.tables f.placed t p there c.opened c.changed (copies_of h.tables es) copy next gone removed added fits c.is_open judged1 c.changes opened in
+      let from = f.not_before in
+      record {
+        plain = record { definitions = f.plain.definitions; rows = (replaced_fits h.rows h.tables f.placed t p there next gone added copy from below ok fits, f.plain.rows); working = tt };
+        clock = refl;
+        not_before = omega (arith, ints);
+        not_after = omega (arith, ints);
+        falls = (omega (arith, ints), f.falls);
+        since = (from, f.since);
+        opened = c.idle;
+        dated = tt;
+        stands = any_working r _ (rows_of_id h.tables (replaced_copy next gone added copy t)) (working_of h.tables None) c.idle
+            (c.commits (copies_of h.tables es) (rows_of_id h.tables (replaced_copy next gone added copy t)) next c.still_open changed);
+        placed = same_places h.rows r h.tables c.places f.placed;
+        count = same_count h.rows r _ c.places f.count;
+      }
+
+  own_undone : (r : store.Held) → StandsFor h idle → Undoes next h.rows r → StandsFor (record h { rows = r }) idle
+  own_undone r f c =
+      let opened : Represents c.opened (copies_of h.tables es) (rows_of_id h.tables (newest_copy defs es)) = begun_stands h.tables defs es h.rows c.opened c.begins f.stands in
+      record {
+        plain = f.plain;
+        clock = f.clock;
+        not_before = f.not_before;
+        not_after = f.not_after;
+        falls = f.falls;
+        since = f.since;
+        opened = c.idle;
+        dated = tt;
+        stands = any_working r (copies_of h.tables es) (rows_of_id h.tables (newest_copy defs es)) (working_of h.tables None) c.idle
+            (c.restores (copies_of h.tables es) (rows_of_id h.tables (newest_copy defs es)) next c.is_open opened);
+        placed = same_places h.rows r h.tables c.places f.placed;
+        count = same_count h.rows r _ c.places f.count;
+      }
+
+  -- in the open transaction
+  abbrev within : Entry → State
+  within e = record { definitions = defs; history = es; next = next; transaction = Some e }
+
+  within_changed : (e : Entry) (t : ℕ) (p : Placed) (gone : Stamped → Bool) (removed : List ℕ) (added : List Row) (r : store.Held) → StandsFor h (within e) → slice_get h.tables t ≡ Some p
+      → AreRowsOf p.table added → Judged p.id gone removed h.rows.slots → ReplacesRows e.moment p.id removed added h.rows r
+      → StandsFor (record { tables = h.tables; rows = r; next = next }) (with_table_rows (within e) t (rows_after e.moment gone added (working_rows (within e) t)))
+  within_changed e t p gone removed added r f there ok judged c =
+      let from = f.not_before in
+      let same = f.dated.0 in
+      let below = f.dated.1 in
+      record {
+        plain = record {
+          definitions = f.plain.definitions;
+          rows = f.plain.rows;
+          working = replaced_fits h.rows h.tables f.placed t p there e.moment gone added e.copy (subst (λ m. first_moment ≤ℤ m) (sym same) from) (subst (λ m. m <ℤ high) (sym same) below) ok f.plain.working;
+        };
+        clock = refl;
+        not_before = from;
+        not_after = f.not_after;
+        falls = f.falls;
+        since = f.since;
+        opened = c.still_open;
+        dated = f.dated;
+        stands = replaced_stands h.rows h.tables f.placed t p there h.rows r (copies_of h.tables es) e.copy e.moment gone removed added f.plain.working f.opened judged c.changes f.stands;
+        placed = same_places h.rows r h.tables c.places f.placed;
+        count = same_count h.rows r _ c.places f.count;
+      }
+
+  changed_by : (o : Option Entry) (t : ℕ) (p : Placed) (gone : Stamped → Bool) (removed : List ℕ) (added : List Row) (r : store.Held) (after : ℤ)
+      → (let s : State = record { definitions = defs; history = es; next = next; transaction = o } in
+      StandsFor h s → slice_get h.tables t ≡ Some p → (IsNone h.rows.working → next <ℤ high)
+      → AreRowsOf p.table added → Judged p.id gone removed h.rows.slots → ChangesRows h.rows.working next after p.id removed added h.rows r
+      → StandsFor (record { tables = h.tables; rows = r; next = after }) (with_table_rows s t (rows_after (working_now s).moment gone added (working_rows s t))))
+  changed_by None t p gone removed added r after f there below ok judged c =
+      let d = subst (λ w. ChangesRows w next after p.id removed added h.rows r) f.opened c in
+      subst (λ n. StandsFor (record { tables = h.tables; rows = r; next = n }) (with_table_rows idle t (rows_after next gone added (working_rows idle t)))) (sym d.1)
+      (own_changed t p gone removed added r f there (below (subst (λ w. IsNone w) (sym f.opened) refl)) ok judged d.0)
+  changed_by (Some e) t p gone removed added r after f there below ok judged c =
+      let d = subst (λ w. ChangesRows w next after p.id removed added h.rows r) f.opened c in
+      subst (λ n. StandsFor (record { tables = h.tables; rows = r; next = n }) (with_table_rows (within e) t (rows_after e.moment gone added (working_rows (within e) t)))) (sym d.1)
+      (within_changed e t p gone removed added r f there ok judged d.0)
+
+  kept_by : (o : Option Entry) (r : store.Held)
+      → (let s : State = record { definitions = defs; history = es; next = next; transaction = o } in StandsFor h s → KeepsRows h.rows.working next h.rows r → StandsFor (record h { rows = r }) s)
+  kept_by None r f c = own_undone r f (subst (λ w. KeepsRows w next h.rows r) f.opened c)
+  kept_by (Some e) r f c =
+      let same : r ≡ h.rows = subst (λ w. KeepsRows w next h.rows r) f.opened c in
+      subst (λ (x : store.Held). StandsFor (record h { rows = x }) (within e)) (sym same) f
+
+-- rows replaced, in the open transaction or in one of their own
+pub change_law : (h : Held) (s : State) (t : ℕ) (p : Placed) (gone : Stamped → Bool) (removed : List ℕ) (added : List Row) (r : store.Held) (after : ℤ) → StandsFor h s
+    → slice_get h.tables t ≡ Some p → (IsNone h.rows.working → h.next <ℤ high) → AreRowsOf p.table added → Judged p.id gone removed h.rows.slots
+    → ChangesRows h.rows.working h.next after p.id removed added h.rows r
+    → StandsFor (record { tables = h.tables; rows = r; next = after }) (with_table_rows s t (rows_after (working_now s).moment gone added (working_rows s t)))
+change_law h s t p gone removed added r after f there below ok judged c =
+    changed_by h s.definitions s.history s.next s.transaction t p gone removed added r after f there (λ none. subst (λ m. m <ℤ high) f.clock (below none)) ok judged
+    (subst (λ m. ChangesRows h.rows.working m after p.id removed added h.rows r) f.clock c)
+
+-- a change that was given up
+pub kept_law : (h : Held) (s : State) (r : store.Held) → StandsFor h s → KeepsRows h.rows.working h.next h.rows r → StandsFor (record h { rows = r }) s
+kept_law h s r f c = kept_by h s.definitions s.history s.next s.transaction r f (subst (λ m. KeepsRows h.rows.working m h.rows r) f.clock c)
+
+-- ---- all rows, or none
+
+all_stay : (xs : List Stamped) → filter (λ (r : Stamped). not false) xs ≡ xs
+all_stay [] = refl
+all_stay (x ∷ xs) = ap {B = List Stamped} (λ ys. x ∷ ys) (all_stay xs)
+
+none_stays : (xs : List Stamped) → filter (λ (r : Stamped). not true) xs ≡ []
+none_stays [] = refl
+none_stays (x ∷ xs) = none_stays xs
+
+-- rows that only come
+pub only_added : (m : ℤ) (added : List Row) (rows : List Stamped) → rows_after m (λ (r : Stamped). false) added rows ≡ rows ++ begun_at m added
+only_added m added rows = ap (λ (xs : List Stamped). xs ++ begun_at m added) (all_stay rows)
+
+-- rows that all go
+pub all_removed : (m : ℤ) (rows : List Stamped) → rows_after m (λ (r : Stamped). true) [] rows ≡ []
+all_removed m rows = ap (λ (xs : List Stamped). xs ++ begun_at m []) (none_stays rows)
+
+-- no slot is taken away
+none_goes : (a b c : Bool) → false ≡ (a && (b && (c && false)))
+none_goes false b c = refl
+none_goes true false c = refl
+none_goes true true false = refl
+none_goes true true true = refl
+
+pub none_judged : (id : ℕ) (slots : List Slot) → Judged id (λ (r : Stamped). false) [] slots
+none_judged id slots = λ i s e. none_goes (nat_eq s.table id) (alive s.version) (is_current s.version)

@@ -1,0 +1,23 @@
+use Rattle.std.proofs.Common.{◌∙◌, ap, sym, subst, None}
+use Rattle.tql_spec.specs.Machine.{State}
+use Rattle.tql_store.specs.Slots as store
+use Rattle.tql_engine.specs.Stands.{StandsFor}
+use Rattle.tql_engine.proofs.TransactionKeeps.{undone_law}
+use Rattle.tql_engine.proofs.Doing.{open_entry, undone_does}
+use Rattle.tql_engine.proofs.engine.Engine.rollback.Goals as goal
+
+pub invariant_of-self : goal.invariant_of-self
+invariant_of-self c =
+    let s : State = c.self.invariant.state in
+    let st = c.self.invariant.stands in
+    let e = open_entry _ s st (sym c.has_transaction.ensures ∙ c.if-not-has_transaction.false) in
+    record {
+      state = record s { transaction = None };
+      stands = undone_law _ s e.0 c.rollback.new.self st e.1 c.rollback.ensures.copies (ap (λ (h : store.Held). h.working) c.rollback.ensures.slots) (ap (λ (h : store.Held). h.tables) c.rollback.ensures.slots);
+    }
+
+pub returns : goal.returns
+returns c s st =
+    let back = subst (λ h. StandsFor h s) (sym c.self.view_is) st in
+    let is_open = sym c.has_transaction.ensures ∙ c.if-not-has_transaction.false in
+    undone_does _ s c.rollback.new.self back is_open c.rollback.ensures.copies (ap (λ (h : store.Held). h.working) c.rollback.ensures.slots) (ap (λ (h : store.Held). h.tables) c.rollback.ensures.slots)

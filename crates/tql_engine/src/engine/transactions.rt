@@ -1,0 +1,49 @@
+//! START TRANSACTION, COMMIT and ROLLBACK. The last two take no memory.
+use crate::engine::Engine;
+use tql_result::reply::{Reply, Verb};
+use tql_value::calendar::HIGH;
+use tql_value::refusal::Refusal;
+
+impl Engine {
+    ghost use Rattle.tql_spec.specs.Machine.{State};
+    ghost use Rattle.tql_engine.specs.Stands.{StandsFor};
+    ghost use Rattle.tql_engine.specs.Steps.{unless_open, start_step, commit_step, rollback_step};
+    ghost use Rattle.tql_engine.specs.Effects.{DoesStep};
+
+    /// START TRANSACTION, at the clock's moment.
+    pub(super) fn start(&mut self) -> Result<Reply, Refusal>
+        ensures { (s : State) → StandsFor self.old s → DoesStep self.new s result (unless_open s (start_step s)) }
+    {
+        if self.rows.has_transaction() {
+            return Err(Refusal::NotInThisTransactionState);
+        }
+        if self.next >= HIGH {
+            return Err(Refusal::MomentNotAllowed);
+        }
+        self.rows.begin(self.next);
+        Ok(Reply::Done(Verb::Started, None))
+    }
+
+    /// COMMIT: the clock goes on by a microsecond, also where nothing was changed.
+    pub(super) fn commit(&mut self) -> Result<Reply, Refusal>
+        ensures { (s : State) → StandsFor self.old s → DoesStep self.new s result (commit_step s s.transaction) }
+    {
+        if !self.rows.has_transaction() {
+            return Err(Refusal::NotInThisTransactionState);
+        }
+        self.rows.commit();
+        self.next += 1;
+        Ok(Reply::Done(Verb::Committed, None))
+    }
+
+    /// ROLLBACK
+    pub(super) fn rollback(&mut self) -> Result<Reply, Refusal>
+        ensures { (s : State) → StandsFor self.old s → DoesStep self.new s result (rollback_step s s.transaction) }
+    {
+        if !self.rows.has_transaction() {
+            return Err(Refusal::NotInThisTransactionState);
+        }
+        self.rows.rollback();
+        Ok(Reply::Done(Verb::RolledBack, None))
+    }
+}
