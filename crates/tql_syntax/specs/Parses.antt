@@ -1,0 +1,33 @@
+-- What parsing says of the tokens.
+use Rattle.std.specs.Prelude.{◌≤◌, ◌<◌, IsTrue, IsFalse, List, Result, Ok, Err, ⊤}
+use Rattle.tql_spec.specs.Token.{Token, depth}
+use Rattle.tql_spec.specs.Syntax as tree
+use Rattle.tql_spec.specs.Syntax.{is_too_wide}
+use Rattle.tql_spec.specs.Grammar.{IsStatement}
+use Rattle.tql_value.specs.declared.refusal.Refusal.{Refusal}
+use Rattle.tql_value.specs.declared.refusal.Refusal.TheVariants.{NestedTooDeep, NotAStatement, TooManyColumnsOrTables, OutOfMemory}
+use Rattle.tql_syntax.specs.Statements.{statement_of}
+use Rattle.tql_syntax.specs.declared.statement.Statement.{Statement}
+
+-- the tokens, all of them, spell the statement, and it keeps within the limits
+pub record IsParsed (ts : List Token) (s : tree.Statement) : Type 0 where
+  pub shallow : depth ts ≤ 64
+  pub spelled : IsStatement s ts
+  pub narrow : IsFalse (is_too_wide s)
+
+-- the tokens spell no statement
+abbrev pub SpellsNone : List Token → Type 0
+SpellsNone ts = (s : tree.Statement) → IsStatement s ts → ⊥
+
+-- the tokens spell a statement that is too wide
+abbrev pub SpellsWide : List Token → Type 0
+SpellsWide ts = (s : tree.Statement) × IsStatement s ts × IsTrue (is_too_wide s)
+
+-- what the outcome says of the tokens
+abbrev pub Parses : List Token → Result Statement Refusal → Type 0
+Parses ts (Ok s) = IsParsed ts (statement_of s)
+Parses ts (Err NestedTooDeep) = 64 < depth ts
+Parses ts (Err NotAStatement) = (depth ts ≤ 64) × SpellsNone ts
+Parses ts (Err TooManyColumnsOrTables) = (depth ts ≤ 64) × SpellsWide ts
+Parses ts (Err OutOfMemory) = ⊤
+Parses ts (Err _) = ⊥

@@ -1,0 +1,17 @@
+// The grammar: from tokens to the trees of statements.
+#![tactic(auto)]
+
+mod changes;
+pub mod condition;
+mod conditions;
+mod creates;
+mod cursor;
+pub mod expression;
+mod expressions;
+mod operands;
+pub mod parse;
+mod queries;
+pub mod statement;
+mod statements;
+#[cfg(test)]
+mod tests;

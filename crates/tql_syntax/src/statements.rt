@@ -1,0 +1,70 @@
+//! Reading statements.
+ghost use Rattle.tql_syntax.specs.ReadingStatements as reading;
+ghost use Rattle.tql_syntax.specs.Parsing.{Reads};
+ghost use Rattle.tql_syntax.specs.Statements.{statement_of};
+
+use crate::changes::{delete, insert, update};
+use crate::creates::{create, drop_table};
+use crate::cursor::{Cursor, ParseError};
+use crate::queries::{moment, query};
+use crate::statement::Statement;
+use tql_memory::Memory;
+
+/// A statement of transactions or of the clock.
+#[tactic(auto, unfolding(crate::specs::ReadingStatements::control_at))]
+fn control<'a>(tokens: &mut Cursor<'_, 'a>) -> Result<Statement<'a>, ParseError>
+    ensures { Reads statement_of (reading.control_at tokens.old) result tokens.new }
+{
+    if tokens.eat_word("START") {
+        tokens.expect_word("TRANSACTION")?;
+        return Ok(Statement::StartTransaction);
+    }
+    if tokens.eat_word("COMMIT") {
+        tokens.eat_word("WORK");
+        return Ok(Statement::Commit);
+    }
+    if tokens.eat_word("ROLLBACK") {
+        tokens.eat_word("WORK");
+        return Ok(Statement::Rollback);
+    }
+    tokens.expect_word("AT")?;
+    let text = moment(tokens)?;
+    Ok(Statement::At(text))
+}
+
+/// A statement that changes rows, or one of transactions or of the clock.
+#[tactic(auto, unfolding(crate::specs::ReadingStatements::change_at))]
+fn change<'a>(memory: Memory, tokens: &mut Cursor<'_, 'a>) -> Result<Statement<'a>, ParseError>
+    ensures { Reads statement_of (reading.change_at tokens.old) result tokens.new }
+{
+    if tokens.eat_word("INSERT") {
+        return insert(memory, tokens);
+    }
+    if tokens.eat_word("UPDATE") {
+        return update(memory, tokens);
+    }
+    if tokens.eat_word("DELETE") {
+        return delete(memory, tokens);
+    }
+    control(tokens)
+}
+
+/// A statement.
+#[tactic(auto, unfolding(crate::specs::ReadingStatements::statement_at))]
+pub(crate) fn statement<'a>(
+    memory: Memory,
+    tokens: &mut Cursor<'_, 'a>,
+) -> Result<Statement<'a>, ParseError>
+    ensures { Reads statement_of (reading.statement_at tokens.old) result tokens.new }
+{
+    if tokens.eat_word("SELECT") {
+        return query(memory, tokens);
+    }
+    if tokens.eat_word("CREATE") {
+        return create(memory, tokens);
+    }
+    if tokens.eat_word("DROP") {
+        return drop_table(tokens);
+    }
+    change(memory, tokens)
+}

@@ -1,0 +1,7 @@
+mod changes;
+mod conditions;
+mod creates;
+mod expressions;
+mod limits;
+mod neighbours;
+mod queries;
