@@ -1,107 +1,107 @@
--- What new rows of whole numbers make of a table.
-use Rattle.std.specs.Prelude.{◌≡◌, refl, ℕ, zero, suc, ◌+◌, ◌≤◌, ◌<◌, Bool, true, not, List, [], ◌∷◌, ◌++◌, map, filter, length, replicate, remove, slice_set, slice_index_or, ℤ}
-use Rattle.std.specs.List.{list_all, range_with_len, flat_map}
-use Rattle.std.proofs.Common.{sym, ap, ◌∙◌, arith, eq-eqb, ne_eqb, lt-ltb, length-append}
-use lib.Seq.{set_at, append_snoc}
-use Rattle.tql_spec.specs.Datum.{Datum, Null, Row, Ints, Moments}
-use Rattle.tql_spec.specs.Definition.{Name, Column, TableDef, Stamped, shown, stamped, place_of}
+-- What changes make of simple tables: rows added, or all of them removed.
+use Rattle.std.specs.Prelude.{◌≡◌, refl, ℕ, suc, Bool, true, not, List, [], ◌∷◌, ◌++◌, map, length, slice_set, ℤ, Some, None}
+use Rattle.std.specs.List.{list_all, AllByRecursion}
+use Rattle.std.proofs.Common.{ap, ◌∙◌, append-nil}
+use Rattle.std.proofs.lemmas.List.{length-map}
+use Rattle.tql_spec.specs.Words.{map_all, with_front}
+use Rattle.tql_spec.specs.Datum.{Datum, Row}
+use Rattle.tql_spec.specs.Refusal.{Refusal, E35, E36, first, fault_if}
+use Rattle.tql_spec.specs.Expression.{Literal, eval}
+use Rattle.tql_spec.specs.Definition.{TableDef, Stamped, shown, stamped, place_of}
 use Rattle.tql_spec.specs.History.{Copy}
-use Rattle.tql_spec.specs.Change.{cell_faults, row_faults, filled, row_of}
-use Rattle.tql_spec.specs.Creation.{has_number}
+use Rattle.tql_spec.specs.Change as change
+use Rattle.tql_spec.specs.Change.{Outcome, Work, Fate, Replaced, after_fates, touched_count, fate, modify, insert, added_to}
 use Rattle.tql_spec.specs.Constraint.{each_table, key_holds, keys_hold, reference_to, references_hold}
-use Rattle.tql_spec.specs.Binding.{all_assignable, kinds_for}
-use Rattle.tql_engine.specs.Plain.{PlainTable, def_of, column_of}
-use Rattle.tql_engine.specs.Steps.{begun_at}
-use Rattle.tql_engine.proofs.Widths.{columns_count}
+use Rattle.tql_spec.specs.Machine.{State, Reply, Done, Change, outcome, altered, changed_table, verb_of, constraint_faults, unless}
+use Rattle.tql_catalog.specs.Simple.{IsSimple}
+use Rattle.tql_dml.specs.Inserts.{new_rows, new_faults}
+use Rattle.tql_engine.proofs.ChangeKeeps.{working_now, with_table_rows, begun_at}
 
--- ---- the columns that take values
+-- ---- literals
 
--- the numbers that are not those of the two generated columns
-not_generated : (k a n : ℕ) → a + n ≡ k
-    → filter (λ i. not (has_number i (k ∷ suc k ∷ []))) (range_with_len a (suc (suc n))) ≡ range_with_len a n
-not_generated k a zero e = rw (eq-eqb a k (omega arith), ne_eqb (a + 1) k (λ h. omega arith), eq-eqb (a + 1) (suc k) (omega arith))
-not_generated k a (suc n) e = rw (ne_eqb a k (λ h. omega arith), ne_eqb a (suc k) (λ h. omega arith)) (ap {B = List ℕ} (λ is. a ∷ is) (not_generated k (a + 1) n (omega arith)))
+literals_of : (values : List Datum) → map_all (eval [] []) (map Literal values) ≡ Some values
+literals_of [] = refl
+literals_of (v ∷ values) = ap (with_front (Some v)) (literals_of values)
 
-pub assignable : (p : PlainTable) → all_assignable (def_of p) ≡ range_with_len 0 (length p.columns)
-assignable p = rw (columns_count p) (not_generated (length p.columns) 0 (length p.columns) (omega arith))
+literals : (tuples : List Row) → map_all (map_all (eval [] [])) (map (map Literal) tuples) ≡ Some tuples
+literals [] = refl
+literals (values ∷ tuples) = λ i. with_front (literals_of values i) (literals tuples i)
 
-kind_there : (p : PlainTable) (ns : List Name) (i : ℕ) → i < length ns
-    → slice_index_or (map (λ (c : Column). c.kind) (map (column_of Ints) ns ++ column_of Moments p.row_start ∷ column_of Moments p.row_end ∷ [])) i Ints ≡ Ints
-kind_there p [] i h = absurd (omega arith)
-kind_there p (n ∷ ns) zero h = refl
-kind_there p (n ∷ ns) (suc i) h = kind_there p ns i (omega arith)
+-- ---- new rows
 
-kinds_from : (p : PlainTable) (a n : ℕ) → a + n ≤ length p.columns → kinds_for (def_of p) (range_with_len a n) ≡ replicate n Ints
-kinds_from p a zero h = refl
-kinds_from p a (suc n) h = λ i. kind_there p p.columns a (omega arith) i ∷ kinds_from p (a + 1) n (omega arith) i
+begun_so : (d : TableDef) (m : ℤ) (columns : List ℕ) (tuples : List Row) → new_rows d m columns tuples ≡ begun_at m (map (λ (r : Stamped). r.cells) (new_rows d m columns tuples))
+begun_so d m columns [] = refl
+begun_so d m columns (t ∷ ts) = ap {B = List Stamped} (λ rows. stamped d m (change.row_of d columns t) ∷ rows) (begun_so d m columns ts)
 
-pub kinds_there : (p : PlainTable) → kinds_for (def_of p) (range_with_len 0 (length p.columns)) ≡ replicate (length p.columns) Ints
-kinds_there p = kinds_from p 0 (length p.columns) (omega arith)
-
--- ---- a new row
-
--- the two cells behind the others, null
-abbrev nulls : Row
-nulls = Null ∷ Null ∷ []
-
-filled_behind : (done : Row) (a n : ℕ) (vs : List Datum) → length done ≡ a → length vs ≡ n
-    → filled (done ++ replicate (suc (suc n)) Null) (range_with_len a n) vs ≡ done ++ (vs ++ nulls)
-filled_behind done a zero [] e f = refl
-filled_behind done a zero (v ∷ vs) e f = absurd (omega arith)
-filled_behind done a (suc n) [] e f = absurd (omega arith)
-filled_behind done a (suc n) (v ∷ vs) e f =
-    let rest : Row = replicate (suc (suc n)) Null in
-    let one_more : slice_set (done ++ Null ∷ rest) a v ≡ (done ++ v ∷ []) ++ rest = set_at done Null rest v a e ∙ sym (append_snoc done v rest) in
-    ap (λ (row : Row). filled row (range_with_len (a + 1) n) vs) one_more
-    ∙ filled_behind (done ++ v ∷ []) (a + 1) n vs (simp length-append (omega arith)) (omega arith) ∙ append_snoc done v (vs ++ nulls)
-
-row_filled : (p : PlainTable) (vs : List Datum) → length vs ≡ length p.columns → row_of (def_of p) (range_with_len 0 (length p.columns)) vs ≡ vs ++ nulls
-row_filled p vs f = rw (columns_count p) (filled_behind [] 0 (length p.columns) vs refl f)
-
-both_removed : (vs : Row) (v w : Datum) → remove (remove (vs ++ v ∷ w ∷ []) (suc (length vs))) (length vs) ≡ vs
-both_removed [] v w = refl
-both_removed (u ∷ vs) v w = ap {B = Row} (λ r. u ∷ r) (both_removed vs v w)
-
-row_begun : (p : PlainTable) (m : ℤ) (vs : List Datum) → length vs ≡ length p.columns
-    → stamped (def_of p) m (row_of (def_of p) (range_with_len 0 (length p.columns)) vs) ≡ record { cells = vs; start = m }
-row_begun p m vs f = rw (row_filled p vs f, lt-ltb (length p.columns) (suc (length p.columns)) (omega arith), ← f) (ap (λ (cells : Row). record { cells = cells; start = m }) (both_removed vs Null Null))
-
--- each tuple has this many values
-abbrev pub AllLong : ℕ → List (List Datum) → Type 0
-AllLong k [] = Unit {0}
-AllLong k (vs ∷ rest) = (length vs ≡ k) × AllLong k rest
-
-pub rows_begun : (p : PlainTable) (m : ℤ) (tuples : List (List Datum)) → AllLong (length p.columns) tuples
-    → map (λ values. stamped (def_of p) m (row_of (def_of p) (range_with_len 0 (length p.columns)) values)) tuples ≡ begun_at m tuples
-rows_begun p m [] h = refl
-rows_begun p m (vs ∷ rest) h = λ i. row_begun p m vs h.0 i ∷ rows_begun p m rest h.1 i
-
--- ---- no fault of a row
-
-no_cell_fault : (p : PlainTable) (ns : List Name) (row : Row)
-    → cell_faults (map (column_of Ints) ns ++ column_of Moments p.row_start ∷ column_of Moments p.row_end ∷ []) row ≡ []
-no_cell_fault p [] [] = refl
-no_cell_fault p [] (v ∷ []) = refl
-no_cell_fault p [] (v ∷ w ∷ row) = refl
-no_cell_fault p (n ∷ ns) [] = refl
-no_cell_fault p (n ∷ ns) (v ∷ row) = no_cell_fault p ns row
-
-pub no_row_fault : (p : PlainTable) (new : List Stamped) → flat_map (λ r. row_faults (def_of p) (shown (def_of p) r)) new ≡ []
-no_row_fault p [] = refl
-no_row_fault p (r ∷ new) = rw (no_cell_fault p p.columns (shown (def_of p) r), no_row_fault p new)
+-- they are these cells, begun at the moment
+pub rows_begun : (d : TableDef) (m : ℤ) (columns : List ℕ) (tuples rows : List Row) → map (λ (r : Stamped). r.cells) (new_rows d m columns tuples) ≡ rows → new_rows d m columns tuples ≡ begun_at m rows
+rows_begun d m columns tuples rows e = begun_so d m columns tuples ∙ ap (begun_at m) e
 
 -- ---- no key and no reference
 
-each_holds : (test : TableDef → List Row → Bool) → ((p : PlainTable) (rows : List Row) → test (def_of p) rows ≡ true)
-    → (ps : List PlainTable) (copy : Copy) → each_table test (map def_of ps) copy ≡ true
-each_holds test h [] [] = refl
-each_holds test h [] (rows ∷ copy) = refl
-each_holds test h (p ∷ ps) [] = refl
-each_holds test h (p ∷ ps) (rows ∷ copy) = rw (h p _, each_holds test h ps copy)
+each_holds : (test : TableDef → List Row → Bool) → ((d : TableDef) → IsSimple d → (rows : List Row) → test d rows ≡ true)
+    → (ds : List TableDef) → AllByRecursion IsSimple ds → (copy : Copy) → each_table test ds copy ≡ true
+each_holds test h [] a [] = refl
+each_holds test h [] a (rows ∷ copy) = refl
+each_holds test h (d ∷ ds) a [] = refl
+each_holds test h (d ∷ ds) a (rows ∷ copy) = rw (h d a.0 _, each_holds test h ds a.1 copy)
 
-pub no_key : (ps : List PlainTable) (copy : Copy) → keys_hold (map def_of ps) copy ≡ true
-no_key ps copy = each_holds (λ d rows. list_all (key_holds d rows) d.keys) (λ p rows. refl) ps copy
+no_key : (ds : List TableDef) → AllByRecursion IsSimple ds → (copy : Copy) → keys_hold ds copy ≡ true
+no_key ds a copy = each_holds (λ d rows. list_all (key_holds d rows) d.keys) (λ d k rows. ap (list_all (key_holds d rows)) k.keys) ds a copy
 
-pub no_reference : (ps : List PlainTable) (copy : Copy) → references_hold (map def_of ps) copy ≡ true
-no_reference ps copy =
-    each_holds (λ d rows. list_all (λ f. reference_to (map def_of ps) copy d rows f (place_of f.parent (map def_of ps))) d.references) (λ p rows. refl) ps copy
+no_reference : (ds : List TableDef) → AllByRecursion IsSimple ds → (copy : Copy) → references_hold ds copy ≡ true
+no_reference ds a copy =
+    each_holds (λ d rows. list_all (λ f. reference_to ds copy d rows f (place_of f.parent ds)) d.references)
+    (λ d k rows. ap (list_all (λ f. reference_to ds copy d rows f (place_of f.parent ds))) k.references) ds a copy
+
+no_constraint : (ds : List TableDef) → AllByRecursion IsSimple ds → (copy : Copy) → constraint_faults ds copy ≡ []
+no_constraint ds a copy = λ i. fault_if (not (no_key ds a copy i)) E35 ++ fault_if (not (no_reference ds a copy i)) E36
+
+-- ---- a change by its outcome
+
+-- what the machine answers to a change, where its table becomes this
+abbrev altered_as : State → Change → List Refusal → Outcome → Reply × State
+altered_as s c faults o = unless (first faults) s (Done (verb_of c) (Some o.count)) (with_table_rows s (changed_table c) o.rows)
+
+pub altered_by : (s : State) (c : Change) (o : Outcome) → AllByRecursion IsSimple s.definitions → outcome s (working_now s).moment (working_now s).copy c ≡ o
+    → altered s c ≡ unless (first o.faults) s (Done (verb_of c) (Some o.count)) (with_table_rows s (changed_table c) o.rows)
+altered_by s c o a e =
+    let copy : Copy = slice_set (working_now s).copy (changed_table c) o.rows in
+    ap (λ (x : Outcome). altered_as s c (x.faults ++ constraint_faults s.definitions (slice_set (working_now s).copy (changed_table c) x.rows)) x) e
+    ∙ ap (λ (fs : List Refusal). altered_as s c (o.faults ++ fs) o) (no_constraint s.definitions a copy)
+    ∙ ap (λ (fs : List Refusal). altered_as s c fs o) (append-nil o.faults)
+
+-- ---- INSERT
+
+pub insert_outcome : (d : TableDef) (m : ℤ) (rows : List Stamped) (columns : List ℕ) (tuples : List Row)
+    → insert d m rows columns (map_all (map_all (eval [] [])) (map (map Literal) tuples))
+    ≡ record { rows = rows ++ new_rows d m columns tuples; count = length tuples; faults = new_faults d m columns tuples }
+insert_outcome d m rows columns tuples =
+    ap (insert d m rows columns) (literals tuples)
+    ∙ ap {B = Outcome} (λ n. record { rows = rows ++ new_rows d m columns tuples; count = n; faults = new_faults d m columns tuples })
+    (length-map tuples (λ values. stamped d m (change.row_of d columns values)))
+
+-- ---- DELETE
+
+-- each row is touched, and nothing replaces it
+abbrev all_gone : List Stamped → List Fate
+all_gone rows = map (λ (r : Stamped). Replaced []) rows
+
+fates_are : (d : TableDef) (m : ℤ) (rows : List Stamped) → map_all (λ r. fate d m None Work.Remove [] (shown d r)) rows ≡ Some (all_gone rows)
+fates_are d m [] = refl
+fates_are d m (r ∷ rows) = rw (fates_are d m rows)
+
+none_left : (rows : List Stamped) → after_fates rows (all_gone rows) ≡ []
+none_left [] = refl
+none_left (r ∷ rows) = none_left rows
+
+none_new : (rows : List Stamped) → change.new_rows (all_gone rows) ≡ []
+none_new [] = refl
+none_new (r ∷ rows) = none_new rows
+
+all_counted : (rows : List Stamped) → touched_count (all_gone rows) ≡ length rows
+all_counted [] = refl
+all_counted (r ∷ rows) = ap suc (all_counted rows)
+
+pub remove_outcome : (d : TableDef) (m : ℤ) (rows : List Stamped) → modify d m rows None Work.Remove [] ≡ record { rows = []; count = length rows; faults = [] }
+remove_outcome d m rows = rw (fates_are d m rows, none_left rows, none_new rows, all_counted rows) refl

@@ -1,89 +1,77 @@
 -- What a question finds: the versions of the store, as rows that can be printed.
-use Rattle.std.proofs.Common.{◌≡◌, ℕ, zero, suc, Bool, true, false, cond, List, [], ◌∷◌, ◌++◌, map, filter, length, refl, sym, ap, subst, ◌∙◌, arith, lt-ltb}
-use Rattle.std.specs.Prelude.{ℤ, pos, ◌+ℤ◌, ◌≤ℤ◌, ◌&&◌, not, int_le, int_lt, nat_lt, insert, slice_get, Option, Some, None, if◌then◌else◌}
-use Rattle.std.specs.List.{list_all}
+use Rattle.std.proofs.Common.{◌≡◌, ℕ, zero, suc, Bool, true, false, cond, List, [], ◌∷◌, ◌++◌, map, filter, length, refl, sym, ap, subst, ◌∙◌, arith}
+use Rattle.std.specs.Prelude.{ℤ, pos, ◌+ℤ◌, ◌≤ℤ◌, ◌&&◌, not, int_le, int_lt, nat_lt, insert, slice_get, All, Option, Some, None, if◌then◌else◌}
+use Rattle.std.specs.List.{AllByRecursion}
 use Rattle.std.specs.Ordering.{is_gt}
 use Rattle.std.specs.declared.cmp.Ordering.{Ordering}
 use Rattle.std.proofs.lemmas.Int.{ints}
+use Rattle.std.proofs.lemmas.List.Elements.{All-from_recursion, recursion_from_All}
 use Rattle.tql_spec.proofs.Bags.{same-map}
-use Rattle.tql_spec.proofs.Members.{both}
 use Rattle.tql_spec.specs.Bag.{SameBag}
 use Rattle.tql_spec.specs.Words.{listed}
 use Rattle.tql_spec.specs.Calendar.{first_moment, high}
-use Rattle.tql_spec.specs.Datum.{Datum, Null, Int, Text, Day, Moment, Row}
-use Rattle.tql_spec.specs.Definition.{Stamped, Version, TableDef, full}
-use Rattle.tql_spec.specs.History.{Copy, Entry, TableEntry, When, Now, AsOf, FromTo, Between, FallingFrom, has_row, has_version, rows_in, table_history, completed, ends_before, still, meets, as_of_from, found_from, found}
+use Rattle.tql_spec.specs.Datum.{Datum, Moment, Row}
+use Rattle.tql_spec.specs.Definition.{Stamped, Version, System, TableDef, table_at, with_generated, full}
+use Rattle.tql_spec.specs.History.{Copy, Entry, TableEntry, When, Now, AsOf, FromTo, Between, FallingFrom, has_row, has_version, rows_in, table_history, completed, ends_before, still, meets, as_of_from, found_from, found, versions}
 use Rattle.tql_spec.specs.Machine.{State, entries}
 use Rattle.tql_spec.specs.Query.{placed, row_order, in_order}
+use Rattle.tql_engine.specs.Tables.{Placed, definitions, table_of}
+use Rattle.tql_catalog.specs.Simple.{IsSimple, IsRowOf}
 use Rattle.tql_store.specs.Represents.{seen_by}
-use Rattle.std.specs.Prelude.{All}
-use Rattle.std.proofs.lemmas.List.Elements.{All-cons}
-use Rattle.tql_result.specs.Replies.{IsPrintable, ArePrintable}
-use Rattle.tql_engine.specs.Plain.{PlainTable, def_of, AreInts, RowsFit, CopyFits, HistoryFits, WorkingFits}
+use Rattle.tql_value.specs.Points.{IsPrintable, ArePrintable, IsMoment}
+use Rattle.tql_engine.specs.Fitting.{RowsFit, CopyFits, HistoryFits, WorkingFits}
 use Rattle.tql_engine.specs.Questions.{Answers}
-use Rattle.tql_engine.specs.Steps.{rows_when}
-use Rattle.tql_engine.specs.Effects.{flat}
-use Rattle.tql_engine.specs.Stands.{Held, Placed, StandsFor, AreSince, IsDated, copies_of, moment_of, working_of, plain_tables}
-use Rattle.tql_engine.proofs.Standing.{some_is, definition_law}
-use Rattle.tql_engine.proofs.Copies.{chosen, history_found}
+use Rattle.tql_engine.specs.Stands.{Held, StandsFor, AreSince, IsDated, copies_of, moment_of, working_of}
+use Rattle.tql_engine.proofs.Standing.{some_is, definition_law, simple_law}
+use Rattle.tql_engine.proofs.Copies.{history_found}
+use Rattle.tql_engine.proofs.Columns.{Wide}
+use Rattle.tql_engine.proofs.Widths.{full_width}
 
 -- ---- rows
 
 -- the rows of a table in a copy that fits
-pub rows_fit : (ps : List Placed) (t : ℕ) (p : Placed) → slice_get ps t ≡ Some p → (copy : Copy) → CopyFits (plain_tables ps) copy → RowsFit p.table (rows_in copy t)
+pub rows_fit : (ps : List Placed) (t : ℕ) (p : Placed) → slice_get ps t ≡ Some p → (copy : Copy) → CopyFits (definitions ps) copy → RowsFit (table_of p) (rows_in copy t)
 rows_fit [] t p e copy f = cc
 rows_fit (q ∷ ps) t p e [] f = absurd f
-rows_fit (q ∷ ps) zero p e (rows ∷ copy) f = subst (λ (x : Placed). RowsFit x.table rows) (some_is q p e) f.0
+rows_fit (q ∷ ps) zero p e (rows ∷ copy) f = subst (λ (x : Placed). RowsFit (table_of x) rows) (some_is q p e) f.0
 rows_fit (q ∷ ps) (suc t) p e (rows ∷ copy) f = rows_fit ps t p e copy f.1
-
-both_inserted : (cells : Row) (k : ℕ) (v w : Datum) → length cells ≡ k → insert (insert cells k v) (suc k) w ≡ cells ++ v ∷ w ∷ []
-both_inserted [] zero v w e = refl
-both_inserted [] (suc k) v w e = cc
-both_inserted (c ∷ cells) zero v w e = cc
-both_inserted (c ∷ cells) (suc k) v w e = ap {B = Row} (λ xs. c ∷ xs) (both_inserted cells k v w (cc))
 
 -- ---- versions that can be printed
 
--- a moment of the calendar
-abbrev InCalendar : ℤ → Type 0
-InCalendar m = (first_moment ≤ℤ m) × (m ≤ℤ high)
+-- a version of a table: its cells are a row of it, and the two ends moments of the calendar
+record VersionFits (d : TableDef) (v : Version) : Type 0 where
+  cells : IsRowOf d v.row.cells
+  start : IsMoment v.row.start
+  end : IsMoment v.end
 
--- a version of a table of whole numbers: a number in each column, and the two ends moments of the calendar
-record VersionFits (p : PlainTable) (v : Version) : Type 0 where
-  width : length v.row.cells ≡ length p.columns
-  ints : AreInts v.row.cells
-  start : InCalendar v.row.start
-  end : InCalendar v.end
-
-abbrev VersionsFit : PlainTable → List Version → Type 0
-VersionsFit p [] = Unit {0}
-VersionsFit p (v ∷ vs) = VersionFits p v × VersionsFit p vs
+abbrev VersionsFit : TableDef → List Version → Type 0
+VersionsFit d vs = AllByRecursion (VersionFits d) vs
 
 -- the ends that are known are moments of the calendar
 abbrev EndsInCalendar : (Stamped → ℤ) → Type 0
-EndsInCalendar ends = (r : Stamped) → InCalendar (ends r)
+EndsInCalendar ends = (r : Stamped) → IsMoment (ends r)
 
 -- copies that fit the tables, made at moments of the calendar
-abbrev EntriesFit : List PlainTable → List Entry → Type 0
+abbrev EntriesFit : List TableDef → List Entry → Type 0
 EntriesFit ps [] = Unit {0}
-EntriesFit ps (e ∷ older) = CopyFits ps e.copy × (InCalendar e.moment × EntriesFit ps older)
+EntriesFit ps (e ∷ older) = CopyFits ps e.copy × (IsMoment e.moment × EntriesFit ps older)
 
-before_in : (b : Bool) (m n : ℤ) → InCalendar m → InCalendar n → InCalendar (if b then m else n)
+before_in : (b : Bool) (m n : ℤ) → IsMoment m → IsMoment n → IsMoment (if b then m else n)
 before_in true m n a b = a
 before_in false m n a b = b
 
 still_in : EndsInCalendar still
 still_in r = (omega (arith, ints), omega (arith, ints))
 
-ends_in : (e : TableEntry) (ends : Stamped → ℤ) → InCalendar e.moment → EndsInCalendar ends → EndsInCalendar (ends_before e ends)
+ends_in : (e : TableEntry) (ends : Stamped → ℤ) → IsMoment e.moment → EndsInCalendar ends → EndsInCalendar (ends_before e ends)
 ends_in e ends m k r = before_in (has_row e.rows r) (ends r) e.moment (k r) m
 
-module _ (p : PlainTable) where
+module _ (p : TableDef) where
   completed_fit : (ends : Stamped → ℤ) (rows : List Stamped) → EndsInCalendar ends → RowsFit p rows → VersionsFit p (completed ends rows)
   completed_fit ends [] k f = tt
   completed_fit ends (r ∷ rows) k f =
       let below = f.0.below in
-      (record { width = f.0.width; ints = f.0.ints; start = (f.0.not_before, omega (arith, ints)); end = k r }, completed_fit ends rows k f.1)
+      (record { cells = f.0.cells; start = (f.0.not_before, omega (arith, ints)); end = k r }, completed_fit ends rows k f.1)
 
   either_fit : (b : Bool) (xs ys : List Version) → VersionsFit p xs → VersionsFit p ys → VersionsFit p (if b then xs else ys)
   either_fit true xs ys f g = f
@@ -101,7 +89,7 @@ module _ (p : PlainTable) where
       left true g = (f.0, g)
       left false g = g
 
-  module _ (ps : List PlainTable) (i : ℕ) (rows : (copy : Copy) → CopyFits ps copy → RowsFit p (rows_in copy i)) where
+  module _ (ps : List TableDef) (i : ℕ) (rows : (copy : Copy) → CopyFits ps copy → RowsFit p (rows_in copy i)) where
     -- the rows of the table in a copy
     abbrev here : Entry → TableEntry
     here e = record { moment = e.moment; rows = rows_in e.copy i }
@@ -132,24 +120,9 @@ module _ (p : PlainTable) where
     found_fit (FromTo a b) es f = range_fit high still a b es still_in f
     found_fit (Between a b) es f = range_fit high still a (b +ℤ pos 1) es still_in f
 
--- ---- as rows
-
-module _ (p : PlainTable) where
-  flat_is : (v : Version) → length v.row.cells ≡ length p.columns → full (def_of p) v ≡ flat v
-  flat_is v e =
-      let k : ℕ = length p.columns in
-      let cells : Row = v.row.cells in
-      chosen (nat_lt k (suc k)) (insert (insert cells k (Moment v.row.start)) (suc k) (Moment v.end)) (insert (insert cells (suc k) (Moment v.end)) k (Moment v.row.start))
-      (lt-ltb k (suc k) (omega arith))
-      ∙ both_inserted cells k (Moment v.row.start) (Moment v.end) e
-
-  all_flat : (vs : List Version) → VersionsFit p vs → map (full (def_of p)) vs ≡ map flat vs
-  all_flat [] f = refl
-  all_flat (v ∷ vs) f = λ i. flat_is v f.0.width i ∷ all_flat vs f.1 i
-
 -- ---- what an engine that stands for a state finds
 
-past_fit : (ps : List PlainTable) (bound : ℤ) (es : List Entry) → bound ≤ℤ high → AreSince first_moment es → FallingFrom bound es → HistoryFits ps es → EntriesFit ps es
+past_fit : (ps : List TableDef) (bound : ℤ) (es : List Entry) → bound ≤ℤ high → AreSince first_moment es → FallingFrom bound es → HistoryFits ps es → EntriesFit ps es
 past_fit ps bound [] top since falls f = tt
 past_fit ps bound (e ∷ es) top since falls f =
     let below = falls.0 in
@@ -157,34 +130,46 @@ past_fit ps bound (e ∷ es) top since falls f =
     (f.0, ((since.0, under), past_fit ps e.moment es under since.1 falls.1 f.1))
 
 -- an open transaction counts as the last commit
-entries_fit_by : (h : Held) (s : State) (o : Option Entry) → StandsFor h s → s.transaction ≡ o → EntriesFit (plain_tables h.tables) (listed o ++ s.history)
-entries_fit_by h s None f e = past_fit (plain_tables h.tables) s.next s.history f.not_after f.since f.falls f.plain.rows
+entries_fit_by : (h : Held) (s : State) (o : Option Entry) → StandsFor h s → s.transaction ≡ o → EntriesFit (definitions h.tables) (listed o ++ s.history)
+entries_fit_by h s None f e = past_fit (definitions h.tables) s.next s.history f.not_after f.since f.falls f.fits.rows
 entries_fit_by h s (Some x) f e =
     let dated = subst (λ o. IsDated s.next o) e f.dated in
     let low = f.not_before in
     let up = f.not_after in (
-      subst (λ o. WorkingFits (plain_tables h.tables) o) e f.plain.working,
+      subst (λ o. WorkingFits (definitions h.tables) o) e f.fits.working,
       (
         (subst (λ m. first_moment ≤ℤ m) (sym dated.0) low, subst (λ m. m ≤ℤ high) (sym dated.0) up),
-        past_fit (plain_tables h.tables) s.next s.history up f.since f.falls f.plain.rows,
+        past_fit (definitions h.tables) s.next s.history up f.since f.falls f.fits.rows,
       ),
     )
 
-entries_fit : (h : Held) (s : State) → StandsFor h s → EntriesFit (plain_tables h.tables) (entries s)
+entries_fit : (h : Held) (s : State) → StandsFor h s → EntriesFit (definitions h.tables) (entries s)
 entries_fit h s f = entries_fit_by h s s.transaction f refl
 
 -- the versions that a question finds
 abbrev versions_found : State → ℕ → When → List Version
 versions_found s t when = found when (table_history t (entries s))
 
-versions_fit : (h : Held) (s : State) (t : ℕ) (p : Placed) (when : When) → StandsFor h s → slice_get h.tables t ≡ Some p → VersionsFit p.table (versions_found s t when)
-versions_fit h s t p when f e = found_fit p.table (plain_tables h.tables) t (rows_fit h.tables t p e) when (entries s) (entries_fit h s f)
+versions_fit : (h : Held) (s : State) (t : ℕ) (p : Placed) (when : When) → StandsFor h s → slice_get h.tables t ≡ Some p → VersionsFit (table_of p) (versions_found s t when)
+versions_fit h s t p when f e = found_fit (table_of p) (definitions h.tables) t (rows_fit h.tables t p e) when (entries s) (entries_fit h s f)
 
--- the rows that it answers are these versions
-flat_when : (h : Held) (s : State) (t : ℕ) (p : Placed) (when : When) → StandsFor h s → slice_get h.tables t ≡ Some p → rows_when s t when ≡ map flat (versions_found s t when)
-flat_when h s t p when f e =
-    ap (λ (d : TableDef). map (full d) (versions_found s t when)) (definition_law h s t p f e)
-    ∙ all_flat p.table (versions_found s t when) (versions_fit h s t p when f e)
+-- the rows of a table that a question finds; an open transaction counts as the last commit
+abbrev pub rows_when : State → ℕ → When → List Row
+rows_when s t when = versions (table_at s.definitions t) t when (entries s)
+
+-- they are these versions
+rows_are : (h : Held) (s : State) (t : ℕ) (p : Placed) (when : When) → StandsFor h s → slice_get h.tables t ≡ Some p → rows_when s t when ≡ map (full (table_of p)) (versions_found s t when)
+rows_are h s t p when f e = ap (λ (d : TableDef). map (full d) (versions_found s t when)) (definition_law h s t p f e)
+
+all_wide : (d : TableDef) → IsSimple d → (vs : List Version) → VersionsFit d vs → Wide (length d.columns) (map (full d) vs)
+all_wide d k [] f = tt
+all_wide d k (v ∷ vs) f = (full_width d v k f.0.cells.width, all_wide d k vs f.1)
+
+-- each has a cell for each column
+pub wide_law : (h : Held) (s : State) (t : ℕ) (p : Placed) (when : When) → StandsFor h s → slice_get h.tables t ≡ Some p → Wide (length p.columns) (rows_when s t when)
+wide_law h s t p when f e =
+    subst (Wide (length p.columns)) (sym (rows_are h s t p when f e))
+    (all_wide (table_of p) (simple_law h s t p f e) (versions_found s t when) (versions_fit h s t p when f e))
 
 -- the copies that the store answers from are those that the machine does
 seen_copies : (tables : List Placed) (es : List Entry) (o : Option Entry) (id : ℕ) → seen_by (moment_of o) (copies_of tables es) (working_of tables o) id ≡ copies_of tables (listed o ++ es) id
@@ -200,87 +185,55 @@ seen_law h s t p f e =
     ∙ history_found h.rows h.tables t p f.placed e (entries s)
 
 -- what the store answers is what the machine does
-pub asked_law : (h : Held) (s : State) (t : ℕ) (p : Placed) (when : When) (versions : List Version) → StandsFor h s → slice_get h.tables t ≡ Some p
-    → Answers h.rows p.id when versions → SameBag (map flat versions) (rows_when s t when)
-asked_law h s t p when versions f e answers =
-    let same : SameBag versions (versions_found s t when) =
-    subst (λ (es : List TableEntry). SameBag versions (found when es)) (seen_law h s t p f e) (answers (copies_of h.tables s.history) (working_of h.tables s.transaction) f.stands) in
-    subst (SameBag (map flat versions)) (sym (flat_when h s t p when f e)) (same-map flat same)
+pub asked_law : (h : Held) (s : State) (t : ℕ) (p : Placed) (when : When) (found_now : List Version) → StandsFor h s → slice_get h.tables t ≡ Some p
+    → Answers h.rows p.id when found_now → SameBag (map (full (table_of p)) found_now) (rows_when s t when)
+asked_law h s t p when found_now f e answers =
+    let same : SameBag found_now (versions_found s t when) =
+    subst (λ (es : List TableEntry). SameBag found_now (found when es)) (seen_law h s t p f e) (answers (copies_of h.tables s.history) (working_of h.tables s.transaction) f.stands) in
+    subst (SameBag (map (full (table_of p)) found_now)) (sym (rows_are h s t p when f e)) (same-map (full (table_of p)) same)
 
 -- ---- what can be printed
 
-also : (a b : Bool) → a ≡ true → b ≡ true → (a && b) ≡ true
-also true b e f = f
-also false b e f = e
+inserted_prints : (P : Datum → Type 0) (xs : Row) (i : ℕ) (x : Datum) → AllByRecursion P xs → P x → AllByRecursion P (insert xs i x)
+inserted_prints P xs zero x f k = (k, f)
+inserted_prints P [] (suc i) x f k = (k, tt)
+inserted_prints P (y ∷ xs) (suc i) x f k = (f.0, inserted_prints P xs i x f.1 k)
 
--- whether a value of a table of whole numbers has a text
-abbrev is_printable : Datum → Bool
-is_printable Null = false
-is_printable (Int n) = true
-is_printable (Text t) = false
-is_printable (Day d) = false
-is_printable (Moment m) = int_le first_moment m && int_le m high
+either_prints : (P : Datum → Type 0) (b : Bool) (i j : ℕ) (cells : Row) (v w : Datum) → AllByRecursion P cells → P v → P w
+    → AllByRecursion P (if b then insert (insert cells i v) j w else insert (insert cells j w) i v)
+either_prints P true i j cells v w f a b = inserted_prints P (insert cells i v) j w (inserted_prints P cells i v f a) b
+either_prints P false i j cells v w f a b = inserted_prints P (insert cells j w) i v (inserted_prints P cells j w f b) a
 
--- whether each value of each row has one
-abbrev are_printable : List Row → Bool
-are_printable rows = list_all (list_all is_printable) rows
+generated_prints : (o : Option System) (cells : Row) (start end : ℤ) → AllByRecursion IsPrintable cells → IsMoment start → IsMoment end → AllByRecursion IsPrintable (with_generated o cells start end)
+generated_prints None cells start end f a b = f
+generated_prints (Some s) cells start end f a b = either_prints IsPrintable (nat_lt s.start s.end) s.start s.end cells (Moment start) (Moment end) f a b
 
-moment_prints : (m : ℤ) → InCalendar m → is_printable (Moment m) ≡ true
-moment_prints m c = let a = c.0 in let b = c.1 in also (int_le first_moment m) (int_le m high) (grind (arith, ints)) (grind (arith, ints))
+version_prints : (d : TableDef) (v : Version) → VersionFits d v → All IsPrintable (full d v)
+version_prints d v f =
+    All-from_recursion IsPrintable (full d v)
+    (generated_prints d.system v.row.cells v.row.start v.end (recursion_from_All IsPrintable v.row.cells f.cells.printable) f.start f.end)
 
-row_prints : (cells : Row) (start end : ℤ) → AreInts cells → InCalendar start → InCalendar end → list_all is_printable (cells ++ Moment start ∷ Moment end ∷ []) ≡ true
-row_prints [] start end n a b = also (is_printable (Moment start)) (is_printable (Moment end) && true) (moment_prints start a) (also (is_printable (Moment end)) true (moment_prints end b) refl)
-row_prints (Int k ∷ cells) start end n a b = row_prints cells start end n a b
-row_prints (Null ∷ cells) start end n a b = absurd n
-row_prints (Text t ∷ cells) start end n a b = absurd n
-row_prints (Day d ∷ cells) start end n a b = absurd n
-row_prints (Moment m ∷ cells) start end n a b = absurd n
-
-versions_print : (p : PlainTable) (vs : List Version) → VersionsFit p vs → are_printable (map flat vs) ≡ true
-versions_print p [] f = refl
-versions_print p (v ∷ vs) f =
-    also (list_all is_printable (flat v)) (are_printable (map flat vs))
-    (row_prints v.row.cells v.row.start v.end f.0.ints f.0.start f.0.end) (versions_print p vs f.1)
+versions_print : (d : TableDef) (vs : List Version) → VersionsFit d vs → AllByRecursion (All IsPrintable) (map (full d) vs)
+versions_print d [] f = tt
+versions_print d (v ∷ vs) f = (version_prints d v f.0, versions_print d vs f.1)
 
 -- ---- in the printed order
 
-either_all : (test : Row → Bool) (b : Bool) (xs ys : List Row) → list_all test xs ≡ true → list_all test ys ≡ true → list_all test (if b then xs else ys) ≡ true
-either_all test true xs ys e f = e
-either_all test false xs ys e f = f
+either_all : (P : Row → Type 0) (b : Bool) (xs ys : List Row) → AllByRecursion P xs → AllByRecursion P ys → AllByRecursion P (if b then xs else ys)
+either_all P true xs ys e f = e
+either_all P false xs ys e f = f
 
-placed_all : (test : Row → Bool) (R : Row → Row → Ordering) (r : Row) (xs : List Row) → test r ≡ true → list_all test xs ≡ true → list_all test (placed R r xs) ≡ true
-placed_all test R r [] e f = also (test r) true e refl
-placed_all test R r (x ∷ xs) e f =
-    let g = both (test x) (list_all test xs) f in
-    either_all test (is_gt (R r x)) (x ∷ placed R r xs) (r ∷ x ∷ xs)
-    (also (test x) (list_all test (placed R r xs)) g.0 (placed_all test R r xs e g.1))
-    (also (test r) (list_all test (x ∷ xs)) e f)
+placed_all : (P : Row → Type 0) (R : Row → Row → Ordering) (r : Row) (xs : List Row) → P r → AllByRecursion P xs → AllByRecursion P (placed R r xs)
+placed_all P R r [] e f = (e, tt)
+placed_all P R r (x ∷ xs) e f = either_all P (is_gt (R r x)) (x ∷ placed R r xs) (r ∷ x ∷ xs) (f.0, placed_all P R r xs e f.1) (e, f)
 
-ordered_all : (test : Row → Bool) (rows : List Row) → list_all test rows ≡ true → list_all test (in_order [] rows) ≡ true
-ordered_all test [] e = refl
-ordered_all test (r ∷ rows) e =
-    let g = both (test r) (list_all test rows) e in
-    placed_all test (row_order []) r (in_order [] rows) g.0 (ordered_all test rows g.1)
-
-all_print : (h : Held) (s : State) (t : ℕ) (p : Placed) (when : When) → StandsFor h s → slice_get h.tables t ≡ Some p → are_printable (in_order [] (rows_when s t when)) ≡ true
-all_print h s t p when f e =
-    ordered_all (list_all is_printable) (rows_when s t when)
-    (ap are_printable (flat_when h s t p when f e) ∙ versions_print p.table (versions_found s t when) (versions_fit h s t p when f e))
-
-value_prints : (d : Datum) → is_printable d ≡ true → IsPrintable d
-value_prints Null e = tt
-value_prints (Int n) e = tt
-value_prints (Text t) e = tt
-value_prints (Day d) e = absurd (let f : false ≡ true = e in cc)
-value_prints (Moment m) e = let g = both (int_le first_moment m) (int_le m high) e in (grind (arith, ints, g), grind (arith, ints, g))
-
-all_from : {X : Type 0} (test : X → Bool) (P : X → Type 0) → ((x : X) → test x ≡ true → P x) → (xs : List X) → list_all test xs ≡ true → All P xs
-all_from test P k [] e = λ i d l. absurd (omega (arith, l))
-all_from test P k (x ∷ xs) e =
-    let g = both (test x) (list_all test xs) e in
-    All-cons P x xs (k x g.0) (all_from test P k xs g.1)
+ordered_all : (P : Row → Type 0) (rows : List Row) → AllByRecursion P rows → AllByRecursion P (in_order [] rows)
+ordered_all P [] e = tt
+ordered_all P (r ∷ rows) e = placed_all P (row_order []) r (in_order [] rows) e.0 (ordered_all P rows e.1)
 
 -- a reply of the rows that a question finds has a text
 pub printable_law : (h : Held) (s : State) (t : ℕ) (p : Placed) (when : When) → StandsFor h s → slice_get h.tables t ≡ Some p → ArePrintable (in_order [] (rows_when s t when))
 printable_law h s t p when f e =
-    all_from (list_all is_printable) (All IsPrintable) (all_from is_printable IsPrintable value_prints) (in_order [] (rows_when s t when)) (all_print h s t p when f e)
+    All-from_recursion (All IsPrintable) (in_order [] (rows_when s t when))
+    (ordered_all (All IsPrintable) (rows_when s t when)
+    (subst (AllByRecursion (All IsPrintable)) (sym (rows_are h s t p when f e)) (versions_print (table_of p) (versions_found s t when) (versions_fit h s t p when f e))))

@@ -1,13 +1,14 @@
 -- A change, or one given up on the way, keeps an engine that stands for a state.
 use Rattle.std.proofs.Common.{◌≡◌, ℕ, zero, suc, Bool, true, false, cond, List, [], ◌∷◌, ◌++◌, map, filter, refl, sym, ap, subst, ◌∙◌, arith}
 use Rattle.std.specs.Prelude.{ℤ, pos, ◌+ℤ◌, ◌≤ℤ◌, ◌<ℤ◌, ◌&&◌, not, nat_eq, slice_get, slice_set, IsNone, Option, Some, None, if◌then◌else◌}
+use Rattle.std.specs.List.{AllByRecursion}
 use Rattle.std.proofs.lemmas.Int.{ints}
 use Rattle.std.proofs.lemmas.List.{length-map}
 use Rattle.tql_spec.specs.Calendar.{first_moment, high}
 use Rattle.tql_spec.specs.Datum.{Row}
 use Rattle.tql_spec.specs.Definition.{Stamped, TableDef}
 use Rattle.tql_spec.specs.History.{Copy, Entry, rows_in}
-use Rattle.tql_spec.specs.Machine.{State, newest_copy}
+use Rattle.tql_spec.specs.Machine.{State, newest_copy, working, with_working}
 use Rattle.tql_store.specs.Slots as store
 use Rattle.tql_store.specs.Slots.{Slot}
 use Rattle.tql_store.specs.Stands.{is_current}
@@ -15,13 +16,37 @@ use Rattle.tql_store.specs.Changes.{alive, last_rows, rows_after}
 use Rattle.tql_store.specs.Represents as represents
 use Rattle.tql_store.specs.Represents.{Copies, Working, Represents, BeginCopies, ChangeReplaces, RollbackRestores, Judged}
 use Rattle.tql_store.specs.declared.tables.Place.{Place}
-use Rattle.tql_engine.specs.Plain.{PlainTable, def_of, AreRowsOf, RowsFit, CopyFits, HistoryFits}
-use Rattle.tql_engine.specs.Steps.{begun_at, working_now, working_rows, with_table_rows}
-use Rattle.tql_engine.specs.Stands.{Held, Placed, StandsFor, ArePlaced, rows_of_id, copies_of, working_of, plain_tables}
+use Rattle.tql_engine.specs.Tables.{Placed, definitions, table_of}
+use Rattle.tql_catalog.specs.Simple.{IsRowOf}
+use Rattle.tql_engine.specs.Fitting.{RowsFit, CopyFits, HistoryFits}
+use Rattle.tql_engine.specs.Stands.{Held, StandsFor, ArePlaced, rows_of_id, copies_of, working_of}
 use Rattle.tql_engine.specs.Committing.{CommitsRows, Undoes, ReplacesRows, ChangesRows, KeepsRows}
 use Rattle.tql_engine.proofs.Standing.{some_is}
 use Rattle.tql_engine.proofs.Copies.{rows_found, rows_set, rows_empty, fits_length, same_working, any_working, same_places}
 use Rattle.tql_engine.proofs.Asked.{rows_fit}
+
+-- ---- the states
+
+-- the working copy: of the open transaction, or of one of its own
+abbrev pub working_now : State → Entry
+working_now s = working s s.transaction
+
+-- the state where the working copy has other rows in a table
+abbrev pub with_table_rows : State → ℕ → List Stamped → State
+with_table_rows s t rows =
+    with_working s s.transaction (record { moment = (working_now s).moment; copy = slice_set (working_now s).copy t rows })
+
+-- the rows of a table that a change sees
+abbrev pub working_rows : State → ℕ → List Stamped
+working_rows s t = rows_in (working_now s).copy t
+
+-- new rows of a moment
+abbrev pub begun_at : ℤ → List Row → List Stamped
+begun_at m rows = map (λ cells. record { cells = cells; start = m }) rows
+
+-- rows of a table
+abbrev pub AreRowsOf : TableDef → List Row → Type 0
+AreRowsOf d rows = AllByRecursion (IsRowOf d) rows
 
 -- ---- the last copy
 
@@ -30,25 +55,25 @@ pub last_found : (tables : List Placed) (defs : List TableDef) (es : List Entry)
 last_found tables defs [] id = sym (rows_empty tables defs id)
 last_found tables defs (e ∷ older) id = refl
 
-empty_fits : (ps : List PlainTable) → CopyFits ps (map (λ d. []) (map def_of ps))
+empty_fits : (ps : List TableDef) → CopyFits ps (map (λ d. []) ps)
 empty_fits [] = tt
 empty_fits (p ∷ ps) = (tt, empty_fits ps)
 
-newest_fits : (ps : List PlainTable) (es : List Entry) → HistoryFits ps es → CopyFits ps (newest_copy (map def_of ps) es)
+newest_fits : (ps : List TableDef) (es : List Entry) → HistoryFits ps es → CopyFits ps (newest_copy ps es)
 newest_fits ps [] f = empty_fits ps
 newest_fits ps (e ∷ older) f = f.0
 
 -- it fits the tables
-pub last_fits : (ps : List PlainTable) (defs : List TableDef) (es : List Entry) → defs ≡ map def_of ps → HistoryFits ps es → CopyFits ps (newest_copy defs es)
+pub last_fits : (ps : List TableDef) (defs : List TableDef) (es : List Entry) → defs ≡ ps → HistoryFits ps es → CopyFits ps (newest_copy defs es)
 last_fits ps defs es e f = subst (λ (ds : List TableDef). CopyFits ps (newest_copy ds es)) (sym e) (newest_fits ps es f)
 
 -- ---- the rows that stay and those that come
 
-rows_both : (p : PlainTable) (xs ys : List Stamped) → RowsFit p xs → RowsFit p ys → RowsFit p (xs ++ ys)
+rows_both : (p : TableDef) (xs ys : List Stamped) → RowsFit p xs → RowsFit p ys → RowsFit p (xs ++ ys)
 rows_both p [] ys f g = g
 rows_both p (x ∷ xs) ys f g = (f.0, rows_both p xs ys f.1 g)
 
-rows_left : (p : PlainTable) (stays : Stamped → Bool) (xs : List Stamped) → RowsFit p xs → RowsFit p (filter stays xs)
+rows_left : (p : TableDef) (stays : Stamped → Bool) (xs : List Stamped) → RowsFit p xs → RowsFit p (filter stays xs)
 rows_left p stays [] f = tt
 rows_left p stays (x ∷ xs) f = chosen (stays x) (rows_left p stays xs f.1)
   where
@@ -56,15 +81,15 @@ rows_left p stays (x ∷ xs) f = chosen (stays x) (rows_left p stays xs f.1)
     chosen true g = (f.0, g)
     chosen false g = g
 
-begun_fit : (p : PlainTable) (m : ℤ) (rows : List Row) → first_moment ≤ℤ m → m <ℤ high → AreRowsOf p rows → RowsFit p (begun_at m rows)
+begun_fit : (p : TableDef) (m : ℤ) (rows : List Row) → first_moment ≤ℤ m → m <ℤ high → AreRowsOf p rows → RowsFit p (begun_at m rows)
 begun_fit p m [] from until f = tt
-begun_fit p m (cells ∷ rows) from until f = (record { width = f.0.width; ints = f.0.ints; not_before = from; below = until }, begun_fit p m rows from until f.1)
+begun_fit p m (cells ∷ rows) from until f = (record { cells = f.0; not_before = from; below = until }, begun_fit p m rows from until f.1)
 
-set_fits : (ps : List Placed) (t : ℕ) (p : Placed) → slice_get ps t ≡ Some p → (copy : Copy) → CopyFits (plain_tables ps) copy → (rows : List Stamped) → RowsFit p.table rows
-    → CopyFits (plain_tables ps) (slice_set copy t rows)
+set_fits : (ps : List Placed) (t : ℕ) (p : Placed) → slice_get ps t ≡ Some p → (copy : Copy) → CopyFits (definitions ps) copy → (rows : List Stamped) → RowsFit (table_of p) rows
+    → CopyFits (definitions ps) (slice_set copy t rows)
 set_fits [] t p e copy f rows k = cc
 set_fits (q ∷ ps) t p e [] f rows k = absurd f
-set_fits (q ∷ ps) zero p e (old ∷ copy) f rows k = (subst (λ (x : Placed). RowsFit x.table rows) (sym (some_is q p e)) k, f.1)
+set_fits (q ∷ ps) zero p e (old ∷ copy) f rows k = (subst (λ (x : Placed). RowsFit (table_of x) rows) (sym (some_is q p e)) k, f.1)
 set_fits (q ∷ ps) (suc t) p e (old ∷ copy) f rows k = (f.0, set_fits ps t p e copy f.1 rows k)
 
 -- ---- a copy in which rows of one table are replaced
@@ -78,28 +103,28 @@ abbrev pub replaced_copy : ℤ → (Stamped → Bool) → List Row → Copy → 
 replaced_copy m gone added copy t = slice_set copy t (replaced_rows m gone added copy t)
 
 module _ (rows : store.Held) (ps : List Placed) (placed : ArePlaced rows ps) (t : ℕ) (p : Placed) (there : slice_get ps t ≡ Some p) where
-  replaced_found : (m : ℤ) (gone : Stamped → Bool) (added : List Row) (copy : Copy) → CopyFits (plain_tables ps) copy → (id : ℕ)
+  replaced_found : (m : ℤ) (gone : Stamped → Bool) (added : List Row) (copy : Copy) → CopyFits (definitions ps) copy → (id : ℕ)
       → represents.with_rows p.id (rows_after m gone added (rows_of_id ps copy p.id)) (rows_of_id ps copy) id ≡ rows_of_id ps (replaced_copy m gone added copy t) id
   replaced_found m gone added copy fits id =
       ap (λ (xs : List Stamped). if nat_eq id p.id then rows_after m gone added xs else rows_of_id ps copy id) (rows_found rows ps t p placed there copy)
-      ∙ sym (rows_set rows ps t p placed there copy (fits_length (plain_tables ps) copy fits ∙ length-map ps (λ (x : Placed). x.table)) (replaced_rows m gone added copy t) id)
+      ∙ sym (rows_set rows ps t p placed there copy (fits_length (definitions ps) copy fits ∙ length-map ps table_of) (replaced_rows m gone added copy t) id)
 
   -- what stands for the copy stands for the one after the change
   pub replaced_stands : (r1 r2 : store.Held) (copies : Copies) (copy : Copy) (m : ℤ) (gone : Stamped → Bool) (removed : List ℕ) (added : List Row)
-      → CopyFits (plain_tables ps) copy → r1.working ≡ Some m → Judged p.id gone removed r1.slots → ChangeReplaces p.id removed added r1 r2
+      → CopyFits (definitions ps) copy → r1.working ≡ Some m → Judged p.id gone removed r1.slots → ChangeReplaces p.id removed added r1 r2
       → Represents r1 copies (rows_of_id ps copy) → Represents r2 copies (rows_of_id ps (replaced_copy m gone added copy t))
   replaced_stands r1 r2 copies copy m gone removed added fits is1 judged changes r =
       same_working r2 copies _ (rows_of_id ps (replaced_copy m gone added copy t)) (replaced_found m gone added copy fits)
       (changes copies (rows_of_id ps copy) m gone is1 judged r)
 
   -- it fits the tables
-  pub replaced_fits : (m : ℤ) (gone : Stamped → Bool) (added : List Row) (copy : Copy) → first_moment ≤ℤ m → m <ℤ high → AreRowsOf p.table added
-      → CopyFits (plain_tables ps) copy → CopyFits (plain_tables ps) (replaced_copy m gone added copy t)
+  pub replaced_fits : (m : ℤ) (gone : Stamped → Bool) (added : List Row) (copy : Copy) → first_moment ≤ℤ m → m <ℤ high → AreRowsOf (table_of p) added
+      → CopyFits (definitions ps) copy → CopyFits (definitions ps) (replaced_copy m gone added copy t)
   replaced_fits m gone added copy from until ok fits =
-      let old : RowsFit p.table (rows_in copy t) = rows_fit ps t p there copy fits in
+      let old : RowsFit (table_of p) (rows_in copy t) = rows_fit ps t p there copy fits in
       set_fits ps t p there copy fits (replaced_rows m gone added copy t)
-      (rows_both p.table (filter (λ r. not (gone r)) (rows_in copy t)) (begun_at m added) (rows_left p.table (λ r. not (gone r)) (rows_in copy t) old)
-      (begun_fit p.table m added from until ok))
+      (rows_both (table_of p) (filter (λ r. not (gone r)) (rows_in copy t)) (begun_at m added) (rows_left (table_of p) (λ r. not (gone r)) (rows_in copy t) old)
+      (begun_fit (table_of p) m added from until ok))
 
 -- ---- what begins
 
@@ -123,18 +148,18 @@ module _ (h : Held) (defs : List TableDef) (es : List Entry) (next : ℤ) where
   idle = record { definitions = defs; history = es; next = next; transaction = None }
 
   own_changed : (t : ℕ) (p : Placed) (gone : Stamped → Bool) (removed : List ℕ) (added : List Row) (r : store.Held) → StandsFor h idle → slice_get h.tables t ≡ Some p → next <ℤ high
-      → AreRowsOf p.table added → Judged p.id gone removed h.rows.slots → CommitsRows next p.id removed added h.rows r
+      → AreRowsOf (table_of p) added → Judged p.id gone removed h.rows.slots → CommitsRows next p.id removed added h.rows r
       → StandsFor (record { tables = h.tables; rows = r; next = next +ℤ pos 1 }) (with_table_rows idle t (rows_after next gone added (working_rows idle t)))
   own_changed t p gone removed added r f there below ok judged c =
       let copy : Copy = newest_copy defs es in
-      let fits : CopyFits (plain_tables h.tables) copy = last_fits (plain_tables h.tables) defs es f.plain.definitions f.plain.rows in
+      let fits : CopyFits (definitions h.tables) copy = last_fits (definitions h.tables) defs es f.fits.definitions f.fits.rows in
       let opened : Represents c.opened (copies_of h.tables es) (rows_of_id h.tables copy) = begun_stands h.tables defs es h.rows c.opened c.begins f.stands in
       let judged1 : Judged p.id gone removed c.opened.slots = subst (λ (ss : List Slot). Judged p.id gone removed ss) (sym c.same_slots) judged in
       let changed : Represents c.changed (copies_of h.tables es) (rows_of_id h.tables (replaced_copy next gone added copy t)) =
       replaced_stands h.rows h.tables f.placed t p there c.opened c.changed (copies_of h.tables es) copy next gone removed added fits c.is_open judged1 c.changes opened in
       let from = f.not_before in
       record {
-        plain = record { definitions = f.plain.definitions; rows = (replaced_fits h.rows h.tables f.placed t p there next gone added copy from below ok fits, f.plain.rows); working = tt };
+        fits = record { definitions = f.fits.definitions; simple = f.fits.simple; rows = (replaced_fits h.rows h.tables f.placed t p there next gone added copy from below ok fits, f.fits.rows); working = tt };
         clock = refl;
         not_before = omega (arith, ints);
         not_after = omega (arith, ints);
@@ -152,7 +177,7 @@ module _ (h : Held) (defs : List TableDef) (es : List Entry) (next : ℤ) where
   own_undone r f c =
       let opened : Represents c.opened (copies_of h.tables es) (rows_of_id h.tables (newest_copy defs es)) = begun_stands h.tables defs es h.rows c.opened c.begins f.stands in
       record {
-        plain = f.plain;
+        fits = f.fits;
         clock = f.clock;
         not_before = f.not_before;
         not_after = f.not_after;
@@ -171,17 +196,18 @@ module _ (h : Held) (defs : List TableDef) (es : List Entry) (next : ℤ) where
   within e = record { definitions = defs; history = es; next = next; transaction = Some e }
 
   within_changed : (e : Entry) (t : ℕ) (p : Placed) (gone : Stamped → Bool) (removed : List ℕ) (added : List Row) (r : store.Held) → StandsFor h (within e) → slice_get h.tables t ≡ Some p
-      → AreRowsOf p.table added → Judged p.id gone removed h.rows.slots → ReplacesRows e.moment p.id removed added h.rows r
+      → AreRowsOf (table_of p) added → Judged p.id gone removed h.rows.slots → ReplacesRows e.moment p.id removed added h.rows r
       → StandsFor (record { tables = h.tables; rows = r; next = next }) (with_table_rows (within e) t (rows_after e.moment gone added (working_rows (within e) t)))
   within_changed e t p gone removed added r f there ok judged c =
       let from = f.not_before in
       let same = f.dated.0 in
       let below = f.dated.1 in
       record {
-        plain = record {
-          definitions = f.plain.definitions;
-          rows = f.plain.rows;
-          working = replaced_fits h.rows h.tables f.placed t p there e.moment gone added e.copy (subst (λ m. first_moment ≤ℤ m) (sym same) from) (subst (λ m. m <ℤ high) (sym same) below) ok f.plain.working;
+        fits = record {
+          definitions = f.fits.definitions;
+          simple = f.fits.simple;
+          rows = f.fits.rows;
+          working = replaced_fits h.rows h.tables f.placed t p there e.moment gone added e.copy (subst (λ m. first_moment ≤ℤ m) (sym same) from) (subst (λ m. m <ℤ high) (sym same) below) ok f.fits.working;
         };
         clock = refl;
         not_before = from;
@@ -190,7 +216,7 @@ module _ (h : Held) (defs : List TableDef) (es : List Entry) (next : ℤ) where
         since = f.since;
         opened = c.still_open;
         dated = f.dated;
-        stands = replaced_stands h.rows h.tables f.placed t p there h.rows r (copies_of h.tables es) e.copy e.moment gone removed added f.plain.working f.opened judged c.changes f.stands;
+        stands = replaced_stands h.rows h.tables f.placed t p there h.rows r (copies_of h.tables es) e.copy e.moment gone removed added f.fits.working f.opened judged c.changes f.stands;
         placed = same_places h.rows r h.tables c.places f.placed;
         count = same_count h.rows r _ c.places f.count;
       }
@@ -198,7 +224,7 @@ module _ (h : Held) (defs : List TableDef) (es : List Entry) (next : ℤ) where
   changed_by : (o : Option Entry) (t : ℕ) (p : Placed) (gone : Stamped → Bool) (removed : List ℕ) (added : List Row) (r : store.Held) (after : ℤ)
       → (let s : State = record { definitions = defs; history = es; next = next; transaction = o } in
       StandsFor h s → slice_get h.tables t ≡ Some p → (IsNone h.rows.working → next <ℤ high)
-      → AreRowsOf p.table added → Judged p.id gone removed h.rows.slots → ChangesRows h.rows.working next after p.id removed added h.rows r
+      → AreRowsOf (table_of p) added → Judged p.id gone removed h.rows.slots → ChangesRows h.rows.working next after p.id removed added h.rows r
       → StandsFor (record { tables = h.tables; rows = r; next = after }) (with_table_rows s t (rows_after (working_now s).moment gone added (working_rows s t))))
   changed_by None t p gone removed added r after f there below ok judged c =
       let d = subst (λ w. ChangesRows w next after p.id removed added h.rows r) f.opened c in
@@ -218,7 +244,7 @@ module _ (h : Held) (defs : List TableDef) (es : List Entry) (next : ℤ) where
 
 -- rows replaced, in the open transaction or in one of their own
 pub change_law : (h : Held) (s : State) (t : ℕ) (p : Placed) (gone : Stamped → Bool) (removed : List ℕ) (added : List Row) (r : store.Held) (after : ℤ) → StandsFor h s
-    → slice_get h.tables t ≡ Some p → (IsNone h.rows.working → h.next <ℤ high) → AreRowsOf p.table added → Judged p.id gone removed h.rows.slots
+    → slice_get h.tables t ≡ Some p → (IsNone h.rows.working → h.next <ℤ high) → AreRowsOf (table_of p) added → Judged p.id gone removed h.rows.slots
     → ChangesRows h.rows.working h.next after p.id removed added h.rows r
     → StandsFor (record { tables = h.tables; rows = r; next = after }) (with_table_rows s t (rows_after (working_now s).moment gone added (working_rows s t)))
 change_law h s t p gone removed added r after f there below ok judged c =

@@ -1,33 +1,18 @@
--- A query for all columns: what it is bound to, and that it answers the rows themselves.
-use Rattle.std.specs.Prelude.{◌≡◌, refl, ℕ, zero, suc, false, List, [], ◌∷◌, ◌++◌, map, length, drop, Some}
-use Rattle.std.specs.List.{list_any}
-use Rattle.std.proofs.Common.{ap, append-nil, arith}
+-- A question for all columns of a table answers its rows themselves.
+use Rattle.std.specs.Prelude.{◌≡◌, refl, ℕ, zero, suc, List, [], ◌∷◌, map, length, drop, Some}
+use Rattle.std.proofs.Common.{append-nil, arith}
 use Rattle.tql_spec.specs.Words.{map_all, with_front, filter_all}
 use Rattle.tql_spec.specs.Datum.{Datum, Row}
 use Rattle.tql_spec.specs.Expression.{Expr, eval, passes}
-use Rattle.tql_spec.specs.Definition.{Name, Column, cell}
-use Rattle.tql_spec.specs.Query.{Scope, alone, keep, product}
-use Rattle.tql_spec.specs.Creation.{has_aggregate, nests_aggregates}
+use Rattle.tql_spec.specs.Definition.{Column, TableDef, cell}
+use Rattle.tql_spec.specs.History.{When}
+use Rattle.tql_spec.specs.Query.{Ref, Scope, alone, keep, product, answer}
 use Rattle.tql_spec.specs.Binding.{Output, all_columns_from}
+use Rattle.tql_bind.specs.Bounds.{whole_table}
 
--- the items of such a query, from a column on
-abbrev pub items : ℕ → List Column → List Expr
-items i cs = map (λ (o : Output). o.typed.expr) (all_columns_from i cs ++ [])
-
--- none of them has an aggregate
-pub no_aggregate : (i : ℕ) (cs : List Column) → list_any has_aggregate (items i cs) ≡ false
-no_aggregate i [] = refl
-no_aggregate i (c ∷ cs) = no_aggregate (suc i) cs
-
--- none of them nests aggregates
-pub no_nested : (i : ℕ) (cs : List Column) → list_any nests_aggregates (items i cs) ≡ false
-no_nested i [] = refl
-no_nested i (c ∷ cs) = no_nested (suc i) cs
-
--- the headings are the names of the columns
-pub headings : (i : ℕ) (cs : List Column) → map (λ (o : Output). o.heading) (all_columns_from i cs ++ []) ≡ map (λ (c : Column). c.name) cs
-headings i [] = refl
-headings i (c ∷ cs) = ap {B = List Name} (λ ns. c.name ∷ ns) (headings (suc i) cs)
+-- the items of such a question, from a column on
+abbrev items : ℕ → List Column → List Expr
+items i cs = map (λ (o : Output). o.typed.expr) (all_columns_from i cs)
 
 -- ---- rows
 
@@ -61,21 +46,26 @@ Wide w [] = Unit {0}
 Wide w (r ∷ rows) = (length r ≡ w) × Wide w rows
 
 -- the items give the rows
-pub rows_answered : (cs : List Column) (rows : List Row) → Wide (length cs) rows
+rows_answered : (cs : List Column) (rows : List Row) → Wide (length cs) rows
     → map_all (λ (s : Scope). map_all (eval s.group s.row) (items 0 cs)) (map alone rows) ≡ Some rows
 rows_answered cs [] h = refl
 rows_answered cs (r ∷ rows) h = rw (rest_answered r 0 cs r refl h.0, rows_answered cs rows h.1)
 
 -- no condition keeps all
-pub all_kept : (rows : List Row) → keep [] rows ≡ Some rows
+all_kept : (rows : List Row) → keep [] rows ≡ Some rows
 all_kept [] = refl
 all_kept (r ∷ rows) = rw (all_kept rows)
 
-pub all_kept_scopes : (ss : List Scope) → filter_all (λ (s : Scope). passes s.group s.row []) ss ≡ Some ss
+all_kept_scopes : (ss : List Scope) → filter_all (λ (s : Scope). passes s.group s.row []) ss ≡ Some ss
 all_kept_scopes [] = refl
 all_kept_scopes (s ∷ ss) = rw (all_kept_scopes ss)
 
 -- the product of one bag
-pub alone_product : (rows : List Row) → product (rows ∷ []) ≡ rows
+alone_product : (rows : List Row) → product (rows ∷ []) ≡ rows
 alone_product [] = refl
 alone_product (r ∷ rows) = rw (append-nil, alone_product rows)
+
+-- the answer is the rows of the table
+pub whole_answered : (bag : Ref → List Row) (d : TableDef) (t : ℕ) (w : When) (rows : List Row) → bag (record { table = t; when = w; width = length d.columns }) ≡ rows → Wide (length d.columns) rows
+    → answer bag (whole_table d t w) ≡ Some rows
+whole_answered bag d t w rows e wide = rw (e, alone_product rows, all_kept rows, all_kept_scopes (map alone rows), rows_answered d.columns rows wide)

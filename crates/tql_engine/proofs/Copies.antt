@@ -8,8 +8,9 @@ use Rattle.tql_spec.specs.History.{Copy, Entry, rows_in, table_history}
 use Rattle.tql_store.specs.Slots as store
 use Rattle.tql_store.specs.Represents.{Copies, Working, horizon_of, StandsWith, Represents}
 use Rattle.tql_store.specs.Slots.{live}
-use Rattle.tql_engine.specs.Plain.{PlainTable, CopyFits}
-use Rattle.tql_engine.specs.Stands.{Placed, ArePlaced, is_free, rows_of_id, copies_of}
+use Rattle.tql_engine.specs.Tables.{Placed}
+use Rattle.tql_engine.specs.Fitting.{CopyFits}
+use Rattle.tql_engine.specs.Stands.{ArePlaced, is_free, rows_of_id, copies_of}
 use Rattle.tql_engine.proofs.Standing.{some_is}
 
 -- ---- numbers
@@ -94,7 +95,7 @@ rows_more (p ∷ ps) q [] k id = cc
 rows_more (p ∷ ps) q (rows ∷ copy) k id = ap (λ (xs : List Stamped). if nat_eq p.id id then rows else xs) (rows_more ps q copy (cc) id)
 
 -- a copy that fits has rows for each table
-pub fits_length : (ps : List PlainTable) (copy : Copy) → CopyFits ps copy → length copy ≡ length ps
+pub fits_length : (ps : List TableDef) (copy : Copy) → CopyFits ps copy → length copy ≡ length ps
 fits_length [] [] f = refl
 fits_length [] (rows ∷ copy) f = absurd f
 fits_length (p ∷ ps) [] f = absurd f
@@ -122,4 +123,11 @@ any_working h copies working others idle r = record {
 -- the numbers and what stands there are the same
 pub same_places : (old new : store.Held) (ps : List Placed) → new.tables ≡ old.tables → ArePlaced old ps → ArePlaced new ps
 same_places old new [] e a = tt
-same_places old new (p ∷ ps) e a = (a.0, ap (λ places. store.is_kept (store.place_of places p.id)) e ∙ a.1, same_places old new ps e a.2)
+same_places old new (p ∷ ps) e a = (
+  a.0,
+  record {
+    there = ap (λ places. store.is_taken (store.place_of places p.id)) e ∙ a.1.there;
+    versioned = ap (λ places. store.is_kept (store.place_of places p.id)) e ∙ a.1.versioned;
+  },
+  same_places old new ps e a.2,
+)

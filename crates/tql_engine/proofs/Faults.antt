@@ -1,29 +1,44 @@
--- The first of some faults, and a state over tables of whole numbers.
-use Rattle.std.specs.Prelude.{◌≡◌, refl, Bool, true, false, List, ◌++◌, map, ℤ, Option, Some, if◌then◌else◌}
-use Rattle.tql_spec.specs.Refusal.{Refusal, earlier, first, fault_if}
-use Rattle.tql_spec.specs.History.{Entry}
-use Rattle.tql_spec.specs.Machine.{State, Reply, unless}
-use Rattle.tql_engine.specs.Plain.{PlainTable, def_of}
-use Rattle.tql_engine.specs.Steps.{IsPlain, refused}
+-- Steps that the state refuses, and those that it does not.
+use Rattle.std.specs.Prelude.{◌≡◌, refl, Bool, true, false, ◌&&◌, ◌++◌, ℤ, Some, None, is_some, is_none, if◌then◌else◌}
+use Rattle.tql_spec.specs.Refusal.{Refusal, E40, E41, earlier, first, fault_if}
+use Rattle.tql_spec.specs.Definition.{TableDef}
+use Rattle.tql_spec.specs.Machine.{State, Reply, Refused, Done, CreatedTable, ClockSet, Started, Committed, RolledBack, Change, CreateTable, SetClock, Start, Commit, Rollback, Alter, step, unless, altered, with_table, with_commit, working, is_not_later, is_clock_at_end}
 
--- the state over such tables
-abbrev pub plain : List PlainTable → List Entry → ℤ → Option Entry → State
-plain ps history next transaction = record { definitions = map def_of ps; history = history; next = next; transaction = transaction }
+-- a refusal, with the state as it was
+abbrev pub refused : Refusal → State → Reply × State
+refused e s = (Refused e, s)
 
--- each such state is that of its tables, its history, its clock and its transaction
-pub is_plain : (ps : List PlainTable) (s : State) → IsPlain ps s → s ≡ plain ps s.history s.next s.transaction
-is_plain ps s is = λ i. record { definitions = is.definitions i; history = s.history; next = s.next; transaction = s.transaction }
-
--- the reply by a fault that comes before what is first otherwise
-pub before : (b : Bool) (e : Refusal) (rest : List Refusal) (q : Option Refusal) (s : State) (reply : Reply) (new : State) → first rest ≡ q → earlier e q ≡ e
-    → unless (first (fault_if b e ++ rest)) s reply new ≡ if b then refused e s else unless q s reply new
-before true e rest q s reply new f k = rw (f, k)
-before false e rest q s reply new f k = rw f
+-- the reply by one fault
+one_fault : (a : Bool) (e : Refusal) (s : State) (reply : Reply) (new : State) → unless (first (fault_if a e)) s reply new ≡ if a then refused e s else (reply, new)
+one_fault true e s reply new = refl
+one_fault false e s reply new = refl
 
 -- the reply by two faults, of which the first comes before the second
-pub two_faults : (a b : Bool) (e f : Refusal) (s : State) (reply : Reply) (new : State) → earlier e (Some f) ≡ e
+two_faults : (a b : Bool) (e f : Refusal) (s : State) (reply : Reply) (new : State) → earlier e (Some f) ≡ e
     → unless (first (fault_if a e ++ fault_if b f)) s reply new ≡ if a then refused e s else (if b then refused f s else (reply, new))
 two_faults true true e f s reply new k = rw k
 two_faults true false e f s reply new k = refl
 two_faults false true e f s reply new k = refl
 two_faults false false e f s reply new k = refl
+
+-- ---- what the machine does
+
+pub create_step : (s : State) (d : TableDef) → step s (CreateTable d) ≡ if is_some s.transaction then refused E40 s else (Done CreatedTable None, with_table d s)
+create_step s d = one_fault (is_some s.transaction) E40 s (Done CreatedTable None) (with_table d s)
+
+pub clock_step : (s : State) (m : ℤ)
+    → step s (SetClock m) ≡ if is_some s.transaction then refused E40 s else (if is_not_later m s.history then refused E41 s else (Done ClockSet None, record s { next = m }))
+clock_step s m = two_faults (is_some s.transaction) (is_not_later m s.history) E40 E41 s (Done ClockSet None) (record s { next = m }) refl
+
+pub start_step : (s : State)
+    → step s Start ≡ if is_some s.transaction then refused E40 s else (if is_clock_at_end s then refused E41 s else (Done Started None, record s { transaction = Some (working s None) }))
+start_step s = two_faults (is_some s.transaction) (is_clock_at_end s) E40 E41 s (Done Started None) (record s { transaction = Some (working s None) }) refl
+
+pub commit_step : (s : State) → step s Commit ≡ if is_none s.transaction then refused E40 s else (Done Committed None, with_commit s s.transaction)
+commit_step s = one_fault (is_none s.transaction) E40 s (Done Committed None) (with_commit s s.transaction)
+
+pub rollback_step : (s : State) → step s Rollback ≡ if is_none s.transaction then refused E40 s else (Done RolledBack None, record s { transaction = None })
+rollback_step s = one_fault (is_none s.transaction) E40 s (Done RolledBack None) (record s { transaction = None })
+
+pub alter_step : (s : State) (c : Change) → step s (Alter c) ≡ if is_none s.transaction && is_clock_at_end s then refused E41 s else altered s c
+alter_step s c = one_fault (is_none s.transaction && is_clock_at_end s) E41 s (altered s c).0 (altered s c).1

@@ -1,59 +1,72 @@
--- From the tokens of a text and what parsing says of them to what the text says.
-use Rattle.std.proofs.Common.{◌≡◌, refl, sym, subst, ℕ, ◌<◌, ◌≤◌, List, [], Result, Ok, Err, length, arith, IsUtf8}
-use Rattle.tql_spec.specs.Token.{Token, AreTokens, depth}
-use Rattle.tql_spec.specs.Syntax.{Statement}
-use Rattle.tql_spec.specs.Forms.{form, tree_of_form}
-use Rattle.tql_spec.specs.Run.{IsWhole, IsDeep, IsTextOf}
-use Rattle.tql_spec.proofs.TokenLaws.{one_list}
+-- From what a text spells in the whole grammar to what it says to the engine.
+use Rattle.std.proofs.Common.{◌≡◌, refl, sym, subst, ap, ◌∙◌, ℕ, Bool, true, false, List, Result, Ok, Err}
+use Rattle.std.specs.Prelude.{IsTrue}
+use Rattle.tql_spec.specs.Syntax.{Statement, is_too_wide}
+use Rattle.tql_spec.specs.Grammar.{IsStatement}
+use Rattle.tql_spec.specs.Running.{Runs, does_run}
+use Rattle.tql_spec.specs.Run.{IsWhole, IsTextOf, finished}
 use Rattle.tql_value.specs.declared.refusal.Refusal.{Refusal}
 use Rattle.tql_value.specs.declared.refusal.Refusal.TheVariants as r
-use Rattle.tql_engine.specs.Forms.{form_of}
-use Rattle.tql_engine.specs.Statements.{Parses, SpellsNone}
-use Rattle.tql_engine.specs.Sense.{ReadsAs, finished}
-use Rattle.tql_engine.specs.declared.parse.form.Form.{Form}
+use Rattle.tql_syntax.specs.Statements.{statement_of}
+use Rattle.tql_syntax.specs.declared.statement.Statement as code
+use Rattle.tql_syntax.specs.Texts.{ReadsText}
+use Rattle.tql_syntax.proofs.TextLaws.{one_statement}
+use Rattle.tql_engine.specs.Sense.{ReadsAs}
 
-whole : (text : List ℕ) → length text ≤ 1_048_576 → IsUtf8 text → IsWhole (finished text)
-whole text short utf8 = record { short = short; utf8 = utf8; finished = refl }
+-- what spells a statement that runs spells it in the whole grammar
+whole_grammar : (text : List ℕ) (s : Statement) → IsTextOf Runs text s → IsTextOf IsStatement text s
+whole_grammar text s (ts, shallow, runs) = (ts, shallow, runs.spelled)
 
-not_deep : (text : List ℕ) (ts : List Token) → AreTokens ts text → depth ts ≤ 64 → IsDeep text → ⊥
-not_deep text ts are shallow (us, are_too, deep) =
-    let same : ts ≡ us = one_list text ts us are are_too in
-    let deeper : 64 < depth ts = subst (λ vs. 64 < depth vs) (sym same) deep in
-    omega (arith, shallow, deeper)
+-- a text that spells a statement that does not run says nothing
+pub not_running : (text : List ℕ) (s : code.Statement) → ReadsText text (Ok s) → does_run (statement_of s) ≡ false → ReadsAs text (Err r.NotAStatement)
+not_running text s (whole, spelled) e =
+    let alone = one_statement text (statement_of s) spelled in (
+      whole,
+      alone.shallow,
+      λ t (ts, shallow, runs).
+          let same = alone.alone t (ts, shallow, runs.spelled) in
+          absurd (never (sym runs.running ∙ ap does_run same ∙ e)),
+    )
+  where
+    never : true ≡ false → ⊥
+    never e = cc
 
-no_statement : (text : List ℕ) (ts : List Token) → AreTokens ts text → SpellsNone ts → (s : Statement) → IsTextOf text s → ⊥
-no_statement text ts are none s (us, tokens, (f, is, spelled)) =
-    let same : ts ≡ us = one_list text ts us are tokens.0 in
-    none f (subst (λ vs. form f vs []) (sym same) spelled)
+running : (text : List ℕ) (s : Statement) → IsTextOf IsStatement text s → does_run s ≡ true → IsTextOf Runs text s
+running text s (ts, shallow, spelled) e = (ts, shallow, record { spelled = spelled; running = e })
 
--- what parsing says of the tokens says what the text says
-pub parsed_says : (text : List ℕ) (ts : List Token) → length text ≤ 1_048_576 → IsUtf8 text → AreTokens ts text
-    → (result : Result Form Refusal) → Parses ts result → ReadsAs text result
-parsed_says text ts short utf8 are (Ok f) p =
-    ((whole text short utf8, (ts, (are, p.shallow), (form_of f, refl, p.spelled)), p.narrow), p.parts)
-parsed_says text ts short utf8 are (Err r.NestedTooDeep) p = (whole text short utf8, (ts, are, p))
-parsed_says text ts short utf8 are (Err r.NotAStatement) p = (whole text short utf8, not_deep text ts are p.0, no_statement text ts are p.1)
-parsed_says text ts short utf8 are (Err r.TooManyColumnsOrTables) p =
-    (whole text short utf8, (tree_of_form (p.1).0, (ts, (are, p.0), ((p.1).0, refl, (p.1).1)), (p.1).2))
-parsed_says text ts short utf8 are (Err r.OutOfMemory) p = tt
-parsed_says text ts short utf8 are (Err r.StatementTooLong) p = absurd p
-parsed_says text ts short utf8 are (Err r.NotUtf8) p = absurd p
-parsed_says text ts short utf8 are (Err r.UnfinishedStatement) p = absurd p
-parsed_says text ts short utf8 are (Err r.NotInThisTransactionState) p = absurd p
-parsed_says text ts short utf8 are (Err r.MomentNotAllowed) p = absurd p
-parsed_says text ts short utf8 are (Err r.ReadersAreOpen) p = absurd p
-parsed_says text ts short utf8 are (Err r.TableUnknownOrAlreadyThere) p = absurd p
-parsed_says text ts short utf8 are (Err r.NameUnknownAmbiguousOrRepeated) p = absurd p
-parsed_says text ts short utf8 are (Err r.TypesDoNotFit) p = absurd p
-parsed_says text ts short utf8 are (Err r.FormNotAllowedHere) p = absurd p
-parsed_says text ts short utf8 are (Err r.TableIsReferenced) p = absurd p
-parsed_says text ts short utf8 are (Err r.TooManyTablesOrReaders) p = absurd p
-parsed_says text ts short utf8 are (Err r.BeforeTheHorizon) p = absurd p
-parsed_says text ts short utf8 are (Err r.ReaderNotUsable) p = absurd p
-parsed_says text ts short utf8 are (Err r.ValueOutOfRange) p = absurd p
-parsed_says text ts short utf8 are (Err r.PortionNotRising) p = absurd p
-parsed_says text ts short utf8 are (Err r.NullNotAllowed) p = absurd p
-parsed_says text ts short utf8 are (Err r.PeriodNotRising) p = absurd p
-parsed_says text ts short utf8 are (Err r.CheckFailed) p = absurd p
-parsed_says text ts short utf8 are (Err r.DuplicateKey) p = absurd p
-parsed_says text ts short utf8 are (Err r.ReferenceNotMet) p = absurd p
+-- one that runs and is too wide
+pub too_wide : (text : List ℕ) (s : code.Statement) → ReadsText text (Ok s) → does_run (statement_of s) ≡ true → is_too_wide (statement_of s) ≡ true
+    → ReadsAs text (Err r.TooManyColumnsOrTables)
+too_wide text s (whole, spelled) e wide = (whole, (statement_of s, running text (statement_of s) spelled e, wide))
+
+-- one that runs
+pub says : (text : List ℕ) (s : code.Statement) → ReadsText text (Ok s) → does_run (statement_of s) ≡ true → is_too_wide (statement_of s) ≡ false → ReadsAs text (Ok s)
+says text s (whole, spelled) e narrow = (whole, running text (statement_of s) spelled e, narrow)
+
+-- a text that is refused over the whole grammar
+pub refused : (text : List ℕ) (e : Refusal) → ReadsText text (Err e) → ReadsAs text (Err e)
+refused text r.StatementTooLong p = p
+refused text r.NotUtf8 p = p
+refused text r.NestedTooDeep p = p
+refused text r.NotAStatement (whole, shallow, none) = (whole, shallow, λ s t. none s (whole_grammar text s t))
+refused text r.OutOfMemory p = tt
+refused text r.TooManyColumnsOrTables p = absurd p
+refused text r.UnfinishedStatement p = absurd p
+refused text r.NotInThisTransactionState p = absurd p
+refused text r.MomentNotAllowed p = absurd p
+refused text r.ReadersAreOpen p = absurd p
+refused text r.TableUnknownOrAlreadyThere p = absurd p
+refused text r.NameUnknownAmbiguousOrRepeated p = absurd p
+refused text r.TypesDoNotFit p = absurd p
+refused text r.FormNotAllowedHere p = absurd p
+refused text r.TableIsReferenced p = absurd p
+refused text r.TooManyTablesOrReaders p = absurd p
+refused text r.BeforeTheHorizon p = absurd p
+refused text r.ReaderNotUsable p = absurd p
+refused text r.ValueOutOfRange p = absurd p
+refused text r.PortionNotRising p = absurd p
+refused text r.NullNotAllowed p = absurd p
+refused text r.PeriodNotRising p = absurd p
+refused text r.CheckFailed p = absurd p
+refused text r.DuplicateKey p = absurd p
+refused text r.ReferenceNotMet p = absurd p

@@ -1,4 +1,4 @@
--- What the engine's questions ask for, and what the store answers.
+-- What the store answers to the engine's questions.
 use Rattle.std.specs.Prelude.{ℕ, List}
 use Rattle.tql_spec.specs.Bag.{SameBag}
 use Rattle.tql_spec.specs.Definition.{Version}
@@ -6,15 +6,6 @@ use Rattle.tql_spec.specs.History as history
 use Rattle.tql_spec.specs.History.{found}
 use Rattle.tql_store.specs.Slots.{Held}
 use Rattle.tql_store.specs.Represents.{Copies, Working, Represents, seen_by}
-use Rattle.tql_engine.specs.declared.when.When.{When}
-use Rattle.tql_engine.specs.declared.when.When.TheVariants.{Now, AsOf, FromTo, Between}
-
--- what is asked for
-abbrev pub asked_by : When → history.When
-asked_by Now = history.Now
-asked_by (AsOf m) = history.AsOf m
-asked_by (FromTo a b) = history.FromTo a b
-asked_by (Between a b) = history.Between a b
 
 -- what a reading answers: what the definitions find in the copies
 abbrev pub Answers : Held → ℕ → history.When → List Version → Type 0

@@ -1,30 +1,21 @@
 -- What an engine holds, and the state of the machine that it stands for.
-use Rattle.std.specs.Prelude.{◌≡◌, ◌≤ℤ◌, ◌<ℤ◌, ℕ, Bool, not, List, [], ◌∷◌, map, length, nat_eq, IsTrue, ℤ, Option, Some, None, if◌then◌else◌}
+use Rattle.std.specs.Prelude.{◌≡◌, ◌≤ℤ◌, ◌<ℤ◌, ℕ, Bool, not, List, [], ◌∷◌, map, length, nat_eq, IsTrue, ℤ, Option, Some, None, is_some, if◌then◌else◌}
 use Rattle.std.specs.List.{list_all}
 use Rattle.tql_spec.specs.Calendar.{first_moment, high}
 use Rattle.tql_spec.specs.Definition.{Stamped}
 use Rattle.tql_spec.specs.History.{Copy, Entry, FallingFrom}
 use Rattle.tql_spec.specs.Machine.{State}
+use Rattle.tql_engine.specs.Tables.{Placed, definitions}
 use Rattle.tql_store.specs.Slots as store
-use Rattle.tql_store.specs.Slots.{is_versioned, table_count}
+use Rattle.tql_store.specs.Slots.{has_table, is_versioned, table_count}
 use Rattle.tql_store.specs.Represents.{Copies, Represents}
-use Rattle.tql_engine.specs.Plain.{PlainTable}
-use Rattle.tql_engine.specs.Steps.{IsPlain}
-
--- a table, and the number at which the store keeps it
-pub record Placed : Type 0 where
-  pub table : PlainTable
-  pub id : ℕ
+use Rattle.tql_engine.specs.Fitting.{StateFits}
 
 -- what an engine holds: its tables in the order of their creation, the store of their rows, and the moment of the next transaction
 pub record Held : Type 0 where
   pub tables : List Placed
   pub rows : store.Held
   pub next : ℤ
-
--- the tables
-abbrev pub plain_tables : List Placed → List PlainTable
-plain_tables tables = map (λ (p : Placed). p.table) tables
 
 -- of a copy the rows of the table that is kept at a number; none where no table is
 abbrev pub rows_of_id : List Placed → Copy → ℕ → List Stamped
@@ -40,10 +31,15 @@ copies_of tables history id = map (λ (e : Entry). record { moment = e.moment; r
 abbrev pub is_free : ℕ → List Placed → Bool
 is_free id tables = list_all (λ (p : Placed). not (nat_eq p.id id)) tables
 
--- each table is kept at a number of its own, and versioned
+-- a table is kept at its number, with its history where it has a system period
+pub record IsKept (rows : store.Held) (p : Placed) : Type 0 where
+  pub there : IsTrue (has_table rows p.id)
+  pub versioned : is_versioned rows p.id ≡ is_some p.system
+
+-- each table is kept, at a number of its own
 abbrev pub ArePlaced : store.Held → List Placed → Type 0
 ArePlaced rows [] = Unit {0}
-ArePlaced rows (p ∷ ps) = IsTrue (is_free p.id ps) × IsTrue (is_versioned rows p.id) × ArePlaced rows ps
+ArePlaced rows (p ∷ ps) = IsTrue (is_free p.id ps) × IsKept rows p × ArePlaced rows ps
 
 -- no copy is older than the first moment
 abbrev pub AreSince : ℤ → List Entry → Type 0
@@ -67,7 +63,7 @@ IsDated next (Some e) = (e.moment ≡ next) × (next <ℤ high)
 
 -- the engine stands for a state of the machine
 pub record StandsFor (h : Held) (s : State) : Type 0 where
-  pub plain : IsPlain (plain_tables h.tables) s
+  pub fits : StateFits (definitions h.tables) s
   pub clock : h.next ≡ s.next
   pub not_before : first_moment ≤ℤ s.next
   pub not_after : s.next ≤ℤ high

@@ -1,29 +1,37 @@
--- The tables that the engine's values stand for.
-use Rattle.std.specs.Prelude.{Bool, List, [], ◌∷◌, ◌++◌, map, string_bytes}
-use Rattle.tql_spec.specs.Words.{same_text}
-use Rattle.tql_spec.specs.Definition.{Name}
-use Rattle.tql_engine.specs.Plain.{PlainTable}
-use Rattle.tql_engine.specs.Stands.{Placed}
-use Rattle.tql_engine.specs.declared.table.Table.{Table}
-use Rattle.tql_engine.specs.declared.table.TableNames.{TableNames}
+-- The engine's tables, as its model has them.
+use Rattle.std.specs.Prelude.{ℕ, List, [], map, Option, None, option_map, string_bytes}
+use Rattle.tql_spec.specs.Definition.{Name, Column, System, TableDef}
+use Rattle.tql_catalog.specs.Definitions.{column_of, system_of}
+use Rattle.tql_catalog.specs.declared.table.Table.{Table}
 
--- the table of these names
-abbrev pub plain_of : TableNames → PlainTable
-plain_of t = record {
-  name = string_bytes t.name;
-  columns = map string_bytes t.columns.items;
-  row_start = string_bytes t.row_start;
-  row_end = string_bytes t.row_end;
-}
+-- a table of columns and at most a system period, and the number at which the store keeps its rows
+pub record Placed : Type 0 where
+  pub name : Name
+  pub columns : List Column
+  pub system : Option System
+  pub id : ℕ
 
 -- the table with its number
 abbrev pub placed_of : Table → Placed
-placed_of t = record { table = plain_of t.names; id = t.id }
+placed_of t = record {
+  name = string_bytes t.definition.name;
+  columns = map column_of t.definition.columns.items;
+  system = option_map system_of t.definition.system;
+  id = t.id;
+}
 
--- the names of its columns, the generated ones last
-abbrev pub headings_of : Table → List Name
-headings_of t = map string_bytes t.names.columns.items ++ string_bytes t.names.row_start ∷ string_bytes t.names.row_end ∷ []
+-- its definition
+abbrev pub table_of : Placed → TableDef
+table_of p = record {
+  name = p.name;
+  columns = p.columns;
+  system = p.system;
+  application = None;
+  keys = [];
+  references = [];
+  checks = [];
+}
 
--- whether this is the table of the name
-abbrev pub names_table : Name → Table → Bool
-names_table n t = same_text n (string_bytes t.names.name)
+-- the definitions
+abbrev pub definitions : List Placed → List TableDef
+definitions tables = map table_of tables

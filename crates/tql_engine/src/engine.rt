@@ -1,20 +1,22 @@
-ghost use Rattle.std.specs.Prelude.{◌≡◌, ◌<◌, length, map, slice_get, Some};
-ghost use Rattle.std.specs.Option.{ForSome};
+ghost use Rattle.std.specs.Prelude.{◌≡◌, ◌<◌, length, slice_get, IfOk, IsTrue, Some};
 
 mod changes;
 mod clock;
 mod creation;
+mod faults;
 mod questions;
 mod transactions;
 
-use crate::parse::form::Form;
-use crate::sense::{read_statement, unfinished_fault};
-use crate::table::{Table, place_of};
+use crate::sense::read_statement;
 use std::marker::Model;
-use tql_lex::splitter::Piece;
+use tql_bind::bind::bind;
+use tql_bind::bound::Bound;
+use tql_catalog::table::Table;
 use tql_memory::Memory;
 use tql_result::reply::Reply;
+use tql_run::responder::Responder;
 use tql_store::store::Store;
+use tql_syntax::statement::Statement;
 use tql_value::calendar::FIRST_MOMENT;
 use tql_value::refusal::Refusal;
 
@@ -30,8 +32,8 @@ pub struct Engine {
 
 impl Model for Engine {
     ghost use Rattle.std.specs.Prelude.{map};
-    ghost use Rattle.tql_engine.specs.Stands.{Held, IsSound};
     ghost use Rattle.tql_engine.specs.Tables.{placed_of};
+    ghost use Rattle.tql_engine.specs.Stands.{Held, IsSound};
 
     ghost Value = { Held };
 
@@ -41,21 +43,16 @@ impl Model for Engine {
 }
 
 impl Engine {
-    ghost use Rattle.tql_spec.specs.Machine.{State, new_state};
-    ghost use Rattle.tql_engine.specs.Stands.{StandsFor, plain_tables};
-    ghost use Rattle.tql_engine.specs.Steps.{form_step};
-    ghost use Rattle.tql_engine.specs.Effects.{DoesStep, reply_by};
-    ghost use Rattle.tql_engine.specs.Sense.{finished};
-    ghost use Rattle.tql_engine.specs.Answering.{Answered};
+    ghost use Rattle.tql_spec.specs.Machine.{State, new_state, step};
+    ghost use Rattle.tql_spec.specs.Run.{Answers, finished, respond};
+    ghost use Rattle.tql_spec.specs.Running.{does_run};
+    ghost use Rattle.tql_syntax.specs.Statements.{statement_of};
+    ghost use Rattle.tql_run.specs.Responding.{Answered};
+    ghost use Rattle.tql_bind.specs.Bounds.{IsSound, bound_of};
+    ghost use Rattle.tql_engine.specs.Tables.{definitions, placed_of};
     ghost use Rattle.tql_result.specs.Replies.{reply_of, IsPrintableReply};
-    ghost use Rattle.tql_lex.specs.Pieces.{StandsFor as Stands};
-    ghost use Rattle.tql_spec.specs.Script as script;
-    ghost use Rattle.tql_engine.specs.Tables.{placed_of};
-    ghost use Rattle.tql_engine.specs.Plain.{def_of};
-    ghost use Rattle.tql_engine.specs.Parsing.{in_upper_case};
-    ghost use Rattle.tql_engine.specs.Forms.{form_of, HasParts};
-    ghost use Rattle.tql_spec.specs.Definition.{place_of as machine_place};
-    ghost use Rattle.std.specs.Prelude.{IfOk};
+    ghost use Rattle.tql_engine.specs.Stands.{StandsFor};
+    ghost use Rattle.tql_engine.specs.Effects.{DoesStep, reply_by};
 
     /// An engine without tables, whose clock stands at the first moment.
     #[tactic(auto, using(crate::proofs::Standing::new_law))]
@@ -70,11 +67,6 @@ impl Engine {
         }
     }
 
-    /// The memory that the engine grows in.
-    pub(crate) fn memory(&self) -> Memory {
-        self.memory
-    }
-
     /// The table at this place.
     fn table_at(&self, place: usize) -> &Table
         requires { place < length self.now.tables }
@@ -83,38 +75,42 @@ impl Engine {
         &self.tables[place]
     }
 
-    /// The place of the table that a word names.
-    fn place_of(&self, word: &str) -> Option<usize>
-        ensures place { result ≡ machine_place (in_upper_case word.now) (map def_of (plain_tables self.now.tables)) }
-        ensures within { ForSome result (λ t. t < length self.now.tables) }
+    /// Runs a statement whose names are bound. A refused statement changes nothing.
+    pub(crate) fn perform(&mut self, bound: Bound) -> Result<Reply, Refusal>
+        requires { IsSound (definitions self.old.tables) bound }
+        ensures { (s : State) → StandsFor self.old s → DoesStep self.new s result (step s (bound_of (definitions self.old.tables) bound)) }
     {
-        place_of(&self.tables, word)
+        match bound {
+            Bound::CreateTable(definition) => self.create(definition),
+            Bound::Insert(rows) => self.insert(rows),
+            Bound::DeleteAll(place) => self.delete_all(place),
+            Bound::Ask(question) => self.ask(question),
+            Bound::SetClock(moment) => self.at(moment),
+            Bound::Start => self.start(),
+            Bound::Commit => self.commit(),
+            Bound::Rollback => self.rollback(),
+        }
     }
 
-    /// Runs a statement of a form.
-    pub(crate) fn execute(&mut self, form: &Form<'_>) -> Result<Reply, Refusal>
-        requires { HasParts form.now }
-        ensures { (s : State) → StandsFor self.old s → DoesStep self.new s result (form_step (plain_tables self.old.tables) s (form_of form.now)) }
+    /// Runs a statement. A refused statement changes nothing.
+    pub(crate) fn execute(&mut self, statement: &Statement<'_>) -> Result<Reply, Refusal>
+        requires { IsTrue (does_run (statement_of statement.now)) }
+        ensures answered { (s : State) → StandsFor self.old s → DoesStep self.new s result (respond s (statement_of statement.now)) }
+        ensures printable { IfOk result (λ reply. IsPrintableReply (reply_of reply)) }
     {
-        match form {
-            Form::NewTable(table) => self.create(table),
-            Form::AddRows { table, tuples } => self.insert(table, tuples),
-            Form::RemoveRows(table) => self.delete(table),
-            Form::SetClockTo(moment) => self.at(moment),
-            Form::Ask { table, span } => self.ask(table, *span),
-            Form::StartTransaction => self.start(),
-            Form::CommitWork => self.commit(),
-            Form::RollbackWork => self.rollback(),
+        match bind(self.memory, &self.tables, statement) {
+            Ok(bound) => self.perform(bound),
+            Err(fault) => Err(self.refusal_with(statement, fault)),
         }
     }
 
     /// Runs the statement of a text.
     fn try_step(&mut self, text: &[u8]) -> Result<Reply, Refusal>
-        ensures answered { (s : State) → StandsFor self.old s → Answered s (finished text.now) (reply_by result) self.new }
+        ensures answered { (s : State) → StandsFor self.old s → Answered Answers s (finished text.now) (reply_by result) (StandsFor self.new) }
         ensures printable { IfOk result (λ reply. IsPrintableReply (reply_of reply)) }
     {
         match read_statement(self.memory, text) {
-            Ok(form) => self.execute(&form),
+            Ok(statement) => self.execute(&statement),
             Err(refusal) => Err(refusal),
         }
     }
@@ -122,7 +118,7 @@ impl Engine {
     /// Answers one finished statement by its text, without its `;`. Any bytes are taken: more than 1,048,576 of them, bytes that are not
     /// UTF-8, and texts that are no statement that runs are refused. A refused statement changes nothing.
     pub fn step(&mut self, text: &[u8]) -> Reply
-        ensures answered { (s : State) → StandsFor self.old s → Answered s (finished text.now) (reply_of result) self.new }
+        ensures answered { (s : State) → StandsFor self.old s → Answered Answers s (finished text.now) (reply_of result) (StandsFor self.new) }
         ensures printable { IsPrintableReply (reply_of result) }
     {
         match self.try_step(text) {
@@ -130,17 +126,24 @@ impl Engine {
             Err(refusal) => Reply::Refused(refusal),
         }
     }
+}
 
-    /// Answers the next piece of a script.
-    pub(crate) fn answer(&mut self, piece: Piece<'_>) -> Reply
-        ensures answered { (s : State) (p : script.Piece) → StandsFor self.old s → Stands piece.entry p → Answered s p (reply_of result) self.new }
-        ensures printable { IsPrintableReply (reply_of result) }
-    {
-        match piece {
-            Piece::Text(text) => self.step(text),
-            Piece::TooLong => Reply::Refused(Refusal::StatementTooLong),
-            Piece::NoMemory => Reply::Refused(Refusal::OutOfMemory),
-            Piece::Unfinished(text) => Reply::Refused(unfinished_fault(text)),
-        }
+impl Responder for Engine {
+    ghost use Rattle.tql_spec.specs.Run.{Answers};
+    ghost use Rattle.tql_engine.specs.Stands.{StandsFor};
+    ghost use Rattle.tql_run.proofs.Faults.{answers_refuse};
+
+    ghost stands = { StandsFor };
+
+    ghost answering = { Answers };
+
+    fn memory(&self) -> Memory {
+        self.memory
     }
+
+    fn answer(&mut self, text: &[u8]) -> Reply {
+        self.step(text)
+    }
+
+    ghost refuses = { answers_refuse };
 }

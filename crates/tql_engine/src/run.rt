@@ -1,106 +1,13 @@
-//! A whole run of a script.
-ghost use Rattle.std.specs.Prelude.{◌≡◌, ◌≤◌, ◌<◌, length};
+//! A whole run of a script on an engine.
 ghost use Rattle.tql_spec.specs.Machine.{State};
-ghost use Rattle.tql_result.specs.Replies.{reply_of};
+ghost use Rattle.tql_spec.specs.Run.{Answers};
+ghost use Rattle.tql_run.specs.Runs.{Runs};
 ghost use Rattle.tql_engine.specs.Stands.{StandsFor};
-ghost use Rattle.tql_engine.specs.Runs.{Runs, count_of, most_bytes};
-ghost use Rattle.tql_engine.specs.Telling.{TakesNext, Tells};
 
-use crate::device::Source;
 use crate::engine::Engine;
-use crate::script::{End, read_script};
-use tql_lex::splitter::Splitter;
-use tql_result::device::DeviceFault;
-use tql_result::print::write_reply;
-use tql_result::reply::Reply;
 use tql_result::sink::Sink;
-
-/// How many statements a run answered, and how many of these it refused.
-#[derive(Clone, Copy, PartialEq, Eq, Debug)]
-pub struct Summary {
-    pub statements: u64,
-    pub refused: u64,
-}
-
-/// Why a run stopped.
-#[derive(Clone, Copy, PartialEq, Eq, Debug)]
-pub enum Fault {
-    /// The source failed, or did not end.
-    Read,
-    /// The sink failed.
-    Write,
-    /// What a run takes at its start found no memory.
-    Memory,
-}
-
-/// The counts with one more reply.
-fn counted(summary: Summary, reply: &Reply) -> Summary
-    requires room { summary.statements < most_bytes }
-    requires fewer { summary.refused ≤ summary.statements }
-    ensures { result ≡ count_of summary (reply_of reply.now) }
-{
-    let statements = summary.statements + 1;
-    match reply {
-        Reply::Refused(_) => Summary {
-            statements,
-            refused: summary.refused + 1,
-        },
-        _ => Summary {
-            statements,
-            refused: summary.refused,
-        },
-    }
-}
-
-/// Takes the next statement and answers it; None where no statement is left, and then nothing changes.
-fn answer_next(engine: &mut Engine, splitter: &mut Splitter) -> Option<Reply>
-    ensures { TakesNext result splitter.old splitter.new engine.old engine.new }
-{
-    match splitter.next_statement() {
-        Some(piece) => Some(engine.answer(piece)),
-        None => None,
-    }
-}
-
-/// Answers the statements that are left, and writes their replies.
-fn write_replies<O: Sink>(
-    engine: &mut Engine,
-    splitter: &mut Splitter,
-    sink: &mut O,
-) -> Result<Summary, DeviceFault>
-    requires { length splitter.old.left ≤ most_bytes }
-    ensures { (s : State) → StandsFor engine.old s → Tells result s splitter.old engine.new (O.written sink.old) (O.written sink.new) (O.failures sink.old) (O.failures sink.new) }
-{
-    let mut summary = Summary {
-        statements: 0,
-        refused: 0,
-    };
-    while let Some(reply) = answer_next(engine, splitter) {
-        match write_reply(sink, &reply) {
-            Ok(()) => summary = counted(summary, &reply),
-            Err(fault) => return Err(fault),
-        }
-    }
-    Ok(summary)
-}
-
-/// Answers the statements that are left, writes their replies, and passes on what the sink may have kept back.
-fn answer_all<O: Sink>(
-    engine: &mut Engine,
-    splitter: &mut Splitter,
-    sink: &mut O,
-) -> Result<Summary, DeviceFault>
-    requires { length splitter.old.left ≤ most_bytes }
-    ensures { (s : State) → StandsFor engine.old s → Tells result s splitter.old engine.new (O.written sink.old) (O.written sink.new) (O.failures sink.old) (O.failures sink.new) }
-{
-    match write_replies(engine, splitter, sink) {
-        Ok(summary) => match sink.flush() {
-            Ok(()) => Ok(summary),
-            Err(fault) => Err(fault),
-        },
-        Err(fault) => Err(fault),
-    }
-}
+use tql_run::device::Source;
+use tql_run::run::{Fault, Summary};
 
 /// Reads a script from the source to its end, then answers its statements one after another, writes each reply to the
 /// sink, and flushes it. Where the source fails, the statements that came whole before that are answered, and the run
@@ -111,7 +18,7 @@ pub fn run<I: Source, O: Sink>(
     source: &mut I,
     sink: &mut O,
 ) -> Result<Summary, Fault>
-    ensures { (s : State) → StandsFor engine.old s → Runs s engine.new (record {
+    ensures { (s : State) → StandsFor engine.old s → Runs Answers s (StandsFor engine.new) (record {
       left_old = I.left source.old;
       left_new = I.left source.new;
       reads_before = I.failures source.old;
@@ -122,19 +29,5 @@ pub fn run<I: Source, O: Sink>(
       writes_now = O.failures sink.new;
     }) result }
 {
-    let mut splitter = Splitter::new(engine.memory());
-    let end = match read_script(engine.memory(), source, &mut splitter) {
-        Ok(end) => end,
-        Err(_) => return Err(Fault::Memory),
-    };
-    if end == End::Reached {
-        splitter.finish();
-    }
-    match answer_all(engine, &mut splitter, sink) {
-        Err(_) => Err(Fault::Write),
-        Ok(summary) => match end {
-            End::Reached => Ok(summary),
-            End::Failed => Err(Fault::Read),
-        },
-    }
+    tql_run::run::run(engine, source, sink)
 }

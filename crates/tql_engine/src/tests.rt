@@ -2,9 +2,15 @@
 // and devices that fail.
 mod copies;
 mod counter;
+mod definitions;
 mod devices;
 mod faults;
 mod growths;
+mod insertions;
 mod machine;
 mod refusals;
 mod rows;
+mod samples;
+mod statement;
+mod tables;
+mod wordings;

@@ -1,15 +1,24 @@
 -- The command line of the program.
-use Rattle.std.specs.Prelude.{◌≡◌, ◌⊎◌, ◌==◌, Bool, true, not, List, [], ◌∷◌, Option, Some, None, codes, option_map, Result, MatchResult, IsErrAnd}
-use Rattle.clap.specs.Words.{App, Text, first_of, fault_of, kind_of, matches_of, new_app, new_rule, with_rule}
+use Rattle.std.specs.Prelude.{◌≡◌, ◌⊎◌, ◌==◌, Bool, true, false, not, List, [], ◌∷◌, Option, Some, None, codes, option_map, Result, MatchResult, IsErrAnd}
+use Rattle.clap.specs.Words.{App, Rule, Text, first_of, one_of, fault_of, kind_of, matches_of, new_app, new_rule, with_rule}
 use Rattle.clap.specs.Kinds.{Kinds}
+use Rattle.clap.specs.declared.builder.action.ArgAction.TheVariants.{SetTrue}
 use Rattle.clap.specs.declared.error.Error.{Error}
 use Rattle.clap.specs.declared.error.kind.ErrorKind.{ErrorKind}
 use Rattle.clap.specs.declared.error.kind.ErrorKind.TheVariants as kind
 use Rattle.tql_main.specs.declared.options.CommandLine.{CommandLine}
 
--- `tql [SCRIPT]`
+-- `--check`
+abbrev pub check_rule : Rule
+check_rule = record (new_rule (codes "check")) { long = Some (codes "check"); action = Some SetTrue }
+
+-- `tql [--check] [SCRIPT]`
 abbrev pub tql_line : App
-tql_line = with_rule (new_app (codes "tql")) (new_rule (codes "SCRIPT"))
+tql_line = with_rule (with_rule (new_app (codes "tql")) check_rule) (new_rule (codes "SCRIPT"))
+
+-- whether the script is to be checked, as a text
+abbrev pub check_in : List Text → Option Text
+check_in words = one_of (codes "check") (matches_of tql_line words)
 
 -- the word that names the script
 abbrev pub script_in : List Text → Option Text
@@ -19,14 +28,19 @@ script_in words = first_of (codes "SCRIPT") (matches_of tql_line words)
 abbrev pub faults_in : List Text → Kinds
 faults_in words = fault_of tql_line words
 
+-- the flag that a text tells
+pub record TellsFlag (text : Option Text) (flag : Bool) : Type 0 where
+  pub set : text ≡ Some (codes "true") → flag ≡ true
+  pub clear : text ≡ Some (codes "false") → flag ≡ false
+
 -- whether a word begins with no dash
 abbrev pub is_plain_word : Text → Bool
 is_plain_word [] = true
 is_plain_word (x ∷ rest) = not (x == 45)
 
--- the line is taken and names this script, unless memory runs out
-abbrev pub TakesScript : Option Text → Result CommandLine Error → Type 0
-TakesScript script r = MatchResult r (λ line. option_map (λ s. s.now) line.script ≡ script) (λ e. kind_of e ≡ kind.OutOfMemory)
+-- the line is taken, asks for a check or not, and names this script, unless memory runs out
+abbrev pub TakesScript : Bool → Option Text → Result CommandLine Error → Type 0
+TakesScript check script r = MatchResult r (λ line. (line.check ≡ check) × (option_map (λ s. s.now) line.script ≡ script)) (λ e. kind_of e ≡ kind.OutOfMemory)
 
 -- the line is refused for this reason, unless memory runs out
 abbrev pub RefusesLine : ErrorKind → Result CommandLine Error → Type 0
@@ -35,9 +49,13 @@ RefusesLine k r = IsErrAnd r (λ e. (kind_of e ≡ kind.OutOfMemory) ⊎ (kind_o
 -- what lines of the plain forms give; the first word is the program's name
 pub record ReadsLine (words : List Text) (r : Result CommandLine Error) : Type 0 where
   -- no script, so the standard input
-  pub alone : (name : Text) → words ≡ name ∷ [] → TakesScript None r
+  pub alone : (name : Text) → words ≡ name ∷ [] → TakesScript false None r
   -- a script
-  pub named : (name script : Text) → words ≡ name ∷ script ∷ [] → is_plain_word script ≡ true → TakesScript (Some script) r
+  pub named : (name script : Text) → words ≡ name ∷ script ∷ [] → is_plain_word script ≡ true → TakesScript false (Some script) r
+  -- a check of the standard input
+  pub checked : (name : Text) → words ≡ name ∷ codes "--check" ∷ [] → TakesScript true None r
+  -- a check of a script
+  pub checked_named : (name script : Text) → words ≡ name ∷ codes "--check" ∷ script ∷ [] → is_plain_word script ≡ true → TakesScript true (Some script) r
   -- a word too many
   pub several : (name script more : Text) → words ≡ name ∷ script ∷ more ∷ [] → is_plain_word script ≡ true → is_plain_word more ≡ true
       → RefusesLine kind.UnknownArgument r

@@ -1,5 +1,6 @@
 //! The program: `tql [SCRIPT]` runs the script in the file SCRIPT, or on the standard input without it, and writes the
-//! replies to the standard output.
+//! replies to the standard output. `tql --check [SCRIPT]` only checks each statement by the grammar, and replies with `OK` or a
+//! refusal.
 //!
 //! It exits with 0 where no statement was refused, and after help; with 1 where some statement was refused; with 2 where the
 //! command line is wrong; and with 3 where opening, reading or writing failed, or memory ran out before the first statement.
@@ -16,11 +17,13 @@ use status::{exit_status, line_status};
 use std::io::{self, BufWriter, ErrorKind, Read};
 use std::process::ExitCode;
 use std::{env, fs};
+use tql_check::check::check_script;
 use tql_engine::engine::Engine;
-use tql_engine::run::{Fault, Summary, run};
-use tql_engine::std_source::StdSource;
+use tql_engine::run::run;
 use tql_memory::memory;
 use tql_result::std_sink::StdSink;
+use tql_run::run::{Fault, Summary};
+use tql_run::std_source::StdSource;
 
 /// What the standard error is told of a run that stopped.
 fn complaint(fault: Fault) -> &'static str {
@@ -52,14 +55,39 @@ fn run_script<R: Read + Drop>(
     run(&mut engine, &mut source, &mut sink)
 }
 
-/// Runs the script that the options name.
+/// Checks a script, and prints what each of its statements is answered.
+fn check_only<R: Read + Drop>(
+    rt: &(impl Print + AllocGlobal),
+    reader: R,
+) -> Result<Summary, Fault> {
+    let memory = memory(rt.alloc(), u64::MAX).map_err(|_| Fault::Memory)?;
+    let writer = BufWriter::new(rt.alloc(), io::writer(rt)).map_err(|_| Fault::Memory)?;
+    let mut source = StdSource::new(reader);
+    let mut sink = StdSink::new(writer);
+    check_script(memory, &mut source, &mut sink)
+}
+
+/// Runs a script, or checks it.
+fn answer_script<R: Read + Drop>(
+    rt: &(impl Print + AllocGlobal),
+    check: bool,
+    reader: R,
+) -> Result<Summary, Fault> {
+    if check {
+        check_only(rt, reader)
+    } else {
+        run_script(rt, reader)
+    }
+}
+
+/// Runs or checks the script that the options name.
 fn run_options(rt: &HostRuntime, options: &CommandLine<'_>) -> Result<Summary, Fault> {
     match options.script {
         Some(path) => {
             let file = fs::open(rt, path).map_err(|error| opening_fault(&error))?;
-            run_script(rt, file)
+            answer_script(rt, options.check, file)
         }
-        None => run_script(rt, rt.reader()),
+        None => answer_script(rt, options.check, rt.reader()),
     }
 }
 

@@ -3,16 +3,18 @@ use crate::options::options;
 use crate::status::{exit_status, line_status};
 use std::process::Abort;
 use std::test::Fail;
-use tql_engine::run::{Fault, Summary};
+use tql_run::run::{Fault, Summary};
 
-/// Asserts which script a command line that is taken names.
+/// Asserts which script a command line that is taken names, and whether it is to be checked.
 fn assert_takes(
     rt: &(impl Abort + AllocGlobal),
     words: &[&str],
+    check: bool,
     script: Option<&str>,
 ) -> Result<(), Fail> {
     let words = owned(rt, words)?;
     let options = options(rt.alloc(), &words)?;
+    assert_eq!(rt; options.check, check);
     assert_eq!(rt; options.script, script);
     Ok(())
 }
@@ -36,10 +38,23 @@ fn owned(rt: &impl AllocGlobal, words: &[&str]) -> Result<Vec<String>, Fail> {
 
 #[test]
 fn takes_a_script_or_none(rt: HostRuntime) -> Result<(), Fail> {
-    assert_takes(&rt, &["tql"], None)?;
-    assert_takes(&rt, &["tql", "week.sql"], Some("week.sql"))?;
-    assert_takes(&rt, &["tql", "--", "--week.sql"], Some("--week.sql"))?;
-    assert_takes(&rt, &["tql", ""], Some(""))
+    assert_takes(&rt, &["tql"], false, None)?;
+    assert_takes(&rt, &["tql", "week.sql"], false, Some("week.sql"))?;
+    assert_takes(&rt, &["tql", "--", "--week.sql"], false, Some("--week.sql"))?;
+    assert_takes(&rt, &["tql", "--", "--check"], false, Some("--check"))?;
+    assert_takes(&rt, &["tql", ""], false, Some(""))
+}
+
+#[test]
+fn takes_a_script_to_check_or_none(rt: HostRuntime) -> Result<(), Fail> {
+    assert_takes(&rt, &["tql", "--check"], true, None)?;
+    assert_takes(&rt, &["tql", "--check", "week.sql"], true, Some("week.sql"))?;
+    assert_takes(
+        &rt,
+        &["tql", "--check", "--", "--check"],
+        true,
+        Some("--check"),
+    )
 }
 
 #[test]
@@ -52,6 +67,9 @@ fn helps_with_status_0(rt: HostRuntime) -> Result<(), Fail> {
 fn refuses_other_words_with_status_2(rt: HostRuntime) -> Result<(), Fail> {
     assert_refuses(&rt, &["tql", "a.sql", "b.sql"], 2)?;
     assert_refuses(&rt, &["tql", "--week"], 2)?;
+    assert_refuses(&rt, &["tql", "--check", "a.sql", "b.sql"], 2)?;
+    assert_refuses(&rt, &["tql", "--check=no"], 2)?;
+    assert_refuses(&rt, &["tql", "-c"], 2)?;
     assert_refuses(&rt, &["tql", "-w"], 2)
 }
 

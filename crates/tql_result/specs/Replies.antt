@@ -1,13 +1,13 @@
 -- The reply and the table that a code value stands for, and which of them can be printed.
-use Rattle.std.specs.Prelude.{List, All, map, string_bytes}
-use Rattle.tql_spec.specs.Datum.{Datum, Null, Int, Text, Day, Moment, Row}
+use Rattle.std.specs.Prelude.{List, map, string_bytes}
+use Rattle.tql_spec.specs.Datum.{Row}
 use Rattle.tql_spec.specs.Definition.{Name}
 use Rattle.tql_spec.specs.Machine as spec
 use Rattle.tql_value.specs.Views.{datum_of_value}
 use Rattle.tql_value.specs.Refusals.{refusal_of}
 use Rattle.tql_value.specs.declared.value.Value.{Value}
 use Rattle.tql_value.specs.declared.value.Rows.{Rows}
-use Rattle.tql_value.specs.Points.{IsDay, IsMoment}
+use Rattle.tql_value.specs.Points.{ArePrintable}
 use Rattle.tql_result.specs.declared.reply.Verb.{Verb}
 use Rattle.tql_result.specs.declared.reply.Verb.TheVariants as verb
 use Rattle.tql_result.specs.declared.reply.Reply.{Reply}
@@ -24,6 +24,7 @@ plain_verb verb.Started = spec.Started
 plain_verb verb.Committed = spec.Committed
 plain_verb verb.RolledBack = spec.RolledBack
 plain_verb verb.ClockSet = spec.ClockSet
+plain_verb verb.Accepted = spec.Accepted
 
 -- the data of a row
 abbrev pub row_of : List Value → Row
@@ -42,18 +43,6 @@ abbrev pub reply_of : Reply → spec.Reply
 reply_of (reply.Done v n) = spec.Done (plain_verb v) n
 reply_of (reply.Table t) = spec.Table (headings_of t) (rows_of t)
 reply_of (reply.Refused e) = spec.Refused (refusal_of e)
-
--- a value that has a text: a day or a moment that the calendar has, and any other value
-abbrev pub IsPrintable : Datum → Type 0
-IsPrintable Null = Unit {0}
-IsPrintable (Int n) = Unit {0}
-IsPrintable (Text t) = Unit {0}
-IsPrintable (Day d) = IsDay d
-IsPrintable (Moment m) = IsMoment m
-
--- rows of such values
-abbrev pub ArePrintable : List Row → Type 0
-ArePrintable rows = All (All IsPrintable) rows
 
 -- a reply of such rows
 abbrev pub IsPrintableReply : spec.Reply → Type 0

@@ -2,7 +2,7 @@ ghost use Rattle.std.specs.Prelude.{◌↔◌, IsTrue};
 ghost use Rattle.tql_spec.specs.Text.{cell_text};
 ghost use Rattle.tql_value.specs.Views.{datum_of_view};
 ghost use Rattle.tql_result.specs.Devices.{Pushes};
-ghost use Rattle.tql_result.specs.Replies.{IsPrintable};
+ghost use Rattle.tql_value.specs.Points.{IsPrintable};
 
 use crate::device::DeviceFault;
 use crate::number::push_int;

@@ -22,6 +22,8 @@ pub enum Verb {
     RolledBack,
     /// `AT`
     ClockSet,
+    /// `OK`: a check that found no fault.
+    Accepted,
 }
 
 /// What a statement is answered.
@@ -54,6 +56,7 @@ impl Verb {
             Verb::Committed => "COMMIT",
             Verb::RolledBack => "ROLLBACK",
             Verb::ClockSet => "AT",
+            Verb::Accepted => "OK",
         }
     }
 }

@@ -4,7 +4,8 @@ ghost use Rattle.tql_spec.specs.Machine.{Table};
 ghost use Rattle.tql_spec.specs.Text.{cell_text, row_text, line, reply_text};
 ghost use Rattle.tql_value.specs.Views.{datum_of_value};
 ghost use Rattle.tql_result.specs.Devices.{Pushes};
-ghost use Rattle.tql_result.specs.Replies.{IsPrintable, ArePrintable, row_of, rows_of, headings_of};
+ghost use Rattle.tql_result.specs.Replies.{row_of, rows_of, headings_of};
+ghost use Rattle.tql_value.specs.Points.{IsPrintable, ArePrintable};
 
 use crate::cell::{is_printable, write_cell};
 use crate::device::DeviceFault;

@@ -87,6 +87,7 @@ fn prints_what_is_done_or_refused(rt: HostRuntime) -> Result<(), Fail> {
         (Verb::Committed, None, "COMMIT\n"),
         (Verb::RolledBack, None, "ROLLBACK\n"),
         (Verb::ClockSet, None, "AT\n"),
+        (Verb::Accepted, None, "OK\n"),
     ] {
         assert_prints(&rt, &Reply::Done(verb, count), text)?;
     }

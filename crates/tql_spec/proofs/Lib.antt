@@ -7,8 +7,8 @@ mod Laws
 mod Tests
 mod Predicates
 mod Coverage
-mod FormLaws
 pub mod Bags
 pub mod Members
 pub mod Orders
 pub mod TokenLaws
+pub mod FirstFaults

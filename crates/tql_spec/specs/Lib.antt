@@ -18,8 +18,8 @@ pub mod Token
 pub mod FirstToken
 pub mod Syntax
 pub mod Grammar
-pub mod Forms
 pub mod Names
 pub mod Creation
 pub mod Binding
+pub mod Running
 pub mod Run

@@ -42,6 +42,7 @@ pub data Verb : Type 0 where
   Committed : Verb
   RolledBack : Verb
   ClockSet : Verb
+  Accepted : Verb
 
 -- what a statement is answered: done with a count or none, a table, or a refusal
 pub data Reply : Type 0 where

@@ -1,16 +1,17 @@
 -- The replies to a script: from bytes to replies, over whole runs.
-use Rattle.std.specs.Prelude.{◌≡◌, ◌⊎◌, ◌<◌, ◌≤◌, ℕ, IsTrue, IsFalse, IsUtf8, List, [], ◌∷◌, ◌++◌, length}
+use Rattle.std.specs.Prelude.{◌≡◌, ◌⊎◌, ◌<◌, ◌≤◌, ℕ, true, IsTrue, IsFalse, IsUtf8, List, [], ◌∷◌, ◌++◌, length, None}
 use Rattle.std.specs.List.{AllByRecursion}
 use Rattle.tql_spec.specs.Refusal.{Refusal, E01, E10, E11, E12, E13, E14, E15, first}
 use Rattle.tql_spec.specs.Definition.{TableDef}
 use Rattle.tql_spec.specs.History.{Entry, Copy}
 use Rattle.tql_spec.specs.Constraint.{keys_hold, references_hold}
-use Rattle.tql_spec.specs.Machine.{State, Reply, Refused, effect, entries, state_faults, unless}
+use Rattle.tql_spec.specs.Machine.{State, Reply, Done, Refused, Accepted, effect, entries, state_faults, unless}
 use Rattle.tql_spec.specs.Text.{replies_text}
 use Rattle.tql_spec.specs.Script.{Piece, statements}
 use Rattle.tql_spec.specs.Token.{Token, AreTokens, depth}
 use Rattle.tql_spec.specs.Syntax.{Statement, is_too_wide}
-use Rattle.tql_spec.specs.Forms.{Runs}
+use Rattle.tql_spec.specs.Grammar.{IsStatement}
+use Rattle.tql_spec.specs.Running.{Runs}
 use Rattle.tql_spec.specs.Binding.{bind, manner}
 
 -- ---- what a piece of a script says
@@ -28,9 +29,17 @@ IsShallow text tokens = AreTokens tokens text × (depth tokens ≤ 64)
 abbrev pub IsDeep : List ℕ → Type 0
 IsDeep text = (tokens : List Token) × AreTokens tokens text × (64 < depth tokens)
 
--- the text spells the statement, which is one that runs
-abbrev pub IsTextOf : List ℕ → Statement → Type 0
-IsTextOf text s = (tokens : List Token) × IsShallow text tokens × Runs s tokens
+-- which statements token lists spell
+abbrev pub Language : Type 1
+Language = Statement → List Token → Type 0
+
+-- the text spells the statement in the language
+abbrev pub IsTextOf : Language → List ℕ → Statement → Type 0
+IsTextOf L text s = (tokens : List Token) × IsShallow text tokens × L s tokens
+
+-- a finished statement of this text
+abbrev pub finished : List ℕ → Piece
+finished text = record { text = text; finished = true }
 
 -- no fault of bytes: not too long, UTF-8, and finished
 pub record IsWhole (p : Piece) : Type 0 where
@@ -39,15 +48,15 @@ pub record IsWhole (p : Piece) : Type 0 where
   pub finished : IsTrue p.finished
 
 -- each fault comes only where none before it is present
-abbrev pub HasSense : Piece → Sense → Type 0
-HasSense p (Faulty E13) = 1_048_576 < length p.text
-HasSense p (Faulty E11) = (length p.text ≤ 1_048_576) × ¬ IsUtf8 p.text
-HasSense p (Faulty E12) = (length p.text ≤ 1_048_576) × IsUtf8 p.text × IsFalse p.finished
-HasSense p (Faulty E14) = IsWhole p × IsDeep p.text
-HasSense p (Faulty E10) = IsWhole p × ¬ IsDeep p.text × ((s : Statement) → IsTextOf p.text s → ⊥)
-HasSense p (Faulty E15) = IsWhole p × ((s : Statement) × IsTextOf p.text s × IsTrue (is_too_wide s))
-HasSense p (Faulty _) = ⊥
-HasSense p (Says s) = IsWhole p × IsTextOf p.text s × IsFalse (is_too_wide s)
+abbrev pub HasSense : Language → Piece → Sense → Type 0
+HasSense L p (Faulty E13) = 1_048_576 < length p.text
+HasSense L p (Faulty E11) = (length p.text ≤ 1_048_576) × ¬ IsUtf8 p.text
+HasSense L p (Faulty E12) = (length p.text ≤ 1_048_576) × IsUtf8 p.text × IsFalse p.finished
+HasSense L p (Faulty E14) = IsWhole p × IsDeep p.text
+HasSense L p (Faulty E10) = IsWhole p × ¬ IsDeep p.text × ((s : Statement) → IsTextOf L p.text s → ⊥)
+HasSense L p (Faulty E15) = IsWhole p × ((s : Statement) × IsTextOf L p.text s × IsTrue (is_too_wide s))
+HasSense L p (Faulty _) = ⊥
+HasSense L p (Says s) = IsWhole p × IsTextOf L p.text s × IsFalse (is_too_wide s)
 
 -- ---- steps
 
@@ -67,15 +76,36 @@ respond_to s (Faulty e) = (Refused e, s)
 -- the machine's reply to a piece, or out of memory with the state as it was
 abbrev pub Answers : State → Piece → Reply → State → Type 0
 Answers old p reply new =
-    ((sense : Sense) × HasSense p sense × ((reply, new) ≡ respond_to old sense))
+    ((sense : Sense) × HasSense Runs p sense × ((reply, new) ≡ respond_to old sense))
     ⊎ ((reply ≡ Refused E01) × (new ≡ old))
 
--- replies to pieces, one after another
+-- ---- checks
+
+-- the reply to what a piece says, where it is checked and not run
+abbrev pub verdict : Sense → Reply
+verdict (Says t) = Done Accepted None
+verdict (Faulty e) = Refused e
+
+-- the reply to a piece that is checked over the whole grammar, or out of memory; the state stays as it is
+abbrev pub Checks : State → Piece → Reply → State → Type 0
+Checks old p reply new = (((sense : Sense) × HasSense IsStatement p sense × (reply ≡ verdict sense)) ⊎ (reply ≡ Refused E01)) × (new ≡ old)
+
+-- ---- runs
+
+-- how one piece is answered
+abbrev pub Answering : Type 1
+Answering = State → Piece → Reply → State → Type 0
+
+-- replies to pieces, one after another, each in this manner
+abbrev pub RunBy : Answering → State → List Piece → List Reply → State → Type 0
+RunBy A old [] [] new = new ≡ old
+RunBy A old (p ∷ ps) (r ∷ rs) new = (mid : State) × A old p r mid × RunBy A mid ps rs new
+RunBy A old [] (r ∷ rs) new = ⊥
+RunBy A old (p ∷ ps) [] new = ⊥
+
+-- replies of the machine
 abbrev pub Run : State → List Piece → List Reply → State → Type 0
-Run old [] [] new = new ≡ old
-Run old (p ∷ ps) (r ∷ rs) new = (mid : State) × Answers old p r mid × Run mid ps rs new
-Run old [] (r ∷ rs) new = ⊥
-Run old (p ∷ ps) [] new = ⊥
+Run = RunBy Answers
 
 -- the bytes written are the texts of a run over the script's statements
 abbrev pub Writes : State → (script output : List ℕ) → State → Type 0

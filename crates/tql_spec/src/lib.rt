@@ -4,7 +4,6 @@
 ghost use Rattle.tql_spec.specs.Datum.{Day, Moment};
 ghost use Rattle.tql_spec.specs.Period.{FormulasAreSets, PartsAreSets, Period, PointFormulaIsSet};
 ghost use Rattle.tql_spec.specs.Constraint.{KeyTestIsRight, ReferenceTestIsRight};
-ghost use Rattle.tql_spec.specs.Forms.{FormsAreStatements};
 ghost use Rattle.tql_spec.specs.Run.{RefusalsKeepState};
 ghost use Rattle.tql_spec.specs.Token.{HasOneTokenList};
 
@@ -34,11 +33,6 @@ pub fn predicates_on_points()
 /// A reference's test says what holds at each point.
 pub fn references_at_each_point()
     ensures { ReferenceTestIsRight }
-{}
-
-/// What runs is a statement of the whole grammar.
-pub fn forms_are_statements()
-    ensures { FormsAreStatements }
 {}
 
 /// A text has one list of tokens, if any.

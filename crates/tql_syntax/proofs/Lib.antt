@@ -22,3 +22,4 @@ pub mod Steps
 pub mod Turns
 pub mod Widths
 pub mod WordLaws
+pub mod TextLaws

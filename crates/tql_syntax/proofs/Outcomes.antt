@@ -9,7 +9,7 @@ use Rattle.tql_syntax.specs.declared.statement.Statement as code
 use Rattle.tql_syntax.specs.Outcome.{Read, Failed, whole}
 use Rattle.tql_syntax.specs.ReadingStatements.{statement_at, read_statement}
 use Rattle.tql_syntax.specs.Parsing.{refusal_for}
-use Rattle.tql_syntax.specs.Parses.{Parses, SpellsNone}
+use Rattle.tql_syntax.specs.Parses.{Spells, SpellsNone}
 use Rattle.tql_syntax.specs.declared.cursor.ParseError.{ParseError}
 use Rattle.tql_syntax.specs.declared.cursor.ParseError.TheVariants.{OutOfMemory, NotInGrammar}
 use Rattle.tql_syntax.proofs.StatementLaws.{reads_statement, statement_is_read}
@@ -19,14 +19,14 @@ nothing_read : (ts : List Token) → read_statement ts ≡ None → SpellsNone t
 nothing_read ts e s p = let r = statement_is_read ts s p in absurd cc
 
 -- the error of a statement that was not read
-pub failed : (ts : List Token) (e : ParseError) → depth ts ≤ 64 → (e ≢ OutOfMemory → statement_at ts ≡ Failed) → Parses ts (Err (refusal_for e))
+pub failed : (ts : List Token) (e : ParseError) → depth ts ≤ 64 → (e ≢ OutOfMemory → statement_at ts ≡ Failed) → Spells ts (Err (refusal_for e))
 failed ts OutOfMemory shallow h = tt
 failed ts NotInGrammar shallow h = let e : statement_at ts ≡ Failed = h (λ p. cc) in (shallow, nothing_read ts (ap whole e))
 
 -- the refusal for that error
-pub refused : (ts : List Token) (r : Result code.Statement Refusal) (e : ParseError) → depth ts ≤ 64 → (e ≢ OutOfMemory → statement_at ts ≡ Failed) → IsErrAnd r (λ x. x ≡ refusal_for e) → Parses ts r
+pub refused : (ts : List Token) (r : Result code.Statement Refusal) (e : ParseError) → depth ts ≤ 64 → (e ≢ OutOfMemory → statement_at ts ≡ Failed) → IsErrAnd r (λ x. x ≡ refusal_for e) → Spells ts r
 refused ts (Ok s) e shallow h k = absurd k
-refused ts (Err x) e shallow h k = subst (λ (y : Refusal). Parses ts (Err y)) (sym k) (failed ts e shallow h)
+refused ts (Err x) e shallow h k = subst (λ (y : Refusal). Spells ts (Err y)) (sym k) (failed ts e shallow h)
 
 -- tokens are left behind the statement
 pub left_over : (ts : List Token) (s : Statement) (rest : List Token) → statement_at ts ≡ Read s rest → 0 < length rest → SpellsNone ts

@@ -10,3 +10,4 @@ pub mod Parsing
 pub mod Statements
 pub mod Nesting
 pub mod Parses
+pub mod Texts

@@ -23,6 +23,14 @@ SpellsNone ts = (s : tree.Statement) → IsStatement s ts → ⊥
 abbrev pub SpellsWide : List Token → Type 0
 SpellsWide ts = (s : tree.Statement) × IsStatement s ts × IsTrue (is_too_wide s)
 
+-- what the outcome says of the tokens, however wide the statement is
+abbrev pub Spells : List Token → Result Statement Refusal → Type 0
+Spells ts (Ok s) = (depth ts ≤ 64) × IsStatement (statement_of s) ts
+Spells ts (Err NestedTooDeep) = 64 < depth ts
+Spells ts (Err NotAStatement) = (depth ts ≤ 64) × SpellsNone ts
+Spells ts (Err OutOfMemory) = ⊤
+Spells ts (Err _) = ⊥
+
 -- what the outcome says of the tokens
 abbrev pub Parses : List Token → Result Statement Refusal → Type 0
 Parses ts (Ok s) = IsParsed ts (statement_of s)

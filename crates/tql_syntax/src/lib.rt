@@ -8,6 +8,7 @@ mod creates;
 mod cursor;
 pub mod expression;
 mod expressions;
+pub mod name;
 mod operands;
 pub mod parse;
 mod queries;
@@ -15,3 +16,4 @@ pub mod statement;
 mod statements;
 #[cfg(test)]
 mod tests;
+pub mod text;

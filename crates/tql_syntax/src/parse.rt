@@ -5,7 +5,7 @@ ghost use Rattle.tql_spec.specs.Syntax as tree;
 ghost use Rattle.tql_spec.specs.Grammar.{SpellsOnce};
 ghost use Rattle.tql_lex.specs.Tokens.{token_of};
 ghost use Rattle.tql_syntax.specs.Nesting.{open_behind};
-ghost use Rattle.tql_syntax.specs.Parses.{Parses};
+ghost use Rattle.tql_syntax.specs.Parses.{Parses, Spells};
 ghost use Rattle.tql_syntax.specs.Statements.{element_of, chain_of, select_of, create_of, insert_of, query_of, statement_of};
 
 use crate::cursor::Cursor;
@@ -108,8 +108,8 @@ fn is_wide_query(query: &Query<'_>) -> bool
     is_wide_select(&query.select)
 }
 
-/// Whether a statement has more than 64 columns, or more than 8 table references.
-fn is_too_wide(statement: &Statement<'_>) -> bool
+/// Whether a statement has more than 64 columns, or more than 8 table references. Both limits are this project's choice.
+pub fn is_too_wide(statement: &Statement<'_>) -> bool
     ensures { result ≡ tree.is_too_wide (statement_of statement.now) }
 {
     match statement {
@@ -120,14 +120,13 @@ fn is_too_wide(statement: &Statement<'_>) -> bool
     }
 }
 
-/// Reads the tokens of one statement, all of them.
+/// Reads the tokens of one statement, all of them, however wide it is.
 ///
-/// More than 64 parentheses open at once are refused first, as nested too deep. Tokens that spell no statement are refused as not
-/// a statement, and then more than 64 columns of a table, or more than 8 table references in a FROM clause, as too many. Where
-/// memory runs out, that is the refusal. The grammar is a part of the SQL of ISO/IEC 9075-2:2011; the limits, and `AT` with a
-/// moment, are this project's choice.
-pub fn parse<'a>(memory: Memory, tokens: &[Token<'a>]) -> Result<Statement<'a>, Refusal>
-    ensures { Parses (map token_of tokens.now) result }
+/// More than 64 parentheses open at once are refused first, as nested too deep, and then tokens that spell no statement, as not a
+/// statement. Where memory runs out, that is the refusal. The grammar is a part of the SQL of ISO/IEC 9075-2:2011; the limit, and
+/// `AT` with a moment, are this project's choice.
+pub fn spelled<'a>(memory: Memory, tokens: &[Token<'a>]) -> Result<Statement<'a>, Refusal>
+    ensures { Spells (map token_of tokens.now) result }
 {
     if most_open(tokens) > MOST_OPEN {
         return Err(Refusal::NestedTooDeep);
@@ -137,10 +136,20 @@ pub fn parse<'a>(memory: Memory, tokens: &[Token<'a>]) -> Result<Statement<'a>, 
     if cursor.left() > 0 {
         return Err(Refusal::NotAStatement);
     }
-    if is_too_wide(&statement) {
-        return Err(Refusal::TooManyColumnsOrTables);
-    }
     Ok(statement)
+}
+
+/// Reads the tokens of one statement, all of them.
+///
+/// Refused as `spelled` refuses; and then more than 64 columns of a table, or more than 8 table references in a FROM clause, as too
+/// many.
+pub fn parse<'a>(memory: Memory, tokens: &[Token<'a>]) -> Result<Statement<'a>, Refusal>
+    ensures { Parses (map token_of tokens.now) result }
+{
+    match spelled(memory, tokens) {
+        Ok(statement) if is_too_wide(&statement) => Err(Refusal::TooManyColumnsOrTables),
+        other => other,
+    }
 }
 
 /// Tokens spell one statement at most.

@@ -1,5 +1,5 @@
-ghost use Rattle.std.specs.Prelude.{◌≡◌};
-ghost use Rattle.tql_spec.specs.Refusal.{number as number_of, wording};
+ghost use Rattle.std.specs.Prelude.{◌≡◌, Some};
+ghost use Rattle.tql_spec.specs.Refusal.{earlier as earlier_of, number as number_of, place as place_of, wording};
 ghost use Rattle.tql_value.specs.Refusals.{refusal_of};
 
 use crate::arithmetic::Range;
@@ -117,6 +117,50 @@ impl Refusal {
             Refusal::DuplicateKey => 35,
             Refusal::ReferenceNotMet => 36,
             Refusal::OutOfMemory => 1,
+        }
+    }
+
+    /// The place in the order of report, from 0.
+    pub fn place(self) -> u32
+        ensures { result ≡ place_of (refusal_of self) }
+    {
+        match self {
+            Refusal::StatementTooLong => 0,
+            Refusal::NotUtf8 => 1,
+            Refusal::UnfinishedStatement => 2,
+            Refusal::NestedTooDeep => 3,
+            Refusal::NotAStatement => 4,
+            Refusal::TooManyColumnsOrTables => 5,
+            Refusal::NotInThisTransactionState => 6,
+            Refusal::MomentNotAllowed => 7,
+            Refusal::ReadersAreOpen => 8,
+            Refusal::TableUnknownOrAlreadyThere => 9,
+            Refusal::NameUnknownAmbiguousOrRepeated => 10,
+            Refusal::TypesDoNotFit => 11,
+            Refusal::FormNotAllowedHere => 12,
+            Refusal::TableIsReferenced => 13,
+            Refusal::TooManyTablesOrReaders => 14,
+            Refusal::BeforeTheHorizon => 15,
+            Refusal::ReaderNotUsable => 16,
+            Refusal::ValueOutOfRange => 17,
+            Refusal::PortionNotRising => 18,
+            Refusal::NullNotAllowed => 19,
+            Refusal::PeriodNotRising => 20,
+            Refusal::CheckFailed => 21,
+            Refusal::DuplicateKey => 22,
+            Refusal::ReferenceNotMet => 23,
+            Refusal::OutOfMemory => 24,
+        }
+    }
+
+    /// The one of the two that is reported before the other.
+    pub fn earlier(self, other: Refusal) -> Refusal
+        ensures { refusal_of result ≡ earlier_of (refusal_of self) (Some (refusal_of other)) }
+    {
+        if other.place() < self.place() {
+            other
+        } else {
+            self
         }
     }
 

@@ -5,14 +5,14 @@ use tql_value::calendar::HIGH;
 use tql_value::refusal::Refusal;
 
 impl Engine {
-    ghost use Rattle.tql_spec.specs.Machine.{State};
+    ghost use Rattle.tql_spec.specs.Machine as machine;
+    ghost use Rattle.tql_spec.specs.Machine.{State, step};
     ghost use Rattle.tql_engine.specs.Stands.{StandsFor};
-    ghost use Rattle.tql_engine.specs.Steps.{unless_open, start_step, commit_step, rollback_step};
     ghost use Rattle.tql_engine.specs.Effects.{DoesStep};
 
     /// START TRANSACTION, at the clock's moment.
     pub(super) fn start(&mut self) -> Result<Reply, Refusal>
-        ensures { (s : State) → StandsFor self.old s → DoesStep self.new s result (unless_open s (start_step s)) }
+        ensures { (s : State) → StandsFor self.old s → DoesStep self.new s result (step s machine.Start) }
     {
         if self.rows.has_transaction() {
             return Err(Refusal::NotInThisTransactionState);
@@ -26,7 +26,7 @@ impl Engine {
 
     /// COMMIT: the clock goes on by a microsecond, also where nothing was changed.
     pub(super) fn commit(&mut self) -> Result<Reply, Refusal>
-        ensures { (s : State) → StandsFor self.old s → DoesStep self.new s result (commit_step s s.transaction) }
+        ensures { (s : State) → StandsFor self.old s → DoesStep self.new s result (step s machine.Commit) }
     {
         if !self.rows.has_transaction() {
             return Err(Refusal::NotInThisTransactionState);
@@ -38,7 +38,7 @@ impl Engine {
 
     /// ROLLBACK
     pub(super) fn rollback(&mut self) -> Result<Reply, Refusal>
-        ensures { (s : State) → StandsFor self.old s → DoesStep self.new s result (rollback_step s s.transaction) }
+        ensures { (s : State) → StandsFor self.old s → DoesStep self.new s result (step s machine.Rollback) }
     {
         if !self.rows.has_transaction() {
             return Err(Refusal::NotInThisTransactionState);

@@ -1,12 +1,13 @@
 // Runs of scripts over memory, and devices that fail.
 use crate::engine::Engine;
-use crate::run::{Fault, Summary, run};
-use crate::std_source::StdSource;
+use crate::run::run;
 use std::io::{self, Error, ErrorKind, Read, Write};
 use std::process::Abort;
 use std::test::Fail;
 use tql_memory::memory;
 use tql_result::std_sink::StdSink;
+use tql_run::run::{Fault, Summary};
+use tql_run::std_source::StdSource;
 
 /// A reader of bytes that gives so many at once, and fails where it has no reads left.
 #[derive(Drop)]
@@ -168,4 +169,23 @@ pub fn assert_log_prints(
     let whole = with_log(rt, script)?;
     let expected = format!(in rt.alloc(); "CREATE TABLE\nAT\n{text}")?;
     assert_prints(rt, &whole, &expected)
+}
+
+/// Asserts what each of some statements prints, each on an engine of its own behind the same beginning.
+pub fn assert_replies(
+    rt: &(impl Abort + AllocGlobal),
+    beginning: &str,
+    replies: &[(&str, &str)],
+) -> Result<(), Fail> {
+    let before = run_script(rt, beginning.as_bytes(), SOUND)?;
+    for (statement, reply) in replies {
+        let script = format!(in rt.alloc(); "{beginning}{statement};")?;
+        let outcome = run_script(rt, script.as_bytes(), SOUND)?;
+        let text = outcome
+            .text
+            .strip_prefix(before.text.as_slice())
+            .ok_or("another beginning")?;
+        assert_eq!(rt; str::from_utf8(text)?, *reply, "at {statement}");
+    }
+    Ok(())
 }

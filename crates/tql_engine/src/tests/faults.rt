@@ -1,7 +1,7 @@
 // Devices that fail.
-use crate::run::{Fault, Summary};
 use crate::tests::devices::{Outcome, SOUND, Setting, run_script, with_log};
 use std::test::Fail;
+use tql_run::run::{Fault, Summary};
 
 const REST: &[u8] = b"INSERT INTO log VALUES (7);\n\
     SELECT * FROM log FOR SYSTEM_TIME AS OF TIMESTAMP '2011-01-01 00:00:00';\nINSERT INTO";

@@ -1,27 +1,54 @@
 // Memory that ends: each growth of a script is refused in turn.
-ghost use Rattle.tql_engine.specs.Forms.{HasParts};
-
 use crate::engine::Engine;
-use crate::parse::form::Form;
-use crate::run::Fault;
 use crate::tests::devices::{Outcome, SOUND, Setting, run_script};
-use crate::tests::machine::{Machine, Name, Span, Statement};
+use crate::tests::machine::Machine;
+use crate::tests::samples::{no_value, null, some_value};
+use crate::tests::statement::{Cell, Insertion, Listed, Span, Statement, Tuple};
+use crate::tests::tables::{Name, Sort};
+use crate::tests::wordings::E21;
 use std::alloc::{AllocError, Global};
 use std::process::Abort;
 use std::test::Fail;
+use tql_bind::bound::Bound;
 use tql_memory::{Memory, memory};
 use tql_result::reply::{Reply, Verb};
+use tql_run::run::Fault;
 
 /// What a statement is answered that finds no memory.
 const NO_MEMORY: &str = "REFUSED E01 out of memory\n";
+
+/// More growths than a script makes.
+const MANY: u64 = 4000;
+
+fn number(choice: u64) -> Cell {
+    some_value(Sort::Number, choice)
+}
+
+/// An INSERT of tuples.
+fn insert_all(table: Name, list: Vec<Listed>, tuples: Vec<Tuple>) -> Statement {
+    Statement::Insert(Insertion {
+        table,
+        list,
+        tuples,
+    })
+}
+
+/// An INSERT of one tuple.
+fn insert(alloc: Global, table: Name, tuple: Tuple) -> Result<Statement, AllocError> {
+    Ok(insert_all(table, Vec::new(alloc), vec![in alloc; tuple]?))
+}
 
 fn commits(alloc: Global) -> Result<Vec<Statement>, AllocError> {
     Ok(vec![in alloc;
         Statement::Create(Name::Log),
         Statement::At(5_000_000),
-        Statement::Insert(Name::Log, vec![in alloc; (2, 0), (1, 0)]?),
+        insert_all(
+            Name::Log,
+            Vec::new(alloc),
+            vec![in alloc; vec![in alloc; number(1)]?, vec![in alloc; number(0)]?]?,
+        ),
         Statement::Odd,
-        Statement::Insert(Name::Log, vec![in alloc; (3, 0)]?),
+        insert(alloc, Name::Log, vec![in alloc; number(4)]?)?,
         Statement::Ask(Name::Log, Span::AsOf(5_000_000)),
         Statement::At(5_000_000),
         Statement::Ask(Name::Log, Span::AsOf(5_000_001)),
@@ -32,14 +59,75 @@ fn transactions(alloc: Global) -> Result<Vec<Statement>, AllocError> {
     Ok(vec![in alloc;
         Statement::Create(Name::Log),
         Statement::At(0),
-        Statement::Insert(Name::Log, vec![in alloc; (1, 0)]?),
+        insert(alloc, Name::Log, vec![in alloc; number(1)]?)?,
         Statement::Start,
         Statement::Delete(Name::Log),
-        Statement::Insert(Name::Log, vec![in alloc; (2, 0)]?),
+        insert(alloc, Name::Log, vec![in alloc; number(2)]?)?,
         Statement::Ask(Name::Log, Span::Now),
         Statement::Ask(Name::Log, Span::AsOf(0)),
-        Statement::Rollback,
+        Statement::Rollback(""),
         Statement::Ask(Name::Log, Span::Now),
+    ]?)
+}
+
+/// A tuple of all sorts.
+fn sale(alloc: Global, choice: u64) -> Result<Tuple, AllocError> {
+    Ok(vec![in alloc;
+        some_value(Sort::Text, choice),
+        some_value(Sort::Day, choice),
+        some_value(Sort::Moment, choice),
+        some_value(Sort::Number, choice),
+    ]?)
+}
+
+fn sales(alloc: Global) -> Result<Vec<Statement>, AllocError> {
+    Ok(vec![in alloc;
+        Statement::At(0),
+        Statement::Create(Name::Sale),
+        Statement::CreateFaulty(Name::Nowhere, "(x INTEGER, \"X\" DATE)", E21),
+        insert_all(
+            Name::Sale,
+            Vec::new(alloc),
+            vec![in alloc; sale(alloc, 3)?, sale(alloc, 5)?]?,
+        ),
+        insert_all(
+            Name::Sale,
+            vec![in alloc; Listed::At(1), Listed::At(0)]?,
+            vec![in alloc; vec![in alloc; some_value(Sort::Day, 0), no_value(Sort::Text, 2)]?]?,
+        ),
+        insert(
+            alloc,
+            Name::Sale,
+            vec![in alloc; no_value(Sort::Text, 1), null(), null(), null()]?
+        )?,
+        insert(
+            alloc,
+            Name::Sale,
+            vec![in alloc; null(), null(), null(), null()]?
+        )?,
+        Statement::Ask(Name::Sale, Span::Now),
+        Statement::Delete(Name::Sale),
+        Statement::Ask(Name::Sale, Span::Between(0, 1)),
+    ]?)
+}
+
+fn notes(alloc: Global) -> Result<Vec<Statement>, AllocError> {
+    Ok(vec![in alloc;
+        Statement::At(0),
+        Statement::Create(Name::Note),
+        Statement::Start,
+        insert_all(
+            Name::Note,
+            vec![in alloc; Listed::At(1), Listed::At(0)]?,
+            vec![in alloc;
+                vec![in alloc; some_value(Sort::Moment, 1), some_value(Sort::Text, 5)]?
+            ]?,
+        ),
+        Statement::Commit(" WORK"),
+        Statement::Ask(Name::Note, Span::Now),
+        Statement::Ask(Name::Note, Span::AsOf(0)),
+        Statement::Delete(Name::Note),
+        Statement::Ask(Name::Note, Span::Now),
     ]?)
 }
 
@@ -104,13 +192,13 @@ fn assert_each_growth(
 ) -> Result<(), Fail> {
     let sql = script(rt.alloc(), statements)?;
     let mut granted = 0u64;
-    for _ in 0..400 {
+    for _ in 0..MANY {
         if !assert_runs_in(rt, statements, &sql, granted)? {
             break;
         }
         granted = granted.saturating_add(1);
     }
-    assert!(rt; granted > 8 && granted < 400);
+    assert!(rt; granted > 8 && granted < MANY);
     assert!(rt; !assert_runs_in(rt, statements, &sql, u64::MAX)?);
     Ok(())
 }
@@ -127,16 +215,28 @@ fn refuses_each_growth_of_a_transaction_in_turn(rt: HostRuntime) -> Result<(), F
     assert_each_growth(&rt, &statements)
 }
 
+#[test]
+fn refuses_each_growth_of_all_sorts_in_turn(rt: HostRuntime) -> Result<(), Fail> {
+    let statements = sales(rt.alloc())?;
+    assert_each_growth(&rt, &statements)
+}
+
+#[test]
+fn refuses_each_growth_without_versions_in_turn(rt: HostRuntime) -> Result<(), Fail> {
+    let statements = notes(rt.alloc())?;
+    assert_each_growth(&rt, &statements)
+}
+
 /// An engine in a transaction that has changed rows, if so much memory is enough for it.
 fn changed_engine(memory: Memory) -> Option<Engine> {
     let mut engine = Engine::new(memory);
     for text in [
-        "CREATE TABLE log (x INTEGER, s TIMESTAMP GENERATED ALWAYS AS ROW START, e TIMESTAMP GENERATED ALWAYS AS ROW END, \
+        "CREATE TABLE log (x VARCHAR(4), s TIMESTAMP GENERATED ALWAYS AS ROW START, e TIMESTAMP GENERATED ALWAYS AS ROW END, \
          PERIOD FOR SYSTEM_TIME (s, e)) WITH SYSTEM VERSIONING",
-        "INSERT INTO log VALUES (1)",
+        "INSERT INTO log VALUES ('one')",
         "START TRANSACTION",
         "DELETE FROM log",
-        "INSERT INTO log VALUES (2)",
+        "INSERT INTO log VALUES ('two')",
     ] {
         match engine.step(text.as_bytes()) {
             Reply::Done(_, _) => {}
@@ -146,29 +246,33 @@ fn changed_engine(memory: Memory) -> Option<Engine> {
     Some(engine)
 }
 
-/// Asserts that a form that ends the transaction is answered where each growth is refused.
-fn assert_ends(rt: &(impl Abort + AllocGlobal), form: &Form<'_>, verb: Verb) -> Result<(), Fail>
-    requires { HasParts form.now }
-{
-    for granted in 0..400u64 {
+/// An engine in a transaction whose memory has just ended.
+fn spent_engine(rt: &(impl Abort + AllocGlobal)) -> Result<Engine, Fail> {
+    for granted in 0..MANY {
         let memory = memory(rt.alloc(), granted)?;
-        if let Some(mut engine) = changed_engine(memory) {
+        if let Some(engine) = changed_engine(memory) {
             let mut bytes = Vec::new(memory);
             assert!(rt; bytes.push(0u8).is_err());
-            match engine.execute(form) {
-                Ok(Reply::Done(found, None)) => assert_eq!(rt; found, verb),
-                _ => panic!(rt; "not ended"),
-            }
-            return Ok(());
+            return Ok(engine);
         }
     }
     panic!(rt; "no transaction")
 }
 
 #[test]
-fn ends_a_transaction_without_memory(rt: HostRuntime) -> Result<(), Fail> {
-    assert_ends(&rt, &Form::CommitWork, Verb::Committed)?;
-    assert_ends(&rt, &Form::RollbackWork, Verb::RolledBack)
+fn commits_without_memory(rt: HostRuntime) -> Result<(), Fail> {
+    let mut engine = spent_engine(&rt)?;
+    let reply = engine.perform(Bound::Commit);
+    assert!(rt; matches!(&reply, Ok(Reply::Done(Verb::Committed, None))));
+    Ok(())
+}
+
+#[test]
+fn rolls_back_without_memory(rt: HostRuntime) -> Result<(), Fail> {
+    let mut engine = spent_engine(&rt)?;
+    let reply = engine.perform(Bound::Rollback);
+    assert!(rt; matches!(&reply, Ok(Reply::Done(Verb::RolledBack, None))));
+    Ok(())
 }
 
 #[test]

@@ -1,64 +1,32 @@
 // A machine that copies its whole tables at every commit. It shares nothing with the engine: it is told what a statement
 // says, and writes the reply itself.
+use crate::tests::statement::{
+    Cell, Insertion, Listed, Meaning, Span, Statement, Tuple, moment_of_clock,
+};
+use crate::tests::tables::{Cells, Column, Filling, NO_CELLS, Name, Value};
+use crate::tests::wordings::{E10, E20, E21, E22, E23, E30, E32, E40, E41};
 use std::alloc::{AllocError, Global};
 
-/// The tables of the tests: `log` has the column x, `pay` has p and q, and the third is never made.
+/// A row's cells, of which the generated ones are empty, and the moment of its commit.
 #[derive(Clone, Copy, PartialEq, Eq, Debug)]
-pub enum Name {
-    Log,
-    Pay,
-    Nowhere,
+struct Row {
+    cells: Cells,
+    start: u64,
 }
 
-impl Name {
-    pub fn text(self) -> &'static str {
-        match self {
-            Name::Log => "log",
-            Name::Pay => "pay",
-            Name::Nowhere => "nowhere",
+impl Row {
+    /// The row as a question shows it, where it ends at this moment; `u64::MAX` where it has not ended.
+    fn shown(self, columns: &[Column], end: u64) -> Cells {
+        let mut shown = self.cells;
+        for (column, cell) in columns.iter().zip(shown.iter_mut()) {
+            match column.filling {
+                Filling::User => {}
+                Filling::RowStart => *cell = Value::Moment(moment_of_clock(self.start)),
+                Filling::RowEnd => *cell = Value::Moment(moment_of_clock(end)),
+            }
         }
+        shown
     }
-}
-
-/// A row of two numbers, of which `log` has the first alone, and the moment of its commit. Rows are in the order in which
-/// they are printed.
-#[derive(Clone, Copy, PartialEq, Eq, PartialOrd, Ord, Debug)]
-pub struct Row {
-    pub first: i64,
-    pub second: i64,
-    pub start: u64,
-}
-
-/// The moments that a question asks for.
-#[derive(Clone, Copy)]
-pub enum Span {
-    Now,
-    AsOf(u64),
-    FromTo(u64, u64),
-    Between(u64, u64),
-    /// FROM a moment TO the thirtieth of February.
-    NoDay,
-}
-
-/// What a statement says. A moment is in microseconds since 2011-01-01 00:00:00, and within an hour.
-#[derive(Drop)]
-pub enum Statement {
-    Create(Name),
-    Insert(Name, Vec<(i64, i64)>),
-    /// INSERT of three numbers.
-    InsertThree(Name),
-    /// INSERT of 9223372036854775808 in each column.
-    InsertTooLarge(Name),
-    Delete(Name),
-    At(u64),
-    /// AT the thirtieth of February.
-    AtNoDay,
-    Start,
-    Commit,
-    Rollback,
-    Ask(Name, Span),
-    /// No statement at all.
-    Odd,
 }
 
 /// The rows of all tables.
@@ -66,6 +34,8 @@ pub enum Statement {
 struct Tables {
     log: Vec<Row>,
     pay: Vec<Row>,
+    sale: Vec<Row>,
+    note: Vec<Row>,
 }
 
 impl Tables {
@@ -73,6 +43,8 @@ impl Tables {
         Tables {
             log: Vec::new(alloc),
             pay: Vec::new(alloc),
+            sale: Vec::new(alloc),
+            note: Vec::new(alloc),
         }
     }
 
@@ -80,6 +52,8 @@ impl Tables {
         Ok(Tables {
             log: self.log.clone()?,
             pay: self.pay.clone()?,
+            sale: self.sale.clone()?,
+            note: self.note.clone()?,
         })
     }
 
@@ -87,6 +61,8 @@ impl Tables {
         match name {
             Name::Log => &self.log,
             Name::Pay => &self.pay,
+            Name::Sale => &self.sale,
+            Name::Note => &self.note,
             Name::Nowhere => &[],
         }
     }
@@ -95,6 +71,8 @@ impl Tables {
         match name {
             Name::Log => self.log.push(row)?,
             Name::Pay => self.pay.push(row)?,
+            Name::Sale => self.sale.push(row)?,
+            Name::Note => self.note.push(row)?,
             Name::Nowhere => {}
         }
         Ok(())
@@ -104,9 +82,145 @@ impl Tables {
         match name {
             Name::Log => self.log.clear(),
             Name::Pay => self.pay.clear(),
+            Name::Sale => self.sale.clear(),
+            Name::Note => self.note.clear(),
             Name::Nowhere => {}
         }
     }
+}
+
+// What an INSERT says.
+
+/// The places of the columns that an INSERT fills.
+fn targets(alloc: Global, insertion: &Insertion) -> Result<Vec<usize>, AllocError> {
+    let mut places = Vec::new(alloc);
+    for listed in &insertion.list {
+        if let Listed::At(place) = listed {
+            places.push(*place)?;
+        }
+    }
+    for (place, column) in insertion.table.columns().iter().enumerate() {
+        if insertion.list.is_empty() && column.filling == Filling::User {
+            places.push(place)?;
+        }
+    }
+    Ok(places)
+}
+
+/// Whether a list names a column twice, or one that is not there.
+fn is_unsound(list: &[Listed]) -> bool {
+    for (place, listed) in list.iter().enumerate() {
+        if *listed == Listed::Unknown
+            || list
+                .iter()
+                .skip(place.saturating_add(1))
+                .any(|other| other == listed)
+        {
+            return true;
+        }
+    }
+    false
+}
+
+/// Whether the cell is of the sort of the column at this place.
+fn does_cell_fit(table: Name, place: usize, cell: &Cell) -> bool {
+    let sort = match cell.meaning {
+        Meaning::Says(value) => value.sort(),
+        Meaning::OutOfRange(sort) => Some(sort),
+    };
+    sort.is_none() || table.columns().get(place).map(|column| column.sort) == sort
+}
+
+/// Whether a tuple has a cell for each of these columns, each of its sort.
+fn does_fit(table: Name, places: &[usize], tuple: &[Cell]) -> bool {
+    for (place, cell) in places.iter().zip(tuple.iter()) {
+        if !does_cell_fit(table, *place, cell) {
+            return false;
+        }
+    }
+    places.len() == tuple.len()
+}
+
+/// Whether one of these columns is generated.
+fn is_generated(table: Name, places: &[usize]) -> bool {
+    places.iter().any(|place| {
+        table
+            .columns()
+            .get(*place)
+            .map_or(false, |column| column.filling != Filling::User)
+    })
+}
+
+/// The cells of the row that a tuple makes.
+fn filled(places: &[usize], tuple: &[Cell]) -> Cells {
+    let mut cells = NO_CELLS;
+    for (place, cell) in places.iter().zip(tuple.iter()) {
+        if let (Meaning::Says(value), Some(slot)) = (cell.meaning, cells.get_mut(*place)) {
+            *slot = value;
+        }
+    }
+    cells
+}
+
+/// Whether a value has more characters than its column takes.
+fn is_too_long(column: &Column, value: Value) -> bool {
+    match value {
+        Value::Text(text) => text.chars().count() > column.limit,
+        _ => false,
+    }
+}
+
+/// Whether a row has a text that is too long.
+fn has_long_text(table: Name, cells: &Cells) -> bool {
+    for (column, value) in table.columns().iter().zip(cells.iter()) {
+        if is_too_long(column, *value) {
+            return true;
+        }
+    }
+    false
+}
+
+/// Whether a row has NULL in a column that takes none.
+fn lacks_value(table: Name, cells: &Cells) -> bool {
+    for (column, value) in table.columns().iter().zip(cells.iter()) {
+        if column.is_required && *value == Value::Null {
+            return true;
+        }
+    }
+    false
+}
+
+/// The refusal of an INSERT into a table that is there.
+fn insert_fault(insertion: &Insertion, places: &[usize]) -> Option<&'static str> {
+    let table = insertion.table;
+    let tuples = &insertion.tuples;
+    if is_unsound(&insertion.list) {
+        Some(E21)
+    } else if tuples.iter().any(|tuple| !does_fit(table, places, tuple)) {
+        Some(E22)
+    } else if is_generated(table, places) {
+        Some(E23)
+    } else if tuples
+        .iter()
+        .any(|tuple| is_out_of_range(table, places, tuple))
+    {
+        Some(E30)
+    } else if tuples
+        .iter()
+        .any(|tuple| lacks_value(table, &filled(places, tuple)))
+    {
+        Some(E32)
+    } else {
+        None
+    }
+}
+
+/// Whether a tuple has a literal that no value has, or a text that is too long.
+fn is_out_of_range(table: Name, places: &[usize], tuple: &Tuple) -> bool {
+    tuple
+        .iter()
+        .any(|cell| matches!(cell.meaning, Meaning::OutOfRange(_)))
+        || has_long_text(table, &filled(places, tuple))
 }
 
 /// What a commit left.
@@ -117,7 +231,7 @@ struct Commit {
 }
 
 /// A row, and the moment at which it ends; `u64::MAX` where it has not ended.
-#[derive(Clone, Copy, PartialEq, Eq, PartialOrd, Ord, Debug)]
+#[derive(Clone, Copy, PartialEq, Eq, Debug)]
 struct Found {
     row: Row,
     end: u64,
@@ -134,9 +248,8 @@ fn has_row(found: &[Found], row: Row) -> bool {
 pub struct Machine {
     alloc: Global,
     commits: Vec<Commit>,
+    tables: Vec<Name>,
     is_open: bool,
-    has_log: bool,
-    has_pay: bool,
     next: u64,
 }
 
@@ -146,19 +259,20 @@ impl Machine {
         Machine {
             alloc,
             commits: Vec::new(alloc),
+            tables: Vec::new(alloc),
             is_open: false,
-            has_log: false,
-            has_pay: false,
             next,
         }
     }
 
-    fn has(&self, name: Name) -> bool {
-        match name {
-            Name::Log => self.has_log,
-            Name::Pay => self.has_pay,
-            Name::Nowhere => false,
-        }
+    /// Whether a transaction is open.
+    pub fn is_open(&self) -> bool {
+        self.is_open
+    }
+
+    /// Whether a table is there.
+    pub fn has(&self, name: Name) -> bool {
+        self.tables.iter().any(|other| *other == name)
     }
 
     /// The moment of a commit, counted from the first; of none, the next moment.
@@ -204,7 +318,7 @@ impl Machine {
         u64::MAX
     }
 
-    /// The rows of the copies that are asked for, each as often as in the oldest that has it, in the order of printing.
+    /// The rows of the copies that are asked for, each as often as in the oldest that has it.
     fn found(&self, name: Name, span: Span) -> Result<Vec<Found>, AllocError> {
         let mut found = Vec::new(self.alloc);
         for (number, commit) in self.commits.iter().enumerate() {
@@ -217,33 +331,30 @@ impl Machine {
             }
             found.extend_from_slice(&fresh)?;
         }
-        found.sort()?;
         Ok(found)
     }
 
-    fn ask(&self, name: Name, span: Span, out: &mut String) -> Result<(), AllocError> {
-        if matches!(span, Span::NoDay) {
-            return write!(out, "REFUSED E30 value out of range\n");
+    /// The rows that are asked for as they are shown, in the order of printing.
+    fn shown(&self, name: Name, span: Span) -> Result<Vec<Cells>, AllocError> {
+        let mut shown = Vec::new(self.alloc);
+        for found in &self.found(name, span)? {
+            shown.push(found.row.shown(name.columns(), found.end))?;
         }
-        let rows = self.found(name, span)?;
-        write!(
-            out,
-            "{}",
-            if name == Name::Log {
-                "X|S|E\n"
-            } else {
-                "P|Q|S|E\n"
-            }
-        )?;
-        for found in &rows {
-            match name {
-                Name::Log => write!(out, "{}|", found.row.first)?,
-                _ => write!(out, "{}|{}|", found.row.first, found.row.second)?,
-            }
-            write_moment(found.row.start, out)?;
-            write!(out, "|")?;
-            write_end(found.end, out)?;
-            write!(out, "\n")?;
+        shown.sort()?;
+        Ok(shown)
+    }
+
+    fn ask(&self, name: Name, span: Span, out: &mut String) -> Result<(), AllocError> {
+        if !name.is_versioned() && !matches!(span, Span::Now) {
+            return write!(out, "{E23}");
+        }
+        if matches!(span, Span::NoDay) {
+            return write!(out, "{E30}");
+        }
+        let rows = self.shown(name, span)?;
+        write_headings(name.columns(), out)?;
+        for row in &rows {
+            write_row(name.columns(), row, out)?;
         }
         write!(out, "({} rows)\n", rows.len())
     }
@@ -276,28 +387,21 @@ impl Machine {
         }
     }
 
-    fn insert(
-        &mut self,
-        name: Name,
-        tuples: &[(i64, i64)],
-        out: &mut String,
-    ) -> Result<(), AllocError> {
+    fn insert(&mut self, insertion: &Insertion, out: &mut String) -> Result<(), AllocError> {
+        let places = targets(self.alloc, insertion)?;
+        if let Some(fault) = insert_fault(insertion, &places) {
+            return write!(out, "{fault}");
+        }
         self.begin()?;
         let start = self.next;
         if let Some(commit) = self.commits.last_mut() {
-            for &(first, second) in tuples {
-                commit.copy.add(
-                    name,
-                    Row {
-                        first,
-                        second,
-                        start,
-                    },
-                )?;
+            for tuple in &insertion.tuples {
+                let cells = filled(&places, tuple);
+                commit.copy.add(insertion.table, Row { cells, start })?;
             }
         }
         self.end();
-        write!(out, "INSERT {}\n", tuples.len())
+        write!(out, "INSERT {}\n", insertion.tuples.len())
     }
 
     fn delete(&mut self, name: Name, out: &mut String) -> Result<(), AllocError> {
@@ -331,24 +435,25 @@ impl Machine {
         write!(out, "ROLLBACK\n")
     }
 
-    fn create(&mut self, name: Name, out: &mut String) -> Result<(), AllocError> {
+    fn create(
+        &mut self,
+        name: Name,
+        fault: Option<&str>,
+        out: &mut String,
+    ) -> Result<(), AllocError> {
         if self.has(name) {
-            return write!(out, "REFUSED E20 table unknown or already there\n");
+            return write!(out, "{E20}");
         }
-        match name {
-            Name::Log => self.has_log = true,
-            Name::Pay => self.has_pay = true,
-            Name::Nowhere => {}
+        if let Some(fault) = fault {
+            return write!(out, "{fault}");
         }
+        self.tables.push(name)?;
         write!(out, "CREATE TABLE\n")
     }
 
     fn set_clock(&mut self, moment: u64, out: &mut String) -> Result<(), AllocError> {
         match self.commits.last() {
-            Some(commit) if moment <= commit.moment => write!(
-                out,
-                "REFUSED E41 moment not allowed\n"
-            ),
+            Some(commit) if moment <= commit.moment => write!(out, "{E41}"),
             _ => {
                 self.next = moment;
                 write!(out, "AT\n")
@@ -366,12 +471,10 @@ impl Machine {
         out: &mut String,
     ) -> Result<(), AllocError> {
         if !self.has(name) {
-            return write!(out, "REFUSED E20 table unknown or already there\n");
+            return write!(out, "{E20}");
         }
         match statement {
-            Statement::Insert(_, tuples) => self.insert(name, tuples, out),
-            Statement::InsertThree(_) => write!(out, "REFUSED E22 types do not fit\n"),
-            Statement::InsertTooLarge(_) => write!(out, "REFUSED E30 value out of range\n"),
+            Statement::Insert(insertion) => self.insert(insertion, out),
             Statement::Delete(_) => self.delete(name, out),
             Statement::Ask(_, span) => self.ask(name, *span, out),
             _ => Ok(()),
@@ -381,10 +484,12 @@ impl Machine {
     /// Whether a statement wants a transaction open, and none is, or none open, and one is.
     fn is_out_of_turn(&self, statement: &Statement) -> bool {
         match statement {
-            Statement::Create(_) | Statement::At(_) | Statement::AtNoDay | Statement::Start => {
-                self.is_open
-            }
-            Statement::Commit | Statement::Rollback => !self.is_open,
+            Statement::Create(_)
+            | Statement::CreateFaulty(_, _, _)
+            | Statement::At(_)
+            | Statement::AtNoDay
+            | Statement::Start => self.is_open,
+            Statement::Commit(_) | Statement::Rollback(_) => !self.is_open,
             _ => false,
         }
     }
@@ -392,139 +497,42 @@ impl Machine {
     /// Runs a statement, and writes its reply.
     pub fn answer(&mut self, statement: &Statement, out: &mut String) -> Result<(), AllocError> {
         if self.is_out_of_turn(statement) {
-            return write!(out, "REFUSED E40 not in this transaction state\n");
+            return write!(out, "{E40}");
         }
         match statement {
-            Statement::Create(name) => self.create(*name, out),
+            Statement::Create(name) => self.create(*name, None, out),
+            Statement::CreateFaulty(name, _, fault) => self.create(*name, Some(*fault), out),
             Statement::At(moment) => self.set_clock(*moment, out),
-            Statement::AtNoDay => write!(out, "REFUSED E30 value out of range\n"),
+            Statement::AtNoDay => write!(out, "{E30}"),
             Statement::Start => self.start(out),
-            Statement::Commit => self.commit(out),
-            Statement::Rollback => self.rollback(out),
-            Statement::Odd => write!(out, "REFUSED E10 not a statement\n"),
-            Statement::Insert(name, _)
-            | Statement::InsertThree(name)
-            | Statement::InsertTooLarge(name)
-            | Statement::Delete(name)
-            | Statement::Ask(name, _) => self.answer_of(*name, statement, out),
-        }
-    }
-}
-
-/// Writes a moment.
-pub fn write_moment(moment: u64, out: &mut String) -> Result<(), AllocError> {
-    let (seconds, rest) = (moment / 1_000_000, moment % 1_000_000);
-    write!(out, "2011-01-01 00:{:02}:{:02}", seconds / 60, seconds % 60)?;
-    if rest > 0 {
-        write!(out, ".{rest:06}")?;
-    }
-    Ok(())
-}
-
-/// Writes where a row ends.
-fn write_end(end: u64, out: &mut String) -> Result<(), AllocError> {
-    if end == u64::MAX {
-        write!(out, "9999-12-31 23:59:59.999999")
-    } else {
-        write_moment(end, out)
-    }
-}
-
-/// Writes a moment as a literal.
-fn write_literal(moment: u64, out: &mut String) -> Result<(), AllocError> {
-    write!(out, "TIMESTAMP '")?;
-    write_moment(moment, out)?;
-    write!(out, "'")
-}
-
-/// Writes a word and a moment, and another word and moment.
-fn write_range(words: [&str; 2], from: u64, to: u64, out: &mut String) -> Result<(), AllocError> {
-    let [first, second] = words;
-    write!(out, " FOR SYSTEM_TIME {first} ")?;
-    write_literal(from, out)?;
-    write!(out, " {second} ")?;
-    write_literal(to, out)
-}
-
-fn write_question(name: Name, span: Span, out: &mut String) -> Result<(), AllocError> {
-    write!(out, "SELECT * FROM {}", name.text())?;
-    match span {
-        Span::Now => {}
-        Span::AsOf(moment) => {
-            write!(out, " FOR SYSTEM_TIME AS OF ")?;
-            write_literal(moment, out)?;
-        }
-        Span::FromTo(from, to) => write_range(["FROM", "TO"], from, to, out)?,
-        Span::Between(from, to) => write_range(["BETWEEN", "AND"], from, to, out)?,
-        Span::NoDay => write!(
-            out,
-            " FOR SYSTEM_TIME FROM TIMESTAMP '2011-01-01 00:00:00' TO TIMESTAMP '2011-02-30 00:00:00'"
-        )?,
-    }
-    write!(out, ";\n")
-}
-
-fn write_insert(name: Name, tuples: &[(i64, i64)], out: &mut String) -> Result<(), AllocError> {
-    write!(out, "INSERT INTO {} VALUES ", name.text())?;
-    let mut comma = "";
-    for (first, second) in tuples {
-        match name {
-            Name::Pay => write!(out, "{comma}({first}, {second})")?,
-            _ => write!(out, "{comma}({first})")?,
-        }
-        comma = ", ";
-    }
-    write!(out, ";\n")
-}
-
-fn write_create(name: Name, out: &mut String) -> Result<(), AllocError> {
-    let columns = if name == Name::Pay {
-        "p INTEGER, q INTEGER"
-    } else {
-        "x INTEGER"
-    };
-    write!(
-        out,
-        "CREATE TABLE {} ({columns}, s TIMESTAMP GENERATED ALWAYS AS ROW START, e TIMESTAMP GENERATED ALWAYS AS ROW END, \
-         PERIOD FOR SYSTEM_TIME (s, e)) WITH SYSTEM VERSIONING;\n",
-        name.text()
-    )
-}
-
-impl Statement {
-    /// Writes the statement as SQL.
-    pub fn write(&self, out: &mut String) -> Result<(), AllocError> {
-        match self {
-            Statement::Create(name) => write_create(*name, out),
-            Statement::Insert(name, tuples) => write_insert(*name, tuples, out),
-            Statement::InsertThree(name) => write!(
-                out,
-                "INSERT INTO {} VALUES (1, 2, 3);\n",
-                name.text()
-            ),
-            Statement::InsertTooLarge(Name::Pay) => {
-                write!(
-                    out,
-                    "INSERT INTO pay VALUES (1, 2), (1, 9223372036854775808);\n"
-                )
+            Statement::Commit(_) => self.commit(out),
+            Statement::Rollback(_) => self.rollback(out),
+            Statement::Odd => write!(out, "{E10}"),
+            Statement::Insert(insertion) => self.answer_of(insertion.table, statement, out),
+            Statement::Delete(name) | Statement::Ask(name, _) => {
+                self.answer_of(*name, statement, out)
             }
-            Statement::InsertTooLarge(name) => write!(
-                out,
-                "INSERT INTO {} VALUES (9223372036854775808);\n",
-                name.text()
-            ),
-            Statement::Delete(name) => write!(out, "DELETE FROM {};\n", name.text()),
-            Statement::At(moment) => {
-                write!(out, "AT ")?;
-                write_literal(*moment, out)?;
-                write!(out, ";\n")
-            }
-            Statement::AtNoDay => write!(out, "AT TIMESTAMP '2011-02-30 00:00:00';\n"),
-            Statement::Start => write!(out, "START TRANSACTION;\n"),
-            Statement::Commit => write!(out, "COMMIT;\n"),
-            Statement::Rollback => write!(out, "ROLLBACK WORK;\n"),
-            Statement::Ask(name, span) => write_question(*name, *span, out),
-            Statement::Odd => write!(out, "SELECT x FROM log WHERE;\n"),
         }
     }
+}
+
+/// Writes the heading line of a table.
+fn write_headings(columns: &[Column], out: &mut String) -> Result<(), AllocError> {
+    let mut before = "";
+    for column in columns {
+        write!(out, "{before}{}", column.heading)?;
+        before = "|";
+    }
+    write!(out, "\n")
+}
+
+/// Writes the line of a row.
+fn write_row(columns: &[Column], row: &Cells, out: &mut String) -> Result<(), AllocError> {
+    for (place, (_, value)) in columns.iter().zip(row.iter()).enumerate() {
+        if place > 0 {
+            write!(out, "|")?;
+        }
+        value.write(out)?;
+    }
+    write!(out, "\n")
 }

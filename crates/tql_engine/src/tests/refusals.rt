@@ -1,30 +1,13 @@
 // The refusals that the forms can have, and of several faults the first.
 use crate::engine::Engine;
-use crate::tests::devices::{assert_log_prints, assert_prints, assert_prints_in_parts};
+use crate::tests::devices::{
+    assert_log_prints, assert_prints, assert_prints_in_parts, assert_replies,
+};
+use crate::tests::wordings::{E10, E14, E20, E21, E22, E23, E30, E40, E41};
 use std::test::Fail;
 use tql_memory::memory;
 use tql_result::reply::Reply;
 use tql_value::refusal::Refusal;
-
-const E10: &str = "REFUSED E10 not a statement\n";
-
-const E14: &str = "REFUSED E14 nested too deep\n";
-
-const E15: &str = "REFUSED E15 too many columns or tables\n";
-
-const E20: &str = "REFUSED E20 table unknown or already there\n";
-
-const E21: &str = "REFUSED E21 name unknown, ambiguous or repeated\n";
-
-const E22: &str = "REFUSED E22 types do not fit\n";
-
-const E23: &str = "REFUSED E23 form not allowed here\n";
-
-const E30: &str = "REFUSED E30 value out of range\n";
-
-const E40: &str = "REFUSED E40 not in this transaction state\n";
-
-const E41: &str = "REFUSED E41 moment not allowed\n";
 
 /// A text so many times.
 fn repeated(rt: &impl AllocGlobal, text: &str, times: usize) -> Result<String, Fail> {
@@ -69,27 +52,6 @@ fn refuses_the_65th_parenthesis(rt: HostRuntime) -> Result<(), Fail> {
     let deepest = repeated(&rt, "(", 64)?;
     let script = format!(in rt.alloc(); "{deepest}; ({deepest}; ({deepest} ?;")?;
     let text = format!(in rt.alloc(); "{E10}{E14}{E10}")?;
-    assert_prints(&rt, script.as_bytes(), &text)
-}
-
-/// CREATE of a table with so many integer columns; two more are generated.
-fn wide_table(rt: &impl AllocGlobal, name: &str, integers: u64) -> Result<String, Fail> {
-    let mut columns = String::new(rt.alloc());
-    for number in 0..integers {
-        write!(columns, "c{number} INTEGER, ")?;
-    }
-    Ok(format!(in rt.alloc();
-        "CREATE TABLE {name} ({columns}s TIMESTAMP GENERATED ALWAYS AS ROW START, e TIMESTAMP GENERATED ALWAYS AS ROW END, \
-         PERIOD FOR SYSTEM_TIME (s, e)) WITH SYSTEM VERSIONING;"
-    )?)
-}
-
-#[test]
-fn refuses_the_65th_column(rt: HostRuntime) -> Result<(), Fail> {
-    let fits = wide_table(&rt, "wide", 62)?;
-    let wider = wide_table(&rt, "wider", 63)?;
-    let script = format!(in rt.alloc(); "{fits}{wider}INSERT INTO wider VALUES (1);")?;
-    let text = format!(in rt.alloc(); "CREATE TABLE\n{E15}{E20}")?;
     assert_prints(&rt, script.as_bytes(), &text)
 }
 
@@ -214,27 +176,6 @@ fn refuses_definitions(rt: HostRuntime) -> Result<(), Fail> {
 }
 
 #[test]
-fn refuses_the_1001st_table(rt: HostRuntime) -> Result<(), Fail> {
-    let memory = memory(rt.alloc(), u64::MAX)?;
-    let mut engine = Engine::new(memory);
-    for number in 0..1001u64 {
-        let mut name = String::new(rt.alloc());
-        write!(name, "t{number}")?;
-        let mut create = table_of(&rt, &name, ["x", "s", "e"], ["s", "e"])?;
-        create.pop();
-        match engine.step(create.as_bytes()) {
-            Reply::Done(_, None) => assert!(rt; number < 1000),
-            Reply::Refused(refusal) => {
-                assert_eq!(rt; refusal, Refusal::TooManyTablesOrReaders);
-                assert_eq!(rt; number, 1000);
-            }
-            _ => assert!(rt; false),
-        }
-    }
-    Ok(())
-}
-
-#[test]
 fn refuses_a_semicolon_in_a_step(rt: HostRuntime) -> Result<(), Fail> {
     let mut engine = Engine::new(memory(rt.alloc(), u64::MAX)?);
     let reply = engine.step(b"AT TIMESTAMP '2011-01-01 00:00:00';");
@@ -262,4 +203,167 @@ fn refuses_more_than_a_mebibyte(rt: HostRuntime) -> Result<(), Fail> {
     )?;
     longest.truncate(1_048_577);
     assert_prints(&rt, &longest, "REFUSED E13 statement too long\n")
+}
+
+/// A table with versions, and one without.
+const TABLES: &str =
+    "CREATE TABLE log (x INTEGER, s TIMESTAMP GENERATED ALWAYS AS ROW START, e TIMESTAMP GENERATED ALWAYS AS ROW END,
+  PERIOD FOR SYSTEM_TIME (s, e)) WITH SYSTEM VERSIONING; CREATE TABLE note (k INTEGER);";
+
+#[test]
+fn refuses_versions_of_a_table_without(rt: HostRuntime) -> Result<(), Fail> {
+    assert_replies(
+        &rt,
+        TABLES,
+        &[
+            ("SELECT * FROM note", "K\n(0 rows)\n"),
+            (
+                "SELECT * FROM note FOR SYSTEM_TIME AS OF TIMESTAMP '2011-01-01 00:00:00'",
+                E23,
+            ),
+            (
+                "SELECT * FROM note FOR SYSTEM_TIME FROM TIMESTAMP '2011-01-01 00:00:00' TO TIMESTAMP '2011-01-02 00:00:00'",
+                E23,
+            ),
+            (
+                "SELECT * FROM \"NOTE\" FOR SYSTEM_TIME BETWEEN TIMESTAMP '2011-01-01 00:00:00' AND TIMESTAMP '2011-01-01 00:00:00'",
+                E23,
+            ),
+            (
+                "SELECT * FROM note FOR SYSTEM_TIME AS OF TIMESTAMP '2011-02-30 00:00:00'",
+                E23,
+            ),
+            (
+                "SELECT * FROM note FOR SYSTEM_TIME FROM TIMESTAMP '' TO TIMESTAMP '2011-01-02 00:00:00'",
+                E23,
+            ),
+            (
+                "SELECT * FROM note FOR SYSTEM_TIME BETWEEN TIMESTAMP '2011-01-02 00:00:00' AND TIMESTAMP '2011-01-02'",
+                E23,
+            ),
+            (
+                "SELECT * FROM \"note\" FOR SYSTEM_TIME AS OF TIMESTAMP '2011-02-30 00:00:00'",
+                E20,
+            ),
+            (
+                "SELECT * FROM log FOR SYSTEM_TIME AS OF TIMESTAMP '2011-02-30 00:00:00'",
+                E30,
+            ),
+            (
+                "SELECT * FROM log FOR SYSTEM_TIME AS OF DATE '2011-02-28'",
+                E10,
+            ),
+            (
+                "SELECT * FROM log FOR SYSTEM_TIME AS OF '2011-02-28 00:00:00'",
+                E10,
+            ),
+            (
+                "SELECT * FROM log FOR s AS OF TIMESTAMP '2011-02-28 00:00:00'",
+                E10,
+            ),
+        ],
+    )
+}
+
+/// Nine references.
+const NINE: &str = "log, log a, log b, log c, log d, log e, log f, log g, log h";
+
+#[test]
+fn refuses_statements_that_do_not_run(rt: HostRuntime) -> Result<(), Fail> {
+    let open = format!(in rt.alloc(); "{TABLES}START TRANSACTION;")?;
+    for statement in [
+        "DROP TABLE log",
+        "DROP TABLE nowhere RESTRICT",
+        "UPDATE log SET x = 1",
+        "UPDATE nowhere SET y = 1, y = NULL WHERE z = 1",
+        "UPDATE log FOR PORTION OF p FROM DATE '2011-01-01' TO DATE '2011-01-02' SET x = 1",
+        "DELETE FROM log WHERE x = 1",
+        "DELETE FROM nowhere WHERE x = 1",
+        "DELETE FROM log FOR PORTION OF p FROM DATE '2011-01-01' TO DATE '2011-01-02'",
+        "DELETE FROM log FOR PORTION OF SYSTEM_TIME FROM TIMESTAMP '2011-01-01 00:00:00' TO TIMESTAMP '2011-01-02 00:00:00'",
+        "SELECT x FROM log",
+        "SELECT x FROM nowhere",
+        "SELECT log.x AS y FROM log",
+        "SELECT COUNT(*) FROM log",
+        "SELECT DISTINCT * FROM log",
+        "SELECT * FROM log ORDER BY x",
+        "SELECT * FROM log ORDER BY 1 DESC",
+        "SELECT * FROM log a",
+        "SELECT * FROM log AS log",
+        "SELECT * FROM log FOR SYSTEM_TIME AS OF TIMESTAMP '2011-02-30 00:00:00' l",
+        "SELECT * FROM log, note",
+        "SELECT * FROM log JOIN note ON x = k",
+        "SELECT * FROM log LEFT JOIN note ON x = k",
+        "SELECT * FROM log CROSS JOIN note",
+        "SELECT * FROM log WHERE x = 1",
+        "SELECT * FROM log WHERE SYSTEM_TIME CONTAINS TIMESTAMP '2011-01-01 00:00:00'",
+        "SELECT * FROM log GROUP BY x",
+        "SELECT * FROM log HAVING COUNT(*) > 0",
+        "SELECT x FROM log GROUP BY x HAVING SUM(x) > 0 ORDER BY x",
+        "PRUNE HISTORY BEFORE TIMESTAMP '2011-01-01 00:00:00'",
+        "OPEN READER r",
+        "READ r SELECT * FROM log",
+        "CLOSE READER r",
+    ] {
+        for beginning in [TABLES, open.as_str()] {
+            assert_replies(&rt, beginning, &[(statement, E10)])?;
+        }
+    }
+    Ok(())
+}
+
+#[test]
+fn refuses_nine_references_as_what_does_not_run(rt: HostRuntime) -> Result<(), Fail> {
+    for (begin, end) in [
+        ("SELECT * FROM ", ""),
+        ("SELECT x FROM ", " WHERE a.x = b.x"),
+        ("SELECT * FROM ", ", log i, log j"),
+        ("INSERT INTO log SELECT * FROM ", ""),
+        ("SELECT * FROM ", " CROSS JOIN note"),
+    ] {
+        let statement = format!(in rt.alloc(); "{begin}{NINE}{end}")?;
+        assert_replies(&rt, TABLES, &[(statement.as_str(), E10)])?;
+    }
+    Ok(())
+}
+
+#[test]
+fn refuses_words_that_are_no_statement(rt: HostRuntime) -> Result<(), Fail> {
+    for statement in [
+        "SELECT ALL FROM log",
+        "SELECT * FROM",
+        "SELECT * log",
+        "SELECT * FROM table",
+        "SELECT * FROM log FOR SYSTEM_TIME",
+        "SELECT * FROM log FOR SYSTEM_TIME AS OF NULL",
+        "SELECT * FROM log FOR SYSTEM_TIME FROM TIMESTAMP '2011-01-01 00:00:00' AND TIMESTAMP '2011-01-01 00:00:00'",
+        "DELETE log",
+        "DELETE FROM log *",
+        "DELETE FROM log FOR SYSTEM_TIME AS OF TIMESTAMP '2011-01-01 00:00:00'",
+        "START",
+        "START TRANSACTION WORK",
+        "\"START\" TRANSACTION",
+        "COMMIT TRANSACTION",
+        "COMMIT WORK WORK",
+        "ROLLBACK \"WORK\"",
+        "AT DATE '2011-01-01'",
+        "AT TIMESTAMP '2011-01-01 00:00:00' + 1",
+        "AT -TIMESTAMP '2011-01-01 00:00:00'",
+        "log",
+        "1",
+    ] {
+        assert_replies(&rt, TABLES, &[(statement, E10)])?;
+    }
+    Ok(())
+}
+
+#[test]
+fn runs_all_and_work(rt: HostRuntime) -> Result<(), Fail> {
+    assert_log_prints(
+        &rt,
+        b"SELECT ALL * FROM \"LOG\"; START TRANSACTION; COMMIT; start transaction; Commit Work; START TRANSACTION; rollback;
+          START TRANSACTION; ROLLBACK WORK;",
+        "X|S|E\n(0 rows)\nSTART TRANSACTION\nCOMMIT\nSTART TRANSACTION\nCOMMIT\nSTART TRANSACTION\nROLLBACK\n\
+         START TRANSACTION\nROLLBACK\n",
+    )
 }

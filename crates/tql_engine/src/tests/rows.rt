@@ -181,3 +181,101 @@ fn leaves_out_an_unfinished_statement(rt: HostRuntime) -> Result<(), Fail> {
         "CREATE TABLE\nAT\nREFUSED E12 unfinished statement\n",
     )
 }
+
+#[test]
+fn prints_cells_of_all_sorts(rt: HostRuntime) -> Result<(), Fail> {
+    assert_prints_in_parts(
+        &rt,
+        b"CREATE TABLE \"n\" (\"a b\" VARCHAR(4), d DATE, m TIMESTAMP(0), s TIMESTAMP GENERATED ALWAYS AS ROW START,
+            e TIMESTAMP GENERATED ALWAYS AS ROW END, PERIOD FOR SYSTEM_TIME (s, e)) WITH SYSTEM VERSIONING;
+          AT TIMESTAMP '2011-01-01 00:00:00';
+          INSERT INTO \"n\" VALUES ('it''s', DATE '2012-02-29', TIMESTAMP '2012-02-29 23:59:59.5000009'), (NULL, NULL, NULL);
+          SELECT * FROM \"n\";",
+        "CREATE TABLE\nAT\nINSERT 2\n\"a b\"|D|M|S|E\n\
+         NULL|NULL|NULL|2011-01-01 00:00:00|9999-12-31 23:59:59.999999\n\
+         'it''s'|2012-02-29|2012-02-29 23:59:59.500000|2011-01-01 00:00:00|9999-12-31 23:59:59.999999\n(2 rows)\n",
+    )
+}
+
+#[test]
+fn orders_rows_by_each_sort(rt: HostRuntime) -> Result<(), Fail> {
+    assert_prints(
+        &rt,
+        b"CREATE TABLE t (n BIGINT, v VARCHAR(65535), d DATE, m TIMESTAMP WITHOUT TIME ZONE);
+          INSERT INTO t VALUES (NULL, 'b', NULL, NULL), (NULL, 'ab', NULL, NULL), (NULL, '', NULL, NULL), (NULL, 'B', NULL, NULL),
+            (NULL, '\xc3\xa9', NULL, NULL), (NULL, '\xf0\x9d\x84\x9e', NULL, NULL), (NULL, '\xef\xbf\xbd', NULL, NULL),
+            (NULL, NULL, NULL, NULL), (NULL, NULL, DATE '1970-01-01', NULL), (NULL, NULL, DATE '0001-01-01', NULL),
+            (NULL, NULL, DATE '9999-12-31', NULL), (NULL, NULL, DATE '1969-12-31', NULL),
+            (NULL, NULL, NULL, TIMESTAMP '1970-01-01 00:00:00'), (NULL, NULL, NULL, TIMESTAMP '1969-12-31 23:59:59.999999'),
+            (10, NULL, NULL, NULL), (-9, NULL, NULL, NULL), (9, NULL, NULL, NULL), (-10, NULL, NULL, NULL), (-10, NULL, NULL, NULL);
+          SELECT * FROM t;",
+        "CREATE TABLE\nINSERT 19\nN|V|D|M\nNULL|NULL|NULL|NULL\nNULL|NULL|NULL|1969-12-31 23:59:59.999999\n\
+         NULL|NULL|NULL|1970-01-01 00:00:00\nNULL|NULL|0001-01-01|NULL\nNULL|NULL|1969-12-31|NULL\n\
+         NULL|NULL|1970-01-01|NULL\nNULL|NULL|9999-12-31|NULL\nNULL|''|NULL|NULL\nNULL|'B'|NULL|NULL\n\
+         NULL|'ab'|NULL|NULL\nNULL|'b'|NULL|NULL\nNULL|'\u{e9}'|NULL|NULL\nNULL|'\u{fffd}'|NULL|NULL\n\
+         NULL|'\u{1d11e}'|NULL|NULL\n-10|NULL|NULL|NULL\n-10|NULL|NULL|NULL\n-9|NULL|NULL|NULL\n9|NULL|NULL|NULL\n\
+         10|NULL|NULL|NULL\n(19 rows)\n",
+    )
+}
+
+#[test]
+fn fills_the_columns_of_a_list(rt: HostRuntime) -> Result<(), Fail> {
+    assert_prints(
+        &rt,
+        b"CREATE TABLE t (e TIMESTAMP NOT NULL GENERATED ALWAYS AS ROW END, a INT, PERIOD FOR SYSTEM_TIME (\"S\", E), b VARCHAR(2),
+            s TIMESTAMP(12) GENERATED ALWAYS AS ROW START NOT NULL, c DATE NOT NULL) WITH SYSTEM VERSIONING;
+          INSERT INTO \"T\" (c, a) VALUES (DATE '2011-01-01', 1); INSERT INTO t (B, \"C\") VALUES ('x', DATE '2011-01-01');
+          INSERT INTO t VALUES (2, '\xf0\x9d\x84\x9e\xc3\xa9', DATE '2011-01-02'); INSERT INTO t (C) VALUES (DATE '2011-01-03');
+          SELECT * FROM T FOR SYSTEM_TIME FROM TIMESTAMP '0001-01-01 00:00:00' TO TIMESTAMP '0001-01-01 00:00:00.000003';",
+        "CREATE TABLE\nINSERT 1\nINSERT 1\nINSERT 1\nINSERT 1\nE|A|B|S|C\n\
+         9999-12-31 23:59:59.999999|NULL|'x'|0001-01-01 00:00:00.000001|2011-01-01\n\
+         9999-12-31 23:59:59.999999|1|NULL|0001-01-01 00:00:00|2011-01-01\n\
+         9999-12-31 23:59:59.999999|2|'\u{1d11e}\u{e9}'|0001-01-01 00:00:00.000002|2011-01-02\n(3 rows)\n",
+    )
+}
+
+#[test]
+fn keeps_rows_without_versions(rt: HostRuntime) -> Result<(), Fail> {
+    assert_prints(
+        &rt,
+        b"CREATE TABLE note (t VARCHAR(0009) NOT NULL); AT TIMESTAMP '2011-01-01 00:00:00'; INSERT INTO note VALUES ('a'), ('b'), ('a');
+          START TRANSACTION; DELETE FROM note; INSERT INTO note VALUES ('c'); SELECT * FROM note; ROLLBACK WORK; SELECT * FROM note;
+          DELETE FROM \"NOTE\"; SELECT ALL * FROM note; DELETE FROM note;",
+        "CREATE TABLE\nAT\nINSERT 3\nSTART TRANSACTION\nDELETE 3\nINSERT 1\nT\n'c'\n(1 rows)\nROLLBACK\n\
+         T\n'a'\n'a'\n'b'\n(3 rows)\nDELETE 3\nT\n(0 rows)\nDELETE 0\n",
+    )
+}
+
+#[test]
+fn reads_names_in_quotes(rt: HostRuntime) -> Result<(), Fail> {
+    assert_prints(
+        &rt,
+        b"CREATE TABLE \"select\" (\"from\" INT, \"From\" INT, \"FROM\" INT, work INT, \"a\"\"b\" INT, _1 INT, \"1\" INT, \"\xc3\x89\" INT);
+          INSERT INTO \"select\" (\"From\", \"WORK\", \"from\") VALUES (1, 2, 3); SELECT * FROM \"select\"; SELECT * FROM \"SELECT\";",
+        "CREATE TABLE\nINSERT 1\n\"from\"|\"From\"|FROM|WORK|\"a\"\"b\"|_1|\"1\"|\"\u{c9}\"\n\
+         3|1|NULL|2|NULL|NULL|NULL|NULL\n(1 rows)\nREFUSED E20 table unknown or already there\n",
+    )
+}
+
+#[test]
+fn counts_open_parentheses(rt: HostRuntime) -> Result<(), Fail> {
+    let mut deepest = String::new(rt.alloc());
+    let mut pairs = String::new(rt.alloc());
+    for _ in 0..64u64 {
+        deepest.push('(')?;
+        pairs.push_str("() ")?;
+    }
+    for (begin, end, text) in [
+        ("(", ";", "REFUSED E14 nested too deep\n"),
+        ("", ";", "REFUSED E10 not a statement\n"),
+        ("", ") (;", "REFUSED E10 not a statement\n"),
+        (")", ";", "REFUSED E10 not a statement\n"),
+        (")", "(;", "REFUSED E14 nested too deep\n"),
+        ("'('", ";", "REFUSED E10 not a statement\n"),
+    ] {
+        let script = format!(in rt.alloc(); "{begin}{deepest}{end}")?;
+        assert_prints(&rt, script.as_bytes(), text)?;
+    }
+    let script = format!(in rt.alloc(); "{pairs}{pairs};")?;
+    assert_prints(&rt, script.as_bytes(), "REFUSED E10 not a statement\n")
+}

@@ -212,3 +212,30 @@ fn refusals_are_printed(rt: HostRuntime) -> Result<(), Fail> {
     }
     Ok(())
 }
+
+#[test]
+fn refusals_have_an_order(rt: HostRuntime) -> Result<(), Fail> {
+    let in_order = [
+        Refusal::StatementTooLong,
+        Refusal::NotAStatement,
+        Refusal::TableUnknownOrAlreadyThere,
+        Refusal::TypesDoNotFit,
+        Refusal::TooManyTablesOrReaders,
+        Refusal::BeforeTheHorizon,
+        Refusal::ValueOutOfRange,
+        Refusal::OutOfMemory,
+    ];
+    for (place, refusal) in in_order.iter().enumerate() {
+        for (other_place, other) in in_order.iter().enumerate() {
+            let first = if other_place < place {
+                *other
+            } else {
+                *refusal
+            };
+            assert_eq!(rt; refusal.earlier(*other), first);
+        }
+    }
+    assert_eq!(rt; Refusal::StatementTooLong.place(), 0);
+    assert_eq!(rt; Refusal::OutOfMemory.place(), 24);
+    Ok(())
+}

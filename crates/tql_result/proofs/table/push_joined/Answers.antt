@@ -2,7 +2,7 @@ use Rattle.std.proofs.Common.{refl, sym, ap, subst}
 use Rattle.std.proofs.lemmas.List.Elements.{All-head, All-rest, All-same}
 use Rattle.tql_spec.specs.Text.{cell_text}
 use Rattle.tql_value.specs.Views.{datum_of_value}
-use Rattle.tql_result.specs.Replies.{IsPrintable}
+use Rattle.tql_value.specs.Points.{IsPrintable}
 use Rattle.tql_result.proofs.Joining.{joined_parts}
 use Rattle.tql_result.proofs.Pushing.{sent_none, step, last}
 use Rattle.tql_result.proofs.table.push_joined.Goals as goal

@@ -1,19 +1,28 @@
-use Rattle.std.proofs.Common.{◌≡◌, ◌∙◌, sym, subst, List, Some, []}
-use Rattle.std.specs.Prelude.{IsNone, ◌<ℤ◌, slice_get}
-use Rattle.std.proofs.lemmas.List.{length-map}
+use Rattle.std.proofs.Common.{◌≡◌, sym, subst, Err, List, Some, ℕ}
+use Rattle.std.specs.Prelude.{IsNone, ◌<ℤ◌, slice_get, IsTrue}
+use Rattle.std.proofs.lemmas.List.Elements.{recursion_from_All}
 use Rattle.tql_spec.specs.Calendar.{high}
 use Rattle.tql_spec.specs.Datum.{Row}
 use Rattle.tql_spec.specs.Machine.{State}
+use Rattle.tql_store.specs.Slots.{has_table}
+use Rattle.tql_catalog.specs.Simple.{IsRowOf}
+use Rattle.tql_dml.specs.Inserts.{Inserts, Adds, rows_of}
+use Rattle.tql_engine.specs.Tables.{Placed, placed_of, table_of}
 use Rattle.tql_engine.specs.Committing.{ChangesRows, KeepsRows}
-use Rattle.tql_engine.specs.Stands.{Held, Placed, StandsFor}
-use Rattle.tql_engine.specs.Steps.{read_step}
-use Rattle.tql_engine.specs.Tables.{placed_of}
-use Rattle.tql_engine.specs.Views.{row_of, rows_of}
+use Rattle.tql_engine.specs.Stands.{Held, StandsFor}
 use Rattle.tql_engine.proofs.MomentFits.{clock_reads, clock_under, after_reads}
 use Rattle.tql_engine.proofs.Standing.{there_law}
 use Rattle.tql_engine.proofs.ChangeKeeps.{kept_law}
-use Rattle.tql_engine.proofs.Doing.{rows_added, added_does}
+use Rattle.tql_engine.proofs.Doing.{inserted, rows_added, insert_does}
+use Rattle.tql_engine.proofs.Inserting.{insert_errs}
 use Rattle.tql_engine.proofs.engine.Engine.add_to.Goals as goal
+
+pub returns-in-Err : goal.returns-in-Err
+returns-in-Err c s st =
+    let p : Placed = placed_of c.table_at.result.now in
+    let tuples : List Row = rows_of c.args.rows.tuples.items in
+    insert_errs c.args.self.now s c.args.rows.table p c.args.rows.columns.items tuples st c.table_at.ensures c.requires.below p.id c.in-Err.refusal
+    (subst (λ is. Inserts (table_of p) p.id is tuples (Err c.in-Err.refusal)) c.deref.ensures.value c.in-Err.ensures)
 
 pub change_rows-requires-clause-later : goal.change_rows-requires-clause-later
 change_rows-requires-clause-later c = clock_under _ c.self.invariant.state c.self.invariant.stands
@@ -21,51 +30,57 @@ change_rows-requires-clause-later c = clock_under _ c.self.invariant.state c.sel
 pub change_rows-requires-clause-present : goal.change_rows-requires-clause-present
 change_rows-requires-clause-present c =
     let p : Placed = placed_of c.table_at.result.now in
-    let there = subst (λ (h : Held). slice_get h.tables c.args.place ≡ Some p) (sym c.self.view_is) c.table_at.ensures in
-    there_law _ c.self.invariant.state c.args.place p c.self.invariant.stands there
+    let there = subst (λ (h : Held). slice_get h.tables c.args.rows.table ≡ Some p) (sym c.self.view_is) c.table_at.ensures in
+    subst (λ t. IsTrue (has_table c.self.inside.rows t)) (sym c.in-Ok.ensures.table) (there_law _ c.self.invariant.state c.args.rows.table p c.self.invariant.stands there)
 
 pub invariant_of-self : goal.invariant_of-self
 invariant_of-self c =
     let s : State = c.self.invariant.state in
     let st = c.self.invariant.stands in
     let p : Placed = placed_of c.table_at.result.now in
-    let rows : List Row = rows_of c.args.rows.items in
-    let there = subst (λ (h : Held). slice_get h.tables c.args.place ≡ Some p) (sym c.self.view_is) c.table_at.ensures in
+    let rows : List Row = rows_of c.in-Ok.delta.added.items in
+    let removed : List ℕ = c.in-Ok.delta.removed.items in
+    let after = c.in-Ok-change_rows.next in
+    let there = subst (λ (h : Held). slice_get h.tables c.args.rows.table ≡ Some p) (sym c.self.view_is) c.table_at.ensures in
     let below = subst (λ (h : Held). IsNone h.rows.working → h.next <ℤ high) (sym c.self.view_is) c.requires.below in
-    let fit = c.requires.fit p c.table_at.ensures in
+    let fit = recursion_from_All (IsRowOf (table_of p)) rows c.in-Ok.ensures.rows in
     let old = c.self.inside.rows in
     let new = c.change_rows.new.store in
-    let clocked = subst (λ m. ChangesRows old.working m c.in-Ok.next p.id c.new.result.items rows old new) (clock_reads _ s st) c.in-Ok.ensures.ok in
-    let done = subst (λ removed. ChangesRows old.working c.self.inside.next c.in-Ok.next p.id removed rows old new) c.new.ensures.items clocked in
-    rw (after_reads _ s c.in-Ok.next p.id [] rows new st below done)
-    (record { state = (read_step s c.args.place (Some rows)).1; stands = rows_added _ s c.args.place p rows new c.in-Ok.next st there below fit done })
+    let clocked = subst (λ m. ChangesRows old.working m after c.in-Ok.delta.table removed rows old new) (clock_reads _ s st) c.in-Ok-change_rows.ensures.ok in
+    let done = subst (λ t. ChangesRows old.working c.self.inside.next after t removed rows old new) c.in-Ok.ensures.table clocked in
+    rw (after_reads _ s after p.id removed rows new st below done)
+    (record { state = inserted s c.args.rows.table rows; stands = rows_added _ s c.args.rows.table p rows removed new after st there below fit c.in-Ok.ensures.removed done })
 
-pub invariant_of-self-in-Err : goal.invariant_of-self-in-Err
-invariant_of-self-in-Err c =
+pub invariant_of-self-in-Err-change_rows : goal.invariant_of-self-in-Err-change_rows
+invariant_of-self-in-Err-change_rows c =
     let s : State = c.self.invariant.state in
     let st = c.self.invariant.stands in
     let old = c.self.inside.rows in
-    let kept = subst (λ m. KeepsRows old.working m old c.change_rows.new.store) (clock_reads _ s st) c.in-Err.ensures.err in
+    let kept = subst (λ m. KeepsRows old.working m old c.change_rows.new.store) (clock_reads _ s st) c.in-Err-change_rows.ensures.err in
     record { state = s; stands = kept_law _ s c.change_rows.new.store st kept }
 
-pub returns-in-Ok : goal.returns-in-Ok
-returns-in-Ok c s st =
+pub returns-in-Ok-change_rows : goal.returns-in-Ok-change_rows
+returns-in-Ok-change_rows c s st =
     let back = subst (λ h. StandsFor h s) (sym c.self.view_is) st in
     let p : Placed = placed_of c.table_at.result.now in
-    let rows : List Row = rows_of c.args.rows.items in
-    let there = subst (λ (h : Held). slice_get h.tables c.args.place ≡ Some p) (sym c.self.view_is) c.table_at.ensures in
+    let tuples : List Row = rows_of c.args.rows.tuples.items in
+    let rows : List Row = rows_of c.in-Ok.delta.added.items in
+    let removed : List ℕ = c.in-Ok.delta.removed.items in
+    let after = c.in-Ok-change_rows.next in
+    let there = subst (λ (h : Held). slice_get h.tables c.args.rows.table ≡ Some p) (sym c.self.view_is) c.table_at.ensures in
     let below = subst (λ (h : Held). IsNone h.rows.working → h.next <ℤ high) (sym c.self.view_is) c.requires.below in
-    let fit = c.requires.fit p c.table_at.ensures in
+    let adds = subst (λ is. Adds (table_of p) p.id is tuples c.in-Ok.delta) c.deref.ensures.value c.in-Ok.ensures in
+    let fit = recursion_from_All (IsRowOf (table_of p)) rows adds.rows in
     let old = c.self.inside.rows in
     let new = c.change_rows.new.store in
-    let clocked = subst (λ m. ChangesRows old.working m c.in-Ok.next p.id c.new.result.items rows old new) (clock_reads _ s back) c.in-Ok.ensures.ok in
-    let done = subst (λ removed. ChangesRows old.working c.self.inside.next c.in-Ok.next p.id removed rows old new) c.new.ensures.items clocked in
-    let count = c.len-count.ensures ∙ c.args.rows.ok.0 ∙ sym (length-map c.args.rows.items (λ r. row_of r.items)) in
-    rw (after_reads _ s c.in-Ok.next p.id [] rows new back below done) (added_does _ s c.args.place p rows new c.in-Ok.next _ back there below fit done count)
+    let clocked = subst (λ m. ChangesRows old.working m after c.in-Ok.delta.table removed rows old new) (clock_reads _ s back) c.in-Ok-change_rows.ensures.ok in
+    let done = subst (λ t. ChangesRows old.working c.self.inside.next after t removed rows old new) c.in-Ok.ensures.table clocked in
+    rw (after_reads _ s after p.id removed rows new back below done)
+    (insert_does _ s c.args.rows.table p c.args.rows.columns.items tuples rows removed new after c.in-Ok.delta.count back there below fit adds.removed done adds.added adds.sound adds.count)
 
-pub returns-in-Err : goal.returns-in-Err
-returns-in-Err c s st =
+pub returns : goal.returns
+returns c s st =
     let back = subst (λ h. StandsFor h s) (sym c.self.view_is) st in
     let old = c.self.inside.rows in
-    let kept = subst (λ m. KeepsRows old.working m old c.change_rows.new.store) (clock_reads _ s back) c.in-Err.ensures.err in
-    rw c.in-Err.ensures.memory (kept_law _ s c.change_rows.new.store back kept)
+    let kept = subst (λ m. KeepsRows old.working m old c.change_rows.new.store) (clock_reads _ s back) c.in-Err-change_rows.ensures.err in
+    rw c.in-Err-change_rows.ensures.memory (kept_law _ s c.change_rows.new.store back kept)

@@ -1,10 +1,11 @@
 use Rattle.std.proofs.Common.{◌∙◌, ap, sym, subst}
 use Rattle.tql_spec.specs.Machine.{State, committed}
 use Rattle.tql_store.specs.Slots as store
-use Rattle.tql_engine.specs.Stands.{StandsFor}
+use Rattle.std.specs.Prelude.{is_some}
+use Rattle.tql_engine.specs.Stands.{Held, StandsFor}
 use Rattle.tql_engine.proofs.MomentFits.{clock_steps}
 use Rattle.tql_engine.proofs.TransactionKeeps.{dated_below, ended_law}
-use Rattle.tql_engine.proofs.Doing.{open_entry, committed_does}
+use Rattle.tql_engine.proofs.Doing.{open_entry, commit_refused, commit_does}
 use Rattle.tql_engine.proofs.engine.Engine.commit.Goals as goal
 
 pub invariant_of-self : goal.invariant_of-self
@@ -24,4 +25,8 @@ returns c s st =
     let is_open = sym c.has_transaction.ensures ∙ c.if-not-has_transaction.false in
     let e = open_entry _ s back is_open in
     rw (clock_steps _ s back (dated_below _ s e.0 back e.1))
-    (committed_does _ s c.commit.new.self back is_open c.commit.ensures.copies (ap (λ (h : store.Held). h.working) c.commit.ensures.slots) (ap (λ (h : store.Held). h.tables) c.commit.ensures.slots))
+    (commit_does _ s c.commit.new.self back is_open c.commit.ensures.copies (ap (λ (h : store.Held). h.working) c.commit.ensures.slots) (ap (λ (h : store.Held). h.tables) c.commit.ensures.slots))
+
+pub returns-then-not-has_transaction : goal.returns-then-not-has_transaction
+returns-then-not-has_transaction c s st =
+    commit_refused _ s st (ap (λ (h : Held). is_some h.rows.working) (sym c.self.view_is) ∙ sym c.has_transaction.ensures ∙ c.if-not-has_transaction.true)

@@ -3,14 +3,13 @@ use Rattle.std.specs.Prelude.{IsNone, ◌<ℤ◌, slice_get}
 use Rattle.tql_spec.specs.Calendar.{high}
 use Rattle.tql_spec.specs.Machine.{State}
 use Rattle.tql_engine.specs.Committing.{ChangesRows, KeepsRows}
-use Rattle.tql_engine.specs.Stands.{Held, Placed, StandsFor}
-use Rattle.tql_engine.specs.Steps.{remove_step}
-use Rattle.tql_engine.specs.Tables.{placed_of}
+use Rattle.tql_engine.specs.Tables.{Placed, placed_of}
+use Rattle.tql_engine.specs.Stands.{Held, StandsFor}
 use Rattle.tql_engine.specs.Views.{rows_of}
 use Rattle.tql_engine.proofs.MomentFits.{clock_reads, clock_under, after_reads}
 use Rattle.tql_engine.proofs.Standing.{there_law}
-use Rattle.tql_engine.proofs.ChangeKeeps.{kept_law}
-use Rattle.tql_engine.proofs.Doing.{rows_removed, removed_does}
+use Rattle.tql_engine.proofs.ChangeKeeps.{kept_law, with_table_rows}
+use Rattle.tql_engine.proofs.Doing.{rows_removed, remove_does}
 use Rattle.tql_engine.proofs.engine.Engine.remove_from.Goals as goal
 
 pub current_ids-requires : goal.current_ids-requires
@@ -41,7 +40,7 @@ invariant_of-self c =
     let clocked = subst (λ m. ChangesRows old.working m c.in-Ok.next p.id removed (rows_of c.new.result.items) old new) (clock_reads _ s st) c.in-Ok.ensures.ok in
     let done = subst (λ rows. ChangesRows old.working c.self.inside.next c.in-Ok.next p.id removed (rows_of rows) old new) c.new.ensures.items clocked in
     rw (after_reads _ s c.in-Ok.next p.id removed [] new st below done)
-    (record { state = (remove_step s (Some c.args.place)).1; stands = rows_removed _ s c.args.place p removed new c.in-Ok.next st there below c.in_ok-removed.ensures.judged done })
+    (record { state = with_table_rows s c.args.place []; stands = rows_removed _ s c.args.place p removed new c.in-Ok.next st there below c.in_ok-removed.ensures.judged done })
 
 pub invariant_of-self-in-Err : goal.invariant_of-self-in-Err
 invariant_of-self-in-Err c =
@@ -64,7 +63,7 @@ returns-in-Ok c s st =
     let done = subst (λ rows. ChangesRows old.working c.self.inside.next c.in-Ok.next p.id removed (rows_of rows) old new) c.new.ensures.items clocked in
     let count = c.len-count.ensures ∙ c.in_ok-removed.removed.ok.0 in
     rw (after_reads _ s c.in-Ok.next p.id removed [] new back below done, count)
-    (removed_does _ s c.args.place p removed new c.in-Ok.next back there below c.in_ok-removed.ensures.judged c.in_ok-removed.ensures.count done)
+    (remove_does _ s c.args.place p removed new c.in-Ok.next back there below c.in_ok-removed.ensures.judged c.in_ok-removed.ensures.count done)
 
 pub returns-in-Err : goal.returns-in-Err
 returns-in-Err c s st =

@@ -1,9 +1,10 @@
 use Rattle.std.proofs.Common.{◌∙◌, ap, sym, subst, None}
 use Rattle.tql_spec.specs.Machine.{State}
 use Rattle.tql_store.specs.Slots as store
-use Rattle.tql_engine.specs.Stands.{StandsFor}
+use Rattle.std.specs.Prelude.{is_some}
+use Rattle.tql_engine.specs.Stands.{Held, StandsFor}
 use Rattle.tql_engine.proofs.TransactionKeeps.{undone_law}
-use Rattle.tql_engine.proofs.Doing.{open_entry, undone_does}
+use Rattle.tql_engine.proofs.Doing.{open_entry, rollback_refused, rollback_does}
 use Rattle.tql_engine.proofs.engine.Engine.rollback.Goals as goal
 
 pub invariant_of-self : goal.invariant_of-self
@@ -20,4 +21,8 @@ pub returns : goal.returns
 returns c s st =
     let back = subst (λ h. StandsFor h s) (sym c.self.view_is) st in
     let is_open = sym c.has_transaction.ensures ∙ c.if-not-has_transaction.false in
-    undone_does _ s c.rollback.new.self back is_open c.rollback.ensures.copies (ap (λ (h : store.Held). h.working) c.rollback.ensures.slots) (ap (λ (h : store.Held). h.tables) c.rollback.ensures.slots)
+    rollback_does _ s c.rollback.new.self back is_open c.rollback.ensures.copies (ap (λ (h : store.Held). h.working) c.rollback.ensures.slots) (ap (λ (h : store.Held). h.tables) c.rollback.ensures.slots)
+
+pub returns-then-not-has_transaction : goal.returns-then-not-has_transaction
+returns-then-not-has_transaction c s st =
+    rollback_refused _ s st (ap (λ (h : Held). is_some h.rows.working) (sym c.self.view_is) ∙ sym c.has_transaction.ensures ∙ c.if-not-has_transaction.true)

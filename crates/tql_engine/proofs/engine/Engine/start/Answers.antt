@@ -1,12 +1,13 @@
 use Rattle.std.proofs.Common.{◌∙◌, ap, sym, subst, Some, None}
+use Rattle.std.specs.Prelude.{is_some, int_le}
+use Rattle.tql_spec.specs.Calendar.{high}
 use Rattle.tql_spec.specs.Machine.{State, working}
 use Rattle.tql_store.specs.Slots as store
-use Rattle.tql_engine.specs.Stands.{StandsFor}
-use Rattle.tql_engine.specs.Steps.{start_step}
+use Rattle.tql_engine.specs.Stands.{Held, StandsFor}
 use Rattle.tql_engine.proofs.MomentFits.{clock_reads, clock_under, clock_left}
 use Rattle.tql_engine.proofs.Standing.{closed_law}
 use Rattle.tql_engine.proofs.TransactionKeeps.{begun_law}
-use Rattle.tql_engine.proofs.Doing.{unopened, started_does}
+use Rattle.tql_engine.proofs.Doing.{start_open, start_late, start_does}
 use Rattle.tql_engine.proofs.engine.Engine.start.Goals as goal
 
 pub begin-requires-clause-later : goal.begin-requires-clause-later
@@ -27,6 +28,15 @@ pub returns : goal.returns
 returns c s st =
     let back = subst (λ h. StandsFor h s) (sym c.self.view_is) st in
     let closed = sym c.has_transaction.ensures ∙ c.if-has_transaction.false in
-    rw (unopened _ s (start_step s) back closed)
-    (started_does _ s _ back closed (clock_left _ s back c.if-self-ge-HIGH.false) c.begin.ensures.copies
-    (ap (λ (h : store.Held). h.working) c.begin.ensures.slots ∙ ap Some (clock_reads _ s back)) (ap (λ (h : store.Held). h.tables) c.begin.ensures.slots))
+    start_does _ s _ back closed (clock_left _ s back c.if-self-ge-HIGH.false) c.begin.ensures.copies
+    (ap (λ (h : store.Held). h.working) c.begin.ensures.slots ∙ ap Some (clock_reads _ s back)) (ap (λ (h : store.Held). h.tables) c.begin.ensures.slots)
+
+pub returns-then-has_transaction : goal.returns-then-has_transaction
+returns-then-has_transaction c s st =
+    start_open _ s st (ap (λ (h : Held). is_some h.rows.working) (sym c.self.view_is) ∙ sym c.has_transaction.ensures ∙ c.if-has_transaction.true)
+
+pub returns-then-self-ge-HIGH : goal.returns-then-self-ge-HIGH
+returns-then-self-ge-HIGH c s st =
+    let back = subst (λ h. StandsFor h s) (sym c.self.view_is) st in
+    start_late _ s st (ap (λ (h : Held). is_some h.rows.working) (sym c.self.view_is) ∙ sym c.has_transaction.ensures ∙ c.if-has_transaction.false)
+    (ap (λ (h : Held). int_le high h.next) (sym c.self.view_is) ∙ ap (int_le high) (sym (clock_reads _ s back)) ∙ c.if-self-ge-HIGH.true)

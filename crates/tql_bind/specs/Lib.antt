@@ -1,0 +1,9 @@
+pub mod Bounds
+pub mod Binds
+pub mod Numbers
+pub mod NewTables
+pub mod Clauses
+pub mod Spellings
+pub mod Inserts
+pub mod Literals
+pub mod Parts

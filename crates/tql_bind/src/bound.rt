@@ -1,0 +1,54 @@
+//! Statements whose names are bound.
+use tql_catalog::definition::TableDef;
+use tql_memory::Memory;
+use tql_value::value::Value;
+
+/// Which versions a question asks for, by moments in microseconds since 1970-01-01.
+#[derive(Clone, Copy)]
+pub enum When {
+    /// The rows now.
+    Now,
+    /// The versions that hold the moment.
+    AsOf(i64),
+    /// Those that share a moment with the range, its end left out.
+    FromTo(i64, i64),
+    /// Those that share a moment with the range and its end.
+    Between(i64, i64),
+}
+
+/// All columns of a table, by its place among the tables.
+#[derive(Clone, Copy)]
+pub struct Question {
+    pub table: usize,
+    pub when: When,
+}
+
+/// New rows of a table, by its place among the tables: the columns that are given values, by their numbers from 0, and the values of
+/// each row, one for each of these columns.
+#[derive(Drop)]
+pub struct Insert {
+    pub table: usize,
+    pub columns: Vec<usize, Memory>,
+    pub tuples: Vec<Vec<Value, Memory>, Memory>,
+}
+
+/// A statement whose names are bound.
+#[derive(Drop)]
+pub enum Bound {
+    /// CREATE TABLE.
+    CreateTable(TableDef),
+    /// INSERT of tuples.
+    Insert(Insert),
+    /// DELETE of every row of the table at this place.
+    DeleteAll(usize),
+    /// SELECT.
+    Ask(Question),
+    /// AT, with the moment in microseconds since 1970-01-01.
+    SetClock(i64),
+    /// START TRANSACTION.
+    Start,
+    /// COMMIT.
+    Commit,
+    /// ROLLBACK.
+    Rollback,
+}

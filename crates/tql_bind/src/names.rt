@@ -1,0 +1,35 @@
+//! Tables by their names.
+ghost use Rattle.std.specs.Prelude.{◌<◌, length, IfOk};
+ghost use Rattle.tql_spec.specs.Binding.{table_number};
+ghost use Rattle.tql_catalog.specs.Definitions.{definitions_of};
+ghost use Rattle.tql_syntax.specs.Expressions.{name_of};
+ghost use Rattle.tql_bind.specs.Binds.{Binds};
+
+use tql_catalog::table::{Table, place_of};
+use tql_memory::Memory;
+use tql_syntax::expression::Name;
+use tql_value::refusal::Refusal;
+
+/// The place of the table of this name. Refused: no table has it.
+pub(crate) fn table_called(tables: &[Table], name: &str) -> Result<usize, Refusal>
+    ensures binds { Binds (λ t. t) (table_number (definitions_of tables.now) name.now) result }
+    ensures within { IfOk result (λ t. t < length (definitions_of tables.now)) }
+{
+    match place_of(tables, name) {
+        Some(place) => Ok(place),
+        None => Err(Refusal::TableUnknownOrAlreadyThere),
+    }
+}
+
+/// The place of the table that a name means. Refused: no table has it; memory.
+pub(crate) fn table_named(
+    memory: Memory,
+    tables: &[Table],
+    name: Name<'_>,
+) -> Result<usize, Refusal>
+    ensures binds { Binds (λ t. t) (table_number (definitions_of tables.now) (name_of name.entry)) result }
+    ensures within { IfOk result (λ t. t < length (definitions_of tables.now)) }
+{
+    let meant = name.meant(memory)?;
+    table_called(tables, meant.as_str())
+}

@@ -1,0 +1,31 @@
+//! The definition of a table.
+use tql_memory::Memory;
+use tql_value::value::Kind;
+
+/// A column: its limit is the n of VARCHAR(n), in characters.
+#[derive(Drop)]
+pub struct Column {
+    pub name: String<Memory>,
+    pub kind: Kind,
+    pub limit: Option<u64>,
+    /// Whether NULL is refused in it.
+    pub is_required: bool,
+}
+
+/// The generated columns of a system-versioned table, by their numbers from 0.
+#[derive(Clone, Copy)]
+pub struct System {
+    /// GENERATED ALWAYS AS ROW START.
+    pub start: usize,
+    /// GENERATED ALWAYS AS ROW END.
+    pub end: usize,
+}
+
+/// The definition of a table.
+#[derive(Drop)]
+pub struct TableDef {
+    pub name: String<Memory>,
+    pub columns: Vec<Column, Memory>,
+    /// The system period; none where the table is not system-versioned.
+    pub system: Option<System>,
+}

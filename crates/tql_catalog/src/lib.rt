@@ -1,0 +1,7 @@
+// The tables that are there, and their definitions.
+#![tactic(auto)]
+
+pub mod definition;
+pub mod table;
+#[cfg(test)]
+mod tests;

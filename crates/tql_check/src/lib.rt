@@ -1,0 +1,6 @@
+// Checks of scripts over the whole grammar: nothing is run.
+#![tactic(auto)]
+
+pub mod check;
+#[cfg(test)]
+mod tests;

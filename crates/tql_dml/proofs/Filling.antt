@@ -1,0 +1,114 @@
+-- The cells of a new row: their number, their values, and the row whose values are given in order.
+use Rattle.std.specs.Prelude.{◌≡◌, refl, ℕ, zero, suc, ◌<◌, Bool, true, false, not, ◌&&◌, ◌||◌, ◌==◌, nat_lt, List, [], ◌∷◌, map, filter, length, replicate, slice_set, slice_index_or, All, Option, Some, None}
+use Rattle.std.specs.List.{list_all, range_with_len}
+use Rattle.std.proofs.Common.{sym, ap, subst, ◌∙◌, arith}
+use Rattle.std.proofs.lemmas.List.{length-set, length-map, length-replicate, get_or-set_same, get_or-set_other}
+use Rattle.std.proofs.lemmas.List.Elements.{All-head, All-tail, All-set, All-replicate, All-map}
+use borrow.Author.Tests.{ltb-true, eqb-false}
+use Rattle.tql_spec.specs.Datum.{Null, Row}
+use Rattle.tql_spec.specs.Definition.{TableDef, System, without_generated, cell}
+use Rattle.tql_spec.specs.Change.{filled, row_of}
+use Rattle.tql_spec.specs.Creation.{has_number}
+use Rattle.tql_spec.specs.Binding.{all_assignable, is_generated, generated_columns}
+use Rattle.tql_catalog.specs.Simple.{IsSimple, IsTupleOf, IsRowOf, has_system, numbers_repeat, are_assignable}
+use Rattle.tql_value.specs.Points.{IsPrintable}
+use Rattle.tql_dml.specs.Cells.{stored_cells}
+use Rattle.tql_dml.proofs.Kept.{kept, kept_law, and_left, and_right, not_is}
+
+pub length-filled : (row : Row) (js : List ℕ) (vs : Row) → length (filled row js vs) ≡ length row
+length-filled row [] vs = refl
+length-filled row (j ∷ js) [] = refl
+length-filled row (j ∷ js) (v ∷ vs) = length-filled (slice_set row j v) js vs ∙ length-set row j v
+
+neither_left : (a b : Bool) → a || b ≡ false → a ≡ false
+neither_left true b h = absurd cc
+neither_left false b h = refl
+
+neither_right : (a b : Bool) → a || b ≡ false → b ≡ false
+neither_right true b h = absurd cc
+neither_right false b h = h
+
+-- a column that is not filled
+not_filled : (row : Row) (js : List ℕ) (vs : Row) (i : ℕ) → has_number i js ≡ false → cell (filled row js vs) i ≡ cell row i
+not_filled row [] vs i h = refl
+not_filled row (j ∷ js) [] i h = refl
+not_filled row (j ∷ js) (v ∷ vs) i h =
+    not_filled (slice_set row j v) js vs i (neither_right (i == j) (has_number i js) h)
+    ∙ get_or-set_other row j i v Null (eqb-false i j (neither_left (i == j) (has_number i js) h))
+
+-- whether a user may give a value to a column
+abbrev is_open : TableDef → ℕ → Bool
+is_open d i = nat_lt i (length d.columns) && not (is_generated d i)
+
+-- the cells of the columns that are filled
+filled_cells : (d : TableDef) (row : Row) (js : List ℕ) (vs : Row) → length row ≡ length d.columns → length vs ≡ length js
+    → list_all (is_open d) js ≡ true → numbers_repeat js ≡ false → map (cell (filled row js vs)) js ≡ vs
+filled_cells d row [] [] n k o r = refl
+filled_cells d row [] (v ∷ vs) n k o r = absurd (omega arith)
+filled_cells d row (j ∷ js) [] n k o r = absurd (omega arith)
+filled_cells d row (j ∷ js) (v ∷ vs) n k o r =
+    let in_width : j < length d.columns = ltb-true j (length d.columns) (and_left _ _ (and_left (is_open d j) (list_all (is_open d) js) o)) in
+    let here : cell (filled (slice_set row j v) js vs) j ≡ v =
+    not_filled (slice_set row j v) js vs j (neither_left (has_number j js) (numbers_repeat js) r) ∙ get_or-set_same row j v Null (omega arith) in
+    let rest : map (cell (filled (slice_set row j v) js vs)) js ≡ vs =
+    filled_cells d (slice_set row j v) js vs (length-set row j v ∙ n) (omega arith) (and_right (is_open d j) (list_all (is_open d) js) o) (neither_right (has_number j js) (numbers_repeat js) r) in
+    λ i. here i ∷ rest i
+
+-- ---- the stored cells
+
+without_is : (s : Option System) (row : Row) → without_generated s row ≡ kept s row
+without_is None row = refl
+without_is (Some s) row = refl
+
+pub length-row : (d : TableDef) (js : List ℕ) (vs : Row) → length (row_of d js vs) ≡ length d.columns
+length-row d js vs = length-filled (replicate (length d.columns) Null) js vs ∙ length-replicate (length d.columns) Null
+
+-- the cells of the columns that are not generated, in order
+stored_law : (d : TableDef) (js : List ℕ) (vs : Row) → IsSimple d → stored_cells d js vs ≡ map (cell (row_of d js vs)) (all_assignable d)
+stored_law d js vs s =
+    let row = row_of d js vs in
+    without_is d.system row
+    ∙ subst (λ n. kept d.system row ≡ map (cell row) (filter (λ i. not (has_number i (generated_columns d.system))) (range_with_len 0 n))) (length-row d js vs)
+    (kept_law Null d.system row (subst (λ n. has_system d.system n ≡ true) (sym (length-row d js vs)) s.system))
+
+-- a new row whose values are given for all its columns in order
+pub usual_row : (d : TableDef) (js : List ℕ) (vs : Row) → IsSimple d → js ≡ all_assignable d → are_assignable d js ≡ true → length vs ≡ length js → stored_cells d js vs ≡ vs
+usual_row d js vs s e a k =
+    stored_law d js vs s ∙ ap (map (cell (row_of d js vs))) (sym e)
+    ∙ filled_cells d (replicate (length d.columns) Null) js vs (length-replicate (length d.columns) Null) k
+    (and_left (list_all (is_open d) js) _ a) (not_is (numbers_repeat js) (and_right (list_all (is_open d) js) _ a))
+
+pub length-stored : (d : TableDef) (js : List ℕ) (vs : Row) → IsSimple d → length (stored_cells d js vs) ≡ length (all_assignable d)
+length-stored d js vs s = ap length (stored_law d js vs s) ∙ length-map (all_assignable d) (cell (row_of d js vs))
+
+-- ---- values that have texts
+
+printable_cell : (row : Row) (i : ℕ) → All IsPrintable row → IsPrintable (cell row i)
+printable_cell [] i h = tt
+printable_cell (v ∷ vs) zero h = All-head IsPrintable v vs h
+printable_cell (v ∷ vs) (suc i) h = printable_cell vs i (All-tail IsPrintable v vs h)
+
+printable_filled : (row : Row) (js : List ℕ) (vs : Row) → All IsPrintable row → All IsPrintable vs → All IsPrintable (filled row js vs)
+printable_filled row [] vs p q = p
+printable_filled row (j ∷ js) [] p q = p
+printable_filled row (j ∷ js) (v ∷ vs) p q =
+    printable_filled (slice_set row j v) js vs (All-set IsPrintable row j v (All-head IsPrintable v vs q) p) (All-tail IsPrintable v vs q)
+
+-- what is stored is a row of the table
+pub stored_fits : (d : TableDef) (js : List ℕ) (vs : Row) → IsSimple d → IsTupleOf (length js) vs → IsRowOf d (stored_cells d js vs)
+stored_fits d js vs s t =
+    let row = row_of d js vs in
+    let printable : All IsPrintable row = printable_filled (replicate (length d.columns) Null) js vs (All-replicate IsPrintable (length d.columns) Null tt) t.printable in
+    record {
+      width = length-stored d js vs s;
+      printable = subst (All IsPrintable) (sym (stored_law d js vs s)) (All-map IsPrintable (cell row) (all_assignable d) (λ k i l. printable_cell row (slice_index_or (all_assignable d) k i) printable));
+    }
+
+-- new rows whose values are given for all columns in order
+pub usual_rows : (d : TableDef) (js : List ℕ) (tuples : List Row) → IsSimple d → js ≡ all_assignable d → are_assignable d js ≡ true → All (IsTupleOf (length js)) tuples
+    → tuples ≡ map (stored_cells d js) tuples
+usual_rows d js [] s e a h = refl
+usual_rows d js (vs ∷ tuples) s e a h =
+    let t : IsTupleOf (length js) vs = All-head (IsTupleOf (length js)) vs tuples h in
+    let here : vs ≡ stored_cells d js vs = sym (usual_row d js vs s e a t.width) in
+    λ i. here i ∷ usual_rows d js tuples s e a (All-tail (IsTupleOf (length js)) vs tuples h) i

@@ -1,0 +1,5 @@
+pub mod Kept
+pub mod FaultLaws
+pub mod Filling
+pub mod Removals
+pub mod Inserting

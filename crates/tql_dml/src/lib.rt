@@ -1,0 +1,9 @@
+// Changes of a table: what is added and taken away, with the tests of each new row.
+#![tactic(auto)]
+
+mod faults;
+pub mod insert;
+mod spread;
+mod stored;
+#[cfg(test)]
+mod tests;

@@ -1,0 +1,115 @@
+ghost use Rattle.std.specs.Prelude.{◌≡◌, ◌<◌, IsTrue, All, replicate, length, map, option_map, IfOk, IfErr};
+ghost use Rattle.tql_spec.specs.Datum.{Null};
+ghost use Rattle.tql_spec.specs.Definition.{without_generated};
+ghost use Rattle.tql_spec.specs.Change.{filled};
+ghost use Rattle.tql_spec.specs.Binding.{all_assignable};
+ghost use Rattle.tql_catalog.specs.Definitions.{def_of, system_of};
+ghost use Rattle.tql_catalog.specs.Simple.{IsSimple, IsTupleOf, has_system, are_assignable};
+ghost use Rattle.tql_value.specs.declared.refusal.Refusal.TheVariants.{OutOfMemory};
+ghost use Rattle.tql_dml.specs.Cells.{stored_cells};
+ghost use Rattle.tql_dml.specs.Inserts.{row_of, rows_of};
+
+use std::mem;
+use tql_catalog::definition::{System, TableDef};
+use tql_memory::Memory;
+use tql_value::refusal::Refusal;
+use tql_value::value::Value;
+
+/// So many NULLs.
+fn nulls(memory: Memory, width: usize) -> Result<Vec<Value, Memory>, Refusal>
+    ensures row { IfOk result (λ row. row_of row.items ≡ replicate width Null) }
+    ensures memory { IfErr result (λ e. e ≡ OutOfMemory) }
+{
+    let mut row = Vec::with_capacity(memory, width)?;
+    for _ in 0..width {
+        row.push(Value::Null)?;
+    }
+    Ok(row)
+}
+
+/// Moves values into their columns.
+fn fill(row: &mut [Value], columns: &[usize], values: &mut [Value])
+    requires within { All (λ i. i < length row.old) columns.now }
+    requires width { length values.old ≡ length columns.now }
+    ensures { row_of row.new ≡ filled (row_of row.old) columns.now (row_of values.old) }
+{
+    for place in 0..columns.len() {
+        row[columns[place]] = mem::replace(&mut values[place], Value::Null);
+    }
+}
+
+/// Takes the cells of the generated columns out of a row.
+fn drop_generated(row: &mut Vec<Value, Memory>, system: Option<System>)
+    requires { IsTrue (has_system (option_map system_of system) (length row.old.items)) }
+    ensures { row_of row.new.items ≡ without_generated (option_map system_of system) (row_of row.old.items) }
+{
+    if let Some(system) = system {
+        if system.start < system.end {
+            row.remove(system.end);
+            row.remove(system.start);
+        } else {
+            row.remove(system.start);
+            row.remove(system.end);
+        }
+    }
+}
+
+/// The cells of a new row: these values in these columns, and NULL in the others, without the generated columns. The values are moved out.
+fn spread(
+    memory: Memory,
+    definition: &TableDef,
+    columns: &[usize],
+    values: &mut [Value],
+) -> Result<Vec<Value, Memory>, Refusal>
+    requires simple { IsSimple (def_of definition.now) }
+    requires columns { IsTrue (are_assignable (def_of definition.now) columns.now) }
+    requires width { length values.old ≡ length columns.now }
+    ensures row { IfOk result (λ row. row_of row.items ≡ stored_cells (def_of definition.now) columns.now (row_of values.old)) }
+    ensures memory { IfErr result (λ e. e ≡ OutOfMemory) }
+{
+    let mut row = nulls(memory, definition.columns.len())?;
+    fill(&mut row, columns, values);
+    drop_generated(&mut row, definition.system);
+    Ok(row)
+}
+
+/// The cells of each new row. The values are moved out.
+fn spread_each(
+    memory: Memory,
+    definition: &TableDef,
+    columns: &[usize],
+    mut tuples: Vec<Vec<Value, Memory>, Memory>,
+) -> Result<Vec<Vec<Value, Memory>, Memory>, Refusal>
+    requires simple { IsSimple (def_of definition.now) }
+    requires columns { IsTrue (are_assignable (def_of definition.now) columns.now) }
+    requires tuples { All (IsTupleOf (length columns.now)) (rows_of tuples.items) }
+    ensures rows { IfOk result (λ rows. rows_of rows.items ≡ map (stored_cells (def_of definition.now) columns.now) (rows_of tuples.entry.items)) }
+    ensures memory { IfErr result (λ e. e ≡ OutOfMemory) }
+{
+    let mut rows = Vec::with_capacity(memory, tuples.len())?;
+    for tuple in tuples.iter_mut() {
+        rows.push(spread(memory, definition, columns, tuple)?)?;
+    }
+    Ok(rows)
+}
+
+/// The cells of each new row, where the columns that are not generated have these numbers. Tuples that name them all in order are the rows.
+pub fn new_rows(
+    memory: Memory,
+    definition: &TableDef,
+    stored: &[usize],
+    columns: &[usize],
+    tuples: Vec<Vec<Value, Memory>, Memory>,
+) -> Result<Vec<Vec<Value, Memory>, Memory>, Refusal>
+    requires simple { IsSimple (def_of definition.now) }
+    requires stored { stored.now ≡ all_assignable (def_of definition.now) }
+    requires columns { IsTrue (are_assignable (def_of definition.now) columns.now) }
+    requires tuples { All (IsTupleOf (length columns.now)) (rows_of tuples.items) }
+    ensures rows { IfOk result (λ rows. rows_of rows.items ≡ map (stored_cells (def_of definition.now) columns.now) (rows_of tuples.entry.items)) }
+    ensures memory { IfErr result (λ e. e ≡ OutOfMemory) }
+{
+    if columns == stored {
+        return Ok(tuples);
+    }
+    spread_each(memory, definition, columns, tuples)
+}

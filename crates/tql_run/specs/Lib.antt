@@ -1,0 +1,5 @@
+pub mod Responding
+pub mod Pieces
+pub mod Runs
+pub mod Reads
+pub mod Telling

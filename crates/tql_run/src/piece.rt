@@ -1,0 +1,36 @@
+//! What a piece of a script is answered.
+ghost use Rattle.tql_spec.specs.Machine.{State};
+ghost use Rattle.tql_spec.specs.Script as script;
+ghost use Rattle.tql_lex.specs.Pieces.{StandsFor};
+ghost use Rattle.tql_value.specs.Refusals.{refusal_of};
+ghost use Rattle.tql_result.specs.Replies.{reply_of, IsPrintableReply};
+ghost use Rattle.tql_run.specs.Pieces.{IsCutFault};
+ghost use Rattle.tql_run.specs.Responding.{Answered};
+
+use crate::responder::Responder;
+use tql_lex::splitter::Piece;
+use tql_result::reply::Reply;
+use tql_value::refusal::Refusal;
+
+/// The fault of a text of not too many bytes that no `;` ends.
+fn cut_fault(text: &[u8]) -> Refusal
+    ensures { IsCutFault text.now (refusal_of result) }
+{
+    match str::from_utf8(text) {
+        Ok(_) => Refusal::UnfinishedStatement,
+        Err(_) => Refusal::NotUtf8,
+    }
+}
+
+/// Answers the next piece of a script: a finished text as the responder does, and any other is refused.
+pub fn answer_piece<R: Responder>(responder: &mut R, piece: Piece<'_>) -> Reply
+    ensures answered { (s : State) (p : script.Piece) → R.stands responder.old s → StandsFor piece.entry p → Answered R.answering s p (reply_of result) (R.stands responder.new) }
+    ensures printable { IsPrintableReply (reply_of result) }
+{
+    match piece {
+        Piece::Text(text) => responder.answer(text),
+        Piece::TooLong => Reply::Refused(Refusal::StatementTooLong),
+        Piece::NoMemory => Reply::Refused(Refusal::OutOfMemory),
+        Piece::Unfinished(text) => Reply::Refused(cut_fault(text)),
+    }
+}

@@ -1,0 +1,140 @@
+//! A whole run of a script.
+ghost use Rattle.std.specs.Prelude.{◌≡◌, ◌≤◌, ◌<◌, length};
+ghost use Rattle.tql_spec.specs.Machine.{State};
+ghost use Rattle.tql_result.specs.Replies.{reply_of};
+ghost use Rattle.tql_run.specs.Runs.{Runs, count_of, most_bytes};
+ghost use Rattle.tql_run.specs.Telling.{TakesNext, Tells};
+
+use crate::device::Source;
+use crate::piece::answer_piece;
+use crate::responder::Responder;
+use crate::script::{End, read_script};
+use tql_lex::splitter::Splitter;
+use tql_result::device::DeviceFault;
+use tql_result::print::write_reply;
+use tql_result::reply::Reply;
+use tql_result::sink::Sink;
+
+/// How many statements a run answered, and how many of these it refused.
+#[derive(Clone, Copy, PartialEq, Eq, Debug)]
+pub struct Summary {
+    pub statements: u64,
+    pub refused: u64,
+}
+
+/// Why a run stopped.
+#[derive(Clone, Copy, PartialEq, Eq, Debug)]
+pub enum Fault {
+    /// The source failed, or did not end.
+    Read,
+    /// The sink failed.
+    Write,
+    /// What a run takes at its start found no memory.
+    Memory,
+}
+
+/// The counts with one more reply.
+fn counted(summary: Summary, reply: &Reply) -> Summary
+    requires room { summary.statements < most_bytes }
+    requires fewer { summary.refused ≤ summary.statements }
+    ensures { result ≡ count_of summary (reply_of reply.now) }
+{
+    let statements = summary.statements + 1;
+    match reply {
+        Reply::Refused(_) => Summary {
+            statements,
+            refused: summary.refused + 1,
+        },
+        _ => Summary {
+            statements,
+            refused: summary.refused,
+        },
+    }
+}
+
+/// Takes the next statement and answers it; None where no statement is left, and then nothing changes.
+fn answer_next<R: Responder>(responder: &mut R, splitter: &mut Splitter) -> Option<Reply>
+    ensures { TakesNext R.answering result splitter.old splitter.new (R.stands responder.old) (R.stands responder.new) }
+{
+    match splitter.next_statement() {
+        Some(piece) => Some(answer_piece(responder, piece)),
+        None => None,
+    }
+}
+
+/// Answers the statements that are left, and writes their replies.
+fn write_replies<R: Responder, O: Sink>(
+    responder: &mut R,
+    splitter: &mut Splitter,
+    sink: &mut O,
+) -> Result<Summary, DeviceFault>
+    requires { length splitter.old.left ≤ most_bytes }
+    ensures { (s : State) → R.stands responder.old s → Tells R.answering result s splitter.old (R.stands responder.new) (O.written sink.old) (O.written sink.new) (O.failures sink.old) (O.failures sink.new) }
+{
+    let mut summary = Summary {
+        statements: 0,
+        refused: 0,
+    };
+    while let Some(reply) = answer_next(responder, splitter) {
+        match write_reply(sink, &reply) {
+            Ok(()) => summary = counted(summary, &reply),
+            Err(fault) => return Err(fault),
+        }
+    }
+    Ok(summary)
+}
+
+/// Answers the statements that are left, writes their replies, and passes on what the sink may have kept back.
+fn answer_all<R: Responder, O: Sink>(
+    responder: &mut R,
+    splitter: &mut Splitter,
+    sink: &mut O,
+) -> Result<Summary, DeviceFault>
+    requires { length splitter.old.left ≤ most_bytes }
+    ensures { (s : State) → R.stands responder.old s → Tells R.answering result s splitter.old (R.stands responder.new) (O.written sink.old) (O.written sink.new) (O.failures sink.old) (O.failures sink.new) }
+{
+    match write_replies(responder, splitter, sink) {
+        Ok(summary) => match sink.flush() {
+            Ok(()) => Ok(summary),
+            Err(fault) => Err(fault),
+        },
+        Err(fault) => Err(fault),
+    }
+}
+
+/// Reads a script from the source to its end, then answers its statements one after another, writes each reply to the
+/// sink, and flushes it. Where the source fails, the statements that came whole before that are answered, and the run
+/// says `Read`; where the sink fails, no statement runs behind the one whose reply it did not take, and the run says
+/// `Write`. A refused statement does not stop the run.
+pub fn run<R: Responder, I: Source, O: Sink>(
+    responder: &mut R,
+    source: &mut I,
+    sink: &mut O,
+) -> Result<Summary, Fault>
+    ensures { (s : State) → R.stands responder.old s → Runs R.answering s (R.stands responder.new) (record {
+      left_old = I.left source.old;
+      left_new = I.left source.new;
+      reads_before = I.failures source.old;
+      reads_now = I.failures source.new;
+      held_old = O.written sink.old;
+      held_new = O.written sink.new;
+      writes_before = O.failures sink.old;
+      writes_now = O.failures sink.new;
+    }) result }
+{
+    let mut splitter = Splitter::new(responder.memory());
+    let end = match read_script(responder.memory(), source, &mut splitter) {
+        Ok(end) => end,
+        Err(_) => return Err(Fault::Memory),
+    };
+    if end == End::Reached {
+        splitter.finish();
+    }
+    match answer_all(responder, &mut splitter, sink) {
+        Err(_) => Err(Fault::Write),
+        Ok(summary) => match end {
+            End::Reached => Ok(summary),
+            End::Failed => Err(Fault::Read),
+        },
+    }
+}

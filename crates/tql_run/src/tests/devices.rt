@@ -1,0 +1,137 @@
+// Runs over memory of a responder that counts bytes, and devices that fail.
+ghost use Rattle.std.specs.Prelude.{⊤};
+
+use crate::responder::Responder;
+use crate::run::{Fault, Summary, run};
+use crate::std_source::StdSource;
+use std::io::{self, Error, ErrorKind, Read, Write};
+use std::test::Fail;
+use tql_memory::{Memory, memory};
+use tql_result::reply::{Reply, Verb};
+use tql_result::std_sink::StdSink;
+use tql_value::refusal::Refusal;
+
+/// Counts the bytes of each statement, and takes no statement `no`.
+#[derive(Drop)]
+struct Lengths {
+    memory: Memory,
+}
+
+impl Responder for Lengths {
+    ghost stands = { λ _ _. ⊤ };
+
+    ghost answering = { λ _ _ _ _. ⊤ };
+
+    fn memory(&self) -> Memory {
+        self.memory
+    }
+
+    fn answer(&mut self, text: &[u8]) -> Reply {
+        if text == b"no".as_slice() {
+            Reply::Refused(Refusal::NotAStatement)
+        } else {
+            Reply::Done(Verb::Inserted, Some(text.len() as u64))
+        }
+    }
+
+    ghost refuses = { λ _ _ _ _. tt };
+}
+
+/// A reader of bytes that gives so many at once, and fails where it has no reads left.
+#[derive(Drop)]
+struct Chunks<'a> {
+    left: &'a [u8],
+    size: usize,
+    reads_left: u64,
+}
+
+impl Read for Chunks<'_> {
+    fn read(&mut self, buf: &mut [u8]) -> io::Result<usize> {
+        let Some(reads_left) = self.reads_left.checked_sub(1) else {
+            return Err(Error::from(ErrorKind::BrokenPipe));
+        };
+        self.reads_left = reads_left;
+        let count = self.size.min(self.left.len()).min(buf.len());
+        let (given, left) = self.left.split_at(count);
+        buf[..count].copy_from_slice(given);
+        self.left = left;
+        Ok(count)
+    }
+}
+
+/// A writer that keeps what it takes, and fails where it has no writes left, or at a flush.
+#[derive(Drop)]
+struct Kept {
+    bytes: Vec<u8>,
+    writes_left: u64,
+    flushes: bool,
+}
+
+impl Write for Kept {
+    fn write(&mut self, buf: &[u8]) -> io::Result<usize> {
+        let Some(writes_left) = self.writes_left.checked_sub(1) else {
+            return Err(Error::from(ErrorKind::BrokenPipe));
+        };
+        self.writes_left = writes_left;
+        self.bytes.extend_from_slice(buf)?;
+        Ok(buf.len())
+    }
+
+    fn flush(&mut self) -> io::Result<()> {
+        if self.flushes {
+            Ok(())
+        } else {
+            Err(Error::from(ErrorKind::BrokenPipe))
+        }
+    }
+}
+
+/// What a run of a script meets.
+#[derive(Clone, Copy)]
+pub struct Setting {
+    /// How many bytes a read gives at once, at the most.
+    pub size: usize,
+    pub reads: u64,
+    pub writes: u64,
+    pub flushes: bool,
+    /// How many blocks of memory are granted.
+    pub granted: u64,
+}
+
+/// Devices that do not fail, and memory that does not end.
+pub const SOUND: Setting = Setting {
+    size: usize::MAX,
+    reads: u64::MAX,
+    writes: u64::MAX,
+    flushes: true,
+    granted: u64::MAX,
+};
+
+/// What a run answered, and what it wrote.
+#[derive(Drop)]
+pub struct Outcome {
+    pub end: Result<Summary, Fault>,
+    pub text: Vec<u8>,
+}
+
+/// Runs a script.
+pub fn run_script(rt: &impl AllocGlobal, script: &[u8], setting: Setting) -> Result<Outcome, Fail> {
+    let mut lengths = Lengths {
+        memory: memory(rt.alloc(), setting.granted)?,
+    };
+    let mut source = StdSource::new(Chunks {
+        left: script,
+        size: setting.size,
+        reads_left: setting.reads,
+    });
+    let mut sink = StdSink::new(Kept {
+        bytes: Vec::new(rt.alloc()),
+        writes_left: setting.writes,
+        flushes: setting.flushes,
+    });
+    let end = run(&mut lengths, &mut source, &mut sink);
+    Ok(Outcome {
+        end,
+        text: sink.into_writer().bytes,
+    })
+}

@@ -1,0 +1,72 @@
+-- The first fault of lists joined, and of statements that are bound.
+use Rattle.std.specs.Prelude.{◌≡◌, refl, ℕ, ℤ, Bool, true, false, nat_lt, List, [], ◌∷◌, ◌++◌, Option, Some, None, if◌then◌else◌}
+use Rattle.std.proofs.Common.{sym, ap, ◌∙◌, arith, append-nil}
+use Rattle.std.proofs.lemmas.Bool.Decides.{nat_tests}
+use Rattle.tql_spec.proofs.Members.{by_bool}
+use Rattle.tql_spec.specs.Calendar.{read_timestamp}
+use Rattle.tql_spec.specs.Refusal.{Refusal, place, earlier, first}
+use Rattle.tql_spec.specs.Definition.{TableDef}
+use Rattle.tql_spec.specs.Machine.{State, Reply, Bound, Manner, SetsClock, manner_of, state_faults, effect, step, unless}
+use Rattle.tql_spec.specs.Syntax.{Statement, CreateTree, DropTree, InsertValues, InsertSelect, UpdateTree, DeleteTree, QueryTree, StartTree, CommitTree, RollbackTree, AtTree}
+use Rattle.tql_spec.specs.Binding.{bind, manner, moment, or_bad_moment}
+use Rattle.tql_spec.specs.Run.{respond}
+
+-- the first of two, where there is one
+abbrev pub sooner : Option Refusal → Option Refusal → Option Refusal
+sooner None o = o
+sooner (Some a) o = Some (earlier a o)
+
+-- of three, by their places
+pick : (a b c : Refusal) (x y z : Bool) → nat_lt (place b) (place a) ≡ x → nat_lt (place c) (place b) ≡ y → nat_lt (place c) (place a) ≡ z
+    → earlier a (Some (earlier b (Some c))) ≡ earlier (earlier a (Some b)) (Some c)
+pick a b c true true true e f g = rw e (rw f (rw g refl))
+pick a b c true true false e f g = absurd (grind (arith, nat_tests))
+pick a b c true false z e f g = rw f (rw e (rw f refl))
+pick a b c false true true e f g = rw f (rw e (rw g refl))
+pick a b c false true false e f g = rw f (rw e (rw g refl))
+pick a b c false false true e f g = absurd (grind (arith, nat_tests))
+pick a b c false false false e f g = rw f (rw e (rw g refl))
+
+behind : (a : Refusal) (p q : Option Refusal) → Some (earlier a (sooner p q)) ≡ sooner (Some (earlier a p)) q
+behind a None q = refl
+behind a (Some b) None = refl
+behind a (Some b) (Some c) = ap (λ (r : Refusal). Some r) (pick a b c _ _ _ refl refl refl)
+
+pub first_append : (xs ys : List Refusal) → first (xs ++ ys) ≡ sooner (first xs) (first ys)
+first_append [] ys = refl
+first_append (x ∷ xs) ys = ap (λ (o : Option Refusal). Some (earlier x o)) (first_append xs ys) ∙ behind x (first xs) (first ys)
+
+-- no fault is first where there is none
+pub none_first : (xs : List Refusal) → first xs ≡ None → xs ≡ []
+none_first [] e = refl
+none_first (x ∷ xs) e = absurd (cc)
+
+-- ---- statements that are bound
+
+read_some : (m : Option ℤ) → first (or_bad_moment m).faults ≡ None → SetsClock m ≡ SetsClock (Some (or_bad_moment m).value)
+read_some None e = absurd (cc)
+read_some (Some m) e = refl
+
+-- a statement without a fault does to the transaction and the clock what it does bound
+pub manner_kept : (defs : List TableDef) (t : Statement) → first (bind defs t).faults ≡ None → manner t ≡ manner_of (bind defs t).value
+manner_kept defs (CreateTree n e es versioned) k = refl
+manner_kept defs (DropTree n) k = refl
+manner_kept defs (InsertValues n ns t ts) k = refl
+manner_kept defs (InsertSelect n ns s) k = refl
+manner_kept defs (UpdateTree n p s ss c) k = refl
+manner_kept defs (DeleteTree n p c) k = refl
+manner_kept defs (QueryTree s keys) k = refl
+manner_kept defs StartTree k = refl
+manner_kept defs CommitTree k = refl
+manner_kept defs RollbackTree k = refl
+manner_kept defs (AtTree m) k = read_some (read_timestamp m) (sym (ap first (append-nil (or_bad_moment (read_timestamp m)).faults)) ∙ k)
+
+-- a statement without a fault is a step of what it is bound to
+pub bound_steps : (s : State) (t : Statement) → first (bind s.definitions t).faults ≡ None → respond s t ≡ step s (bind s.definitions t).value
+bound_steps s t k =
+    let b : Bound = (bind s.definitions t).value in
+    let r : Reply × State = effect s b in
+    let none = none_first (bind s.definitions t).faults k in
+    ap (λ (fs : List Refusal). unless (first (state_faults s (manner t) ++ fs)) s r.0 r.1) none
+    ∙ ap (λ (fs : List Refusal). unless (first fs) s r.0 r.1) (append-nil (state_faults s (manner t)))
+    ∙ ap (λ (m : Manner). unless (first (state_faults s m)) s r.0 r.1) (manner_kept s.definitions t k)
