@@ -14,5 +14,3 @@ mod names;
 mod number;
 pub mod question;
 pub mod running;
-#[cfg(test)]
-mod tests;

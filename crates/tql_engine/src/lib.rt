@@ -7,6 +7,4 @@ mod order;
 mod rows;
 pub mod run;
 mod sense;
-#[cfg(test)]
-mod tests;
 mod when;

@@ -14,6 +14,4 @@ pub mod parse;
 mod queries;
 pub mod statement;
 mod statements;
-#[cfg(test)]
-mod tests;
 pub mod text;

@@ -24,8 +24,9 @@ impl Engine {
         Ok(Reply::Done(Verb::Started, None))
     }
 
-    /// COMMIT: the clock goes on by a microsecond, also where nothing was changed.
-    pub(super) fn commit(&mut self) -> Result<Reply, Refusal>
+    /// COMMIT: what the open transaction changed stays, and the clock goes on by a microsecond, also where nothing was changed. Takes
+    /// no memory. Refused, with nothing changed, where no transaction is open. ISO/IEC 9075-2:2011, commit statement.
+    pub fn commit(&mut self) -> Result<Reply, Refusal>
         ensures { (s : State) → StandsFor self.old s → DoesStep self.new s result (step s machine.Commit) }
     {
         if !self.rows.has_transaction() {
@@ -36,8 +37,9 @@ impl Engine {
         Ok(Reply::Done(Verb::Committed, None))
     }
 
-    /// ROLLBACK
-    pub(super) fn rollback(&mut self) -> Result<Reply, Refusal>
+    /// ROLLBACK: what the open transaction changed is undone, and the clock stays. Takes no memory. Refused, with nothing changed,
+    /// where no transaction is open. ISO/IEC 9075-2:2011, rollback statement.
+    pub fn rollback(&mut self) -> Result<Reply, Refusal>
         ensures { (s : State) → StandsFor self.old s → DoesStep self.new s result (step s machine.Rollback) }
     {
         if !self.rows.has_transaction() {

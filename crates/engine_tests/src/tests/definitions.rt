@@ -1,9 +1,9 @@
 // What CREATE TABLE is answered: definitions that are taken, and the faults of others, alone and in pairs.
-use crate::engine::Engine;
 use crate::tests::devices::assert_replies;
 use crate::tests::wordings::{CREATED, E10, E15, E20, E21, E22, E23, E40};
 use std::process::Abort;
 use std::test::Fail;
+use tql_engine::engine::Engine;
 use tql_memory::memory;
 use tql_result::reply::Reply;
 use tql_value::refusal::Refusal;

@@ -1,10 +1,10 @@
 // The refusals that the forms can have, and of several faults the first.
-use crate::engine::Engine;
 use crate::tests::devices::{
     assert_log_prints, assert_prints, assert_prints_in_parts, assert_replies,
 };
 use crate::tests::wordings::{E10, E14, E20, E21, E22, E23, E30, E40, E41};
 use std::test::Fail;
+use tql_engine::engine::Engine;
 use tql_memory::memory;
 use tql_result::reply::Reply;
 use tql_value::refusal::Refusal;

@@ -1,9 +1,9 @@
 //! Statements of each form, and each refusal alone and before later ones. CREATE TABLE and INSERT have tests of their own.
-use crate::bind::bind;
-use crate::bound::{Bound, When};
-use crate::running::does_run;
 use std::process::Abort;
 use std::test::Fail;
+use tql_bind::bind::bind;
+use tql_bind::bound::{Bound, When};
+use tql_bind::running::does_run;
 use tql_catalog::definition::{Column, System, TableDef};
 use tql_catalog::table::Table;
 use tql_lex::tokens::tokens;

@@ -1,11 +1,11 @@
 //! Statements and what stands one token off.
-use crate::parse::parse;
 use std::alloc::AllocError;
 use std::process::Abort;
 use std::test::Fail;
 use tql_lex::token::Token;
 use tql_lex::tokens::tokens;
 use tql_memory::{Memory, memory};
+use tql_syntax::parse::parse;
 use tql_value::refusal::Refusal;
 
 /// A statement. Of each of its tokens it is told what becomes of the statement without it, with it twice, and with the next one

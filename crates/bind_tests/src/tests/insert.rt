@@ -1,9 +1,9 @@
 // The values of INSERT, its faults, each alone and two together, and memory that ends.
-use crate::bound::Insert;
-use crate::insert::bind_insert;
-use crate::running::does_run;
 use std::process::Abort;
 use std::test::Fail;
+use tql_bind::bound::Insert;
+use tql_bind::insert::bind_insert;
+use tql_bind::running::does_run;
 use tql_catalog::definition::{Column, System, TableDef};
 use tql_catalog::table::Table;
 use tql_lex::tokens::tokens;

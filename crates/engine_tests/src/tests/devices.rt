@@ -1,9 +1,9 @@
 // Runs of scripts over memory, and devices that fail.
-use crate::engine::Engine;
-use crate::run::run;
 use std::io::{self, Error, ErrorKind, Read, Write};
 use std::process::Abort;
 use std::test::Fail;
+use tql_engine::engine::Engine;
+use tql_engine::run::run;
 use tql_memory::memory;
 use tql_result::std_sink::StdSink;
 use tql_run::run::{Fault, Summary};

@@ -1,5 +1,4 @@
 // Memory that ends: each growth of a script is refused in turn.
-use crate::engine::Engine;
 use crate::tests::devices::{Outcome, SOUND, Setting, run_script};
 use crate::tests::machine::Machine;
 use crate::tests::samples::{no_value, null, some_value};
@@ -9,7 +8,7 @@ use crate::tests::wordings::E21;
 use std::alloc::{AllocError, Global};
 use std::process::Abort;
 use std::test::Fail;
-use tql_bind::bound::Bound;
+use tql_engine::engine::Engine;
 use tql_memory::{Memory, memory};
 use tql_result::reply::{Reply, Verb};
 use tql_run::run::Fault;
@@ -262,7 +261,7 @@ fn spent_engine(rt: &(impl Abort + AllocGlobal)) -> Result<Engine, Fail> {
 #[test]
 fn commits_without_memory(rt: HostRuntime) -> Result<(), Fail> {
     let mut engine = spent_engine(&rt)?;
-    let reply = engine.perform(Bound::Commit);
+    let reply = engine.commit();
     assert!(rt; matches!(&reply, Ok(Reply::Done(Verb::Committed, None))));
     Ok(())
 }
@@ -270,7 +269,7 @@ fn commits_without_memory(rt: HostRuntime) -> Result<(), Fail> {
 #[test]
 fn rolls_back_without_memory(rt: HostRuntime) -> Result<(), Fail> {
     let mut engine = spent_engine(&rt)?;
-    let reply = engine.perform(Bound::Rollback);
+    let reply = engine.rollback();
     assert!(rt; matches!(&reply, Ok(Reply::Done(Verb::RolledBack, None))));
     Ok(())
 }

@@ -1,7 +1,7 @@
 //! Which statements run.
-use crate::running::does_run;
 use std::process::Abort;
 use std::test::Fail;
+use tql_bind::running::does_run;
 use tql_lex::tokens::tokens;
 use tql_memory::{Memory, memory};
 use tql_syntax::parse::parse;

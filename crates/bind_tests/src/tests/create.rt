@@ -4,9 +4,9 @@ ghost use Rattle.std.specs.List.{list_all};
 ghost use Rattle.tql_spec.specs.Running.{does_run, is_plain_element};
 ghost use Rattle.tql_syntax.specs.Statements.{create_of, element_of};
 
-use crate::create::new_table;
 use std::process::Abort;
 use std::test::Fail;
+use tql_bind::create::new_table;
 use tql_catalog::definition::{System, TableDef};
 use tql_catalog::table::Table;
 use tql_lex::tokens::tokens;

@@ -1,11 +1,11 @@
 //! The limits, and what a full stop of memory does.
-use crate::condition::Cond;
-use crate::parse::parse;
-use crate::statement::Statement;
 use std::alloc::AllocError;
 use std::test::Fail;
 use tql_lex::tokens::tokens;
 use tql_memory::{Memory, memory};
+use tql_syntax::condition::Cond;
+use tql_syntax::parse::parse;
+use tql_syntax::statement::Statement;
 use tql_value::refusal::Refusal;
 
 /// A repeated part between two others.
