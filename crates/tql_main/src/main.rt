@@ -6,14 +6,7 @@
 //! command line is wrong; and with 3 where opening, reading or writing failed, or memory ran out before the first statement.
 #![tactic(auto)]
 
-mod options;
-mod status;
-#[cfg(test)]
-mod tests;
-
 use clap::Error;
-use options::{CommandLine, options};
-use status::{exit_status, line_status};
 use std::io::{self, BufWriter, ErrorKind, Read};
 use std::process::ExitCode;
 use std::{env, fs};
@@ -21,6 +14,8 @@ use tql_check::check::check_script;
 use tql_engine::engine::Engine;
 use tql_engine::run::run;
 use tql_memory::memory;
+use tql_options::options::{CommandLine, options};
+use tql_options::status::{exit_status, line_status};
 use tql_result::std_sink::StdSink;
 use tql_run::run::{Fault, Summary};
 use tql_run::std_source::StdSource;

@@ -4,9 +4,9 @@ use Rattle.clap.specs.Words.{App, app_of, fault_of, FailsBy, first_of, found_of,
 use Rattle.clap.specs.Matches.{one_text}
 use Rattle.clap.proofs.OnLiterals.{clap_on_literals}
 use Rattle.clap.proofs.WalkLemmas.{first_value-rows, one_text-rows}
-use Rattle.tql_main.specs.CommandLine.{check_in, check_rule, tql_line}
-use Rattle.tql_main.proofs.WordLemmas.{passed_on}
-use Rattle.tql_main.proofs.options.read_line.Goals as goal
+use Rattle.tql_options.specs.CommandLine.{check_in, check_rule, tql_line}
+use Rattle.tql_options.proofs.WordLemmas.{passed_on}
+use Rattle.tql_options.proofs.options.read_line.Goals as goal
 
 is_plain : is_simple tql_line ≡ true
 unfolding clap_on_literals

@@ -6,7 +6,7 @@ use Rattle.clap.specs.declared.builder.action.ArgAction.TheVariants.{SetTrue}
 use Rattle.clap.specs.declared.error.Error.{Error}
 use Rattle.clap.specs.declared.error.kind.ErrorKind.{ErrorKind}
 use Rattle.clap.specs.declared.error.kind.ErrorKind.TheVariants as kind
-use Rattle.tql_main.specs.declared.options.CommandLine.{CommandLine}
+use Rattle.tql_options.specs.declared.options.CommandLine.{CommandLine}
 
 -- `--check`
 abbrev pub check_rule : Rule

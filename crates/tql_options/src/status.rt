@@ -1,7 +1,7 @@
 //! The exit status.
 ghost use Rattle.std.specs.Prelude.{◌≡◌};
 ghost use Rattle.clap.specs.Words.{kind_of};
-ghost use Rattle.tql_main.specs.Status.{IsExitStatus, status_of_line};
+ghost use Rattle.tql_options.specs.Status.{IsExitStatus, status_of_line};
 
 use clap::Error;
 use clap::error::ErrorKind;

@@ -1,7 +1,7 @@
 //! The command line.
 ghost use Rattle.std.specs.Prelude.{◌≡◌, map, option_map, IfOk, string_bytes};
 ghost use Rattle.clap.specs.Words.{FailsBy};
-ghost use Rattle.tql_main.specs.CommandLine.{ReadsLine, TellsFlag, check_in, faults_in, script_in};
+ghost use Rattle.tql_options.specs.CommandLine.{ReadsLine, TellsFlag, check_in, faults_in, script_in};
 
 use clap::{Arg, ArgAction, Command, Error};
 use std::alloc::Global;

@@ -8,8 +8,8 @@ use Rattle.clap.proofs.OnLiterals.{clap_on_literals}
 use Rattle.clap.specs.declared.error.Error.{Error}
 use Rattle.clap.specs.declared.error.kind.ErrorKind.{ErrorKind}
 use Rattle.clap.specs.declared.error.kind.ErrorKind.TheVariants.{DisplayHelp, UnknownArgument}
-use Rattle.tql_main.specs.CommandLine.{ReadsLine, RefusesLine, TakesScript, TellsFlag, check_in, faults_in, is_plain_word, script_in}
-use Rattle.tql_main.specs.declared.options.CommandLine.{CommandLine}
+use Rattle.tql_options.specs.CommandLine.{ReadsLine, RefusesLine, TakesScript, TellsFlag, check_in, faults_in, is_plain_word, script_in}
+use Rattle.tql_options.specs.declared.options.CommandLine.{CommandLine}
 
 alone_fits : (name : Text) → faults_in (name ∷ []) ≡ []
 unfolding clap_on_literals
