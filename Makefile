@@ -1,8 +1,30 @@
-# `make run` builds the program and runs it on examples/first.sql; `make test` is the gate: every proof and every test, from nothing.
-.PHONY: run test
+# make run      runs crates/tql_cases/data/cases/examples/march.sql, or SCRIPT=path, in a minute or two and without a proof (or by ./tql, where it is there and new)
+# make build    proves what the program needs, and leaves it as ./tql
+# make test     the gate: every proof and every test, from nothing
+# make edits    tries the edits that the prover must refuse: all, or CRATE=name, or EDIT=name too
+# make lines    tries the program's command lines, in a minute or two and without a proof
+# make bench-index   proves and runs the program that times the two indexes; COUNTS="1000 10000" are its numbers of entries
+# make cost     what each crate weighs in the gate, and which are over a bound
+.PHONY: run build test edits lines bench-index cost
+SCRIPT ?= crates/tql_cases/data/cases/examples/march.sql
 
 run:
-	@cd crates/tql_main && rt run -- ../../examples/first.sql
+	@tools/run.sh "$(SCRIPT)"
+
+build:
+	@tools/build.sh
 
 test:
 	@rt ci
+
+edits:
+	@tools/edits.py "$(CRATE)" "$(EDIT)"
+
+lines:
+	@tools/lines.py
+
+bench-index:
+	@benches/index.sh $(COUNTS)
+
+cost:
+	@tools/cost.py

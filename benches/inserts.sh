@@ -1,7 +1,7 @@
 #!/bin/sh
 # How long 100,000 one-row INSERTs and one SELECT of them take: in tql, and the same in sqlite3 over a database in memory.
 # Each INSERT is a transaction of its own. The replies go to /dev/null.
-# Usage: benches/inserts.sh [ROWS]    (build first: make run)
+# Usage: benches/inserts.sh [ROWS]    (first: make build)
 set -eu
 rows=${1:-100000}
 top=$(cd "$(dirname "$0")/.." && pwd)
@@ -39,7 +39,7 @@ measure() {
     echo "$(((end - start) / 1000000)) ms"
 }
 
-echo "tql, $rows INSERTs: $(measure "$top/crates/tql_main/out/tql_main" "$folder/tql_inserts.sql")"
-echo "tql, $rows INSERTs and a SELECT: $(measure "$top/crates/tql_main/out/tql_main" "$folder/tql_all.sql")"
+echo "tql, $rows INSERTs: $(measure "$top/tql" "$folder/tql_inserts.sql")"
+echo "tql, $rows INSERTs and a SELECT: $(measure "$top/tql" "$folder/tql_all.sql")"
 echo "sqlite3, $rows INSERTs: $(measure sqlite3 :memory: ".read $folder/sqlite_inserts.sql")"
 echo "sqlite3, $rows INSERTs and a SELECT: $(measure sqlite3 :memory: ".read $folder/sqlite_all.sql")"

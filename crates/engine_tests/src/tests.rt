@@ -1,16 +1,12 @@
-// What no clause says: the printed text of whole scripts by examples, a machine that copies its tables, memory that ends,
-// and devices that fail.
+// What no clause says and no script shows: a machine that copies its tables, COMMIT and ROLLBACK without memory, and devices
+// that fail.
 mod copies;
 mod counter;
-mod definitions;
 mod devices;
 mod faults;
-mod growths;
-mod insertions;
 mod machine;
-mod refusals;
-mod rows;
 mod samples;
 mod statement;
+mod steps;
 mod tables;
 mod wordings;

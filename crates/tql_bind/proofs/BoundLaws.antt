@@ -1,10 +1,10 @@
 -- INSERT into a table that is found.
-use Rattle.std.specs.Prelude.{◌≡◌, refl, ℕ, zero, suc, true, false, List, [], ◌∷◌, map, Option, Some, None, IsTrue, slice_index_or, ◌<◌, length}
+use Rattle.std.specs.Prelude.{◌≡◌, refl, ℕ, zero, suc, true, false, List, [], ◌∷◌, map, Some, None, IsTrue, slice_index_or, ◌<◌, length}
 use Rattle.std.specs.List.{list_all, list_any}
 use Rattle.std.proofs.Common.{sym, ap, subst, ◌∙◌, arith}
 use Rattle.tql_spec.specs.Refusal.{Refusal, first}
 use Rattle.tql_spec.specs.Datum.{Row}
-use Rattle.tql_spec.specs.Definition.{Name, TableDef, no_table, table_at, place_of}
+use Rattle.tql_spec.specs.Definition.{Name, TableDef, table_at, place_of}
 use Rattle.tql_spec.specs.Expression.{Literal}
 use Rattle.tql_spec.specs.Machine.{Alter, InsertTuples}
 use Rattle.tql_spec.specs.Binding.{insert_values, is_generated}

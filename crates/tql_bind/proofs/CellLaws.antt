@@ -1,7 +1,7 @@
 -- The cells that are literals, bound.
 use Rattle.std.specs.Prelude.{◌≡◌, refl, ℕ, ◌^◌, Bool, true, false, not, nat_le, List, [], ◌++◌, ℤ, pos, neg_ℤ, Option, Some, None, option_map, is_none, if◌then◌else◌}
 use Rattle.tql_spec.specs.Calendar.{number_of, read_date, read_timestamp}
-use Rattle.tql_spec.specs.Datum.{Datum, Null, Int, Text, Day, Moment, Kind, Ints, Days, Moments}
+use Rattle.tql_spec.specs.Datum.{Datum, Int, Day, Moment, Kind, Days, Moments}
 use Rattle.tql_spec.specs.Refusal.{E30, fault_if}
 use Rattle.tql_spec.specs.Expression.{Literal}
 use Rattle.tql_spec.specs.Names.{Checked, Typed, literal}

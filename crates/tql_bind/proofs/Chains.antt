@@ -6,7 +6,7 @@ use Rattle.tql_spec.specs.Refusal.{first}
 use Rattle.tql_spec.specs.Names.{Checked, ◌>>=◌, sound}
 use Rattle.tql_value.specs.declared.refusal.Refusal.{Refusal}
 use Rattle.tql_value.specs.declared.refusal.Refusal.TheVariants.{OutOfMemory}
-use Rattle.tql_bind.specs.Binds.{Binds}
+use Rattle.tql_define.specs.Binds.{Binds}
 
 -- no first fault, no fault
 pub none_present : (fs : List spec.Refusal) → first fs ≡ None → fs ≡ []

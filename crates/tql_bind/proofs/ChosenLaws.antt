@@ -9,12 +9,12 @@ use Rattle.tql_spec.specs.Definition.{TableDef}
 use Rattle.tql_spec.specs.Creation.{names_of, repeats}
 use Rattle.tql_spec.specs.Binding.{all_assignable, is_generated}
 use Rattle.tql_catalog.specs.Simple.{numbers_repeat, are_assignable}
-use Rattle.tql_syntax.specs.Expressions.{name_of}
-use Rattle.tql_syntax.specs.declared.expression.Name.{Name}
+use Rattle.tql_tree.specs.Expressions.{name_of}
+use Rattle.tql_tree.specs.declared.expression.Name.{Name}
 use Rattle.tql_bind.specs.Inserts.{columns_checked}
 use Rattle.tql_bind.proofs.FaultLaws.{level}
 use Rattle.tql_bind.proofs.ListedLaws.{places, same_repeats, numbers_value, listed_free, kept_once, kept_within}
-use Rattle.tql_bind.proofs.InsertLaws.{bad_names, columns_level}
+use Rattle.tql_bind.proofs.InsertLaws.{columns_level}
 
 module _ (d : TableDef) where
   -- without a list all columns that are not generated

@@ -1,8 +1,8 @@
 -- INSERT, from the steps of its binding.
-use Rattle.std.specs.Prelude.{◌≡◌, refl, ℕ, Bool, true, false, ◌||◌, List, [], ◌∷◌, ◌++◌, map, Option, Some, None, is_none, Result, Err}
+use Rattle.std.specs.Prelude.{◌≡◌, refl, ℕ, Bool, true, false, ◌||◌, List, [], ◌∷◌, ◌++◌, map, Option, Some, None, is_none}
 use Rattle.std.specs.List.{list_all, list_any}
-use Rattle.std.proofs.Common.{sym, ap, subst, ◌∙◌, append-nil, append_assoc}
-use Rattle.tql_spec.specs.Refusal.{Refusal, E20, E21, E22, E23, E30, first, fault_if}
+use Rattle.std.proofs.Common.{sym, ap, ◌∙◌, append-nil, append_assoc}
+use Rattle.tql_spec.specs.Refusal.{Refusal, E20, E21, E23, E30, first, fault_if}
 use Rattle.tql_spec.specs.Datum.{Row}
 use Rattle.tql_spec.specs.Definition.{Name, TableDef, table_at, place_of}
 use Rattle.tql_spec.specs.Expression.{Expr, Literal}

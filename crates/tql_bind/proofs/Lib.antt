@@ -1,14 +1,6 @@
-pub mod NumberLemmas
-pub mod Drafts
-pub mod FirstFault
-pub mod Creations
-pub mod ColumnLaws
-pub mod Periods
-pub mod Definitions
 pub mod Chains
 pub mod Questions
 pub mod RunningTrees
-pub mod Literals
 pub mod FaultLaws
 pub mod CellLaws
 pub mod TupleLaws

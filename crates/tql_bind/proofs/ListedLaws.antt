@@ -1,15 +1,15 @@
 -- The columns that an INSERT gives values to.
-use Rattle.std.specs.Prelude.{◌≡◌, refl, ℕ, zero, suc, ◌+◌, ◌-◌, ◌<◌, Bool, true, false, not, ◌&&◌, ◌||◌, ◌==◌, nat_lt, List, [], ◌∷◌, ◌++◌, map, filter, length, slice_index_or, Option, Some, None, is_none, if◌then◌else◌, Decides}
+use Rattle.std.specs.Prelude.{◌≡◌, refl, ℕ, zero, suc, ◌+◌, ◌-◌, ◌<◌, Bool, true, false, not, ◌&&◌, ◌||◌, ◌==◌, nat_lt, List, [], ◌∷◌, ◌++◌, filter, length, slice_index_or, Option, Some, None, is_none, if◌then◌else◌, Decides}
 use Rattle.std.specs.List.{list_all, list_any, range_with_len}
 use Rattle.std.specs.Cmp.Lexicographic.{texts_ties, bytes_decides}
 use Rattle.std.proofs.Common.{sym, ap, subst, ◌∙◌, arith, append-nil, append_assoc, eq-eqb, eqb-true, ne_eqb, lt-ltb}
-use Rattle.tql_spec.specs.Words.{same_text, map_all, with_front}
+use Rattle.tql_spec.specs.Words.{same_text, map_all}
 use Rattle.tql_spec.specs.Refusal.{Refusal, E21, first, fault_if}
 use Rattle.tql_spec.specs.Definition.{Name, TableDef, next_place}
 use Rattle.tql_spec.specs.Names.{check_each}
-use Rattle.tql_spec.specs.Creation.{has_name, repeats, number_in, or_first, column_number, has_number, names_of}
+use Rattle.tql_spec.specs.Creation.{has_name, repeats, number_in, or_first, column_number, has_number}
 use Rattle.tql_spec.specs.Binding.{all_assignable, is_generated}
-use Rattle.tql_catalog.specs.Simple.{numbers_repeat, are_assignable}
+use Rattle.tql_catalog.specs.Simple.{numbers_repeat}
 use Rattle.tql_bind.proofs.FaultLaws.{level, name_first, either_assoc}
 use Rattle.tql_bind.proofs.TupleLaws.{front_parts, none_front}
 

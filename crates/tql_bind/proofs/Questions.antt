@@ -19,7 +19,7 @@ use Rattle.tql_catalog.specs.Definitions.{system_of, def_of, definitions_of}
 use Rattle.tql_catalog.specs.declared.definition.System.{System}
 use Rattle.tql_catalog.specs.declared.table.Table.{Table}
 use Rattle.tql_bind.specs.Bounds.{whole_table}
-use Rattle.tql_bind.specs.Binds.{Binds}
+use Rattle.tql_define.specs.Binds.{Binds}
 use Rattle.tql_bind.specs.Clauses.{asks_past, clause, asked}
 use Rattle.tql_bind.proofs.Chains.{same_fault, only_memory, bound_sound}
 

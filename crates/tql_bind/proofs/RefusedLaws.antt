@@ -1,11 +1,11 @@
 -- Refusals that a caller passes on.
-use Rattle.std.specs.Prelude.{◌≡◌, Some, None, Option, Result, Err}
+use Rattle.std.specs.Prelude.{◌≡◌, Some, None, Option, Err}
 use Rattle.tql_spec.specs.Refusal.{E21, E30, first, E13, E11, E12, E14, E10, E15, E40, E41, E47, E20, E22, E23, E24, E16, E45, E46, E31, E32, E33, E34, E35, E36, E01}
 use Rattle.tql_spec.specs.Refusal as spec
 use Rattle.tql_spec.specs.Names.{Checked}
 use Rattle.tql_value.specs.declared.refusal.Refusal.{Refusal}
 use Rattle.tql_value.specs.declared.refusal.Refusal.TheVariants as r
-use Rattle.tql_bind.specs.Binds.{Binds}
+use Rattle.tql_define.specs.Binds.{Binds}
 use Rattle.tql_bind.specs.Inserts.{Finds, Reads}
 
 -- a refusal of one step, where it is the first fault of all of them

@@ -1,11 +1,11 @@
 -- The rows of an INSERT, from what the code has tested and read.
-use Rattle.std.specs.Prelude.{◌≡◌, refl, ℕ, zero, suc, Bool, true, false, ◌||◌, List, [], ◌∷◌, map, length, All, Vec, Option, Some, None, is_none, Result, Ok, Err, IfOk}
+use Rattle.std.specs.Prelude.{◌≡◌, refl, ℕ, suc, Bool, true, false, ◌||◌, List, [], ◌∷◌, map, length, All, Vec, Option, Some, None, is_none, Result, Ok, Err, IfOk}
 use Rattle.std.specs.List.{list_any}
 use Rattle.std.proofs.Common.{sym, ap, subst, ◌∙◌}
 use Rattle.std.proofs.lemmas.List.{length-map}
 use Rattle.std.proofs.lemmas.List.Elements.{All-nil, All-cons, All-head, All-tail, All-map}
 use Rattle.tql_spec.specs.Words.{map_all}
-use Rattle.tql_spec.specs.Datum.{Datum, Kind, Row}
+use Rattle.tql_spec.specs.Datum.{Kind, Row}
 use Rattle.tql_spec.specs.Refusal.{E22, E23, E30, first}
 use Rattle.tql_spec.specs.Definition.{TableDef}
 use Rattle.tql_spec.specs.Names.{is_other_kind}
@@ -15,7 +15,7 @@ use Rattle.tql_value.specs.Points.{IsPrintable}
 use Rattle.tql_value.specs.Views.{datum_of_value}
 use Rattle.tql_value.specs.declared.refusal.Refusal.{Refusal}
 use Rattle.tql_value.specs.declared.value.Value.{Value}
-use Rattle.tql_bind.specs.Binds.{Binds}
+use Rattle.tql_define.specs.Binds.{Binds}
 use Rattle.tql_bind.specs.Bounds.{row_of, rows_of}
 use Rattle.tql_bind.specs.Inserts.{ArePrintable, Reads, misfits, spelled_rows, rows_or_none, rows_checked}
 use Rattle.tql_bind.specs.Spellings.{Spelling, spelled_kind, spelled_value}

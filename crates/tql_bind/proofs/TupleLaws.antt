@@ -1,5 +1,5 @@
 -- The tuples of literals, bound.
-use Rattle.std.specs.Prelude.{◌≡◌, refl, ℕ, suc, Bool, true, false, not, ◌==◌, length, ◌&&◌, ◌||◌, List, [], ◌∷◌, ◌++◌, map, Option, Some, None, is_none}
+use Rattle.std.specs.Prelude.{◌≡◌, refl, Bool, true, false, not, ◌==◌, length, ◌&&◌, ◌||◌, List, [], ◌∷◌, ◌++◌, map, Option, Some, None, is_none}
 use Rattle.std.specs.List.{list_all, list_any}
 use Rattle.std.proofs.Common.{sym, ap, ◌∙◌, append-nil, append_assoc}
 use Rattle.std.proofs.Math.Dec.{eqb-suc-zero}
@@ -8,7 +8,7 @@ use Rattle.tql_value.specs.Views.{plain_kind}
 use Rattle.tql_spec.specs.Words.{map_all, with_front}
 use Rattle.tql_spec.specs.Datum.{Datum, Kind, Row}
 use Rattle.tql_spec.specs.Refusal.{Refusal, E22, first, fault_if}
-use Rattle.tql_spec.specs.Expression.{Expr, Literal}
+use Rattle.tql_spec.specs.Expression.{Literal}
 use Rattle.tql_spec.specs.Names.{Typed, check_each}
 use Rattle.tql_spec.specs.Syntax.{CellTree, Tuple}
 use Rattle.tql_spec.specs.Binding.{cell, tuple}

@@ -1,7 +1,4 @@
 pub mod Bounds
-pub mod Binds
-pub mod Numbers
-pub mod NewTables
 pub mod Clauses
 pub mod Spellings
 pub mod Inserts

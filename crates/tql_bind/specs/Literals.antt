@@ -3,9 +3,9 @@ use Rattle.std.specs.Prelude.{true, false, List, ◌∷◌, map}
 use Rattle.tql_bind.specs.Spellings.{Spelling, NullSpelling, NumberSpelling, TextSpelling, DateSpelling, TimestampSpelling, tuple_spellings}
 use Rattle.tql_bind.specs.declared.literal.Literal.{Literal}
 use Rattle.tql_bind.specs.declared.literal.Literal.TheVariants.{Null, Number, Negative, Text, Date, Timestamp}
-use Rattle.tql_syntax.specs.Expressions.{digits_of, content_of}
-use Rattle.tql_syntax.specs.Statements.{tuple_of}
-use Rattle.tql_syntax.specs.declared.statement.Tuple.{Tuple}
+use Rattle.tql_tree.specs.Expressions.{digits_of, content_of}
+use Rattle.tql_tree.specs.Statements.{tuple_of}
+use Rattle.tql_tree.specs.declared.statement.Tuple.{Tuple}
 
 -- what a literal spells
 abbrev pub spelling_of : Literal → Spelling

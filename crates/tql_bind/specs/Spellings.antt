@@ -1,11 +1,9 @@
 -- What the cells of an INSERT spell, and the values of it.
-use Rattle.std.specs.Prelude.{◌≡◌, ℕ, Bool, true, false, List, ◌∷◌, map, Vec, Option, Some, None, Result, Ok, Err, option_map, is_none}
+use Rattle.std.specs.Prelude.{ℕ, Bool, true, false, List, ◌∷◌, map, Option, Some, None, option_map, is_none}
 use Rattle.tql_spec.specs.Calendar.{read_date, read_timestamp}
 use Rattle.tql_spec.specs.Datum.{Datum, Null, Text, Day, Moment, Kind, Ints, Texts, Days, Moments}
 use Rattle.tql_spec.specs.Syntax.{Sum, Terms, Factors, Signed, Unsigned, Positive, Negative, Primary, NumberLiteral, TextLiteral, DateLiteral, TimestampLiteral, CellTree, NullCell, ValueCell, Tuple}
-use Rattle.tql_value.specs.declared.refusal.Refusal.{Refusal}
-use Rattle.tql_value.specs.declared.refusal.Refusal.TheVariants.{OutOfMemory, ValueOutOfRange}
-use Rattle.tql_bind.specs.Numbers.{signed_value}
+use Rattle.tql_define.specs.Numbers.{signed_value}
 
 -- NULL, a number by its digits and whether `-` stands before it, or what stands in the quotes of another literal
 pub data Spelling : Type 0 where

@@ -5,22 +5,22 @@ ghost use Rattle.tql_spec.specs.FirstToken.{content};
 ghost use Rattle.tql_spec.specs.Running.{does_run};
 ghost use Rattle.tql_spec.specs.Syntax.{AtTree};
 ghost use Rattle.tql_catalog.specs.Definitions.{definitions_of};
-ghost use Rattle.tql_syntax.specs.Expressions.{name_of};
-ghost use Rattle.tql_syntax.specs.Statements.{create_of, delete_of, insert_of, span_of, statement_of};
-ghost use Rattle.tql_bind.specs.Binds.{Binds};
+ghost use Rattle.tql_tree.specs.Expressions.{name_of};
+ghost use Rattle.tql_tree.specs.Statements.{create_of, delete_of, insert_of, span_of, statement_of};
+ghost use Rattle.tql_define.specs.Binds.{Binds};
 ghost use Rattle.tql_bind.specs.Bounds.{IsSound, bound_of};
 ghost use Rattle.tql_bind.specs.Clauses.{asked};
 ghost use Rattle.tql_bind.specs.Parts.{reference_in};
 
 use crate::bound::Bound;
-use crate::create::new_table;
 use crate::delete::bind_delete;
 use crate::insert::bind_insert;
 use crate::moment::bind_moment;
 use crate::question::question;
 use tql_catalog::table::Table;
+use tql_define::create::new_table;
 use tql_memory::Memory;
-use tql_syntax::statement::{CreateTree, Delete, Insert, RefTree, Statement};
+use tql_tree::statement::{CreateTree, Delete, Insert, RefTree, Statement};
 use tql_value::refusal::Refusal;
 
 /// CREATE TABLE with its names bound.

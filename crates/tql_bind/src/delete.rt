@@ -5,13 +5,13 @@ ghost use Rattle.tql_spec.specs.Change.{Remove};
 ghost use Rattle.tql_spec.specs.Machine.{Alter, Modify};
 ghost use Rattle.tql_spec.specs.Running.{does_run};
 ghost use Rattle.tql_catalog.specs.Definitions.{definitions_of};
-ghost use Rattle.tql_syntax.specs.Statements.{delete_of};
-ghost use Rattle.tql_bind.specs.Binds.{Binds};
+ghost use Rattle.tql_tree.specs.Statements.{delete_of};
+ghost use Rattle.tql_define.specs.Binds.{Binds};
 
 use crate::names::table_named;
 use tql_catalog::table::Table;
 use tql_memory::Memory;
-use tql_syntax::statement::Delete;
+use tql_tree::statement::Delete;
 use tql_value::refusal::Refusal;
 
 /// The place of the table whose rows are deleted. Refused: no table of that name; memory.

@@ -3,14 +3,9 @@
 
 pub mod bind;
 pub mod bound;
-mod columns;
-pub mod create;
 pub mod delete;
-mod draft;
 pub mod insert;
 pub mod literal;
 pub mod moment;
 mod names;
-mod number;
 pub mod question;
-pub mod running;

@@ -6,10 +6,10 @@ ghost use Rattle.tql_spec.specs.FirstToken.{content};
 ghost use Rattle.tql_spec.specs.Machine.{SetClock};
 ghost use Rattle.tql_spec.specs.Syntax.{AtTree};
 ghost use Rattle.tql_value.specs.Points.{IsMoment};
-ghost use Rattle.tql_bind.specs.Binds.{Binds};
+ghost use Rattle.tql_define.specs.Binds.{Binds};
 
 use tql_memory::Memory;
-use tql_syntax::name::quoted_text;
+use tql_tree::name::quoted_text;
 use tql_value::literal::read_timestamp;
 use tql_value::refusal::Refusal;
 

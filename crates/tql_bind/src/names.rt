@@ -2,12 +2,12 @@
 ghost use Rattle.std.specs.Prelude.{◌<◌, length, IfOk};
 ghost use Rattle.tql_spec.specs.Binding.{table_number};
 ghost use Rattle.tql_catalog.specs.Definitions.{definitions_of};
-ghost use Rattle.tql_syntax.specs.Expressions.{name_of};
-ghost use Rattle.tql_bind.specs.Binds.{Binds};
+ghost use Rattle.tql_tree.specs.Expressions.{name_of};
+ghost use Rattle.tql_define.specs.Binds.{Binds};
 
 use tql_catalog::table::{Table, place_of};
 use tql_memory::Memory;
-use tql_syntax::expression::Name;
+use tql_tree::expression::Name;
 use tql_value::refusal::Refusal;
 
 /// The place of the table of this name. Refused: no table has it.

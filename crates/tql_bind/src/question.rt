@@ -5,10 +5,10 @@ ghost use Rattle.tql_spec.specs.FirstToken.{content};
 ghost use Rattle.tql_spec.specs.Machine.{Ask};
 ghost use Rattle.tql_spec.specs.Running.{does_run};
 ghost use Rattle.tql_catalog.specs.Definitions.{def_of, definitions_of};
-ghost use Rattle.tql_syntax.specs.Expressions.{name_of};
-ghost use Rattle.tql_syntax.specs.Statements as tree;
-ghost use Rattle.tql_syntax.specs.Statements.{span_of};
-ghost use Rattle.tql_bind.specs.Binds.{Binds};
+ghost use Rattle.tql_tree.specs.Expressions.{name_of};
+ghost use Rattle.tql_tree.specs.Statements as tree;
+ghost use Rattle.tql_tree.specs.Statements.{span_of};
+ghost use Rattle.tql_define.specs.Binds.{Binds};
 ghost use Rattle.tql_bind.specs.Bounds.{IsSoundQuestion, is_now, query_of, when_of};
 ghost use Rattle.tql_bind.specs.Clauses.{asked, asks_past, clause, range};
 
@@ -18,8 +18,8 @@ use crate::names::table_named;
 use tql_catalog::definition::TableDef;
 use tql_catalog::table::Table;
 use tql_memory::Memory;
-use tql_syntax::expression::Name;
-use tql_syntax::statement::{Query, Span};
+use tql_tree::expression::Name;
+use tql_tree::statement::{Query, Span};
 use tql_value::refusal::Refusal;
 
 /// The moments of a range, in microseconds since 1970-01-01.
@@ -117,6 +117,6 @@ pub fn bind_query(memory: Memory, tables: &[Table], query: &Query<'_>) -> Result
     ensures binds { Binds (λ q. Ask (query_of (definitions_of tables.now) q)) (bind (definitions_of tables.now) (tree.query_of query.now)) result }
     ensures sound { IfOk result (IsSoundQuestion (definitions_of tables.now)) }
 {
-    let reference = &query.select.first.first;
+    let reference = query.select.first.first;
     question(memory, tables, reference.table, reference.span)
 }

@@ -3,7 +3,6 @@ use tql_memory::Memory;
 use tql_value::value::Kind;
 
 /// A column: its limit is the n of VARCHAR(n), in characters.
-#[derive(Drop)]
 pub struct Column {
     pub name: String<Memory>,
     pub kind: Kind,
@@ -22,10 +21,33 @@ pub struct System {
 }
 
 /// The definition of a table.
-#[derive(Drop)]
 pub struct TableDef {
     pub name: String<Memory>,
     pub columns: Vec<Column, Memory>,
     /// The system period; none where the table is not system-versioned.
     pub system: Option<System>,
+}
+
+impl Drop for Column {
+    fn drop(self) {
+        let Column {
+            name,
+            kind: _,
+            limit: _,
+            is_required: _,
+        } = self;
+        drop(name);
+    }
+}
+
+impl Drop for TableDef {
+    fn drop(self) {
+        let TableDef {
+            name,
+            columns,
+            system: _,
+        } = self;
+        drop(name);
+        drop(columns);
+    }
 }

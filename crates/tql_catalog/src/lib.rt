@@ -3,5 +3,3 @@
 
 pub mod definition;
 pub mod table;
-#[cfg(test)]
-mod tests;

@@ -11,11 +11,17 @@ use tql_value::refusal::Refusal;
 use tql_value::table::TableId;
 
 /// A table that is there.
-#[derive(Drop)]
 pub struct Table {
     pub definition: TableDef,
     /// The number at which the store keeps the rows.
     pub id: TableId,
+}
+
+impl Drop for Table {
+    fn drop(self) {
+        let Table { definition, id: _ } = self;
+        drop(definition);
+    }
 }
 
 /// Whether this is the name of the table.

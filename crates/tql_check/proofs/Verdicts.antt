@@ -8,16 +8,16 @@ use Rattle.tql_value.specs.Refusals.{refusal_of}
 use Rattle.tql_value.specs.declared.refusal.Refusal.{Refusal}
 use Rattle.tql_value.specs.declared.refusal.Refusal.TheVariants as r
 use Rattle.tql_syntax.specs.Texts.{ReadsText}
-use Rattle.tql_syntax.specs.Statements.{statement_of}
-use Rattle.tql_syntax.specs.declared.statement.Statement.{Statement}
+use Rattle.tql_tree.specs.Trees.{tree_of}
+use Rattle.tql_tree.specs.declared.tree.Tree.{Tree}
 
 -- a statement that keeps within the limits
-pub narrow_checks : (s : State) (text : List ℕ) (t : Statement) → ReadsText text (Ok t) → tree.is_too_wide (statement_of t) ≡ false → Checks s (finished text) (Done Accepted None) s
-narrow_checks s text t reads narrow = (inl (Says (statement_of t), (reads.0, reads.1, narrow), refl), refl)
+pub narrow_checks : (s : State) (text : List ℕ) (t : Tree) → ReadsText text (Ok t) → tree.is_too_wide (tree_of t) ≡ false → Checks s (finished text) (Done Accepted None) s
+narrow_checks s text t reads narrow = (inl (Says (tree_of t), (reads.0, reads.1, narrow), refl), refl)
 
 -- a statement that is too wide
-pub wide_checks : (s : State) (text : List ℕ) (t : Statement) → ReadsText text (Ok t) → tree.is_too_wide (statement_of t) ≡ true → Checks s (finished text) (Refused (refusal_of r.TooManyColumnsOrTables)) s
-wide_checks s text t reads wide = (inl (Faulty (refusal_of r.TooManyColumnsOrTables), (reads.0, (statement_of t, reads.1, wide)), refl), refl)
+pub wide_checks : (s : State) (text : List ℕ) (t : Tree) → ReadsText text (Ok t) → tree.is_too_wide (tree_of t) ≡ true → Checks s (finished text) (Refused (refusal_of r.TooManyColumnsOrTables)) s
+wide_checks s text t reads wide = (inl (Faulty (refusal_of r.TooManyColumnsOrTables), (reads.0, (tree_of t, reads.1, wide)), refl), refl)
 
 -- a fault of the text
 faulty : (s : State) (text : List ℕ) (e : Refusal) → HasSense IsStatement (finished text) (Faulty (refusal_of e)) → Checks s (finished text) (Refused (refusal_of e)) s

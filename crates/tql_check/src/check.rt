@@ -3,7 +3,7 @@ ghost use Rattle.std.specs.Prelude.{⊤};
 ghost use Rattle.tql_spec.specs.Machine.{State};
 ghost use Rattle.tql_spec.specs.Run.{Checks, finished};
 ghost use Rattle.tql_result.specs.Replies.{reply_of, IsPrintableReply};
-ghost use Rattle.tql_run.specs.Runs.{Runs};
+ghost use Rattle.tql_run.specs.Runs.{Runs, source_change, sink_change};
 ghost use Rattle.tql_run.proofs.Faults.{checks_refuse};
 
 use tql_memory::Memory;
@@ -12,19 +12,19 @@ use tql_result::sink::Sink;
 use tql_run::device::Source;
 use tql_run::responder::Responder;
 use tql_run::run::{Fault, Summary, run};
-use tql_syntax::parse::is_too_wide;
 use tql_syntax::text::read_text;
+use tql_tree::width::is_too_wide;
 use tql_value::refusal::Refusal;
 
-/// Checks one finished statement by its text, without its `;`. Any bytes are taken. The reply is `OK`, or the refusal of the
-/// first fault: more than 1,048,576 bytes, bytes that are not UTF-8, more than 64 parentheses open at once, a text that is no
-/// statement, and more than 64 columns or 8 table references. Out of memory is refused too.
+/// Checks one finished statement by its text, without its `;`. Any bytes are taken. The reply is `OK`, or the refusal of
+/// the first fault: more than 1,048,576 bytes, bytes that are not UTF-8, more than 64 parentheses open at once, a text
+/// that is no statement, and more than 64 columns or 8 table references. Out of memory is refused too.
 pub fn check(memory: Memory, text: &[u8]) -> Reply
     ensures answered { (s : State) → Checks s (finished text.now) (reply_of result) s }
     ensures printable { IsPrintableReply (reply_of result) }
 {
     match read_text(memory, text) {
-        Ok(statement) if is_too_wide(&statement) => Reply::Refused(Refusal::TooManyColumnsOrTables),
+        Ok(tree) if is_too_wide(&tree.statement) => Reply::Refused(Refusal::TooManyColumnsOrTables),
         Ok(_) => Reply::Done(Verb::Accepted, None),
         Err(refusal) => Reply::Refused(refusal),
     }
@@ -52,24 +52,17 @@ impl Responder for Checker {
     ghost refuses = { checks_refuse };
 }
 
-/// Checks a script without running it: reads it from the source to its end, checks its statements one after another, writes
-/// each reply to the sink, and flushes it. A device that fails ends the check as it ends a run, and a refused statement ends
-/// nothing. The summary counts the replies, and the refusals among them.
+/// Checks a script without running it: reads it from the source to its end, checks its statements one after another,
+/// writes each reply to the sink, and flushes it. A device that fails ends the check as it ends a run, and a refused
+/// statement ends nothing. The summary counts the replies, and the refusals among them.
 pub fn check_script<I: Source, O: Sink>(
     memory: Memory,
     source: &mut I,
     sink: &mut O,
 ) -> Result<Summary, Fault>
-    ensures { (s : State) → Runs Checks s (λ _. ⊤) (record {
-      left_old = I.left source.old;
-      left_new = I.left source.new;
-      reads_before = I.failures source.old;
-      reads_now = I.failures source.new;
-      held_old = O.written sink.old;
-      held_new = O.written sink.new;
-      writes_before = O.failures sink.old;
-      writes_now = O.failures sink.new;
-    }) result }
+    ensures { (s : State) → Runs Checks s (λ _. ⊤)
+        (source_change I.left I.failures I.ended source.old source.new)
+        (sink_change O.written O.failures O.flushed sink.old sink.new) result }
 {
     let mut checker = Checker { memory };
     run(&mut checker, source, sink)

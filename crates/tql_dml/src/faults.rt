@@ -12,6 +12,7 @@ ghost use Rattle.tql_dml.specs.Inserts.{row_of, rows_of};
 use tql_catalog::definition::Column;
 use tql_memory::Memory;
 use tql_value::refusal::Refusal;
+use tql_value::text::characters;
 use tql_value::value::Value;
 
 /// Whether a value is a text of more characters than its column takes.
@@ -19,7 +20,7 @@ fn is_too_long(column: &Column, value: &Value) -> bool
     ensures { result ≡ too_long column.now.limit (datum_of_value value.now) }
 {
     match (column.limit, value) {
-        (Some(limit), Value::Text(text)) => limit < text.characters() as u64,
+        (Some(limit), Value::Text(text)) => limit < characters(text.as_str()) as u64,
         _ => false,
     }
 }

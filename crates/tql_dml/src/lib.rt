@@ -5,5 +5,3 @@ mod faults;
 pub mod insert;
 mod spread;
 mod stored;
-#[cfg(test)]
-mod tests;

@@ -15,7 +15,7 @@ use Rattle.tql_spec.proofs.FirstFaults.{first_append, sooner, bound_steps}
 use Rattle.tql_value.specs.Refusals.{refusal_of}
 use Rattle.tql_value.specs.declared.refusal.Refusal.{Refusal}
 use Rattle.tql_value.specs.declared.refusal.Refusal.TheVariants as r
-use Rattle.tql_bind.specs.Binds.{Binds}
+use Rattle.tql_define.specs.Binds.{Binds}
 use Rattle.tql_result.specs.declared.reply.Reply.{Reply}
 use Rattle.tql_engine.specs.Stands.{Held, StandsFor}
 use Rattle.tql_engine.specs.Effects.{Does, DoesStep, Refuses, RefusedWith, manner_refused, first_fault}

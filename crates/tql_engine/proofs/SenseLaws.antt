@@ -7,10 +7,10 @@ use Rattle.tql_spec.specs.Running.{Runs, does_run}
 use Rattle.tql_spec.specs.Run.{IsWhole, IsTextOf, finished}
 use Rattle.tql_value.specs.declared.refusal.Refusal.{Refusal}
 use Rattle.tql_value.specs.declared.refusal.Refusal.TheVariants as r
-use Rattle.tql_syntax.specs.Statements.{statement_of}
-use Rattle.tql_syntax.specs.declared.statement.Statement as code
+use Rattle.tql_tree.specs.Trees.{tree_of}
+use Rattle.tql_tree.specs.declared.tree.Tree as code
 use Rattle.tql_syntax.specs.Texts.{ReadsText}
-use Rattle.tql_syntax.proofs.TextLaws.{one_statement}
+use Rattle.tql_grammar.proofs.TextLaws.{one_statement}
 use Rattle.tql_engine.specs.Sense.{ReadsAs}
 
 -- what spells a statement that runs spells it in the whole grammar
@@ -18,9 +18,9 @@ whole_grammar : (text : List ℕ) (s : Statement) → IsTextOf Runs text s → I
 whole_grammar text s (ts, shallow, runs) = (ts, shallow, runs.spelled)
 
 -- a text that spells a statement that does not run says nothing
-pub not_running : (text : List ℕ) (s : code.Statement) → ReadsText text (Ok s) → does_run (statement_of s) ≡ false → ReadsAs text (Err r.NotAStatement)
+pub not_running : (text : List ℕ) (s : code.Tree) → ReadsText text (Ok s) → does_run (tree_of s) ≡ false → ReadsAs text (Err r.NotAStatement)
 not_running text s (whole, spelled) e =
-    let alone = one_statement text (statement_of s) spelled in (
+    let alone = one_statement text (tree_of s) spelled in (
       whole,
       alone.shallow,
       λ t (ts, shallow, runs).
@@ -35,13 +35,13 @@ running : (text : List ℕ) (s : Statement) → IsTextOf IsStatement text s → 
 running text s (ts, shallow, spelled) e = (ts, shallow, record { spelled = spelled; running = e })
 
 -- one that runs and is too wide
-pub too_wide : (text : List ℕ) (s : code.Statement) → ReadsText text (Ok s) → does_run (statement_of s) ≡ true → is_too_wide (statement_of s) ≡ true
+pub too_wide : (text : List ℕ) (s : code.Tree) → ReadsText text (Ok s) → does_run (tree_of s) ≡ true → is_too_wide (tree_of s) ≡ true
     → ReadsAs text (Err r.TooManyColumnsOrTables)
-too_wide text s (whole, spelled) e wide = (whole, (statement_of s, running text (statement_of s) spelled e, wide))
+too_wide text s (whole, spelled) e wide = (whole, (tree_of s, running text (tree_of s) spelled e, wide))
 
 -- one that runs
-pub says : (text : List ℕ) (s : code.Statement) → ReadsText text (Ok s) → does_run (statement_of s) ≡ true → is_too_wide (statement_of s) ≡ false → ReadsAs text (Ok s)
-says text s (whole, spelled) e narrow = (whole, running text (statement_of s) spelled e, narrow)
+pub says : (text : List ℕ) (s : code.Tree) → ReadsText text (Ok s) → does_run (tree_of s) ≡ true → is_too_wide (tree_of s) ≡ false → ReadsAs text (Ok s)
+says text s (whole, spelled) e narrow = (whole, running text (tree_of s) spelled e, narrow)
 
 -- a text that is refused over the whole grammar
 pub refused : (text : List ℕ) (e : Refusal) → ReadsText text (Err e) → ReadsAs text (Err e)

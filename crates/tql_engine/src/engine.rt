@@ -16,18 +16,30 @@ use tql_memory::Memory;
 use tql_result::reply::Reply;
 use tql_run::responder::Responder;
 use tql_store::store::Store;
-use tql_syntax::statement::Statement;
+use tql_tree::statement::Statement;
 use tql_value::calendar::FIRST_MOMENT;
 use tql_value::refusal::Refusal;
 
 /// The engine: its tables in the order of their creation, the store of their rows, and the moment of the next
 /// transaction, in microseconds since 1970-01-01.
-#[derive(Drop)]
 pub struct Engine {
     memory: Memory,
     tables: Vec<Table, Memory>,
     rows: Store,
     next: i64,
+}
+
+impl Drop for Engine {
+    fn drop(self) {
+        let Engine {
+            memory: _,
+            tables,
+            rows,
+            next: _,
+        } = self;
+        drop(tables);
+        drop(rows);
+    }
 }
 
 impl Model for Engine {
@@ -46,7 +58,7 @@ impl Engine {
     ghost use Rattle.tql_spec.specs.Machine.{State, new_state, step};
     ghost use Rattle.tql_spec.specs.Run.{Answers, finished, respond};
     ghost use Rattle.tql_spec.specs.Running.{does_run};
-    ghost use Rattle.tql_syntax.specs.Statements.{statement_of};
+    ghost use Rattle.tql_tree.specs.Statements.{statement_of};
     ghost use Rattle.tql_run.specs.Responding.{Answered};
     ghost use Rattle.tql_bind.specs.Bounds.{IsSound, bound_of};
     ghost use Rattle.tql_engine.specs.Tables.{definitions, placed_of};
@@ -110,7 +122,7 @@ impl Engine {
         ensures printable { IfOk result (λ reply. IsPrintableReply (reply_of reply)) }
     {
         match read_statement(self.memory, text) {
-            Ok(statement) => self.execute(&statement),
+            Ok(tree) => self.execute(&tree.statement),
             Err(refusal) => Err(refusal),
         }
     }

@@ -1,7 +1,7 @@
 //! A whole run of a script on an engine.
 ghost use Rattle.tql_spec.specs.Machine.{State};
 ghost use Rattle.tql_spec.specs.Run.{Answers};
-ghost use Rattle.tql_run.specs.Runs.{Runs};
+ghost use Rattle.tql_run.specs.Runs.{Runs, source_change, sink_change};
 ghost use Rattle.tql_engine.specs.Stands.{StandsFor};
 
 use crate::engine::Engine;
@@ -18,16 +18,9 @@ pub fn run<I: Source, O: Sink>(
     source: &mut I,
     sink: &mut O,
 ) -> Result<Summary, Fault>
-    ensures { (s : State) → StandsFor engine.old s → Runs Answers s (StandsFor engine.new) (record {
-      left_old = I.left source.old;
-      left_new = I.left source.new;
-      reads_before = I.failures source.old;
-      reads_now = I.failures source.new;
-      held_old = O.written sink.old;
-      held_new = O.written sink.new;
-      writes_before = O.failures sink.old;
-      writes_now = O.failures sink.new;
-    }) result }
+    ensures { (s : State) → StandsFor engine.old s → Runs Answers s (StandsFor engine.new)
+        (source_change I.left I.failures I.ended source.old source.new)
+        (sink_change O.written O.failures O.flushed sink.old sink.new) result }
 {
     tql_run::run::run(engine, source, sink)
 }

@@ -1,27 +1,27 @@
 //! What a statement's text says.
 ghost use Rattle.tql_engine.specs.Sense.{ReadsAs};
 
-use tql_bind::running::does_run;
 use tql_memory::Memory;
-use tql_syntax::parse::is_too_wide;
-use tql_syntax::statement::Statement;
+use tql_runnable::running::does_run;
 use tql_syntax::text::read_text;
+use tql_tree::tree::Tree;
+use tql_tree::width::is_too_wide;
 use tql_value::refusal::Refusal;
 
 /// Reads a finished statement. Refused are, the first of them: over 1,048,576 bytes, bytes that are not UTF-8, over 64 parentheses
 /// open at once, a text that is no statement that runs, and over 64 columns.
-pub fn read_statement(memory: Memory, text: &[u8]) -> Result<Statement<'_>, Refusal>
+pub fn read_statement(memory: Memory, text: &[u8]) -> Result<Tree<'_>, Refusal>
     ensures { ReadsAs text.now result }
 {
-    let statement = match read_text(memory, text) {
-        Ok(statement) => statement,
+    let tree = match read_text(memory, text) {
+        Ok(tree) => tree,
         Err(refusal) => return Err(refusal),
     };
-    if !does_run(&statement) {
+    if !does_run(&tree.statement) {
         return Err(Refusal::NotAStatement);
     }
-    if is_too_wide(&statement) {
+    if is_too_wide(&tree.statement) {
         return Err(Refusal::TooManyColumnsOrTables);
     }
-    Ok(statement)
+    Ok(tree)
 }

@@ -6,7 +6,5 @@ mod edit;
 pub mod index;
 pub mod list_index;
 mod search;
-#[cfg(test)]
-mod tests;
 mod tree;
 pub mod tree_index;

@@ -116,6 +116,3 @@ fn piece_of(found: Found<'_>) -> Piece<'_>
         Piece::Unfinished(found.text)
     }
 }
-
-#[cfg(test)]
-mod tests;

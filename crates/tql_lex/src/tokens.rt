@@ -63,6 +63,3 @@ pub fn tokens(memory: Memory, text: &str) -> Result<Vec<Token<'_>, Memory>, Refu
     }
     Ok(found)
 }
-
-#[cfg(test)]
-mod tests;

@@ -1,11 +1,17 @@
-//! The program: `tql [SCRIPT]` runs the script in the file SCRIPT, or on the standard input without it, and writes the
-//! replies to the standard output. `tql --check [SCRIPT]` only checks each statement by the grammar, and replies with `OK` or a
-//! refusal.
+//! The program: `tql [SCRIPT]` runs the script in the file SCRIPT, or on the standard input without it or where it is
+//! `-`, and writes the replies to the standard output. `tql --check [SCRIPT]` only checks each statement by the grammar,
+//! and replies with `OK` or a refusal.
 //!
-//! It exits with 0 where no statement was refused, and after help; with 1 where some statement was refused; with 2 where the
-//! command line is wrong; and with 3 where opening, reading or writing failed, or memory ran out before the first statement.
+//! It exits with 0 where no statement was refused, and after help or the version; with 1 where some statement was
+//! refused; with 2 where the command line is wrong; and with 3 where opening, reading or writing failed, or memory ran
+//! out before the first statement.
 #![tactic(auto)]
 
+mod options;
+mod status;
+
+use crate::options::CommandLine;
+use crate::status::{exit_status, line_status};
 use clap::Error;
 use std::io::{self, BufWriter, ErrorKind, Read};
 use std::process::ExitCode;
@@ -14,27 +20,20 @@ use tql_check::check::check_script;
 use tql_engine::engine::Engine;
 use tql_engine::run::run;
 use tql_memory::memory;
-use tql_options::options::{CommandLine, options};
-use tql_options::status::{exit_status, line_status};
 use tql_result::std_sink::StdSink;
 use tql_run::run::{Fault, Summary};
 use tql_run::std_source::StdSource;
 
-/// What the standard error is told of a run that stopped.
-fn complaint(fault: Fault) -> &'static str {
-    match fault {
-        Fault::Read => "tql: cannot read",
-        Fault::Write => "tql: cannot write",
-        Fault::Memory => "tql: out of memory",
-    }
-}
+/// What a script is called that is read from the standard input.
+static STANDARD_INPUT: &str = "the standard input";
 
-/// Why a script cannot be opened.
-fn opening_fault(error: &io::Error) -> Fault {
-    match error.kind() {
-        ErrorKind::OutOfMemory => Fault::Memory,
-        _ => Fault::Read,
-    }
+/// Tells the standard error why a run of the script stopped.
+fn complain(rt: &impl Eprint, script: &str, fault: Fault) {
+    let _ = match fault {
+        Fault::Read => eprintln!(rt; "tql: cannot read {script}"),
+        Fault::Write => eprintln!(rt; "tql: cannot write the replies to {script}"),
+        Fault::Memory => eprintln!(rt; "tql: out of memory"),
+    };
 }
 
 /// Runs a script on a new engine, and prints the replies.
@@ -75,33 +74,55 @@ fn answer_script<R: Read + Drop>(
     }
 }
 
-/// Runs or checks the script that the options name.
-fn run_options(rt: &HostRuntime, options: &CommandLine<'_>) -> Result<Summary, Fault> {
-    match options.script {
-        Some(path) => {
-            let file = fs::open(rt, path).map_err(|error| opening_fault(&error))?;
-            answer_script(rt, options.check, file)
-        }
-        None => answer_script(rt, options.check, rt.reader()),
-    }
-}
-
-/// Ends a run: its fault goes to the standard error.
-fn end_run(rt: &impl Eprint, outcome: &Result<Summary, Fault>) -> u8 {
+/// Ends a run of the script: its fault goes to the standard error.
+fn end_run(rt: &impl Eprint, script: &str, outcome: &Result<Summary, Fault>) -> u8 {
     if let Err(fault) = outcome {
-        let _ = eprintln!(rt; "{}", complaint(*fault));
+        complain(rt, script, *fault);
     }
     exit_status(outcome)
 }
 
-/// Ends a command line that starts no run: help goes to the standard output, and a fault to the standard error.
+/// Ends a program that lacked memory before a run.
+fn end_lack(rt: &impl Eprint) -> u8 {
+    end_run(rt, STANDARD_INPUT, &Err(Fault::Memory))
+}
+
+/// Ends a program whose script cannot be opened.
+fn end_opening(rt: &impl Eprint, path: &str, error: &io::Error) -> u8 {
+    match error.kind() {
+        ErrorKind::OutOfMemory => end_lack(rt),
+        _ => {
+            let _ = eprintln!(rt; "tql: cannot read {path}: {error}");
+            exit_status(&Err(Fault::Read))
+        }
+    }
+}
+
+/// Runs or checks the script that the options name, and answers the exit status.
+fn run_options(rt: &HostRuntime, options: &CommandLine<'_>) -> u8 {
+    match options.script {
+        Some(path) => match fs::open(rt, path) {
+            Ok(file) => end_run(rt, path, &answer_script(rt, options.check, file)),
+            Err(error) => end_opening(rt, path, &error),
+        },
+        None => end_run(
+            rt,
+            STANDARD_INPUT,
+            &answer_script(rt, options.check, rt.reader()),
+        ),
+    }
+}
+
+/// Ends a command line that starts no run: help and the version go to the standard output, and a fault to the standard
+/// error.
 fn end_line(rt: &(impl Print + Eprint), error: &Error) -> u8 {
     let status = line_status(error);
     if status == 3 {
-        return end_run(rt, &Err(Fault::Memory));
+        return end_lack(rt);
     }
     if error.print(rt).is_err() && status == 0 {
-        return end_run(rt, &Err(Fault::Write));
+        let _ = eprintln!(rt; "tql: cannot write the standard output");
+        return exit_status(&Err(Fault::Write));
     }
     status
 }
@@ -115,7 +136,7 @@ fn words(rt: &HostRuntime) -> io::Result<Vec<String>> {
 /// Ends a program whose words cannot be had: memory ran out, or a word is not UTF-8.
 fn end_words(rt: &impl Eprint, error: &io::Error) -> u8 {
     match error.kind() {
-        ErrorKind::OutOfMemory => end_run(rt, &Err(Fault::Memory)),
+        ErrorKind::OutOfMemory => end_lack(rt),
         _ => {
             let _ = eprintln!(rt; "error: the command line is not UTF-8");
             2
@@ -129,8 +150,8 @@ fn run_words(rt: &HostRuntime) -> u8 {
         Ok(words) => words,
         Err(error) => return end_words(rt, &error),
     };
-    match options(rt.alloc(), &words) {
-        Ok(options) => end_run(rt, &run_options(rt, &options)),
+    match options::options(rt.alloc(), &words) {
+        Ok(options) => run_options(rt, &options),
         Err(error) => end_line(rt, &error),
     }
 }

@@ -26,8 +26,15 @@ module _ (Z : Al) where
   abbrev pub Self : RattleType
   Self = counting.the_row (param 0 Z.row)
 
+  abbrev pub at_both : RattleType → Args
+  at_both X = bounded (a_type ∷ a_type ∷ []) (Z.row, (X, tt)) (dcons Z.d (dcons Z.drops dnil))
+
   abbrev pub self : Slot 2
   self = RefOf (0 ∷ []) tt (plain (λ _. Self)) (λ _. tt)
+
+  -- the same, where there is a third lifetime, that of the values in a block
+  abbrev pub self_of_three : Slot 3
+  self_of_three = RefOf (0 ∷ []) tt (plain (λ _. Self)) (λ _. tt)
 
   -- where the two fields lie
   abbrev pub inner_place : ℕ × ℕ → ℕ × ℕ

@@ -5,5 +5,3 @@ pub mod coverage;
 pub mod period;
 pub mod pieces;
 pub mod predicates;
-#[cfg(test)]
-mod tests;

@@ -13,5 +13,3 @@ pub mod reply;
 pub mod sink;
 pub mod std_sink;
 pub mod table;
-#[cfg(test)]
-mod tests;

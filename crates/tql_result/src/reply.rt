@@ -27,7 +27,6 @@ pub enum Verb {
 }
 
 /// What a statement is answered.
-#[derive(Drop)]
 pub enum Reply {
     /// It is done, with the count of rows where it counts them.
     Done(Verb, Option<u64>),
@@ -35,6 +34,15 @@ pub enum Reply {
     Table(Rows),
     /// It is refused, and nothing has changed.
     Refused(Refusal),
+}
+
+impl Drop for Reply {
+    fn drop(self) {
+        match self {
+            Reply::Done(_, _) | Reply::Refused(_) => {}
+            Reply::Table(rows) => drop(rows),
+        }
+    }
 }
 
 impl Verb {

@@ -1,4 +1,5 @@
-ghost use Rattle.std.specs.Prelude.{◌≡◌};
+//! A sink over a writer of the standard library.
+ghost use Rattle.std.specs.Prelude.{◌≡◌, IsFalse};
 ghost use Rattle.tql_result.specs.Devices.{HasFailed};
 
 use crate::device::DeviceFault;
@@ -6,22 +7,25 @@ use crate::sink::Sink;
 use std::io::Write;
 
 /// A sink over a writer of the standard library. A write that fails, or takes none of some bytes, and a
-/// flush that fails are counted.
+/// flush that fails are counted. It is flushed once its writer has answered a flush well, until the next push.
 #[derive(Drop)]
 pub struct StdSink<W> {
     writer: W,
     failures: u64,
+    flushed: bool,
 }
 
 impl<W: Write + Drop> StdSink<W> {
-    /// A sink that has counted no failure.
+    /// A sink that has counted no failure. It is not flushed, since the writer may keep back bytes from before.
     pub fn new(writer: W) -> StdSink<W>
         ensures written { ⟦<StdSink<W> as Sink>⟧.written result ≡ W.contents writer }
         ensures failures { ⟦<StdSink<W> as Sink>⟧.failures result ≡ 0 }
+        ensures flushed { IsFalse (⟦<StdSink<W> as Sink>⟧.flushed result) }
     {
         StdSink {
             writer,
             failures: 0,
+            flushed: false,
         }
     }
 
@@ -35,6 +39,7 @@ impl<W: Write + Drop> StdSink<W> {
     fn fail(&mut self) -> DeviceFault
         ensures writer { self.new.writer ≡ self.old.writer }
         ensures failures { HasFailed self.old.failures self.new.failures }
+        ensures flushed { self.new.flushed ≡ self.old.flushed }
     {
         self.failures = self.failures.saturating_add(1);
         DeviceFault
@@ -46,7 +51,10 @@ impl<W: Write + Drop> Sink for StdSink<W> {
 
     ghost failures = { λ s. s.failures };
 
+    ghost flushed = { λ s. s.flushed };
+
     fn push(&mut self, bytes: &[u8]) -> Result<usize, DeviceFault> {
+        self.flushed = false;
         match self.writer.write(bytes) {
             Ok(0) if !bytes.is_empty() => {
                 self.fail();
@@ -58,7 +66,8 @@ impl<W: Write + Drop> Sink for StdSink<W> {
     }
 
     fn flush(&mut self) -> Result<(), DeviceFault> {
-        if self.writer.flush().is_err() {
+        self.flushed = self.writer.flush().is_ok();
+        if !self.flushed {
             return Err(self.fail());
         }
         Ok(())

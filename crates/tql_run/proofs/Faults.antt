@@ -1,5 +1,5 @@
 -- The machine and the check both refuse a piece for the faults that are seen at once.
-use Rattle.std.proofs.Common.{◌≡◌, refl, sym, subst, inl, inr, ◌<◌, ◌≤◌, ℕ, List, length, true, IsTrue, IsFalse}
+use Rattle.std.proofs.Common.{◌≡◌, refl, sym, subst, inl, inr, ◌<◌, ◌≤◌, ℕ, List, length, IsTrue, IsFalse}
 use Rattle.tql_spec.specs.Refusal.{Refusal}
 use Rattle.tql_spec.specs.Machine.{State, Reply, Refused}
 use Rattle.tql_spec.specs.Script.{Piece}

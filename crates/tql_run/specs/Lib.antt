@@ -2,4 +2,4 @@ pub mod Responding
 pub mod Pieces
 pub mod Runs
 pub mod Reads
-pub mod Telling
+pub mod Writing

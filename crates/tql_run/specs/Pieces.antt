@@ -11,7 +11,9 @@ IsCutFault text e = ((e ≡ E11) × ¬ IsUtf8 text) ⊎ ((e ≡ E12) × IsUtf8 t
 
 -- the first fault of a piece that is seen at once: too many bytes, or no `;` ends it
 abbrev pub HasFault : Piece → Refusal → Type 0
-HasFault p e = ((e ≡ E13) × (1_048_576 < length p.text)) ⊎ ((length p.text ≤ 1_048_576) × IsFalse p.finished × IsCutFault p.text e)
+HasFault p e =
+    ((e ≡ E13) × (1_048_576 < length p.text))
+    ⊎ ((length p.text ≤ 1_048_576) × IsFalse p.finished × IsCutFault p.text e)
 
 -- the law: a piece with such a fault is refused for it, and the state stays
 abbrev pub RefusesFaults : Answering → Type 0

@@ -1,27 +1,27 @@
 -- What was read of a script.
-use Rattle.std.specs.Prelude.{◌≡◌, ◌⊎◌, ◌≤◌, ◌*◌, ℕ, List, false, length, Option}
+use Rattle.std.specs.Prelude.{◌≡◌, ◌≤◌, ◌<◌, ◌*◌, ℕ, List, false, length, IsFalse}
 use Rattle.tql_lex.specs.Stream.{Stream}
-use Rattle.tql_result.specs.Devices.{HasFailed}
-use Rattle.tql_run.specs.Runs.{Gives, IsAtEnd, most_pulls, most_bytes}
+use Rattle.tql_run.specs.Runs.{SourceChange, Gives, MeetsEnd, MissesEnd, most_bytes}
 use Rattle.tql_run.specs.declared.script.End.{End}
 use Rattle.tql_run.specs.declared.script.End.TheVariants.{Reached, Failed}
 
--- why the reading stopped: at the end, with no failure; or the source failed, or gave bytes in all pulls
-abbrev pub Stops : End → List ℕ → Option (List ℕ) → ℕ → ℕ → Type 0
-Stops Reached read new before now = IsAtEnd new × (now ≡ before)
-Stops Failed read new before now = HasFailed before now ⊎ (most_pulls ≤ length read)
+-- why the reading stopped, these bytes having been read
+abbrev pub Stops : End → SourceChange → List ℕ → Type 0
+Stops Reached source read = MeetsEnd source
+Stops Failed source read = MissesEnd source read
 
 -- what the source gave is what is left to split
-pub record Reads (end : End) (stream : Stream) (old new : Option (List ℕ)) (before now : ℕ) : Type 0 where
-  pub given : Gives old stream.left new
+pub record Reads (end : End) (stream : Stream) (source : SourceChange) : Type 0 where
+  pub given : Gives source.left_old stream.left source.left_new
   pub opened : stream.ended ≡ false
-  pub stops : Stops end stream.left new before now
+  pub stops : Stops end source stream.left
   pub short : length stream.left ≤ most_bytes
 
 -- so far, in this many pulls
-pub record ReadsSoFar (pulls : ℕ) (stream : Stream) (old new : Option (List ℕ)) (before now : ℕ) : Type 0 where
-  pub given : Gives old stream.left new
+pub record ReadsSoFar (pulls : ℕ) (stream : Stream) (source : SourceChange) : Type 0 where
+  pub given : Gives source.left_old stream.left source.left_new
   pub opened : stream.ended ≡ false
-  pub steady : now ≡ before
+  pub steady : source.failures_new ≡ source.failures_old
+  pub unmet : 0 < pulls → IsFalse source.ended
   pub grown : pulls ≤ length stream.left
   pub short : length stream.left ≤ pulls * 65_536

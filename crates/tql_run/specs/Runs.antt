@@ -1,5 +1,7 @@
 -- What a run reads, writes and leaves, and where it stops.
-use Rattle.std.specs.Prelude.{◌≡◌, ◌⊎◌, ◌≤◌, ◌-◌, ◌^◌, ℕ, suc, if◌then◌else◌, Bool, true, false, List, [], ◌∷◌, ◌++◌, length, filter, count_by, Option, Some, Result, Ok, Err}
+use Rattle.std.specs.Prelude.{◌≡◌, ◌⊎◌, ◌≤◌, ◌-◌, ◌^◌, ◌==◌, ◌&&◌, not, ℕ, suc, if◌then◌else◌, Bool, true, false}
+use Rattle.std.specs.Prelude.{List, [], ◌∷◌, ◌++◌, length, filter, count_by, Option, Some, Result, Ok, Err}
+use Rattle.std.specs.Prelude.{IsTrue, IsFalse, MatchBool}
 use Rattle.tql_spec.specs.Machine.{State, Reply, Done, Table, Refused}
 use Rattle.tql_spec.specs.Script.{Piece, statements}
 use Rattle.tql_spec.specs.Text.{reply_text, replies_text}
@@ -20,6 +22,31 @@ pub record Gives (old : Option (List ℕ)) (bytes : List ℕ) (new : Option (Lis
 pub record IsAtEnd (left : Option (List ℕ)) : Type 0 where
   pub nothing : (xs : List ℕ) → left ≡ Some xs → xs ≡ []
 
+-- whether a pull into a buffer of this length says that the input has ended: it gives none though there is room
+abbrev pub is_end : {E : Type 0} → Result ℕ E → ℕ → Bool
+is_end (Ok n) len = (n == 0) && not (len == 0)
+is_end (Err e) len = false
+
+-- what a source shows before and after: what it has left, and how many failures it has counted;
+-- and whether its last pull said that the input has ended
+pub record SourceChange : Type 0 where
+  pub left_old : Option (List ℕ)
+  pub left_new : Option (List ℕ)
+  pub failures_old : ℕ
+  pub failures_new : ℕ
+  pub ended : Bool
+
+-- the same of a source whose type has these ghosts
+abbrev pub source_change : {S : Type 0} → (left : S → Option (List ℕ)) → (failures : S → ℕ) → (ended : S → Bool)
+    → (old new : S) → SourceChange
+source_change left failures ended old new = record {
+  left_old = left old;
+  left_new = left new;
+  failures_old = failures old;
+  failures_new = failures new;
+  ended = ended new;
+}
+
 -- the most pulls of one run
 abbrev pub most_pulls : ℕ
 most_pulls = 2 ^ 48 - 1
@@ -27,6 +54,38 @@ most_pulls = 2 ^ 48 - 1
 -- the most bytes that they give
 abbrev pub most_bytes : ℕ
 most_bytes = 2 ^ 64 - 1
+
+-- the end of the input was met: the last pull said so, nothing is left, and no pull failed
+pub record MeetsEnd (source : SourceChange) : Type 0 where
+  pub met : IsTrue source.ended
+  pub at_end : IsAtEnd source.left_new
+  pub steady : source.failures_new ≡ source.failures_old
+
+-- the end of the input was not met: the source failed, or gave 2^48 - 1 bytes or more
+pub record MissesEnd (source : SourceChange) (read : List ℕ) : Type 0 where
+  pub unmet : IsFalse source.ended
+  pub cause : HasFailed source.failures_old source.failures_new ⊎ (most_pulls ≤ length read)
+
+-- ---- sinks
+
+-- what a sink shows before and after: what it holds, and how many failures it has counted; and whether it is flushed
+pub record SinkChange : Type 0 where
+  pub held_old : Option (List ℕ)
+  pub held_new : Option (List ℕ)
+  pub failures_old : ℕ
+  pub failures_new : ℕ
+  pub flushed : Bool
+
+-- the same of a sink whose type has these ghosts
+abbrev pub sink_change : {S : Type 0} → (written : S → Option (List ℕ)) → (failures : S → ℕ) → (flushed : S → Bool)
+    → (old new : S) → SinkChange
+sink_change written failures flushed old new = record {
+  held_old = written old;
+  held_new = written new;
+  failures_old = failures old;
+  failures_new = failures new;
+  flushed = flushed new;
+}
 
 -- ---- replies
 
@@ -55,42 +114,35 @@ answered false script = filter (λ (p : Piece). p.finished) (statements script)
 
 -- ---- what a run did
 
--- the devices of a run: what the source had left, what the sink held, and the failures of both, before it and after it
-pub record Devices : Type 0 where
-  pub left_old : Option (List ℕ)
-  pub left_new : Option (List ℕ)
-  pub reads_before : ℕ
-  pub reads_now : ℕ
-  pub held_old : Option (List ℕ)
-  pub held_new : Option (List ℕ)
-  pub writes_before : ℕ
-  pub writes_now : ℕ
-
--- the whole script was read and each of its statements answered, and no device failed
-pub record RunsWhole (A : Answering) (s : State) (after : Standing) (d : Devices) (summary : Summary) : Type 0 where
+-- the whole script was read and each of its statements answered, no device failed, and the sink is flushed
+pub record RunsWhole (A : Answering) (s : State) (after : Standing) (source : SourceChange) (sink : SinkChange)
+    (summary : Summary) : Type 0 where
   pub script : List ℕ
-  pub given : Gives d.left_old script d.left_new
-  pub at_end : IsAtEnd d.left_new
+  pub given : Gives source.left_old script source.left_new
+  pub ended : MeetsEnd source
   pub replies : List Reply
   pub state : State
   pub ran : RunBy A s (answered true script) replies state
   pub stands : after state
-  pub written : Appends d.held_old (replies_text replies) d.held_new
+  pub written : Appends sink.held_old (replies_text replies) sink.held_new
   pub counts : Counts summary replies
-  pub reads : d.reads_now ≡ d.reads_before
-  pub writes : d.writes_now ≡ d.writes_before
+  pub writes : sink.failures_new ≡ sink.failures_old
+  pub flushed : IsTrue sink.flushed
 
--- the source failed, or gave no end in all pulls: the statements that are whole in what was read are answered
-pub record StopsReading (A : Answering) (s : State) (after : Standing) (d : Devices) : Type 0 where
+-- the end of the input was not met: the statements that are whole in what was read are answered, and the sink is
+-- flushed
+pub record StopsReading (A : Answering) (s : State) (after : Standing) (source : SourceChange) (sink : SinkChange)
+    : Type 0 where
   pub script : List ℕ
-  pub given : Gives d.left_old script d.left_new
-  pub cause : HasFailed d.reads_before d.reads_now ⊎ (most_pulls ≤ length script)
+  pub given : Gives source.left_old script source.left_new
+  pub cut : MissesEnd source script
   pub replies : List Reply
   pub state : State
   pub ran : RunBy A s (answered false script) replies state
   pub stands : after state
-  pub written : Appends d.held_old (replies_text replies) d.held_new
-  pub writes : d.writes_now ≡ d.writes_before
+  pub written : Appends sink.held_old (replies_text replies) sink.held_new
+  pub writes : sink.failures_new ≡ sink.failures_old
+  pub flushed : IsTrue sink.flushed
 
 -- what was written of the replies: all but the last of them whole, and a beginning of the last
 pub record CutsLast (replies : List Reply) (text : List ℕ) : Type 0 where
@@ -102,32 +154,35 @@ pub record CutsLast (replies : List Reply) (text : List ℕ) : Type 0 where
   pub parts : reply_text last ≡ front ++ back
   pub is : text ≡ replies_text earlier ++ front
 
--- the sink failed, at a reply: the statement of that reply is the last that ran; or at the flush: all of them ran
-pub record StopsWriting (A : Answering) (s : State) (after : Standing) (d : Devices) : Type 0 where
+-- the sink failed, at a reply: the statement of that reply is the last that ran; or at the flush: all of them ran.
+-- The statements are those of the whole script where its end was met, and else those that are whole in what was read
+pub record StopsWriting (A : Answering) (s : State) (after : Standing) (source : SourceChange) (sink : SinkChange)
+    : Type 0 where
   pub script : List ℕ
-  pub whole : Bool
-  pub given : Gives d.left_old script d.left_new
+  pub given : Gives source.left_old script source.left_new
+  pub read : MatchBool source.ended (MeetsEnd source) (MissesEnd source script)
   pub done : List Piece
   pub rest : List Piece
-  pub parts : answered whole script ≡ done ++ rest
+  pub parts : answered source.ended script ≡ done ++ rest
   pub replies : List Reply
   pub state : State
   pub ran : RunBy A s done replies state
   pub stands : after state
   pub text : List ℕ
   pub reached : CutsLast replies text ⊎ ((rest ≡ []) × (text ≡ replies_text replies))
-  pub written : Appends d.held_old text d.held_new
-  pub cause : HasFailed d.writes_before d.writes_now
+  pub written : Appends sink.held_old text sink.held_new
+  pub cause : HasFailed sink.failures_old sink.failures_new
 
 -- no memory for what a run takes at its start: nothing ran and nothing was written
-pub record NothingRun (A : Answering) (s : State) (after : Standing) (d : Devices) : Type 0 where
+pub record NothingRun (A : Answering) (s : State) (after : Standing) (sink : SinkChange) : Type 0 where
   pub stands : after s
-  pub written : Appends d.held_old [] d.held_new
-  pub writes : d.writes_now ≡ d.writes_before
+  pub written : Appends sink.held_old [] sink.held_new
+  pub writes : sink.failures_new ≡ sink.failures_old
 
--- how a run went by its result: the manner of its replies, the state that the responder stood for, and what it stands for after it
-abbrev pub Runs : Answering → State → Standing → Devices → Result Summary Fault → Type 0
-Runs A s after d (Ok summary) = RunsWhole A s after d summary
-Runs A s after d (Err Read) = StopsReading A s after d
-Runs A s after d (Err Write) = StopsWriting A s after d
-Runs A s after d (Err Memory) = NothingRun A s after d
+-- how a run went by its result: the manner of its replies, the state that the responder stood for, and what it
+-- stands for after it
+abbrev pub Runs : Answering → State → Standing → SourceChange → SinkChange → Result Summary Fault → Type 0
+Runs A s after source sink (Ok summary) = RunsWhole A s after source sink summary
+Runs A s after source sink (Err Read) = StopsReading A s after source sink
+Runs A s after source sink (Err Write) = StopsWriting A s after source sink
+Runs A s after source sink (Err Memory) = NothingRun A s after sink

@@ -1,6 +1,7 @@
-ghost use Rattle.std.specs.Prelude.{◌≡◌, ◌≤◌, ◌<◌, ℕ, List, [], Option, length, take, IfOk, OnErr, is_err};
+//! What gives the bytes of a script.
+ghost use Rattle.std.specs.Prelude.{◌≡◌, ◌≤◌, ◌<◌, ℕ, Bool, List, [], Option, length, take, IfOk, OnErr, is_err};
 ghost use Rattle.tql_result.specs.Devices.{Counts};
-ghost use Rattle.tql_run.specs.Runs.{Gives, IsAtEnd};
+ghost use Rattle.tql_run.specs.Runs.{Gives, IsAtEnd, is_end};
 
 use tql_result::device::DeviceFault;
 
@@ -12,6 +13,9 @@ pub trait Source {
     /// How many failures it has counted.
     ghost failures: { Self → ℕ };
 
+    /// Whether its last pull said that the input has ended.
+    ghost ended: { Self → Bool };
+
     /// Puts the next bytes at the front of the buffer, and answers how many. None into a buffer that is not empty
     /// says that the input has ended. An error gives nothing.
     fn pull(&mut self, buffer: &mut [u8]) -> Result<usize, DeviceFault>
@@ -19,7 +23,8 @@ pub trait Source {
         ensures given { IfOk result (λ n. Gives (left self.old) (take n buffer.new) (left self.new)) }
         ensures at_end { IfOk result (λ n. n ≡ 0 → 0 < length buffer.old → IsAtEnd (left self.new)) }
         ensures kept { OnErr result (Gives (left self.old) [] (left self.new)) }
-        ensures counted { Counts (is_err result) (failures self.old) (failures self.new) };
+        ensures counted { Counts (is_err result) (failures self.old) (failures self.new) }
+        ensures told { ended self.new ≡ is_end result (length buffer.old) };
 
     /// How many pulls have failed; the count stays at 2^64 - 1.
     fn faults(&self) -> u64

@@ -7,5 +7,3 @@ pub mod responder;
 pub mod run;
 mod script;
 pub mod std_source;
-#[cfg(test)]
-mod tests;

@@ -24,7 +24,8 @@ fn cut_fault(text: &[u8]) -> Refusal
 
 /// Answers the next piece of a script: a finished text as the responder does, and any other is refused.
 pub fn answer_piece<R: Responder>(responder: &mut R, piece: Piece<'_>) -> Reply
-    ensures answered { (s : State) (p : script.Piece) → R.stands responder.old s → StandsFor piece.entry p → Answered R.answering s p (reply_of result) (R.stands responder.new) }
+    ensures answered { (s : State) (p : script.Piece) → R.stands responder.old s → StandsFor piece.entry p
+        → Answered R.answering s p (reply_of result) (R.stands responder.new) }
     ensures printable { IsPrintableReply (reply_of result) }
 {
     match piece {

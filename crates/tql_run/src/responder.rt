@@ -1,3 +1,4 @@
+//! What answers the statements of a script.
 ghost use Rattle.tql_spec.specs.Machine.{State};
 ghost use Rattle.tql_spec.specs.Run.{Answering, finished};
 ghost use Rattle.tql_result.specs.Replies.{reply_of, IsPrintableReply};
@@ -7,8 +8,8 @@ ghost use Rattle.tql_run.specs.Responding.{Answered, Standing};
 use tql_memory::Memory;
 use tql_result::reply::Reply;
 
-/// What answers the statements of a script, one after another. It may stand for states of the machine, and its replies are
-/// of one manner: they are the machine's, or say whether a statement could be answered.
+/// What answers the statements of a script, one after another. It may stand for states of the machine, and its replies
+/// are of one manner: they are the machine's, or say whether a statement could be answered.
 pub trait Responder {
     /// The states of the machine that it stands for.
     ghost stands: { Self → Standing };
@@ -21,7 +22,8 @@ pub trait Responder {
 
     /// Answers one finished statement by its text, without its `;`. Any bytes are taken.
     fn answer(&mut self, text: &[u8]) -> Reply
-        ensures answered { (s : State) → stands self.old s → Answered answering s (finished text.now) (reply_of result) (stands self.new) }
+        ensures answered { (s : State) → stands self.old s
+            → Answered answering s (finished text.now) (reply_of result) (stands self.new) }
         ensures printable { IsPrintableReply (reply_of result) };
 
     /// A statement that is too long, or that no `;` ends, is refused.

@@ -1,9 +1,9 @@
 //! A whole run of a script.
-ghost use Rattle.std.specs.Prelude.{◌≡◌, ◌≤◌, ◌<◌, length};
+ghost use Rattle.std.specs.Prelude.{◌≡◌, ◌≤◌, ◌<◌, length, IsTrue, OnOk};
 ghost use Rattle.tql_spec.specs.Machine.{State};
 ghost use Rattle.tql_result.specs.Replies.{reply_of};
-ghost use Rattle.tql_run.specs.Runs.{Runs, count_of, most_bytes};
-ghost use Rattle.tql_run.specs.Telling.{TakesNext, Tells};
+ghost use Rattle.tql_run.specs.Runs.{Runs, source_change, sink_change, count_of, most_bytes};
+ghost use Rattle.tql_run.specs.Writing.{AnswersNext, WritesReplies};
 
 use crate::device::Source;
 use crate::piece::answer_piece;
@@ -25,7 +25,7 @@ pub struct Summary {
 /// Why a run stopped.
 #[derive(Clone, Copy, PartialEq, Eq, Debug)]
 pub enum Fault {
-    /// The source failed, or did not end.
+    /// The end of the input was not met: the source failed, or gave 2^48 - 1 bytes or more.
     Read,
     /// The sink failed.
     Write,
@@ -54,7 +54,8 @@ fn counted(summary: Summary, reply: &Reply) -> Summary
 
 /// Takes the next statement and answers it; None where no statement is left, and then nothing changes.
 fn answer_next<R: Responder>(responder: &mut R, splitter: &mut Splitter) -> Option<Reply>
-    ensures { TakesNext R.answering result splitter.old splitter.new (R.stands responder.old) (R.stands responder.new) }
+    ensures { AnswersNext R.answering result splitter.old splitter.new
+        (R.stands responder.old) (R.stands responder.new) }
 {
     match splitter.next_statement() {
         Some(piece) => Some(answer_piece(responder, piece)),
@@ -69,7 +70,9 @@ fn write_replies<R: Responder, O: Sink>(
     sink: &mut O,
 ) -> Result<Summary, DeviceFault>
     requires { length splitter.old.left ≤ most_bytes }
-    ensures { (s : State) → R.stands responder.old s → Tells R.answering result s splitter.old (R.stands responder.new) (O.written sink.old) (O.written sink.new) (O.failures sink.old) (O.failures sink.new) }
+    ensures { (s : State) → R.stands responder.old s
+        → WritesReplies R.answering result s splitter.old (R.stands responder.new)
+        (O.written sink.old) (O.written sink.new) (O.failures sink.old) (O.failures sink.new) }
 {
     let mut summary = Summary {
         statements: 0,
@@ -91,7 +94,10 @@ fn answer_all<R: Responder, O: Sink>(
     sink: &mut O,
 ) -> Result<Summary, DeviceFault>
     requires { length splitter.old.left ≤ most_bytes }
-    ensures { (s : State) → R.stands responder.old s → Tells R.answering result s splitter.old (R.stands responder.new) (O.written sink.old) (O.written sink.new) (O.failures sink.old) (O.failures sink.new) }
+    ensures replies { (s : State) → R.stands responder.old s
+        → WritesReplies R.answering result s splitter.old (R.stands responder.new)
+        (O.written sink.old) (O.written sink.new) (O.failures sink.old) (O.failures sink.new) }
+    ensures flushed { OnOk result (IsTrue (O.flushed sink.new)) }
 {
     match write_replies(responder, splitter, sink) {
         Ok(summary) => match sink.flush() {
@@ -111,16 +117,9 @@ pub fn run<R: Responder, I: Source, O: Sink>(
     source: &mut I,
     sink: &mut O,
 ) -> Result<Summary, Fault>
-    ensures { (s : State) → R.stands responder.old s → Runs R.answering s (R.stands responder.new) (record {
-      left_old = I.left source.old;
-      left_new = I.left source.new;
-      reads_before = I.failures source.old;
-      reads_now = I.failures source.new;
-      held_old = O.written sink.old;
-      held_new = O.written sink.new;
-      writes_before = O.failures sink.old;
-      writes_now = O.failures sink.new;
-    }) result }
+    ensures { (s : State) → R.stands responder.old s → Runs R.answering s (R.stands responder.new)
+        (source_change I.left I.failures I.ended source.old source.new)
+        (sink_change O.written O.failures O.flushed sink.old sink.new) result }
 {
     let mut splitter = Splitter::new(responder.memory());
     let end = match read_script(responder.memory(), source, &mut splitter) {

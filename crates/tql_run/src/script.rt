@@ -1,7 +1,7 @@
-ghost use Rattle.std.specs.Prelude.{◌≡◌, ◌≤◌, ◌<◌, ◌⊎◌, List, [], length, vec_len, IsFalse, IfOk, IfErr, OnErr, OnOk};
-ghost use Rattle.tql_result.specs.Devices.{HasFailed};
+//! Reading a script to its end.
+ghost use Rattle.std.specs.Prelude.{◌≡◌, ◌≤◌, ◌<◌, List, [], length, IsFalse, IfOk, IfErr};
 ghost use Rattle.tql_value.specs.declared.refusal.Refusal.TheVariants.{OutOfMemory};
-ghost use Rattle.tql_run.specs.Runs.{Gives};
+ghost use Rattle.tql_run.specs.Runs.{source_change};
 ghost use Rattle.tql_run.specs.Reads.{Reads};
 
 use crate::device::Source;
@@ -20,7 +20,7 @@ pub const MOST_PULLS: u64 = 281_474_976_710_655;
 pub enum End {
     /// At the end of the input.
     Reached,
-    /// Before it: the source failed, or did not end in all pulls.
+    /// Before it was met: the source failed, or gave bytes in all pulls.
     Failed,
 }
 
@@ -34,7 +34,8 @@ fn feed_all<S: Source>(
     requires small { length buffer.old ≤ 65_536 }
     requires opened { IsFalse splitter.old.ended }
     requires empty { splitter.old.left ≡ List.[] }
-    ensures read { IfOk result (λ end. Reads end splitter.new (S.left source.old) (S.left source.new) (S.failures source.old) (S.failures source.new)) }
+    ensures read { IfOk result
+        (λ end. Reads end splitter.new (source_change S.left S.failures S.ended source.old source.new)) }
     ensures memory { IfErr result (λ e. e ≡ OutOfMemory) }
 {
     for _pull in 0..MOST_PULLS {
@@ -55,7 +56,8 @@ pub fn read_script<S: Source>(
 ) -> Result<End, Refusal>
     requires opened { IsFalse splitter.old.ended }
     requires empty { splitter.old.left ≡ List.[] }
-    ensures read { IfOk result (λ end. Reads end splitter.new (S.left source.old) (S.left source.new) (S.failures source.old) (S.failures source.new)) }
+    ensures read { IfOk result
+        (λ end. Reads end splitter.new (source_change S.left S.failures S.ended source.old source.new)) }
     ensures memory { IfErr result (λ e. e ≡ OutOfMemory) }
 {
     let mut buffer = vec![in memory; 0u8; PULL_SIZE]?;

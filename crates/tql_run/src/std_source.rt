@@ -1,4 +1,5 @@
-ghost use Rattle.std.specs.Prelude.{◌≡◌, ◌≢◌, IfErr};
+//! A source over a reader of the standard library.
+ghost use Rattle.std.specs.Prelude.{◌≡◌, ◌≢◌, IfErr, IsFalse};
 ghost use Rattle.std.specs.IoError.{error_kind};
 ghost use Rattle.std.specs.Io.{ReadsAtMost};
 ghost use Rattle.std.specs.Io.KnownBytes.{ReadConsumes};
@@ -30,24 +31,29 @@ fn read_again<R: Read>(reader: &mut R, buffer: &mut [u8]) -> io::Result<usize>
 pub struct StdSource<R> {
     reader: R,
     failures: u64,
+    ended: bool,
 }
 
 impl<R: Read + Drop> StdSource<R> {
-    /// A source that has counted no failure.
+    /// A source that has counted no failure, and has not said that its input has ended.
     pub fn new(reader: R) -> StdSource<R>
         ensures left { ⟦<StdSource<R> as Source>⟧.left result ≡ R.remaining reader }
         ensures failures { ⟦<StdSource<R> as Source>⟧.failures result ≡ 0 }
+        ensures ended { IsFalse (⟦<StdSource<R> as Source>⟧.ended result) }
     {
         StdSource {
             reader,
             failures: 0,
+            ended: false,
         }
     }
 
     fn fail(&mut self) -> DeviceFault
         ensures reader { self.new.reader ≡ self.old.reader }
         ensures failures { HasFailed self.old.failures self.new.failures }
+        ensures ended { IsFalse self.new.ended }
     {
+        self.ended = false;
         self.failures = self.failures.saturating_add(1);
         DeviceFault
     }
@@ -58,66 +64,19 @@ impl<R: Read + Drop> Source for StdSource<R> {
 
     ghost failures = { λ s. s.failures };
 
+    ghost ended = { λ s. s.ended };
+
     fn pull(&mut self, buffer: &mut [u8]) -> Result<usize, DeviceFault> {
         match read_again(&mut self.reader, buffer) {
-            Ok(count) => Ok(count),
+            Ok(count) => {
+                self.ended = count == 0 && !buffer.is_empty();
+                Ok(count)
+            }
             Err(_) => Err(self.fail()),
         }
     }
 
     fn faults(&self) -> u64 {
         self.failures
-    }
-}
-
-#[cfg(test)]
-mod tests {
-    use super::*;
-    use std::test::Fail;
-
-    /// A reader that is interrupted so many times before it gives a byte, and fails behind its last byte.
-    #[derive(Drop)]
-    struct Interrupted<'a> {
-        left: &'a [u8],
-        times: u64,
-        rest: u64,
-    }
-
-    impl Read for Interrupted<'_> {
-        fn read(&mut self, buf: &mut [u8]) -> io::Result<usize> {
-            if let Some(rest) = self.rest.checked_sub(1) {
-                self.rest = rest;
-                return Err(Error::from(ErrorKind::Interrupted));
-            }
-            let (Some((first, left)), Some(place)) = (self.left.split_first(), buf.first_mut())
-            else {
-                return Err(Error::from(ErrorKind::BrokenPipe));
-            };
-            *place = *first;
-            self.left = left;
-            self.rest = self.times;
-            Ok(1)
-        }
-    }
-
-    #[test]
-    fn an_interrupted_read_is_made_again(rt: HostRuntime) -> Result<(), Fail> {
-        for times in [0u64, 1, 3] {
-            let mut source = StdSource::new(Interrupted {
-                left: b"ab",
-                times,
-                rest: times,
-            });
-            for byte in [b'a', b'b'] {
-                let mut buffer = [0u8; 4];
-                assert_eq!(rt; source.pull(&mut buffer).ok(), Some(1));
-                assert_eq!(rt; buffer[0], byte);
-                assert_eq!(rt; source.faults(), 0);
-            }
-            let mut buffer = [0u8; 4];
-            assert!(rt; source.pull(&mut buffer).is_err());
-            assert_eq!(rt; source.faults(), 1);
-        }
-        Ok(())
     }
 }

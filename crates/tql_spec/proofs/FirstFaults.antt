@@ -1,14 +1,13 @@
 -- The first fault of lists joined, and of statements that are bound.
-use Rattle.std.specs.Prelude.{◌≡◌, refl, ℕ, ℤ, Bool, true, false, nat_lt, List, [], ◌∷◌, ◌++◌, Option, Some, None, if◌then◌else◌}
+use Rattle.std.specs.Prelude.{◌≡◌, refl, ℤ, Bool, true, false, nat_lt, List, [], ◌∷◌, ◌++◌, Option, Some, None}
 use Rattle.std.proofs.Common.{sym, ap, ◌∙◌, arith, append-nil}
 use Rattle.std.proofs.lemmas.Bool.Decides.{nat_tests}
-use Rattle.tql_spec.proofs.Members.{by_bool}
 use Rattle.tql_spec.specs.Calendar.{read_timestamp}
 use Rattle.tql_spec.specs.Refusal.{Refusal, place, earlier, first}
 use Rattle.tql_spec.specs.Definition.{TableDef}
 use Rattle.tql_spec.specs.Machine.{State, Reply, Bound, Manner, SetsClock, manner_of, state_faults, effect, step, unless}
 use Rattle.tql_spec.specs.Syntax.{Statement, CreateTree, DropTree, InsertValues, InsertSelect, UpdateTree, DeleteTree, QueryTree, StartTree, CommitTree, RollbackTree, AtTree}
-use Rattle.tql_spec.specs.Binding.{bind, manner, moment, or_bad_moment}
+use Rattle.tql_spec.specs.Binding.{bind, manner, or_bad_moment}
 use Rattle.tql_spec.specs.Run.{respond}
 
 -- the first of two, where there is one

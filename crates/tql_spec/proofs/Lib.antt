@@ -1,14 +1,25 @@
 mod Samples
 mod Rows
-mod Reading
-mod Scripts
-mod FromText
 mod Laws
 mod Tests
 mod Predicates
 mod Coverage
 pub mod Bags
 pub mod Members
+pub mod MemberLists
+mod SpanLaws
+mod SteadyRanges
+pub mod RunKeeps
+pub mod InOrder
+pub mod Copies
+pub mod Steady
+mod SteadyRuns
+mod Widths
+mod WidthRuns
+pub mod OneMeaning
+pub mod Constraints
+mod ConstraintRuns
+mod AtPoints
 pub mod Orders
 pub mod TokenLaws
 pub mod FirstFaults

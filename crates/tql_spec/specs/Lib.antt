@@ -8,6 +8,7 @@ pub mod Bag
 pub mod Expression
 pub mod Definition
 pub mod History
+pub mod Spans
 pub mod Query
 pub mod Change
 pub mod Constraint
@@ -17,9 +18,13 @@ pub mod Script
 pub mod Token
 pub mod FirstToken
 pub mod Syntax
+pub mod Parts
 pub mod Grammar
 pub mod Names
 pub mod Creation
 pub mod Binding
 pub mod Running
 pub mod Run
+pub mod Reached
+pub mod Meaning
+pub mod AtPoints

@@ -4,8 +4,11 @@
 ghost use Rattle.tql_spec.specs.Datum.{Day, Moment};
 ghost use Rattle.tql_spec.specs.Period.{FormulasAreSets, PartsAreSets, Period, PointFormulaIsSet};
 ghost use Rattle.tql_spec.specs.Constraint.{KeyTestIsRight, ReferenceTestIsRight};
-ghost use Rattle.tql_spec.specs.Run.{RefusalsKeepState};
+ghost use Rattle.tql_spec.specs.Run.{RefusalsKeepState, RunsKeepConstraints};
 ghost use Rattle.tql_spec.specs.Token.{HasOneTokenList};
+ghost use Rattle.tql_spec.specs.Spans.{ReadsBySpans, SteadyRangesAgree};
+ghost use Rattle.tql_spec.specs.Reached.{ReachedAreInOrder, ReachedFit, ReachedAreSteady, ReachedReadBySpans};
+ghost use Rattle.tql_spec.specs.AtPoints.{CopyTestsAreRight, RunsKeepPoints, ReachedHoldAtPoints};
 
 /// Each part of a period holds the points that it is named for.
 pub fn parts_of_a_period()
@@ -38,4 +41,40 @@ pub fn references_at_each_point()
 /// A text has one list of tokens, if any.
 pub fn one_token_list()
     ensures { HasOneTokenList }
+{}
+
+/// Over copies whose moments fall, AS OF reads the copy whose span holds the moment, a range the copies that it meets, and a
+/// row ends where it is first lacked.
+pub fn questions_by_spans()
+    ensures { ReadsBySpans }
+{}
+
+/// Where rows are steady, any copy that a range meets tells how often a row is found, and where it ends.
+pub fn ranges_by_any_copy()
+    ensures { SteadyRangesAgree }
+{}
+
+/// In every state that a run reaches the moments of commits fall below the clock, and each copy fits the definitions.
+pub fn commits_in_order()
+    ensures in_order { ReachedAreInOrder }
+    ensures fit { ReachedFit }
+{}
+
+/// In every state that a run reaches a row has one multiplicity in all copies that have it, and one that is gone does not
+/// come back.
+pub fn steady_rows()
+    ensures { ReachedAreSteady }
+{}
+
+/// In every state that a run reaches questions find what the spans of the copies say.
+pub fn questions_in_runs()
+    ensures { ReachedReadBySpans }
+{}
+
+/// A run keeps keys and references in every copy: by their tests, and at every point.
+pub fn constraints_in_runs()
+    ensures tests { RunsKeepConstraints }
+    ensures right { CopyTestsAreRight }
+    ensures points { RunsKeepPoints }
+    ensures reached { ReachedHoldAtPoints }
 {}

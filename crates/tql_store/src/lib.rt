@@ -4,6 +4,4 @@
 mod kept;
 pub mod store;
 mod tables;
-#[cfg(test)]
-mod tests;
 pub mod version;

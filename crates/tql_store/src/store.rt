@@ -15,6 +15,7 @@ use crate::kept::{
 };
 use crate::tables::{Place, clear_place, free_table, place_at, put_table, taken_count};
 use crate::version::{HIGH, Version};
+use std::alloc::AllocError;
 use std::marker::Model;
 use tql_memory::Memory;
 use tql_value::refusal::Refusal;
@@ -22,7 +23,6 @@ use tql_value::table::TableId;
 use tql_value::value::Value;
 
 /// A change of a table: the versions that go, by their ids, and the rows that come, without generated columns.
-#[derive(Drop)]
 pub struct Delta {
     /// The table that is changed.
     pub table: TableId,
@@ -34,14 +34,59 @@ pub struct Delta {
     pub count: u64,
 }
 
+impl Delta {
+    /// Makes the change at the moment, or does nothing.
+    fn make(self, versions: &mut Vec<Kept, Memory>, moment: i64) -> Result<(), AllocError>
+        requires { All (λ i. i < length versions.old.items) self.removed.items }
+        ensures ok { OnOk result (map slot_of versions.new.items
+            ≡ closing moment self.removed.items (map slot_of versions.old.items)
+            ++ map (λ row. fresh_slot self.table moment (map datum_of_value row.items)) self.added.items) }
+        ensures err { OnErr result (versions.new.items ≡ versions.old.items) }
+    {
+        let Delta {
+            table,
+            removed,
+            added,
+            count: _,
+        } = self;
+        change(versions, table, &removed, added, moment)
+    }
+}
+
+impl Drop for Delta {
+    fn drop(self) {
+        let Delta {
+            table: _,
+            removed,
+            added,
+            count: _,
+        } = self;
+        drop(removed);
+        drop(added);
+    }
+}
+
 /// The versions of all tables.
-#[derive(Drop)]
 pub struct Store {
     memory: Memory,
     places: Vec<Place, Memory>,
     versions: Vec<Kept, Memory>,
     working: Option<i64>,
     last: Option<i64>,
+}
+
+impl Drop for Store {
+    fn drop(self) {
+        let Store {
+            memory: _,
+            places,
+            versions,
+            working: _,
+            last: _,
+        } = self;
+        drop(places);
+        drop(versions);
+    }
 }
 
 impl Model for Store {
@@ -177,13 +222,7 @@ impl Store {
         ensures memory { IfErr result (λ e. e ≡ OutOfMemory) }
     {
         let moment = self.moment();
-        let Delta {
-            table,
-            removed,
-            added,
-            ..
-        } = delta;
-        change(&mut self.versions, table, &removed, added, moment)?;
+        delta.make(&mut self.versions, moment)?;
         Ok(())
     }
 

@@ -5,14 +5,14 @@ use Rattle.tql_spec.specs.Token.{Token, depth}
 use Rattle.tql_spec.specs.Syntax.{Statement}
 use Rattle.tql_spec.specs.Grammar.{IsStatement}
 use Rattle.tql_value.specs.declared.refusal.Refusal.{Refusal}
-use Rattle.tql_syntax.specs.declared.statement.Statement as code
-use Rattle.tql_syntax.specs.Outcome.{Read, Failed, whole}
-use Rattle.tql_syntax.specs.ReadingStatements.{statement_at, read_statement}
-use Rattle.tql_syntax.specs.Parsing.{refusal_for}
+use Rattle.tql_tree.specs.declared.tree.Tree as code
+use Rattle.tql_grammar.specs.Outcome.{Read, Failed, whole}
+use Rattle.tql_grammar.specs.ReadingStatements.{statement_at, read_statement}
+use Rattle.tql_phrase.specs.Parsing.{refusal_for}
 use Rattle.tql_syntax.specs.Parses.{Spells, SpellsNone}
-use Rattle.tql_syntax.specs.declared.cursor.ParseError.{ParseError}
-use Rattle.tql_syntax.specs.declared.cursor.ParseError.TheVariants.{OutOfMemory, NotInGrammar}
-use Rattle.tql_syntax.proofs.StatementLaws.{reads_statement, statement_is_read}
+use Rattle.tql_phrase.specs.declared.cursor.ParseError.{ParseError}
+use Rattle.tql_phrase.specs.declared.cursor.ParseError.TheVariants.{OutOfMemory, NotInGrammar}
+use Rattle.tql_grammar.proofs.StatementLaws.{reads_statement, statement_is_read}
 
 -- where nothing is read as a whole, the tokens spell no statement
 nothing_read : (ts : List Token) → read_statement ts ≡ None → SpellsNone ts
@@ -24,7 +24,7 @@ failed ts OutOfMemory shallow h = tt
 failed ts NotInGrammar shallow h = let e : statement_at ts ≡ Failed = h (λ p. cc) in (shallow, nothing_read ts (ap whole e))
 
 -- the refusal for that error
-pub refused : (ts : List Token) (r : Result code.Statement Refusal) (e : ParseError) → depth ts ≤ 64 → (e ≢ OutOfMemory → statement_at ts ≡ Failed) → IsErrAnd r (λ x. x ≡ refusal_for e) → Spells ts r
+pub refused : (ts : List Token) (r : Result code.Tree Refusal) (e : ParseError) → depth ts ≤ 64 → (e ≢ OutOfMemory → statement_at ts ≡ Failed) → IsErrAnd r (λ x. x ≡ refusal_for e) → Spells ts r
 refused ts (Ok s) e shallow h k = absurd k
 refused ts (Err x) e shallow h k = subst (λ (y : Refusal). Spells ts (Err y)) (sym k) (failed ts e shallow h)
 

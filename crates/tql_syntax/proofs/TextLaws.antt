@@ -1,39 +1,24 @@
 -- From the tokens of a text to what the text says.
-use Rattle.std.proofs.Common.{◌≡◌, refl, sym, subst, ℕ, ◌<◌, ◌≤◌, List, Result, Ok, Err, length, arith, IsUtf8}
-use Rattle.tql_spec.specs.Token.{Token, AreTokens, depth}
+use Rattle.std.proofs.Common.{◌≡◌, refl, sym, subst, ℕ, ◌≤◌, List, Result, Ok, Err, length, IsUtf8}
+use Rattle.tql_spec.specs.Token.{Token, AreTokens}
 use Rattle.tql_spec.specs.Syntax.{Statement}
 use Rattle.tql_spec.specs.Grammar.{IsStatement}
-use Rattle.tql_spec.specs.Run.{IsWhole, IsDeep, IsTextOf, finished}
+use Rattle.tql_spec.specs.Run.{IsWhole, IsTextOf, finished}
 use Rattle.tql_spec.proofs.TokenLaws.{one_list}
 use Rattle.tql_value.specs.declared.refusal.Refusal.{Refusal}
 use Rattle.tql_value.specs.declared.refusal.Refusal.TheVariants as r
-use Rattle.tql_syntax.specs.Statements.{statement_of}
-use Rattle.tql_syntax.specs.declared.statement.Statement as code
+use Rattle.tql_tree.specs.declared.tree.Tree as code
 use Rattle.tql_syntax.specs.Parses.{Spells, SpellsNone}
-use Rattle.tql_syntax.specs.Texts.{SpellsText, ReadsText, HasOneStatement}
-use Rattle.tql_syntax.proofs.StatementLaws.{spells_once}
-
-not_deep : (text : List ℕ) (ts : List Token) → AreTokens ts text → depth ts ≤ 64 → IsDeep text → ⊥
-not_deep text ts are shallow (us, are_too, deep) =
-    let same : ts ≡ us = one_list text ts us are are_too in
-    let deeper : 64 < depth ts = subst (λ vs. 64 < depth vs) (sym same) deep in
-    omega (arith, shallow, deeper)
+use Rattle.tql_syntax.specs.Texts.{SpellsText, ReadsText}
+use Rattle.tql_grammar.proofs.TextLaws.{not_deep}
 
 no_statement : (text : List ℕ) (ts : List Token) → AreTokens ts text → SpellsNone ts → (s : Statement) → IsTextOf IsStatement text s → ⊥
 no_statement text ts are none s (us, tokens, spelled) =
     let same : ts ≡ us = one_list text ts us are tokens.0 in
     none s (subst (λ vs. IsStatement s vs) (sym same) spelled)
 
-pub one_statement : HasOneStatement
-one_statement text s (ts, tokens, spelled) = record {
-  shallow = not_deep text ts tokens.0 tokens.1;
-  alone = λ t (us, others, spelled_too).
-      let same : ts ≡ us = one_list text ts us tokens.0 others.0 in
-      spells_once ts t s (subst (λ vs. IsStatement t vs) (sym same) spelled_too) spelled;
-}
-
 -- what the tokens say the text says
-pub spelled_says : (text : List ℕ) (ts : List Token) → AreTokens ts text → (result : Result code.Statement Refusal) → Spells ts result → SpellsText text result
+pub spelled_says : (text : List ℕ) (ts : List Token) → AreTokens ts text → (result : Result code.Tree Refusal) → Spells ts result → SpellsText text result
 spelled_says text ts are (Ok s) p = (ts, (are, p.0), p.1)
 spelled_says text ts are (Err r.NestedTooDeep) p = (ts, are, p)
 spelled_says text ts are (Err r.NotAStatement) p = (not_deep text ts are p.0, no_statement text ts are p.1)
@@ -65,7 +50,7 @@ whole : (text : List ℕ) → length text ≤ 1_048_576 → IsUtf8 text → IsWh
 whole text short utf8 = record { short = short; utf8 = utf8; finished = refl }
 
 -- and where the bytes have no fault, the bytes
-pub text_says : (text : List ℕ) → length text ≤ 1_048_576 → IsUtf8 text → (result : Result code.Statement Refusal) → SpellsText text result → ReadsText text result
+pub text_says : (text : List ℕ) → length text ≤ 1_048_576 → IsUtf8 text → (result : Result code.Tree Refusal) → SpellsText text result → ReadsText text result
 text_says text short utf8 (Ok s) p = (whole text short utf8, p)
 text_says text short utf8 (Err r.NestedTooDeep) p = (whole text short utf8, p)
 text_says text short utf8 (Err r.NotAStatement) p = (whole text short utf8, p.0, p.1)

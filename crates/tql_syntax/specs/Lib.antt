@@ -1,13 +1,4 @@
-pub mod Outcome
-pub mod ReadingExpressions
-pub mod ReadingStatements
 pub mod StatementEnds
-pub mod Expressions
-pub mod Conditions
-pub mod Mixtures
-pub mod Tails
-pub mod Parsing
-pub mod Statements
 pub mod Nesting
 pub mod Parses
 pub mod Texts

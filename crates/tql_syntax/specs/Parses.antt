@@ -6,8 +6,8 @@ use Rattle.tql_spec.specs.Syntax.{is_too_wide}
 use Rattle.tql_spec.specs.Grammar.{IsStatement}
 use Rattle.tql_value.specs.declared.refusal.Refusal.{Refusal}
 use Rattle.tql_value.specs.declared.refusal.Refusal.TheVariants.{NestedTooDeep, NotAStatement, TooManyColumnsOrTables, OutOfMemory}
-use Rattle.tql_syntax.specs.Statements.{statement_of}
-use Rattle.tql_syntax.specs.declared.statement.Statement.{Statement}
+use Rattle.tql_tree.specs.Trees.{tree_of}
+use Rattle.tql_tree.specs.declared.tree.Tree.{Tree}
 
 -- the tokens, all of them, spell the statement, and it keeps within the limits
 pub record IsParsed (ts : List Token) (s : tree.Statement) : Type 0 where
@@ -24,16 +24,16 @@ abbrev pub SpellsWide : List Token → Type 0
 SpellsWide ts = (s : tree.Statement) × IsStatement s ts × IsTrue (is_too_wide s)
 
 -- what the outcome says of the tokens, however wide the statement is
-abbrev pub Spells : List Token → Result Statement Refusal → Type 0
-Spells ts (Ok s) = (depth ts ≤ 64) × IsStatement (statement_of s) ts
+abbrev pub Spells : List Token → Result Tree Refusal → Type 0
+Spells ts (Ok s) = (depth ts ≤ 64) × IsStatement (tree_of s) ts
 Spells ts (Err NestedTooDeep) = 64 < depth ts
 Spells ts (Err NotAStatement) = (depth ts ≤ 64) × SpellsNone ts
 Spells ts (Err OutOfMemory) = ⊤
 Spells ts (Err _) = ⊥
 
 -- what the outcome says of the tokens
-abbrev pub Parses : List Token → Result Statement Refusal → Type 0
-Parses ts (Ok s) = IsParsed ts (statement_of s)
+abbrev pub Parses : List Token → Result Tree Refusal → Type 0
+Parses ts (Ok s) = IsParsed ts (tree_of s)
 Parses ts (Err NestedTooDeep) = 64 < depth ts
 Parses ts (Err NotAStatement) = (depth ts ≤ 64) × SpellsNone ts
 Parses ts (Err TooManyColumnsOrTables) = (depth ts ≤ 64) × SpellsWide ts

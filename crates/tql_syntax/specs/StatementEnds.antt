@@ -1,10 +1,10 @@
 -- What is left of a longer rule behind its first parts.
-use Rattle.std.specs.Prelude.{List, []}
+use Rattle.std.specs.Prelude.{[]}
 use Rattle.tql_spec.specs.Definition.{Name}
 use Rattle.tql_spec.specs.Token.{Close}
 use Rattle.tql_spec.specs.Syntax.{Element, Statement, CreateTree}
-use Rattle.tql_syntax.specs.Outcome.{Read, Parser, ◌>>=◌, symbol, more, next}
-use Rattle.tql_syntax.specs.ReadingStatements.{element_at, versioning_at}
+use Rattle.tql_grammar.specs.Outcome.{Read, Parser, ◌>>=◌, symbol, more, next}
+use Rattle.tql_grammar.specs.ReadingStatements.{element_at, versioning_at}
 
 -- CREATE, behind its first element
 unfoldable pub create_end : Name → Element → Parser Statement

@@ -1,39 +1,31 @@
 -- What a statement's text says.
-use Rattle.std.specs.Prelude.{◌≡◌, ◌≤◌, ◌<◌, ℕ, List, length, Result, Ok, Err, IsUtf8, ⊤}
+use Rattle.std.specs.Prelude.{◌≤◌, ◌<◌, ℕ, List, length, Result, Ok, Err, IsUtf8, ⊤}
 use Rattle.tql_spec.specs.Syntax as tree
 use Rattle.tql_spec.specs.Grammar.{IsStatement}
 use Rattle.tql_spec.specs.Run.{IsWhole, IsDeep, IsTextOf, finished}
 use Rattle.tql_value.specs.declared.refusal.Refusal.{Refusal}
 use Rattle.tql_value.specs.declared.refusal.Refusal.TheVariants.{StatementTooLong, NotUtf8, NestedTooDeep, NotAStatement, OutOfMemory}
-use Rattle.tql_syntax.specs.Statements.{statement_of}
-use Rattle.tql_syntax.specs.declared.statement.Statement.{Statement}
+use Rattle.tql_tree.specs.Trees.{tree_of}
+use Rattle.tql_tree.specs.declared.tree.Tree.{Tree}
 
 -- the text spells no statement
 abbrev pub SpellsNoStatement : List ℕ → Type 0
 SpellsNoStatement text = (s : tree.Statement) → IsTextOf IsStatement text s → ⊥
 
 -- the statement that a text spells, or that it is nested too deep or spells none, or that memory ran out
-abbrev pub SpellsText : List ℕ → Result Statement Refusal → Type 0
-SpellsText text (Ok s) = IsTextOf IsStatement text (statement_of s)
+abbrev pub SpellsText : List ℕ → Result Tree Refusal → Type 0
+SpellsText text (Ok s) = IsTextOf IsStatement text (tree_of s)
 SpellsText text (Err NestedTooDeep) = IsDeep text
 SpellsText text (Err NotAStatement) = ¬ IsDeep text × SpellsNoStatement text
 SpellsText text (Err OutOfMemory) = ⊤
 SpellsText text (Err _) = ⊥
 
 -- the same of any bytes; each fault comes only where none before it is present
-abbrev pub ReadsText : List ℕ → Result Statement Refusal → Type 0
-ReadsText text (Ok s) = IsWhole (finished text) × IsTextOf IsStatement text (statement_of s)
+abbrev pub ReadsText : List ℕ → Result Tree Refusal → Type 0
+ReadsText text (Ok s) = IsWhole (finished text) × IsTextOf IsStatement text (tree_of s)
 ReadsText text (Err StatementTooLong) = 1_048_576 < length text
 ReadsText text (Err NotUtf8) = (length text ≤ 1_048_576) × ¬ IsUtf8 text
 ReadsText text (Err NestedTooDeep) = IsWhole (finished text) × IsDeep text
 ReadsText text (Err NotAStatement) = IsWhole (finished text) × ¬ IsDeep text × SpellsNoStatement text
 ReadsText text (Err OutOfMemory) = ⊤
 ReadsText text (Err _) = ⊥
-
--- the law: a text spells one statement at most, and is then not nested too deep
-pub record SpellsAlone (text : List ℕ) (s : tree.Statement) : Type 0 where
-  pub shallow : ¬ IsDeep text
-  pub alone : (t : tree.Statement) → IsTextOf IsStatement text t → t ≡ s
-
-abbrev pub HasOneStatement : Type 0
-HasOneStatement = (text : List ℕ) (s : tree.Statement) → IsTextOf IsStatement text s → SpellsAlone text s

@@ -1,82 +1,71 @@
 //! Reading INSERT, UPDATE and DELETE.
-ghost use Rattle.std.specs.Prelude.{[], option_map};
-ghost use Rattle.tql_syntax.specs.Outcome.{more, next, separated, name_at};
-ghost use Rattle.tql_syntax.specs.ReadingStatements as reading;
-ghost use Rattle.tql_syntax.specs.Parsing.{Reads};
-ghost use Rattle.tql_syntax.specs.Expressions.{name_of};
-ghost use Rattle.tql_syntax.specs.Statements.{names_of, cell_of, cells_of, tuple_of, tuples_of, assignment_of, assignments_of, point_of, portion_of, statement_of};
+ghost use Rattle.std.specs.Prelude.{option_map};
+ghost use Rattle.tql_grammar.specs.Outcome.{name_at};
+ghost use Rattle.tql_grammar.specs.ReadingStatements as reading;
+ghost use Rattle.tql_phrase.specs.Parsing.{Reads};
+ghost use Rattle.tql_spec.specs.Definition as definition;
+ghost use Rattle.tql_spec.specs.Syntax as tree;
+ghost use Rattle.tql_tree.specs.Expressions.{name_of};
+ghost use Rattle.tql_tree.specs.Statements.{names_of, cell_of, tuple_of, assignment_of, point_of, portion_of, statement_of};
 
 use crate::creates::period_name;
-use crate::cursor::{Cursor, ParseError};
-use crate::expression::Name;
-use crate::expressions::expr_here;
-use crate::queries::{moment, select, where_clause};
-use crate::statement::{
-    Assignment, Cell, Delete, Insert, Point, Portion, Rows, Statement, Tuple, Update,
-};
 use tql_lex::token::Symbol;
 use tql_memory::Memory;
+use tql_phrase::cursor::{Cursor, ParseError};
+use tql_phrase::expressions::expr_here;
+use tql_phrase::lists::{Rule, behind_commas, separated};
+use tql_query::queries::{moment, select, where_clause};
+use tql_tree::expression::Name;
+use tql_tree::statement::{
+    Assignment, Cell, Delete, Insert, Point, Portion, Rows, Statement, Tuple, Update,
+};
 
 /// A cell of VALUES or SET.
-#[tactic(auto, unfolding(crate::specs::ReadingStatements::cell_at))]
-fn cell<'a>(memory: Memory, tokens: &mut Cursor<'_, 'a>) -> Result<Cell<'a>, ParseError>
-    ensures { Reads cell_of (reading.cell_at tokens.old) result tokens.new }
-{
-    if tokens.eat_word("NULL") {
-        return Ok(Cell::Null);
-    }
-    let value = expr_here(memory, tokens)?;
-    Ok(Cell::Value(value))
-}
+struct CellRule;
 
-/// The cells of a tuple behind the first.
-fn cells<'a>(
-    memory: Memory,
-    tokens: &mut Cursor<'_, 'a>,
-) -> Result<Vec<Cell<'a>, Memory>, ParseError>
-    ensures { Reads cells_of (more (next reading.cell_at) [] tokens.old) result tokens.new }
-{
-    let mut found = Vec::new(memory);
-    for _turn in 0..tokens.left() {
-        if !tokens.eat_symbol(Symbol::Comma) {
-            return Ok(found);
+impl<'a> Rule<'a, Memory> for CellRule {
+    type Item = Cell<'a>;
+
+    ghost Tree = { tree.CellTree };
+
+    ghost view = { cell_of };
+
+    ghost rule = { λ _. reading.cell_at };
+
+    #[tactic(auto, unfolding(tql_grammar::specs::ReadingStatements::cell_at))]
+    fn read(&self, memory: Memory, tokens: &mut Cursor<'_, 'a>) -> Result<Cell<'a>, ParseError> {
+        if tokens.eat_word("NULL") {
+            return Ok(Cell::Null);
         }
-        found.push(cell(memory, tokens)?)?;
+        let value = expr_here(memory, tokens)?;
+        Ok(Cell::Value(value))
     }
-    Ok(found)
 }
 
 /// A tuple of VALUES.
-#[tactic(auto, unfolding(crate::specs::ReadingStatements::tuple_at))]
-fn tuple<'a>(memory: Memory, tokens: &mut Cursor<'_, 'a>) -> Result<Tuple<'a>, ParseError>
-    ensures { Reads tuple_of (reading.tuple_at tokens.old) result tokens.new }
-{
-    tokens.expect_symbol(Symbol::Open)?;
-    let first = cell(memory, tokens)?;
-    let more = cells(memory, tokens)?;
-    tokens.expect_symbol(Symbol::Close)?;
-    Ok(Tuple { first, more })
-}
+struct TupleRule;
 
-/// The tuples of VALUES behind the first.
-fn tuples<'a>(
-    memory: Memory,
-    tokens: &mut Cursor<'_, 'a>,
-) -> Result<Vec<Tuple<'a>, Memory>, ParseError>
-    ensures { Reads tuples_of (more (next reading.tuple_at) [] tokens.old) result tokens.new }
-{
-    let mut found = Vec::new(memory);
-    for _turn in 0..tokens.left() {
-        if !tokens.eat_symbol(Symbol::Comma) {
-            return Ok(found);
-        }
-        found.push(tuple(memory, tokens)?)?;
+impl<'a> Rule<'a, Memory> for TupleRule {
+    type Item = Tuple<'a>;
+
+    ghost Tree = { tree.Tuple };
+
+    ghost view = { tuple_of };
+
+    ghost rule = { λ _. reading.tuple_at };
+
+    #[tactic(auto, unfolding(tql_grammar::specs::ReadingStatements::tuple_at))]
+    fn read(&self, memory: Memory, tokens: &mut Cursor<'_, 'a>) -> Result<Tuple<'a>, ParseError> {
+        tokens.expect_symbol(Symbol::Open)?;
+        let first = CellRule.read(memory, tokens)?;
+        let more = behind_commas(memory, tokens, &CellRule)?;
+        tokens.expect_symbol(Symbol::Close)?;
+        Ok(Tuple { first, more })
     }
-    Ok(found)
 }
 
 /// A point of a portion: a DATE or a TIMESTAMP literal.
-#[tactic(auto, unfolding(crate::specs::ReadingStatements::point_at))]
+#[tactic(auto, unfolding(tql_grammar::specs::ReadingStatements::point_at))]
 fn point<'a>(tokens: &mut Cursor<'_, 'a>) -> Result<Point<'a>, ParseError>
     ensures { Reads point_of (reading.point_at tokens.old) result tokens.new }
 {
@@ -89,7 +78,7 @@ fn point<'a>(tokens: &mut Cursor<'_, 'a>) -> Result<Point<'a>, ParseError>
 }
 
 /// What stands behind FOR in an UPDATE or DELETE.
-#[tactic(auto, unfolding(crate::specs::ReadingStatements::portion_behind))]
+#[tactic(auto, unfolding(tql_grammar::specs::ReadingStatements::portion_behind))]
 fn portion_behind<'a>(tokens: &mut Cursor<'_, 'a>) -> Result<Portion<'a>, ParseError>
     ensures { Reads portion_of (reading.portion_behind tokens.old) result tokens.new }
 {
@@ -104,7 +93,7 @@ fn portion_behind<'a>(tokens: &mut Cursor<'_, 'a>) -> Result<Portion<'a>, ParseE
 }
 
 /// A FOR PORTION OF clause, where one is in front.
-#[tactic(auto, unfolding(crate::specs::ReadingStatements::portion_at))]
+#[tactic(auto, unfolding(tql_grammar::specs::ReadingStatements::portion_at))]
 fn portion<'a>(tokens: &mut Cursor<'_, 'a>) -> Result<Option<Portion<'a>>, ParseError>
     ensures { Reads (option_map portion_of) (reading.portion_at tokens.old) result tokens.new }
 {
@@ -116,35 +105,32 @@ fn portion<'a>(tokens: &mut Cursor<'_, 'a>) -> Result<Option<Portion<'a>>, Parse
 }
 
 /// An assignment of SET.
-#[tactic(auto, unfolding(crate::specs::ReadingStatements::assignment_at))]
-fn assignment<'a>(memory: Memory, tokens: &mut Cursor<'_, 'a>) -> Result<Assignment<'a>, ParseError>
-    ensures { Reads assignment_of (reading.assignment_at tokens.old) result tokens.new }
-{
-    let column = tokens.name()?;
-    tokens.expect_symbol(Symbol::EqualSign)?;
-    let value = cell(memory, tokens)?;
-    Ok(Assignment { column, value })
-}
+struct AssignmentRule;
 
-/// The assignments of SET behind the first.
-fn assignments<'a>(
-    memory: Memory,
-    tokens: &mut Cursor<'_, 'a>,
-) -> Result<Vec<Assignment<'a>, Memory>, ParseError>
-    ensures { Reads assignments_of (more (next reading.assignment_at) [] tokens.old) result tokens.new }
-{
-    let mut found = Vec::new(memory);
-    for _turn in 0..tokens.left() {
-        if !tokens.eat_symbol(Symbol::Comma) {
-            return Ok(found);
-        }
-        found.push(assignment(memory, tokens)?)?;
+impl<'a> Rule<'a, Memory> for AssignmentRule {
+    type Item = Assignment<'a>;
+
+    ghost Tree = { tree.SetTree };
+
+    ghost view = { assignment_of };
+
+    ghost rule = { λ _. reading.assignment_at };
+
+    #[tactic(auto, unfolding(tql_grammar::specs::ReadingStatements::assignment_at))]
+    fn read(
+        &self,
+        memory: Memory,
+        tokens: &mut Cursor<'_, 'a>,
+    ) -> Result<Assignment<'a>, ParseError> {
+        let column = tokens.name()?;
+        tokens.expect_symbol(Symbol::EqualSign)?;
+        let value = CellRule.read(memory, tokens)?;
+        Ok(Assignment { column, value })
     }
-    Ok(found)
 }
 
 /// What stands behind UPDATE.
-#[tactic(auto, unfolding(crate::specs::ReadingStatements::update_at))]
+#[tactic(auto, unfolding(tql_grammar::specs::ReadingStatements::update_at))]
 pub(crate) fn update<'a>(
     memory: Memory,
     tokens: &mut Cursor<'_, 'a>,
@@ -154,8 +140,8 @@ pub(crate) fn update<'a>(
     let table = tokens.name()?;
     let portion = portion(tokens)?;
     tokens.expect_word("SET")?;
-    let first = assignment(memory, tokens)?;
-    let more = assignments(memory, tokens)?;
+    let first = AssignmentRule.read(memory, tokens)?;
+    let more = behind_commas(memory, tokens, &AssignmentRule)?;
     let filter = where_clause(memory, tokens)?;
     let update = Update {
         table,
@@ -168,7 +154,7 @@ pub(crate) fn update<'a>(
 }
 
 /// What stands behind DELETE.
-#[tactic(auto, unfolding(crate::specs::ReadingStatements::delete_at))]
+#[tactic(auto, unfolding(tql_grammar::specs::ReadingStatements::delete_at))]
 pub(crate) fn delete<'a>(
     memory: Memory,
     tokens: &mut Cursor<'_, 'a>,
@@ -187,27 +173,25 @@ pub(crate) fn delete<'a>(
     Ok(Statement::Delete(Box::new(memory, delete)?))
 }
 
-/// One name or more.
-fn names<'a>(
-    memory: Memory,
-    tokens: &mut Cursor<'_, 'a>,
-) -> Result<Vec<Name<'a>, Memory>, ParseError>
-    ensures { Reads names_of (separated name_at tokens.old) result tokens.new }
-{
-    let first = tokens.name()?;
-    let mut found = Vec::new(memory);
-    found.push(first)?;
-    for _turn in 0..tokens.left() {
-        if !tokens.eat_symbol(Symbol::Comma) {
-            return Ok(found);
-        }
-        found.push(tokens.name()?)?;
+/// A name.
+struct NameRule;
+
+impl<'a> Rule<'a, Memory> for NameRule {
+    type Item = Name<'a>;
+
+    ghost Tree = { definition.Name };
+
+    ghost view = { name_of };
+
+    ghost rule = { λ _. name_at };
+
+    fn read(&self, _memory: Memory, tokens: &mut Cursor<'_, 'a>) -> Result<Name<'a>, ParseError> {
+        tokens.name()
     }
-    Ok(found)
 }
 
 /// The column list of INSERT; no columns where none is in front.
-#[tactic(auto, unfolding(crate::specs::ReadingStatements::column_list_at))]
+#[tactic(auto, unfolding(tql_grammar::specs::ReadingStatements::column_list_at))]
 fn column_list<'a>(
     memory: Memory,
     tokens: &mut Cursor<'_, 'a>,
@@ -215,7 +199,7 @@ fn column_list<'a>(
     ensures { Reads names_of (reading.column_list_at tokens.old) result tokens.new }
 {
     if tokens.eat_symbol(Symbol::Open) {
-        let columns = names(memory, tokens)?;
+        let columns = separated(memory, tokens, &NameRule)?;
         tokens.expect_symbol(Symbol::Close)?;
         return Ok(columns);
     }
@@ -223,7 +207,7 @@ fn column_list<'a>(
 }
 
 /// What stands behind VALUES in an INSERT.
-#[tactic(auto, unfolding(crate::specs::ReadingStatements::values_at))]
+#[tactic(auto, unfolding(tql_grammar::specs::ReadingStatements::values_at))]
 fn values<'a>(
     memory: Memory,
     tokens: &mut Cursor<'_, 'a>,
@@ -232,8 +216,8 @@ fn values<'a>(
 ) -> Result<Statement<'a>, ParseError>
     ensures { Reads statement_of (reading.values_at (name_of table.entry) (names_of columns.entry) tokens.old) result tokens.new }
 {
-    let first = tuple(memory, tokens)?;
-    let more = tuples(memory, tokens)?;
+    let first = TupleRule.read(memory, tokens)?;
+    let more = behind_commas(memory, tokens, &TupleRule)?;
     let insert = Insert {
         table,
         columns,
@@ -243,7 +227,7 @@ fn values<'a>(
 }
 
 /// What stands behind INSERT.
-#[tactic(auto, unfolding(crate::specs::ReadingStatements::insert_at))]
+#[tactic(auto, unfolding(tql_grammar::specs::ReadingStatements::insert_at))]
 pub(crate) fn insert<'a>(
     memory: Memory,
     tokens: &mut Cursor<'_, 'a>,

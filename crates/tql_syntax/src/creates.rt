@@ -1,24 +1,27 @@
 //! Reading CREATE and DROP.
-ghost use Rattle.std.specs.Prelude.{◌≡◌, [], option_map};
-ghost use Rattle.tql_syntax.specs.Outcome.{more, next};
-ghost use Rattle.tql_syntax.specs.ReadingStatements as reading;
+ghost use Rattle.std.specs.Prelude.{◌≡◌, option_map};
+ghost use Rattle.tql_grammar.specs.Outcome.{next};
+ghost use Rattle.tql_grammar.specs.ReadingStatements as reading;
 ghost use Rattle.tql_syntax.specs.StatementEnds as ends;
-ghost use Rattle.tql_syntax.specs.Parsing.{Reads, nothing, itself};
-ghost use Rattle.tql_syntax.specs.Expressions.{digits_of, name_of};
-ghost use Rattle.tql_syntax.specs.Statements.{names_of, type_of, generated_of, reflist_of, constraint_of, element_of, elements_of, statement_of};
+ghost use Rattle.tql_phrase.specs.Parsing.{Reads, nothing, itself};
+ghost use Rattle.tql_spec.specs.Definition as definition;
+ghost use Rattle.tql_spec.specs.Syntax as tree;
+ghost use Rattle.tql_tree.specs.Expressions.{digits_of, name_of};
+ghost use Rattle.tql_tree.specs.Statements.{type_of, generated_of, reflist_of, constraint_of, boxed_constraint_of, element_of, statement_of};
 
-use crate::conditions::condition_here;
-use crate::cursor::{Cursor, ParseError};
-use crate::expression::Name;
-use crate::statement::{
+use tql_lex::token::Symbol;
+use tql_memory::Memory;
+use tql_phrase::cursor::{Cursor, ParseError};
+use tql_phrase::lists::{Rule, Step, behind_commas, repeated};
+use tql_query::conditions::condition_here;
+use tql_tree::expression::Name;
+use tql_tree::statement::{
     ColumnTree, Constraint, CreateTree, Element, ForeignTree, Generated, KeyTree, PeriodTree,
     RefList, Statement, TypeName,
 };
-use tql_lex::token::Symbol;
-use tql_memory::Memory;
 
 /// `( number )`: the digits.
-#[tactic(auto, unfolding(crate::specs::ReadingStatements::size_at))]
+#[tactic(auto, unfolding(tql_grammar::specs::ReadingStatements::size_at))]
 fn size<'a>(tokens: &mut Cursor<'_, 'a>) -> Result<&'a str, ParseError>
     ensures { Reads digits_of (reading.size_at tokens.old) result tokens.new }
 {
@@ -29,7 +32,7 @@ fn size<'a>(tokens: &mut Cursor<'_, 'a>) -> Result<&'a str, ParseError>
 }
 
 /// The digits of `( number )`, where it is in front.
-#[tactic(auto, unfolding(crate::specs::ReadingStatements::precision_at))]
+#[tactic(auto, unfolding(tql_grammar::specs::ReadingStatements::precision_at))]
 fn precision<'a>(tokens: &mut Cursor<'_, 'a>) -> Result<Option<&'a str>, ParseError>
     ensures { Reads (option_map digits_of) (reading.precision_at tokens.old) result tokens.new }
 {
@@ -41,7 +44,7 @@ fn precision<'a>(tokens: &mut Cursor<'_, 'a>) -> Result<Option<&'a str>, ParseEr
 }
 
 /// WITHOUT TIME ZONE, where it is in front.
-#[tactic(auto, unfolding(crate::specs::ReadingStatements::zone_at))]
+#[tactic(auto, unfolding(tql_grammar::specs::ReadingStatements::zone_at))]
 fn zone(tokens: &mut Cursor<'_, '_>) -> Result<(), ParseError>
     ensures { Reads nothing (reading.zone_at tokens.old) result tokens.new }
 {
@@ -53,7 +56,7 @@ fn zone(tokens: &mut Cursor<'_, '_>) -> Result<(), ParseError>
 }
 
 /// What stands behind TIMESTAMP in a type.
-#[tactic(auto, unfolding(crate::specs::ReadingStatements::timestamp_type_at))]
+#[tactic(auto, unfolding(tql_grammar::specs::ReadingStatements::timestamp_type_at))]
 fn timestamp_type<'a>(tokens: &mut Cursor<'_, 'a>) -> Result<TypeName<'a>, ParseError>
     ensures { Reads type_of (reading.timestamp_type_at tokens.old) result tokens.new }
 {
@@ -63,7 +66,7 @@ fn timestamp_type<'a>(tokens: &mut Cursor<'_, 'a>) -> Result<TypeName<'a>, Parse
 }
 
 /// A type.
-#[tactic(auto, unfolding(crate::specs::ReadingStatements::type_at))]
+#[tactic(auto, unfolding(tql_grammar::specs::ReadingStatements::type_at))]
 fn type_name<'a>(tokens: &mut Cursor<'_, 'a>) -> Result<TypeName<'a>, ParseError>
     ensures { Reads type_of (reading.type_at tokens.old) result tokens.new }
 {
@@ -88,7 +91,7 @@ fn type_name<'a>(tokens: &mut Cursor<'_, 'a>) -> Result<TypeName<'a>, ParseError
 }
 
 /// Whether NOT NULL is in front; goes past it.
-#[tactic(auto, unfolding(crate::specs::ReadingStatements::not_null_at))]
+#[tactic(auto, unfolding(tql_grammar::specs::ReadingStatements::not_null_at))]
 fn not_null(tokens: &mut Cursor<'_, '_>) -> Result<bool, ParseError>
     ensures { Reads itself (reading.not_null_at tokens.old) result tokens.new }
 {
@@ -100,7 +103,7 @@ fn not_null(tokens: &mut Cursor<'_, '_>) -> Result<bool, ParseError>
 }
 
 /// What stands behind GENERATED.
-#[tactic(auto, unfolding(crate::specs::ReadingStatements::generated_at))]
+#[tactic(auto, unfolding(tql_grammar::specs::ReadingStatements::generated_at))]
 fn generated(tokens: &mut Cursor<'_, '_>) -> Result<Generated, ParseError>
     ensures { Reads generated_of (reading.generated_at tokens.old) result tokens.new }
 {
@@ -115,7 +118,7 @@ fn generated(tokens: &mut Cursor<'_, '_>) -> Result<Generated, ParseError>
 }
 
 /// A column. NOT NULL may stand on either side of GENERATED.
-#[tactic(auto, unfolding(crate::specs::ReadingStatements::column_at))]
+#[tactic(auto, unfolding(tql_grammar::specs::ReadingStatements::column_at))]
 fn column<'a>(tokens: &mut Cursor<'_, 'a>) -> Result<Element<'a>, ParseError>
     ensures { Reads element_of (reading.column_at tokens.old) result tokens.new }
 {
@@ -136,7 +139,7 @@ fn column<'a>(tokens: &mut Cursor<'_, 'a>) -> Result<Element<'a>, ParseError>
 }
 
 /// The name of a period; SYSTEM_TIME has none.
-#[tactic(auto, unfolding(crate::specs::ReadingStatements::period_name_at))]
+#[tactic(auto, unfolding(tql_grammar::specs::ReadingStatements::period_name_at))]
 pub(crate) fn period_name<'a>(tokens: &mut Cursor<'_, 'a>) -> Result<Option<Name<'a>>, ParseError>
     ensures { Reads (option_map name_of) (reading.period_name_at tokens.old) result tokens.new }
 {
@@ -148,7 +151,7 @@ pub(crate) fn period_name<'a>(tokens: &mut Cursor<'_, 'a>) -> Result<Option<Name
 }
 
 /// What stands behind PERIOD.
-#[tactic(auto, unfolding(crate::specs::ReadingStatements::period_at))]
+#[tactic(auto, unfolding(tql_grammar::specs::ReadingStatements::period_at))]
 fn period<'a>(tokens: &mut Cursor<'_, 'a>) -> Result<Element<'a>, ParseError>
     ensures { Reads element_of (reading.period_at tokens.old) result tokens.new }
 {
@@ -163,39 +166,36 @@ fn period<'a>(tokens: &mut Cursor<'_, 'a>) -> Result<Element<'a>, ParseError>
 }
 
 /// The next column of a key, where a comma is in front and no period of the key behind it.
-#[tactic(auto, unfolding(crate::specs::ReadingStatements::next_key_column))]
-fn next_key_column<'a>(tokens: &mut Cursor<'_, 'a>) -> Result<Option<Name<'a>>, ParseError>
-    ensures { Reads (option_map name_of) (reading.next_key_column tokens.old) result tokens.new }
-{
-    if tokens.begins_symbol(Symbol::Comma) && tokens.third_is_word("WITHOUT") {
-        return Ok(None);
-    }
-    if !tokens.eat_symbol(Symbol::Comma) {
-        return Ok(None);
-    }
-    let name = tokens.name()?;
-    Ok(Some(name))
-}
+struct KeyColumnStep;
 
-/// The columns of a key behind the first.
-fn key_columns<'a>(
-    memory: Memory,
-    tokens: &mut Cursor<'_, 'a>,
-) -> Result<Vec<Name<'a>, Memory>, ParseError>
-    ensures { Reads names_of (more reading.next_key_column [] tokens.old) result tokens.new }
-{
-    let mut found = Vec::new(memory);
-    for _turn in 0..tokens.left() {
-        match next_key_column(tokens)? {
-            Some(name) => found.push(name)?,
-            None => return Ok(found),
+impl<'a> Step<'a, Memory> for KeyColumnStep {
+    type Item = Name<'a>;
+
+    ghost Tree = { definition.Name };
+
+    ghost view = { name_of };
+
+    ghost step = { λ _. reading.next_key_column };
+
+    #[tactic(auto, unfolding(tql_grammar::specs::ReadingStatements::next_key_column))]
+    fn next(
+        &self,
+        _memory: Memory,
+        tokens: &mut Cursor<'_, 'a>,
+    ) -> Result<Option<Name<'a>>, ParseError> {
+        if tokens.begins_symbol(Symbol::Comma) && tokens.third_is_word("WITHOUT") {
+            return Ok(None);
         }
+        if !tokens.eat_symbol(Symbol::Comma) {
+            return Ok(None);
+        }
+        let name = tokens.name()?;
+        Ok(Some(name))
     }
-    Ok(found)
 }
 
 /// A comma and `name WITHOUT OVERLAPS`, where a comma is in front.
-#[tactic(auto, unfolding(crate::specs::ReadingStatements::key_period_at))]
+#[tactic(auto, unfolding(tql_grammar::specs::ReadingStatements::key_period_at))]
 fn next_key_period<'a>(tokens: &mut Cursor<'_, 'a>) -> Result<Option<Name<'a>>, ParseError>
     ensures { Reads (option_map name_of) (next reading.key_period_at tokens.old) result tokens.new }
 {
@@ -209,7 +209,7 @@ fn next_key_period<'a>(tokens: &mut Cursor<'_, 'a>) -> Result<Option<Name<'a>>, 
 }
 
 /// What stands behind PRIMARY KEY or UNIQUE.
-#[tactic(auto, unfolding(crate::specs::ReadingStatements::key_at))]
+#[tactic(auto, unfolding(tql_grammar::specs::ReadingStatements::key_at))]
 fn key<'a>(
     memory: Memory,
     tokens: &mut Cursor<'_, 'a>,
@@ -219,7 +219,7 @@ fn key<'a>(
 {
     tokens.expect_symbol(Symbol::Open)?;
     let first = tokens.name()?;
-    let more = key_columns(memory, tokens)?;
+    let more = repeated(memory, tokens, &KeyColumnStep)?;
     let period = next_key_period(tokens)?;
     tokens.expect_symbol(Symbol::Close)?;
     Ok(Constraint::Key(KeyTree {
@@ -231,39 +231,36 @@ fn key<'a>(
 }
 
 /// The next column of a reference, where a comma is in front and no period of the reference behind it.
-#[tactic(auto, unfolding(crate::specs::ReadingStatements::next_reference_column))]
-fn next_reference_column<'a>(tokens: &mut Cursor<'_, 'a>) -> Result<Option<Name<'a>>, ParseError>
-    ensures { Reads (option_map name_of) (reading.next_reference_column tokens.old) result tokens.new }
-{
-    if tokens.begins_symbol(Symbol::Comma) && tokens.second_is_word("PERIOD") {
-        return Ok(None);
-    }
-    if !tokens.eat_symbol(Symbol::Comma) {
-        return Ok(None);
-    }
-    let name = tokens.name()?;
-    Ok(Some(name))
-}
+struct ReferenceColumnStep;
 
-/// The columns of a reference behind the first.
-fn reference_columns<'a>(
-    memory: Memory,
-    tokens: &mut Cursor<'_, 'a>,
-) -> Result<Vec<Name<'a>, Memory>, ParseError>
-    ensures { Reads names_of (more reading.next_reference_column [] tokens.old) result tokens.new }
-{
-    let mut found = Vec::new(memory);
-    for _turn in 0..tokens.left() {
-        match next_reference_column(tokens)? {
-            Some(name) => found.push(name)?,
-            None => return Ok(found),
+impl<'a> Step<'a, Memory> for ReferenceColumnStep {
+    type Item = Name<'a>;
+
+    ghost Tree = { definition.Name };
+
+    ghost view = { name_of };
+
+    ghost step = { λ _. reading.next_reference_column };
+
+    #[tactic(auto, unfolding(tql_grammar::specs::ReadingStatements::next_reference_column))]
+    fn next(
+        &self,
+        _memory: Memory,
+        tokens: &mut Cursor<'_, 'a>,
+    ) -> Result<Option<Name<'a>>, ParseError> {
+        if tokens.begins_symbol(Symbol::Comma) && tokens.second_is_word("PERIOD") {
+            return Ok(None);
         }
+        if !tokens.eat_symbol(Symbol::Comma) {
+            return Ok(None);
+        }
+        let name = tokens.name()?;
+        Ok(Some(name))
     }
-    Ok(found)
 }
 
 /// A comma and `PERIOD name`, where a comma is in front.
-#[tactic(auto, unfolding(crate::specs::ReadingStatements::reference_period_at))]
+#[tactic(auto, unfolding(tql_grammar::specs::ReadingStatements::reference_period_at))]
 fn next_reference_period<'a>(tokens: &mut Cursor<'_, 'a>) -> Result<Option<Name<'a>>, ParseError>
     ensures { Reads (option_map name_of) (next reading.reference_period_at tokens.old) result tokens.new }
 {
@@ -276,13 +273,13 @@ fn next_reference_period<'a>(tokens: &mut Cursor<'_, 'a>) -> Result<Option<Name<
 }
 
 /// The list of a reference, in its parentheses.
-#[tactic(auto, unfolding(crate::specs::ReadingStatements::reflist_at))]
+#[tactic(auto, unfolding(tql_grammar::specs::ReadingStatements::reflist_at))]
 fn reflist<'a>(memory: Memory, tokens: &mut Cursor<'_, 'a>) -> Result<RefList<'a>, ParseError>
     ensures { Reads reflist_of (reading.reflist_at tokens.old) result tokens.new }
 {
     tokens.expect_symbol(Symbol::Open)?;
     let first = tokens.name()?;
-    let more = reference_columns(memory, tokens)?;
+    let more = repeated(memory, tokens, &ReferenceColumnStep)?;
     let period = next_reference_period(tokens)?;
     tokens.expect_symbol(Symbol::Close)?;
     Ok(RefList {
@@ -293,7 +290,7 @@ fn reflist<'a>(memory: Memory, tokens: &mut Cursor<'_, 'a>) -> Result<RefList<'a
 }
 
 /// What stands behind ON in a reference: NO ACTION, for DELETE or UPDATE.
-#[tactic(auto, unfolding(crate::specs::ReadingStatements::no_action_at))]
+#[tactic(auto, unfolding(tql_grammar::specs::ReadingStatements::no_action_at))]
 fn no_action(tokens: &mut Cursor<'_, '_>) -> Result<(), ParseError>
     ensures { Reads nothing (reading.no_action_at tokens.old) result tokens.new }
 {
@@ -318,7 +315,7 @@ fn no_actions(tokens: &mut Cursor<'_, '_>) -> Result<(), ParseError>
 }
 
 /// What stands behind FOREIGN.
-#[tactic(auto, unfolding(crate::specs::ReadingStatements::foreign_at))]
+#[tactic(auto, unfolding(tql_grammar::specs::ReadingStatements::foreign_at))]
 fn foreign<'a>(memory: Memory, tokens: &mut Cursor<'_, 'a>) -> Result<Constraint<'a>, ParseError>
     ensures { Reads constraint_of (reading.foreign_at tokens.old) result tokens.new }
 {
@@ -336,18 +333,18 @@ fn foreign<'a>(memory: Memory, tokens: &mut Cursor<'_, 'a>) -> Result<Constraint
 }
 
 /// What stands behind CHECK.
-#[tactic(auto, unfolding(crate::specs::ReadingStatements::check_at))]
+#[tactic(auto, unfolding(tql_grammar::specs::ReadingStatements::check_at))]
 fn check<'a>(memory: Memory, tokens: &mut Cursor<'_, 'a>) -> Result<Constraint<'a>, ParseError>
     ensures { Reads constraint_of (reading.check_at tokens.old) result tokens.new }
 {
     tokens.expect_symbol(Symbol::Open)?;
     let condition = condition_here(memory, tokens)?;
     tokens.expect_symbol(Symbol::Close)?;
-    Ok(Constraint::Check(Box::new(memory, condition)?))
+    Ok(Constraint::Check(condition))
 }
 
 /// A constraint without its name.
-#[tactic(auto, unfolding(crate::specs::ReadingStatements::constraint_at))]
+#[tactic(auto, unfolding(tql_grammar::specs::ReadingStatements::constraint_at))]
 fn constraint<'a>(memory: Memory, tokens: &mut Cursor<'_, 'a>) -> Result<Constraint<'a>, ParseError>
     ensures { Reads constraint_of (reading.constraint_at tokens.old) result tokens.new }
 {
@@ -365,16 +362,27 @@ fn constraint<'a>(memory: Memory, tokens: &mut Cursor<'_, 'a>) -> Result<Constra
     check(memory, tokens)
 }
 
+/// A constraint without its name, in a box.
+fn boxed_constraint<'a>(
+    memory: Memory,
+    tokens: &mut Cursor<'_, 'a>,
+) -> Result<Box<Constraint<'a>, Memory>, ParseError>
+    ensures { Reads boxed_constraint_of (reading.constraint_at tokens.old) result tokens.new }
+{
+    let constraint = constraint(memory, tokens)?;
+    Ok(Box::new(memory, constraint)?)
+}
+
 /// What stands behind CONSTRAINT. The name is not kept.
-#[tactic(auto, unfolding(crate::specs::ReadingStatements::named_constraint_at))]
+#[tactic(auto, unfolding(tql_grammar::specs::ReadingStatements::named_constraint_at))]
 fn named_constraint<'a>(
     memory: Memory,
     tokens: &mut Cursor<'_, 'a>,
-) -> Result<Constraint<'a>, ParseError>
-    ensures { Reads constraint_of (reading.named_constraint_at tokens.old) result tokens.new }
+) -> Result<Box<Constraint<'a>, Memory>, ParseError>
+    ensures { Reads boxed_constraint_of (reading.named_constraint_at tokens.old) result tokens.new }
 {
     tokens.name()?;
-    constraint(memory, tokens)
+    boxed_constraint(memory, tokens)
 }
 
 /// Whether a constraint without a name is in front.
@@ -395,46 +403,39 @@ fn constraint_or_column<'a>(
     ensures { Reads element_of (reading.constraint_or_column_at tokens.old) result tokens.new }
 {
     if begins_constraint(tokens) {
-        let constraint = constraint(memory, tokens)?;
+        let constraint = boxed_constraint(memory, tokens)?;
         return Ok(Element::Constraint(constraint));
     }
     column(tokens)
 }
 
 /// An element of CREATE.
-#[tactic(auto, unfolding(crate::specs::ReadingStatements::element_at))]
-fn element<'a>(memory: Memory, tokens: &mut Cursor<'_, 'a>) -> Result<Element<'a>, ParseError>
-    ensures { Reads element_of (reading.element_at tokens.old) result tokens.new }
-{
-    if tokens.eat_word("PERIOD") {
-        return period(tokens);
-    }
-    if tokens.eat_word("CONSTRAINT") {
-        let constraint = named_constraint(memory, tokens)?;
-        return Ok(Element::Constraint(constraint));
-    }
-    constraint_or_column(memory, tokens)
-}
+struct ElementRule;
 
-/// The elements behind the first.
-fn elements<'a>(
-    memory: Memory,
-    tokens: &mut Cursor<'_, 'a>,
-) -> Result<Vec<Element<'a>, Memory>, ParseError>
-    ensures { Reads elements_of (more (next reading.element_at) [] tokens.old) result tokens.new }
-{
-    let mut found = Vec::new(memory);
-    for _turn in 0..tokens.left() {
-        if !tokens.eat_symbol(Symbol::Comma) {
-            return Ok(found);
+impl<'a> Rule<'a, Memory> for ElementRule {
+    type Item = Element<'a>;
+
+    ghost Tree = { tree.Element };
+
+    ghost view = { element_of };
+
+    ghost rule = { λ _. reading.element_at };
+
+    #[tactic(auto, unfolding(tql_grammar::specs::ReadingStatements::element_at))]
+    fn read(&self, memory: Memory, tokens: &mut Cursor<'_, 'a>) -> Result<Element<'a>, ParseError> {
+        if tokens.eat_word("PERIOD") {
+            return period(tokens);
         }
-        found.push(element(memory, tokens)?)?;
+        if tokens.eat_word("CONSTRAINT") {
+            let constraint = named_constraint(memory, tokens)?;
+            return Ok(Element::Constraint(constraint));
+        }
+        constraint_or_column(memory, tokens)
     }
-    Ok(found)
 }
 
 /// Whether WITH SYSTEM VERSIONING is in front; goes past it.
-#[tactic(auto, unfolding(crate::specs::ReadingStatements::versioning_at))]
+#[tactic(auto, unfolding(tql_grammar::specs::ReadingStatements::versioning_at))]
 fn versioning(tokens: &mut Cursor<'_, '_>) -> Result<bool, ParseError>
     ensures { Reads itself (reading.versioning_at tokens.old) result tokens.new }
 {
@@ -456,7 +457,7 @@ fn create_end<'a>(
 ) -> Result<Statement<'a>, ParseError>
     ensures { Reads statement_of (ends.create_end (name_of table.entry) (element_of first.entry) tokens.old) result tokens.new }
 {
-    let more = elements(memory, tokens)?;
+    let more = behind_commas(memory, tokens, &ElementRule)?;
     tokens.expect_symbol(Symbol::Close)?;
     let is_versioned = versioning(tokens)?;
     let create = CreateTree {
@@ -469,7 +470,7 @@ fn create_end<'a>(
 }
 
 /// What stands behind CREATE.
-#[tactic(auto, unfolding(crate::specs::ReadingStatements::create_at, crate::specs::StatementEnds::create_end))]
+#[tactic(auto, unfolding(tql_grammar::specs::ReadingStatements::create_at, crate::specs::StatementEnds::create_end))]
 pub(crate) fn create<'a>(
     memory: Memory,
     tokens: &mut Cursor<'_, 'a>,
@@ -479,12 +480,12 @@ pub(crate) fn create<'a>(
     tokens.expect_word("TABLE")?;
     let table = tokens.name()?;
     tokens.expect_symbol(Symbol::Open)?;
-    let first = element(memory, tokens)?;
+    let first = ElementRule.read(memory, tokens)?;
     create_end(memory, tokens, table, first)
 }
 
 /// What stands behind DROP.
-#[tactic(auto, unfolding(crate::specs::ReadingStatements::drop_at))]
+#[tactic(auto, unfolding(tql_grammar::specs::ReadingStatements::drop_at))]
 pub(crate) fn drop_table<'a>(tokens: &mut Cursor<'_, 'a>) -> Result<Statement<'a>, ParseError>
     ensures { Reads statement_of (reading.drop_at tokens.old) result tokens.new }
 {

@@ -1,17 +1,8 @@
-// The grammar: from tokens to the trees of statements.
+//! The parser: from the tokens of a statement to its tree.
 #![tactic(auto)]
 
 mod changes;
-pub mod condition;
-mod conditions;
 mod creates;
-mod cursor;
-pub mod expression;
-mod expressions;
-pub mod name;
-mod operands;
 pub mod parse;
-mod queries;
-pub mod statement;
 mod statements;
 pub mod text;

@@ -1,17 +1,19 @@
 //! Reading statements.
-ghost use Rattle.tql_syntax.specs.ReadingStatements as reading;
-ghost use Rattle.tql_syntax.specs.Parsing.{Reads};
-ghost use Rattle.tql_syntax.specs.Statements.{statement_of};
+ghost use Rattle.tql_grammar.specs.ReadingStatements as reading;
+ghost use Rattle.tql_phrase.specs.Parsing.{Reads};
+ghost use Rattle.tql_tree.specs.Statements.{statement_of};
+ghost use Rattle.tql_tree.specs.Trees.{tree_of};
 
 use crate::changes::{delete, insert, update};
 use crate::creates::{create, drop_table};
-use crate::cursor::{Cursor, ParseError};
-use crate::queries::{moment, query};
-use crate::statement::Statement;
 use tql_memory::Memory;
+use tql_phrase::cursor::{Cursor, ParseError};
+use tql_query::queries::{moment, query};
+use tql_tree::statement::Statement;
+use tql_tree::tree::Tree;
 
 /// A statement of transactions or of the clock.
-#[tactic(auto, unfolding(crate::specs::ReadingStatements::control_at))]
+#[tactic(auto, unfolding(tql_grammar::specs::ReadingStatements::control_at))]
 fn control<'a>(tokens: &mut Cursor<'_, 'a>) -> Result<Statement<'a>, ParseError>
     ensures { Reads statement_of (reading.control_at tokens.old) result tokens.new }
 {
@@ -33,7 +35,7 @@ fn control<'a>(tokens: &mut Cursor<'_, 'a>) -> Result<Statement<'a>, ParseError>
 }
 
 /// A statement that changes rows, or one of transactions or of the clock.
-#[tactic(auto, unfolding(crate::specs::ReadingStatements::change_at))]
+#[tactic(auto, unfolding(tql_grammar::specs::ReadingStatements::change_at))]
 fn change<'a>(memory: Memory, tokens: &mut Cursor<'_, 'a>) -> Result<Statement<'a>, ParseError>
     ensures { Reads statement_of (reading.change_at tokens.old) result tokens.new }
 {
@@ -50,11 +52,8 @@ fn change<'a>(memory: Memory, tokens: &mut Cursor<'_, 'a>) -> Result<Statement<'
 }
 
 /// A statement.
-#[tactic(auto, unfolding(crate::specs::ReadingStatements::statement_at))]
-pub(crate) fn statement<'a>(
-    memory: Memory,
-    tokens: &mut Cursor<'_, 'a>,
-) -> Result<Statement<'a>, ParseError>
+#[tactic(auto, unfolding(tql_grammar::specs::ReadingStatements::statement_at))]
+fn statement<'a>(memory: Memory, tokens: &mut Cursor<'_, 'a>) -> Result<Statement<'a>, ParseError>
     ensures { Reads statement_of (reading.statement_at tokens.old) result tokens.new }
 {
     if tokens.eat_word("SELECT") {
@@ -67,4 +66,15 @@ pub(crate) fn statement<'a>(
         return drop_table(tokens);
     }
     change(memory, tokens)
+}
+
+/// The tree of a statement.
+pub(crate) fn statement_tree<'a>(
+    memory: Memory,
+    tokens: &mut Cursor<'_, 'a>,
+) -> Result<Tree<'a>, ParseError>
+    ensures { Reads tree_of (reading.statement_at tokens.old) result tokens.new }
+{
+    let statement = statement(memory, tokens)?;
+    Ok(Tree { statement })
 }

@@ -1,16 +1,16 @@
 //! Reading the text of a statement.
 ghost use Rattle.std.specs.Prelude.{◌≡◌, ◌≤◌, length};
-ghost use Rattle.tql_syntax.specs.Texts.{ReadsText, SpellsText, HasOneStatement};
+ghost use Rattle.tql_syntax.specs.Texts.{ReadsText, SpellsText};
 
 use crate::parse::spelled;
-use crate::statement::Statement;
 use tql_lex::splitter::LONGEST;
 use tql_lex::tokens::tokens;
 use tql_memory::Memory;
+use tql_tree::tree::Tree;
 use tql_value::refusal::Refusal;
 
 /// Reads a text of not too many bytes.
-fn spelled_text(memory: Memory, text: &str) -> Result<Statement<'_>, Refusal>
+fn spelled_text(memory: Memory, text: &str) -> Result<Tree<'_>, Refusal>
     ensures { SpellsText text.now result }
 {
     let tokens = tokens(memory, text)?;
@@ -20,7 +20,7 @@ fn spelled_text(memory: Memory, text: &str) -> Result<Statement<'_>, Refusal>
 /// Reads the text of a finished statement, without its `;`, however wide the statement is. Refused are, the first of them: over
 /// 1,048,576 bytes, bytes that are not UTF-8, over 64 parentheses open at once, a text that is no statement. Where memory runs out, that
 /// is the refusal.
-pub fn read_text(memory: Memory, text: &[u8]) -> Result<Statement<'_>, Refusal>
+pub fn read_text(memory: Memory, text: &[u8]) -> Result<Tree<'_>, Refusal>
     ensures { ReadsText text.now result }
 {
     if text.len() > LONGEST {
@@ -31,8 +31,3 @@ pub fn read_text(memory: Memory, text: &[u8]) -> Result<Statement<'_>, Refusal>
         Err(_) => Err(Refusal::NotUtf8),
     }
 }
-
-/// A text spells one statement at most.
-pub fn one_statement()
-    ensures { HasOneStatement }
-{}

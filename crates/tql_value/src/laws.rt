@@ -2,19 +2,16 @@ ghost use Rattle.tql_spec.specs.Calendar.{PartsAreDates, PartsReadBack};
 ghost use Rattle.tql_value.specs.Points.{MomentsReadBack};
 ghost use Rattle.tql_value.specs.Laws.{KindsAreOrdered, SameIsEqual, TextsLieByCharacters};
 
-/// The values of each kind, with NULL, are totally ordered, NULL first, and only equal values lie level.
+/// The values of each kind, with NULL, are totally ordered, NULL first, and only equal values lie level. The test of
+/// equality holds of equal values alone.
 pub fn order_is_total()
-    ensures { KindsAreOrdered }
+    ensures order { KindsAreOrdered }
+    ensures equality { SameIsEqual }
 {}
 
 /// Texts that are ordered by their bytes are ordered by their characters.
 pub fn texts_lie_by_characters()
     ensures { TextsLieByCharacters }
-{}
-
-/// The test of equality holds of equal values alone.
-pub fn same_is_equal()
-    ensures { SameIsEqual }
 {}
 
 /// Each day's parts are a date that lies on that day, and each date's day number has its parts. Each

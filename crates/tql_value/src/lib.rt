@@ -8,8 +8,6 @@ pub mod laws;
 pub mod literal;
 pub mod refusal;
 pub mod table;
-#[cfg(test)]
-mod tests;
 pub mod text;
 pub mod truth;
 pub mod value;

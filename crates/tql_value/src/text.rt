@@ -1,4 +1,4 @@
-ghost use Rattle.std.specs.Prelude.{◌≡◌, IfOk, string_bytes};
+ghost use Rattle.std.specs.Prelude.{◌≡◌, IfOk};
 ghost use Rattle.tql_spec.specs.Datum.{characters as characters_of};
 
 use std::alloc::AllocError;
@@ -29,25 +29,11 @@ impl Text {
         })
     }
 
-    /// The string that the text was made from, in the same memory.
-    pub fn into_string(self) -> String<Memory>
-        ensures { string_bytes result ≡ self }
-    {
-        self.inner
-    }
-
     /// The text to read.
     pub fn as_str(&self) -> &str
         ensures { result.now ≡ self.now }
     {
         self.inner.as_str()
-    }
-
-    /// How many characters the text has.
-    pub fn characters(&self) -> usize
-        ensures { result ≡ characters_of self.now }
-    {
-        characters(self.as_str())
     }
 }
 

@@ -51,12 +51,20 @@ pub enum View<'a> {
 }
 
 /// What a query answers: its headings, and its rows column by column.
-#[derive(Drop, Debug)]
+#[derive(Debug)]
 pub struct Rows {
     /// The heading of each column.
     pub headings: Vec<String<Memory>, Memory>,
     /// The rows, each as wide as the headings.
     pub rows: Vec<Vec<Value, Memory>, Memory>,
+}
+
+impl Drop for Rows {
+    fn drop(self) {
+        let Rows { headings, rows } = self;
+        drop(headings);
+        drop(rows);
+    }
 }
 
 impl Value {
@@ -118,28 +126,6 @@ impl<'a> View<'a> {
             (Some(kind), Some(other_kind)) => kind == other_kind,
             _ => true,
         }
-    }
-}
-
-impl Default for Value {
-    ghost use Rattle.std.specs.Prelude.{◌≡◌};
-    ghost use Rattle.tql_value.specs.declared.value.Value.TheVariants.{Null};
-
-    ghost is_default = { λ v. v ≡ Null };
-
-    fn default() -> Self {
-        Value::Null
-    }
-}
-
-impl<'a> Default for View<'a> {
-    ghost use Rattle.std.specs.Prelude.{◌≡◌};
-    ghost use Rattle.tql_value.specs.declared.value.View.TheVariants.{Null};
-
-    ghost is_default = { λ v. v ≡ Null };
-
-    fn default() -> Self {
-        View::Null
     }
 }
 

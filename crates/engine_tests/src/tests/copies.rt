@@ -6,7 +6,6 @@ use crate::tests::samples::{no_value, null, some_value};
 use crate::tests::statement::{Cell, Insertion, Listed, Span, Statement};
 use crate::tests::tables::{Name, Sort};
 use std::alloc::{AllocError, Global};
-use std::process::Abort;
 use std::test::Fail;
 
 /// The first moment of the scripts, one second behind the hour.
@@ -112,51 +111,11 @@ fn agree_on_an_example(rt: HostRuntime) -> Result<(), Fail> {
     assert_prints(&rt, script.sql.as_bytes(), SALES)
 }
 
-/// Asserts that the engine prints what the machine prints, on twenty-five scripts.
-fn assert_agree(rt: &(impl Abort + AllocGlobal), first: u64) -> Result<(), Fail> {
-    for step in 0..25u64 {
-        let script = Script::made(rt.alloc(), first.saturating_add(step))?;
-        assert_prints(rt, script.sql.as_bytes(), &script.text)?;
+#[test]
+fn agree_on_two_hundred_scripts(rt: HostRuntime) -> Result<(), Fail> {
+    for seed in 1..=200u64 {
+        let script = Script::made(rt.alloc(), seed)?;
+        assert_prints(&rt, script.sql.as_bytes(), &script.text)?;
     }
     Ok(())
-}
-
-#[test]
-fn agree_on_scripts_1_to_25(rt: HostRuntime) -> Result<(), Fail> {
-    assert_agree(&rt, 1)
-}
-
-#[test]
-fn agree_on_scripts_26_to_50(rt: HostRuntime) -> Result<(), Fail> {
-    assert_agree(&rt, 26)
-}
-
-#[test]
-fn agree_on_scripts_51_to_75(rt: HostRuntime) -> Result<(), Fail> {
-    assert_agree(&rt, 51)
-}
-
-#[test]
-fn agree_on_scripts_76_to_100(rt: HostRuntime) -> Result<(), Fail> {
-    assert_agree(&rt, 76)
-}
-
-#[test]
-fn agree_on_scripts_101_to_125(rt: HostRuntime) -> Result<(), Fail> {
-    assert_agree(&rt, 101)
-}
-
-#[test]
-fn agree_on_scripts_126_to_150(rt: HostRuntime) -> Result<(), Fail> {
-    assert_agree(&rt, 126)
-}
-
-#[test]
-fn agree_on_scripts_151_to_175(rt: HostRuntime) -> Result<(), Fail> {
-    assert_agree(&rt, 151)
-}
-
-#[test]
-fn agree_on_scripts_176_to_200(rt: HostRuntime) -> Result<(), Fail> {
-    assert_agree(&rt, 176)
 }

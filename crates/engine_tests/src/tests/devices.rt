@@ -66,8 +66,6 @@ pub struct Setting {
     pub reads: u64,
     pub writes: u64,
     pub flushes: bool,
-    /// How many blocks of memory are granted.
-    pub granted: u64,
 }
 
 /// Devices that do not fail, and memory that does not end.
@@ -76,7 +74,6 @@ pub const SOUND: Setting = Setting {
     reads: u64::MAX,
     writes: u64::MAX,
     flushes: true,
-    granted: u64::MAX,
 };
 
 /// What a run answered, and what it wrote.
@@ -88,7 +85,7 @@ pub struct Outcome {
 
 /// Runs a script on a new engine.
 pub fn run_script(rt: &impl AllocGlobal, script: &[u8], setting: Setting) -> Result<Outcome, Fail> {
-    let mut engine = Engine::new(memory(rt.alloc(), setting.granted)?);
+    let mut engine = Engine::new(memory(rt.alloc(), u64::MAX)?);
     let mut source = StdSource::new(Chunks {
         left: script,
         size: setting.size,
@@ -127,65 +124,5 @@ pub fn assert_prints(
     assert_eq!(rt; str::from_utf8(&outcome.text)?, text);
     let summary = outcome.end?;
     assert_eq!(rt; summary.refused, lines_with(text, "REFUSED "));
-    Ok(())
-}
-
-/// Asserts what a script prints, given whole, by seven bytes and byte by byte.
-pub fn assert_prints_in_parts(
-    rt: &(impl Abort + AllocGlobal),
-    script: &[u8],
-    text: &str,
-) -> Result<(), Fail> {
-    assert_prints(rt, script, text)?;
-    for size in [1, 7] {
-        let outcome = run_script(rt, script, Setting { size, ..SOUND })?;
-        assert_eq!(rt; str::from_utf8(&outcome.text)?, text);
-        assert!(rt; outcome.end.is_ok());
-    }
-    Ok(())
-}
-
-/// The table of the examples, and its clock.
-pub const LOG: &str = "CREATE TABLE log (x INTEGER, s TIMESTAMP GENERATED ALWAYS AS ROW START,
-  e TIMESTAMP GENERATED ALWAYS AS ROW END,
-  PERIOD FOR SYSTEM_TIME (s, e)) WITH SYSTEM VERSIONING;
-AT TIMESTAMP '2011-01-01 00:00:00';
-";
-
-/// A script behind the table and its clock.
-pub fn with_log(rt: &impl AllocGlobal, script: &[u8]) -> Result<Vec<u8>, Fail> {
-    let mut whole = Vec::new(rt.alloc());
-    whole.extend_from_slice(LOG.as_bytes())?;
-    whole.extend_from_slice(script)?;
-    Ok(whole)
-}
-
-/// Asserts what a script prints behind the table and its clock.
-pub fn assert_log_prints(
-    rt: &(impl Abort + AllocGlobal),
-    script: &[u8],
-    text: &str,
-) -> Result<(), Fail> {
-    let whole = with_log(rt, script)?;
-    let expected = format!(in rt.alloc(); "CREATE TABLE\nAT\n{text}")?;
-    assert_prints(rt, &whole, &expected)
-}
-
-/// Asserts what each of some statements prints, each on an engine of its own behind the same beginning.
-pub fn assert_replies(
-    rt: &(impl Abort + AllocGlobal),
-    beginning: &str,
-    replies: &[(&str, &str)],
-) -> Result<(), Fail> {
-    let before = run_script(rt, beginning.as_bytes(), SOUND)?;
-    for (statement, reply) in replies {
-        let script = format!(in rt.alloc(); "{beginning}{statement};")?;
-        let outcome = run_script(rt, script.as_bytes(), SOUND)?;
-        let text = outcome
-            .text
-            .strip_prefix(before.text.as_slice())
-            .ok_or("another beginning")?;
-        assert_eq!(rt; str::from_utf8(text)?, *reply, "at {statement}");
-    }
     Ok(())
 }

@@ -1,115 +1,79 @@
 // Devices that fail.
-use crate::tests::devices::{Outcome, SOUND, Setting, run_script, with_log};
+use crate::tests::devices::{Outcome, SOUND, Setting, run_script};
 use std::test::Fail;
 use tql_run::run::{Fault, Summary};
 
-const REST: &[u8] = b"INSERT INTO log VALUES (7);\n\
-    SELECT * FROM log FOR SYSTEM_TIME AS OF TIMESTAMP '2011-01-01 00:00:00';\nINSERT INTO";
+/// A table, its clock, a row, a question, and what is no whole statement.
+const SCRIPT: &str = "CREATE TABLE log (x INTEGER, s TIMESTAMP GENERATED ALWAYS AS ROW START,
+  e TIMESTAMP GENERATED ALWAYS AS ROW END,
+  PERIOD FOR SYSTEM_TIME (s, e)) WITH SYSTEM VERSIONING;
+AT TIMESTAMP '2011-01-01 00:00:00';
+INSERT INTO log VALUES (7);
+SELECT * FROM log FOR SYSTEM_TIME AS OF TIMESTAMP '2011-01-01 00:00:00';
+INSERT INTO";
 
 const WHOLE: &str = "CREATE TABLE\nAT\nINSERT 1\nX|S|E\n\
     7|2011-01-01 00:00:00|9999-12-31 23:59:59.999999\n(1 rows)\nREFUSED E12 unfinished statement\n";
 
-#[test]
-fn reads_nothing_where_the_first_read_fails(rt: HostRuntime) -> Result<(), Fail> {
-    let script = with_log(&rt, REST)?;
-    let Outcome { end, text } = run_script(&rt, &script, Setting { reads: 0, ..SOUND })?;
-    assert_eq!(rt; end, Err(Fault::Read));
-    assert!(rt; text.is_empty());
-    Ok(())
+/// Devices whose reads end behind so many of thirty bytes.
+fn thirties(reads: u64) -> Setting {
+    Setting {
+        size: 30,
+        reads,
+        ..SOUND
+    }
 }
 
 #[test]
-fn answers_what_was_whole_before_a_read_failed(rt: HostRuntime) -> Result<(), Fail> {
-    let script = with_log(&rt, b"INSERT INTO log VALUES (7);\nAT")?;
-    for (reads, expected) in [
-        (1, ""),
-        (5, ""),
-        (6, "CREATE TABLE\n"),
-        (7, "CREATE TABLE\nAT\n"),
-        (8, "CREATE TABLE\nAT\nINSERT 1\n"),
+fn tells_how_a_run_ended(rt: HostRuntime) -> Result<(), Fail> {
+    let counted = Summary {
+        statements: 5,
+        refused: 1,
+    };
+    let no_flush = Setting {
+        flushes: false,
+        ..SOUND
+    };
+    for (script, setting, end, text) in [
+        (SCRIPT, SOUND, Ok(counted), WHOLE),
+        (SCRIPT, thirties(0), Err(Fault::Read), ""),
+        (SCRIPT, thirties(1), Err(Fault::Read), ""),
+        (SCRIPT, thirties(5), Err(Fault::Read), ""),
+        (SCRIPT, thirties(6), Err(Fault::Read), "CREATE TABLE\n"),
+        (SCRIPT, thirties(7), Err(Fault::Read), "CREATE TABLE\nAT\n"),
         (
-            u64::MAX,
-            "CREATE TABLE\nAT\nINSERT 1\nREFUSED E12 unfinished statement\n",
+            SCRIPT,
+            thirties(8),
+            Err(Fault::Read),
+            "CREATE TABLE\nAT\nINSERT 1\n",
         ),
+        (SCRIPT, thirties(u64::MAX), Ok(counted), WHOLE),
+        (SCRIPT, no_flush, Err(Fault::Write), WHOLE),
+        ("", no_flush, Err(Fault::Write), ""),
     ] {
-        let setting = Setting {
-            size: 30,
-            reads,
-            ..SOUND
-        };
-        let Outcome { end, text } = run_script(&rt, &script, setting)?;
-        assert_eq!(rt; str::from_utf8(&text)?, expected);
-        assert_eq!(rt;
-            end.err(),
-            if reads == u64::MAX {
-                None
-            } else {
-                Some(Fault::Read)
-            }
-        );
+        let found = run_script(&rt, script.as_bytes(), setting)?;
+        assert_eq!(rt; (found.end, str::from_utf8(&found.text)?), (end, text));
     }
     Ok(())
 }
 
 #[test]
 fn writes_a_beginning_where_a_write_fails(rt: HostRuntime) -> Result<(), Fail> {
-    let script = with_log(&rt, REST)?;
-    let mut writes = 0u64;
     let mut last = 0;
-    for _ in 0..200 {
-        let Outcome { end, text } = run_script(&rt, &script, Setting { writes, ..SOUND })?;
-        assert!(rt; WHOLE.as_bytes().starts_with(&text));
-        assert!(rt; last <= text.len());
+    for writes in 0..200 {
+        let Outcome { end, text } = run_script(
+            &rt,
+            SCRIPT.as_bytes(),
+            Setting { writes, ..SOUND },
+        )?;
+        let is_whole = text.len() == WHOLE.len();
+        let ends_well = match end {
+            Ok(_) => is_whole && writes > 6,
+            Err(fault) => fault == Fault::Write && !is_whole,
+        };
+        assert!(rt; ends_well && last <= text.len() && WHOLE.as_bytes().starts_with(&text));
         last = text.len();
-        if end.is_ok() {
-            break;
-        }
-        assert_eq!(rt; end, Err(Fault::Write));
-        assert!(rt; text.len() < WHOLE.len());
-        writes = writes.saturating_add(1);
     }
     assert_eq!(rt; last, WHOLE.len());
-    assert!(rt; writes > 6);
-    Ok(())
-}
-
-#[test]
-fn tells_that_the_flush_failed(rt: HostRuntime) -> Result<(), Fail> {
-    let script = with_log(&rt, REST)?;
-    let Outcome { end, text } = run_script(
-        &rt,
-        &script,
-        Setting {
-            flushes: false,
-            ..SOUND
-        },
-    )?;
-    assert_eq!(rt; end, Err(Fault::Write));
-    assert_eq!(rt; str::from_utf8(&text)?, WHOLE);
-    let Outcome { end, text } = run_script(
-        &rt,
-        b"",
-        Setting {
-            flushes: false,
-            ..SOUND
-        },
-    )?;
-    assert_eq!(rt; end, Err(Fault::Write));
-    assert!(rt; text.is_empty());
-    Ok(())
-}
-
-#[test]
-fn counts_statements_and_refusals(rt: HostRuntime) -> Result<(), Fail> {
-    let script = with_log(&rt, REST)?;
-    let Outcome { end, text } = run_script(&rt, &script, SOUND)?;
-    assert_eq!(rt;
-        end,
-        Ok(Summary {
-            statements: 5,
-            refused: 1
-        })
-    );
-    assert_eq!(rt; str::from_utf8(&text)?, WHOLE);
     Ok(())
 }

@@ -2,10 +2,6 @@
 
 pub const E10: &str = "REFUSED E10 not a statement\n";
 
-pub const E14: &str = "REFUSED E14 nested too deep\n";
-
-pub const E15: &str = "REFUSED E15 too many columns or tables\n";
-
 pub const E20: &str = "REFUSED E20 table unknown or already there\n";
 
 pub const E21: &str = "REFUSED E21 name unknown, ambiguous or repeated\n";
@@ -21,7 +17,3 @@ pub const E32: &str = "REFUSED E32 null not allowed\n";
 pub const E40: &str = "REFUSED E40 not in this transaction state\n";
 
 pub const E41: &str = "REFUSED E41 moment not allowed\n";
-
-pub const CREATED: &str = "CREATE TABLE\n";
-
-pub const INSERTED: &str = "INSERT 1\n";

@@ -1,5 +1,5 @@
 //! AT: the clock.
-ghost use Rattle.std.specs.Prelude.{◌≡◌};
+ghost use Rattle.std.specs.Prelude.{◌≡◌, ◌⊎◌, IfErr};
 
 use crate::engine::Engine;
 use tql_result::reply::{Reply, Verb};
@@ -23,7 +23,9 @@ impl Engine {
     /// AT: sets the clock to a moment that is later than the last commit's, in microseconds since 1970-01-01.
     pub(super) fn at(&mut self, moment: i64) -> Result<Reply, Refusal>
         requires { IsMoment moment }
-        ensures { (s : State) → StandsFor self.old s → DoesStep self.new s result (step s (machine.SetClock moment)) }
+        ensures answered { (s : State) → StandsFor self.old s
+            → DoesStep self.new s result (step s (machine.SetClock moment)) }
+        ensures reason { IfErr result (λ e. (e ≡ Refusal.NotInThisTransactionState) ⊎ (e ≡ Refusal.MomentNotAllowed)) }
     {
         if self.rows.has_transaction() {
             return Err(Refusal::NotInThisTransactionState);

@@ -2,14 +2,14 @@
 ghost use Rattle.std.specs.Prelude.{◌≡◌, option_map, is_some, is_none, ◌&&◌};
 
 use crate::engine::Engine;
-use tql_syntax::statement::Statement;
+use tql_tree::statement::Statement;
 use tql_value::calendar::HIGH;
 use tql_value::refusal::Refusal;
 
 impl Engine {
     ghost use Rattle.tql_spec.specs.Machine.{State, Starts, state_faults, is_clock_at_end};
     ghost use Rattle.tql_spec.specs.Refusal.{E40, E41, first, fault_if};
-    ghost use Rattle.tql_syntax.specs.Statements.{statement_of};
+    ghost use Rattle.tql_tree.specs.Statements.{statement_of};
     ghost use Rattle.tql_value.specs.Refusals.{refusal_of};
     ghost use Rattle.tql_engine.specs.Stands.{StandsFor};
     ghost use Rattle.tql_engine.specs.Effects.{RefusedWith, manner_refused};

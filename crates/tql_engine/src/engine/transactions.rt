@@ -1,4 +1,6 @@
-//! START TRANSACTION, COMMIT and ROLLBACK. The last two take no memory.
+//! START TRANSACTION, COMMIT and ROLLBACK. None of them takes memory, so none is refused for want of it.
+ghost use Rattle.std.specs.Prelude.{◌≡◌, ◌⊎◌, IfErr};
+
 use crate::engine::Engine;
 use tql_result::reply::{Reply, Verb};
 use tql_value::calendar::HIGH;
@@ -12,7 +14,8 @@ impl Engine {
 
     /// START TRANSACTION, at the clock's moment.
     pub(super) fn start(&mut self) -> Result<Reply, Refusal>
-        ensures { (s : State) → StandsFor self.old s → DoesStep self.new s result (step s machine.Start) }
+        ensures answered { (s : State) → StandsFor self.old s → DoesStep self.new s result (step s machine.Start) }
+        ensures reason { IfErr result (λ e. (e ≡ Refusal.NotInThisTransactionState) ⊎ (e ≡ Refusal.MomentNotAllowed)) }
     {
         if self.rows.has_transaction() {
             return Err(Refusal::NotInThisTransactionState);
@@ -24,10 +27,12 @@ impl Engine {
         Ok(Reply::Done(Verb::Started, None))
     }
 
-    /// COMMIT: what the open transaction changed stays, and the clock goes on by a microsecond, also where nothing was changed. Takes
-    /// no memory. Refused, with nothing changed, where no transaction is open. ISO/IEC 9075-2:2011, commit statement.
+    /// COMMIT: what the open transaction changed stays, and the clock goes on by a microsecond, also where nothing was
+    /// changed. Takes no memory. Refused, with nothing changed, where no transaction is open. ISO/IEC 9075-2:2011,
+    /// commit statement.
     pub fn commit(&mut self) -> Result<Reply, Refusal>
-        ensures { (s : State) → StandsFor self.old s → DoesStep self.new s result (step s machine.Commit) }
+        ensures answered { (s : State) → StandsFor self.old s → DoesStep self.new s result (step s machine.Commit) }
+        ensures reason { IfErr result (λ e. e ≡ Refusal.NotInThisTransactionState) }
     {
         if !self.rows.has_transaction() {
             return Err(Refusal::NotInThisTransactionState);
@@ -37,10 +42,11 @@ impl Engine {
         Ok(Reply::Done(Verb::Committed, None))
     }
 
-    /// ROLLBACK: what the open transaction changed is undone, and the clock stays. Takes no memory. Refused, with nothing changed,
-    /// where no transaction is open. ISO/IEC 9075-2:2011, rollback statement.
+    /// ROLLBACK: what the open transaction changed is undone, and the clock stays. Takes no memory. Refused, with nothing
+    /// changed, where no transaction is open. ISO/IEC 9075-2:2011, rollback statement.
     pub fn rollback(&mut self) -> Result<Reply, Refusal>
-        ensures { (s : State) → StandsFor self.old s → DoesStep self.new s result (step s machine.Rollback) }
+        ensures answered { (s : State) → StandsFor self.old s → DoesStep self.new s result (step s machine.Rollback) }
+        ensures reason { IfErr result (λ e. e ≡ Refusal.NotInThisTransactionState) }
     {
         if !self.rows.has_transaction() {
             return Err(Refusal::NotInThisTransactionState);

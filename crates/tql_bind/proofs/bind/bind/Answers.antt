@@ -3,10 +3,10 @@ use Rattle.tql_spec.specs.Binding.{bind}
 use Rattle.tql_spec.specs.Machine as machine
 use Rattle.tql_spec.specs.Names.{Checked}
 use Rattle.tql_catalog.specs.Definitions.{definitions_of}
-use Rattle.tql_syntax.specs.Statements.{create_of, statement_of}
-use Rattle.tql_syntax.specs.declared.statement.CreateTree.{CreateTree}
-use Rattle.tql_syntax.specs.declared.statement.Statement.{Statement}
-use Rattle.tql_bind.specs.Binds.{Binds}
+use Rattle.tql_tree.specs.Statements.{create_of, statement_of}
+use Rattle.tql_tree.specs.declared.statement.CreateTree.{CreateTree}
+use Rattle.tql_tree.specs.declared.statement.Statement.{Statement}
+use Rattle.tql_define.specs.Binds.{Binds}
 use Rattle.tql_bind.specs.Bounds.{bound_of}
 use Rattle.tql_bind.proofs.PartLaws.{reference_asked}
 use Rattle.tql_bind.proofs.bind.bind.Goals as goal

@@ -3,8 +3,8 @@ use Rattle.std.proofs.Common.{ap, sym, ◌∙◌, append-nil}
 use Rattle.tql_spec.specs.Creation as creation
 use Rattle.tql_spec.specs.Refusal.{first}
 use Rattle.tql_catalog.specs.Definitions.{definitions_of}
-use Rattle.tql_syntax.specs.Expressions.{name_of}
-use Rattle.tql_syntax.specs.Statements.{element_of, elements_of}
+use Rattle.tql_tree.specs.Expressions.{name_of}
+use Rattle.tql_tree.specs.Statements.{element_of, elements_of}
 use Rattle.tql_bind.proofs.Room.{room_law}
 use Rattle.tql_bind.proofs.bind.create.Goals as goal
 

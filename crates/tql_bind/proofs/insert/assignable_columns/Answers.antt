@@ -1,4 +1,4 @@
-use Rattle.std.proofs.Common.{rules, arith, ap, ◌∙◌, ◌≡◌, ◌<◌, ◌++◌, ◌∷◌, [], ◌-◌, ◌+◌, ℕ, Bool, List, true, false}
+use Rattle.std.proofs.Common.{rules, ap, ◌∙◌, ◌≡◌, ◌<◌, ◌++◌, ◌∷◌, [], ◌-◌, ◌+◌, ℕ, List, true, false}
 use Rattle.std.specs.Prelude.{not, filter}
 use Rattle.std.specs.List.{range_with_len}
 use Rattle.tql_spec.specs.Binding.{is_generated}

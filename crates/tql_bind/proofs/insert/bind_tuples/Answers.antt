@@ -2,16 +2,16 @@ use Rattle.std.proofs.Common.{rules, ◌≡◌, ◌∷◌, subst, map, Some, Non
 use Rattle.std.proofs.lemmas.List.{length-map}
 use Rattle.tql_memory.specs.Handle.{Handle}
 use Rattle.tql_value.specs.declared.value.Value.{Value}
-use Rattle.tql_spec.specs.Definition.{place_of, table_at}
+use Rattle.tql_spec.specs.Definition.{place_of}
 use Rattle.tql_spec.specs.Refusal.{first}
 use Rattle.tql_spec.specs.Machine.{Alter}
 use Rattle.tql_spec.specs.Binding.{insert_values}
 use Rattle.tql_catalog.specs.Definitions.{def_of, definitions_of}
 use Rattle.tql_catalog.specs.Simple.{IsTupleOf}
-use Rattle.tql_syntax.specs.declared.expression.Name.{Name}
-use Rattle.tql_syntax.specs.Expressions.{name_of}
-use Rattle.tql_syntax.specs.Statements.{names_of, tuple_of}
-use Rattle.tql_bind.specs.Binds.{Binds}
+use Rattle.tql_tree.specs.declared.expression.Name.{Name}
+use Rattle.tql_tree.specs.Expressions.{name_of}
+use Rattle.tql_tree.specs.Statements.{names_of, tuple_of}
+use Rattle.tql_define.specs.Binds.{Binds}
 use Rattle.tql_bind.specs.Bounds.{rows_of, insert_of}
 use Rattle.tql_bind.specs.declared.bound.Insert.{Insert}
 use Rattle.tql_bind.specs.Inserts.{columns_checked, rows_checked}

@@ -1,7 +1,7 @@
-use Rattle.std.proofs.Common.{rules, arith, ap, sym, ◌∙◌, ◌≡◌, [], map, drop, length, Bool}
+use Rattle.std.proofs.Common.{rules, arith, ap, sym, ◌∙◌, ◌≡◌, [], map, drop}
 use Rattle.std.specs.Prelude.{not}
 use Rattle.std.proofs.lemmas.Grind.{common_steps}
-use Rattle.tql_syntax.specs.Statements.{cell_of}
+use Rattle.tql_tree.specs.Statements.{cell_of}
 use Rattle.tql_value.specs.Views.{plain_kind}
 use Rattle.tql_bind.specs.Spellings.{cell_spelling}
 use Rattle.tql_bind.specs.Inserts.{misfits}

@@ -1,5 +1,5 @@
 use Rattle.std.proofs.Common.{◌≡◌, drop, map}
-use Rattle.tql_syntax.specs.Statements.{cell_of}
+use Rattle.tql_tree.specs.Statements.{cell_of}
 use Rattle.tql_value.specs.Views.{plain_kind}
 use Rattle.tql_bind.specs.Spellings.{cell_spelling}
 use Rattle.tql_bind.specs.Inserts.{misfits}

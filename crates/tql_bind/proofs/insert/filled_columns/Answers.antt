@@ -1,8 +1,8 @@
-use Rattle.std.proofs.Common.{rules, sym, ◌∙◌, ap, ◌==◌, ℕ, Bool, false, true, ◌≡◌, length, map, Vec}
+use Rattle.std.proofs.Common.{rules, ◌==◌, ℕ, false, ◌≡◌, length, map, Vec}
 use Rattle.tql_memory.specs.Handle.{Handle}
 use Rattle.tql_spec.specs.Creation.{names_of}
 use Rattle.tql_catalog.specs.Definitions.{def_of}
-use Rattle.tql_syntax.specs.Expressions.{name_of}
+use Rattle.tql_tree.specs.Expressions.{name_of}
 use Rattle.tql_bind.specs.Inserts.{columns_checked}
 use Rattle.tql_bind.proofs.ListedLaws.{places}
 use Rattle.tql_bind.proofs.ChosenLaws.{named_unknown, named_twice, named_chosen}

@@ -1,6 +1,6 @@
 use Rattle.std.proofs.Common.{◌≡◌, drop, map}
 use Rattle.std.specs.List.{list_any}
-use Rattle.tql_syntax.specs.Statements.{tuple_of}
+use Rattle.tql_tree.specs.Statements.{tuple_of}
 use Rattle.tql_value.specs.Views.{plain_kind}
 use Rattle.tql_bind.specs.Spellings.{tuple_spellings}
 use Rattle.tql_bind.specs.Inserts.{misfits}

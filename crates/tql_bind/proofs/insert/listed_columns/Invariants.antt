@@ -2,7 +2,7 @@ use Rattle.std.proofs.Common.{◌≡◌, drop, map}
 use Rattle.tql_spec.specs.Words.{map_all}
 use Rattle.tql_spec.specs.Creation.{number_in, names_of}
 use Rattle.tql_catalog.specs.Definitions.{def_of}
-use Rattle.tql_syntax.specs.Expressions.{name_of}
+use Rattle.tql_tree.specs.Expressions.{name_of}
 use Rattle.tql_bind.proofs.ReadLaws.{in_front}
 use Rattle.tql_bind.proofs.insert.listed_columns.Given as goal
 

@@ -1,6 +1,6 @@
 use Rattle.std.proofs.Common.{◌≡◌, drop, map}
 use Rattle.tql_spec.specs.Words.{map_all}
-use Rattle.tql_syntax.specs.Statements.{cell_of, tuple_of}
+use Rattle.tql_tree.specs.Statements.{cell_of, tuple_of}
 use Rattle.tql_bind.specs.Bounds.{row_of}
 use Rattle.tql_bind.specs.Spellings.{cell_spelling, spelled_value, tuple_spellings}
 use Rattle.tql_bind.specs.Inserts.{ArePrintable}

@@ -1,5 +1,5 @@
 use Rattle.std.proofs.Common.{◌≡◌, ◌∷◌, All, drop, map}
-use Rattle.tql_syntax.specs.Statements.{tuple_of}
+use Rattle.tql_tree.specs.Statements.{tuple_of}
 use Rattle.tql_bind.specs.Bounds.{rows_of}
 use Rattle.tql_bind.specs.Spellings.{tuple_spellings}
 use Rattle.tql_bind.specs.Inserts.{ArePrintable, spelled_rows}

@@ -3,8 +3,8 @@ use Rattle.std.specs.Prelude.{is_none}
 use Rattle.tql_spec.specs.History.{When}
 use Rattle.tql_spec.specs.Names.{Checked}
 use Rattle.tql_catalog.specs.Definitions.{def_of}
-use Rattle.tql_syntax.specs.Statements.{span_of}
-use Rattle.tql_bind.specs.Binds.{Binds}
+use Rattle.tql_tree.specs.Statements.{span_of}
+use Rattle.tql_define.specs.Binds.{Binds}
 use Rattle.tql_bind.specs.Bounds.{when_of}
 use Rattle.tql_bind.specs.Clauses.{asks_past}
 use Rattle.tql_bind.proofs.Questions.{no_system, unversioned, versioned}

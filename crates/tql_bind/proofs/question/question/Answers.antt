@@ -4,9 +4,9 @@ use Rattle.tql_spec.specs.Binding.{when}
 use Rattle.tql_spec.specs.Definition.{TableDef}
 use Rattle.tql_spec.specs.Machine.{Ask}
 use Rattle.tql_catalog.specs.Definitions.{definitions_of}
-use Rattle.tql_syntax.specs.Expressions.{name_of}
-use Rattle.tql_syntax.specs.Statements.{span_of}
-use Rattle.tql_bind.specs.Binds.{Binds}
+use Rattle.tql_tree.specs.Expressions.{name_of}
+use Rattle.tql_tree.specs.Statements.{span_of}
+use Rattle.tql_define.specs.Binds.{Binds}
 use Rattle.tql_bind.specs.Bounds.{query_of, when_of}
 use Rattle.tql_bind.specs.declared.bound.Question.{Question}
 use Rattle.tql_bind.proofs.Questions.{table_refused, clause_refused, table_read}

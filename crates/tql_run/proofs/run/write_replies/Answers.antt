@@ -1,30 +1,21 @@
 use Rattle.std.proofs.Common.{refl}
-use Rattle.tql_run.proofs.Telling.{turn_first, turn_more, told_cut, told_end, fewer_left}
+use Rattle.tql_run.proofs.Writing.{turn_first, turn_more, wrote_cut, wrote_end, fewer_left}
 use Rattle.tql_run.proofs.run.write_replies.Goals as goal
 
 pub loop-reply-init : goal.loop-reply-init
-loop-reply-init g c = let t = turn_first _ _ _ (record { statements = 0; refused = 0 }) _ _ refl refl c.requires in record { told = t.told; room = t.room; fewer = t.fewer }
+loop-reply-init g c = let t = turn_first _ _ _ (record { statements = 0; refused = 0 }) _ _ refl refl c.requires in record { wrote = t.wrote; room = t.room; fewer = t.fewer }
 
 pub loop-reply-smaller : goal.loop-reply-smaller
 loop-reply-smaller g c = fewer_left _ _ _ c.in-Some.reply _ _ c.in-Some.ensures
 
-pub loop-reply-smaller-in-Ok : goal.loop-reply-smaller-in-Ok
-loop-reply-smaller-in-Ok g c = fewer_left _ _ _ c.in-Some.reply _ _ c.in-Some.ensures
-
 pub returns-in-Err : goal.returns-in-Err
-returns-in-Err g c s st = told_cut _ s _ _ _ _ _ _ c.in-Some.reply _ _ _ _ _ _ (c.loop-reply.invariant.told s st) c.in-Some.ensures c.in-Err.ensures.cut c.in-Err.ensures.failure
-
-pub loop-reply-preserved-in-Ok : goal.loop-reply-preserved-in-Ok
-loop-reply-preserved-in-Ok g c =
-    let i = c.loop-reply.invariant in
-    let t = turn_more _ _ _ _ _ _ _ _ c.counted-summary.result c.in-Some.reply _ _ _ _ _ _ (record { told = i.told; room = i.room; fewer = i.fewer }) c.in-Some.ensures c.counted-summary.ensures c.in-Ok.ensures.whole c.in-Ok.ensures.no_failure in
-    record { told = t.told; room = t.room; fewer = t.fewer }
+returns-in-Err g c s st = wrote_cut _ s _ _ _ _ _ _ c.in-Some.reply _ _ _ _ _ _ (c.loop-reply.invariant.wrote s st) c.in-Some.ensures c.in-Err.ensures.cut c.in-Err.ensures.failure
 
 pub loop-reply-preserved : goal.loop-reply-preserved
 loop-reply-preserved g c =
     let i = c.loop-reply.invariant in
-    let t = turn_more _ _ _ _ _ _ _ _ c.counted-summary.result c.in-Some.reply _ _ _ _ _ _ (record { told = i.told; room = i.room; fewer = i.fewer }) c.in-Some.ensures c.counted-summary.ensures c.in-Ok.ensures.whole c.in-Ok.ensures.no_failure in
-    record { told = t.told; room = t.room; fewer = t.fewer }
+    let t = turn_more _ _ _ _ _ _ _ _ c.counted-summary.result c.in-Some.reply _ _ _ _ _ _ (record { wrote = i.wrote; room = i.room; fewer = i.fewer }) c.in-Some.ensures c.counted-summary.ensures c.in-Ok.ensures.whole c.in-Ok.ensures.no_failure in
+    record { wrote = t.wrote; room = t.room; fewer = t.fewer }
 
 pub returns : goal.returns
-returns g c s st = told_end _ s _ _ _ _ _ _ c.answer_next.result _ _ _ _ c.answer_next.ensures c.in_default.not-Some (c.loop-reply.invariant.told s st)
+returns g c s st = wrote_end _ s _ _ _ _ _ _ c.answer_next.result _ _ _ _ c.answer_next.ensures c.in_default.not-Some (c.loop-reply.invariant.wrote s st)

@@ -1,7 +1,7 @@
 use Rattle.std.proofs.Common.{refl}
-use Rattle.tql_syntax.specs.ReadingStatements.{foreign_at}
-use Rattle.tql_syntax.specs.Statements.{constraint_of}
-use Rattle.tql_syntax.proofs.Refused.{refused}
+use Rattle.tql_grammar.specs.ReadingStatements.{foreign_at}
+use Rattle.tql_tree.specs.Statements.{constraint_of}
+use Rattle.tql_phrase.proofs.Refused.{refused}
 use Rattle.tql_syntax.proofs.creates.foreign.Goals as goal
 
 pub returns-in_err-expect_word-2 : goal.returns-in_err-expect_word-2

@@ -1,7 +1,7 @@
 use Rattle.std.proofs.Common.{rules, arith}
 use Rattle.std.proofs.lemmas.Grind.{common_steps}
-use Rattle.tql_syntax.specs.ReadingStatements.{no_actions_from}
-use Rattle.tql_syntax.proofs.Turns.{one_more, no_more}
+use Rattle.tql_grammar.specs.ReadingStatements.{no_actions_from}
+use Rattle.tql_phrase.proofs.Turns.{one_more, no_more}
 use Rattle.tql_syntax.proofs.creates.no_actions.Goals as goal
 
 pub returns-then-not-eat_word : goal.returns-then-not-eat_word

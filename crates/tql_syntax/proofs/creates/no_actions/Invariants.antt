@@ -1,5 +1,5 @@
 use Rattle.std.proofs.Common.{◌≡◌, ◌-◌}
-use Rattle.tql_syntax.specs.ReadingStatements.{no_actions, no_actions_from}
+use Rattle.tql_grammar.specs.ReadingStatements.{no_actions, no_actions_from}
 use Rattle.tql_syntax.proofs.creates.no_actions.Given as goal
 
 abbrev pub invariant-loop-turn : goal.invariant-loop-turn

@@ -1,7 +1,7 @@
-use Rattle.std.proofs.Common.{refl, rules, arith}
-use Rattle.tql_syntax.specs.ReadingStatements.{versioning_at}
-use Rattle.tql_syntax.specs.Parsing.{itself}
-use Rattle.tql_syntax.proofs.Refused.{refused}
+use Rattle.std.proofs.Common.{refl}
+use Rattle.tql_grammar.specs.ReadingStatements.{versioning_at}
+use Rattle.tql_phrase.specs.Parsing.{itself}
+use Rattle.tql_phrase.proofs.Refused.{refused}
 use Rattle.tql_syntax.proofs.creates.versioning.Goals as goal
 
 pub returns-in_err-expect_word-2 : goal.returns-in_err-expect_word-2

@@ -7,16 +7,16 @@ use Rattle.tql_engine.proofs.Standing.{last_law, clock_law}
 use Rattle.tql_engine.proofs.Doing.{clock_open, clock_refused, clock_set}
 use Rattle.tql_engine.proofs.engine.Engine.at.Goals as goal
 
-pub returns-then-has_transaction : goal.returns-then-has_transaction
-returns-then-has_transaction c s st =
+pub returns-then-has_transaction-clause-answered : goal.returns-then-has_transaction-clause-answered
+returns-then-has_transaction-clause-answered c s st =
     clock_open _ s _ st (ap (λ (h : Held). is_some h.rows.working) (sym c.self.view_is) ∙ sym c.has_transaction.ensures ∙ c.if-has_transaction.true)
 
-pub returns-then-is_not_later : goal.returns-then-is_not_later
-returns-then-is_not_later c s st =
+pub returns-then-is_not_later-clause-answered : goal.returns-then-is_not_later-clause-answered
+returns-then-is_not_later-clause-answered c s st =
     clock_refused _ s _ st (ap (λ (h : Held). is_some h.rows.working) (sym c.self.view_is) ∙ sym c.has_transaction.ensures ∙ c.if-has_transaction.false) (search rules)
 
-pub returns : goal.returns
-returns c s st =
+pub returns-clause-answered : goal.returns-clause-answered
+returns-clause-answered c s st =
     let inside = subst (λ h. StandsFor h s) (sym c.self.view_is) st in
     let closed = sym c.has_transaction.ensures ∙ c.if-has_transaction.false in
     rw (to_z-of_z c.ranges.moment) (clock_set _ s _ inside closed (search rules) c.requires.0 c.requires.1)

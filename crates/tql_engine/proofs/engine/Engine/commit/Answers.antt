@@ -19,14 +19,14 @@ invariant_of-self c =
       stands = ended_law _ s e.0 c.commit.new.self st e.1 c.commit.ensures.copies (ap (λ (h : store.Held). h.working) c.commit.ensures.slots) (ap (λ (h : store.Held). h.tables) c.commit.ensures.slots);
     })
 
-pub returns : goal.returns
-returns c s st =
+pub returns-clause-answered : goal.returns-clause-answered
+returns-clause-answered c s st =
     let back = subst (λ h. StandsFor h s) (sym c.self.view_is) st in
     let is_open = sym c.has_transaction.ensures ∙ c.if-not-has_transaction.false in
     let e = open_entry _ s back is_open in
     rw (clock_steps _ s back (dated_below _ s e.0 back e.1))
     (commit_does _ s c.commit.new.self back is_open c.commit.ensures.copies (ap (λ (h : store.Held). h.working) c.commit.ensures.slots) (ap (λ (h : store.Held). h.tables) c.commit.ensures.slots))
 
-pub returns-then-not-has_transaction : goal.returns-then-not-has_transaction
-returns-then-not-has_transaction c s st =
+pub returns-then-not-has_transaction-clause-answered : goal.returns-then-not-has_transaction-clause-answered
+returns-then-not-has_transaction-clause-answered c s st =
     commit_refused _ s st (ap (λ (h : Held). is_some h.rows.working) (sym c.self.view_is) ∙ sym c.has_transaction.ensures ∙ c.if-not-has_transaction.true)

@@ -3,13 +3,13 @@ use Rattle.tql_spec.specs.Binding.{bind}
 use Rattle.tql_spec.specs.Definition.{TableDef}
 use Rattle.tql_spec.specs.Refusal.{first}
 use Rattle.tql_catalog.specs.Definitions.{definitions_of}
-use Rattle.tql_syntax.specs.Statements.{statement_of}
+use Rattle.tql_tree.specs.Statements.{statement_of}
 use Rattle.tql_bind.specs.Bounds.{IsSound, bound_of}
 use Rattle.tql_engine.specs.Tables.{definitions}
 use Rattle.tql_engine.specs.Stands.{Held, StandsFor}
 use Rattle.tql_engine.proofs.Standing.{definitions_are}
 use Rattle.tql_engine.proofs.Printing.{does_print}
-use Rattle.tql_bind.specs.Binds.{Binds}
+use Rattle.tql_define.specs.Binds.{Binds}
 use Rattle.tql_engine.proofs.Joining.{bound_does, refusal_does}
 use Rattle.tql_engine.proofs.engine.Engine.execute.Goals as goal
 

@@ -3,7 +3,7 @@ use Rattle.std.specs.Prelude.{◌≢◌, option_map}
 use Rattle.tql_spec.specs.Machine.{state_faults}
 use Rattle.tql_spec.specs.Refusal as spec
 use Rattle.tql_spec.specs.Refusal.{first}
-use Rattle.tql_syntax.specs.Statements.{statement_of}
+use Rattle.tql_tree.specs.Statements.{statement_of}
 use Rattle.tql_value.specs.Refusals.{refusal_of}
 use Rattle.tql_value.specs.declared.refusal.Refusal.TheVariants.{OutOfMemory}
 use Rattle.tql_engine.specs.Effects.{first_fault, manner_refused}

@@ -17,12 +17,12 @@ invariant_of-self c =
       stands = undone_law _ s e.0 c.rollback.new.self st e.1 c.rollback.ensures.copies (ap (λ (h : store.Held). h.working) c.rollback.ensures.slots) (ap (λ (h : store.Held). h.tables) c.rollback.ensures.slots);
     }
 
-pub returns : goal.returns
-returns c s st =
+pub returns-clause-answered : goal.returns-clause-answered
+returns-clause-answered c s st =
     let back = subst (λ h. StandsFor h s) (sym c.self.view_is) st in
     let is_open = sym c.has_transaction.ensures ∙ c.if-not-has_transaction.false in
     rollback_does _ s c.rollback.new.self back is_open c.rollback.ensures.copies (ap (λ (h : store.Held). h.working) c.rollback.ensures.slots) (ap (λ (h : store.Held). h.tables) c.rollback.ensures.slots)
 
-pub returns-then-not-has_transaction : goal.returns-then-not-has_transaction
-returns-then-not-has_transaction c s st =
+pub returns-then-not-has_transaction-clause-answered : goal.returns-then-not-has_transaction-clause-answered
+returns-then-not-has_transaction-clause-answered c s st =
     rollback_refused _ s st (ap (λ (h : Held). is_some h.rows.working) (sym c.self.view_is) ∙ sym c.has_transaction.ensures ∙ c.if-not-has_transaction.true)

@@ -24,19 +24,19 @@ invariant_of-self c =
           (ap (λ (h : store.Held). h.working) c.begin.ensures.slots ∙ ap Some (clock_reads _ s st)) (ap (λ (h : store.Held). h.tables) c.begin.ensures.slots);
     }
 
-pub returns : goal.returns
-returns c s st =
+pub returns-clause-answered : goal.returns-clause-answered
+returns-clause-answered c s st =
     let back = subst (λ h. StandsFor h s) (sym c.self.view_is) st in
     let closed = sym c.has_transaction.ensures ∙ c.if-has_transaction.false in
     start_does _ s _ back closed (clock_left _ s back c.if-self-ge-HIGH.false) c.begin.ensures.copies
     (ap (λ (h : store.Held). h.working) c.begin.ensures.slots ∙ ap Some (clock_reads _ s back)) (ap (λ (h : store.Held). h.tables) c.begin.ensures.slots)
 
-pub returns-then-has_transaction : goal.returns-then-has_transaction
-returns-then-has_transaction c s st =
+pub returns-then-has_transaction-clause-answered : goal.returns-then-has_transaction-clause-answered
+returns-then-has_transaction-clause-answered c s st =
     start_open _ s st (ap (λ (h : Held). is_some h.rows.working) (sym c.self.view_is) ∙ sym c.has_transaction.ensures ∙ c.if-has_transaction.true)
 
-pub returns-then-self-ge-HIGH : goal.returns-then-self-ge-HIGH
-returns-then-self-ge-HIGH c s st =
+pub returns-then-self-ge-HIGH-clause-answered : goal.returns-then-self-ge-HIGH-clause-answered
+returns-then-self-ge-HIGH-clause-answered c s st =
     let back = subst (λ h. StandsFor h s) (sym c.self.view_is) st in
     start_late _ s st (ap (λ (h : Held). is_some h.rows.working) (sym c.self.view_is) ∙ sym c.has_transaction.ensures ∙ c.if-has_transaction.false)
     (ap (λ (h : Held). int_le high h.next) (sym c.self.view_is) ∙ ap (int_le high) (sym (clock_reads _ s back)) ∙ c.if-self-ge-HIGH.true)

@@ -1,0 +1,9 @@
+// One file for each crate that is tested.
+mod devices;
+mod indexes;
+mod memories;
+mod runs;
+mod sinks;
+mod sources;
+mod splitters;
+mod stores;

@@ -1,0 +1,99 @@
+// tql_index: what was added before memory ended is there, and what was refused is not; and how deep the tree is.
+use std::process::Abort;
+use std::test::Fail;
+use tql_index::index::IntervalIndex;
+use tql_index::list_index::ListIndex;
+use tql_index::tree_index::TreeIndex;
+use tql_memory::{Memory, memory};
+use tql_period::period::Period;
+use tql_value::refusal::Refusal;
+
+/// The period of a step. Few starts and lengths, so that periods nest and meet; some reach to the least or the greatest
+/// number.
+fn period_of(step: u64) -> Option<Period> {
+    let start = (step.wrapping_mul(7919) % 61) as i64 - 30;
+    let length = (step.wrapping_mul(104_729) % 13) as i64 + 1;
+    match step % 50 {
+        0 => Period::new(i64::MIN, i64::MAX),
+        1 => Period::new(i64::MIN, start),
+        2 => Period::new(start, i64::MAX),
+        _ => Period::new(start, start + length),
+    }
+}
+
+/// How many entries are added before the first is refused; none behind it may be taken, and each refusal is for memory.
+fn added<I: IntervalIndex>(index: &mut I) -> Option<u64> {
+    let mut added = 0u64;
+    for step in 0u64..20 {
+        match index.add(period_of(step)?, 7) {
+            Ok(()) if added == step => added = step + 1,
+            Err(Refusal::OutOfMemory) => {}
+            _ => return None,
+        }
+    }
+    Some(added)
+}
+
+/// Whether just the entries of the first so many steps are there, once each. It is asked by `remove`, which takes no
+/// memory.
+fn has_just<I: IntervalIndex>(index: &mut I, added: u64) -> Option<bool> {
+    for step in 0u64..20 {
+        let period = period_of(step)?;
+        let found = (
+            index.remove(period, 8),
+            index.remove(period, 7),
+            index.remove(period, 7),
+        );
+        if found != (false, step < added, false) {
+            return Some(false);
+        }
+    }
+    Some(true)
+}
+
+/// How many entries an index takes in this memory, if it keeps what it took.
+fn kept<I: IntervalIndex>(memory: Memory) -> Option<u64> {
+    let mut index = I::new(memory);
+    let added = added(&mut index)?;
+    let is_right = !matches!(index.stab(0), Err(refusal) if refusal != Refusal::OutOfMemory);
+    if has_just(&mut index, added)? && is_right {
+        Some(added)
+    } else {
+        None
+    }
+}
+
+#[test]
+fn each_growth_is_refused_in_turn(rt: HostRuntime) -> Result<(), Fail> {
+    let mut most = (Some(0), Some(0));
+    let mut rises = true;
+    for granted in 0u64..40 {
+        let list = kept::<ListIndex>(memory(rt.alloc(), granted)?);
+        let tree = kept::<TreeIndex>(memory(rt.alloc(), granted)?);
+        rises = rises && most.0 <= list && most.1 <= tree;
+        most = (list, tree);
+    }
+    assert!(rt; rises && most == (Some(20), Some(20)));
+    Ok(())
+}
+
+/// The period of one point.
+fn unit(rt: &impl Abort, start: i64) -> Period {
+    Period::new(start, start.saturating_add(1)).expect(rt, "it rises")
+}
+
+/// By rising starts, 2^10 - 1 entries make a full tree of ten levels.
+#[test]
+fn the_tree_stays_shallow(rt: HostRuntime) -> Result<(), Fail> {
+    let mut tree = TreeIndex::new(memory(rt.alloc(), u64::MAX)?);
+    let empty = (tree.is_empty(), tree.depth());
+    for start in 0i64..1023 {
+        tree.add(unit(&rt, start), 0)?;
+    }
+    let mut list = ListIndex::new(memory(rt.alloc(), u64::MAX)?);
+    let none = list.is_empty();
+    list.add(unit(&rt, 0), 0)?;
+    let found = (empty, tree.len(), tree.depth(), none, list.len());
+    assert_eq!(rt; found, ((true, 0), 1023, 10, true, 1));
+    Ok(())
+}

@@ -1,0 +1,134 @@
+// tql_memory: how many blocks are granted.
+use indexmap::IndexMap;
+use smallvec::SmallVec;
+use std::alloc::AllocError;
+use std::collections::BTreeMap;
+use std::hash::{BuildHasherDefault, FoldHasher};
+use std::test::Fail;
+use tql_memory::{Memory, memory};
+
+type Names = IndexMap<String<Memory>, u64, BuildHasherDefault<FoldHasher>, Memory>;
+
+#[derive(Clone, Copy, Debug)]
+enum Held {
+    InABox,
+    Text,
+    List(u64),
+    ShortList(u64),
+    Tree,
+    Name,
+}
+
+fn one_box(memory: Memory) -> Result<(), AllocError> {
+    let _ = Box::new(memory, 7u64)?;
+    Ok(())
+}
+
+fn one_text(memory: Memory) -> Result<(), AllocError> {
+    let _ = String::from_str(memory, "abc")?;
+    Ok(())
+}
+
+fn list_of(memory: Memory, count: u64) -> Result<(), AllocError> {
+    let mut list = Vec::new(memory);
+    for number in 0..count {
+        list.push(number)?;
+    }
+    Ok(())
+}
+
+fn short_list_of(memory: Memory, count: u64) -> Result<(), AllocError> {
+    let mut list: SmallVec<u64, 4, Memory> = SmallVec::new(memory);
+    for number in 0..count {
+        list.push(number)?;
+    }
+    Ok(())
+}
+
+fn three_in_a_tree(memory: Memory) -> Result<(), AllocError> {
+    let mut tree = BTreeMap::new(memory);
+    for number in 0..3u64 {
+        tree.insert(number, number)?;
+    }
+    Ok(())
+}
+
+fn one_name(memory: Memory) -> Result<(), AllocError> {
+    let mut names: Names = IndexMap::new(memory);
+    names.insert(String::from_str(memory, "abc")?, 1)?;
+    Ok(())
+}
+
+fn fill(held: Held, memory: Memory) -> Result<(), AllocError> {
+    match held {
+        Held::InABox => one_box(memory),
+        Held::Text => one_text(memory),
+        Held::List(count) => list_of(memory, count),
+        Held::ShortList(count) => short_list_of(memory, count),
+        Held::Tree => three_in_a_tree(memory),
+        Held::Name => one_name(memory),
+    }
+}
+
+/// How many blocks each takes. Of a name: the text, and the map's keys, values, buckets and groups of marks.
+const TAKEN: [(Held, u64); 8] = [
+    (Held::InABox, 1),
+    (Held::Text, 1),
+    (Held::List(3), 1),
+    (Held::List(5), 2),
+    (Held::ShortList(3), 0),
+    (Held::ShortList(5), 1),
+    (Held::Tree, 1),
+    (Held::Name, 5),
+];
+
+#[test]
+fn each_growth_is_refused_in_turn(rt: HostRuntime) -> Result<(), Fail> {
+    for (held, growths) in TAKEN {
+        for granted in 0..=growths {
+            let memory = memory(rt.alloc(), granted)?;
+            let filled = fill(held, memory).is_ok();
+            let is_right = filled == (granted == growths) && memory.left() == 0;
+            assert!(rt; is_right, "{held:?} with {granted} blocks");
+        }
+    }
+    Ok(())
+}
+
+/// How many of ten boxes are granted, each of which is given back at once.
+fn boxes(memory: Memory) -> u64 {
+    let mut granted = 0u64;
+    for _ in 0..10 {
+        if one_box(memory).is_ok() {
+            granted = granted.saturating_add(1);
+        }
+    }
+    granted
+}
+
+/// Grants are set anew, whatever was left, and a block that is given back returns none.
+#[test]
+fn grants_are_set_anew(rt: HostRuntime) -> Result<(), Fail> {
+    let memory = memory(rt.alloc(), 0)?;
+    for granted in [2u64, 1, 0, 3] {
+        memory.grant(u64::MAX);
+        memory.grant(granted);
+        let counts = (memory.left(), boxes(memory), memory.left(), boxes(memory));
+        assert_eq!(rt; counts, (granted, granted, 0, 0));
+    }
+    Ok(())
+}
+
+#[test]
+fn a_failed_growth_leaves_the_list_as_it_was(rt: HostRuntime) -> Result<(), Fail> {
+    let memory = memory(rt.alloc(), 1)?;
+    let mut list = Vec::new(memory);
+    for number in 0..4u64 {
+        list.push(number)?;
+    }
+    let kept = list.push(4).is_err() && list.as_slice() == [0, 1, 2, 3].as_slice();
+    memory.grant(1);
+    list.push(4)?;
+    assert!(rt; kept && list.as_slice() == [0, 1, 2, 3, 4].as_slice());
+    Ok(())
+}

@@ -1,0 +1,248 @@
+// tql_run: whole runs, over devices that fail and memory that ends.
+use crate::tests::devices::{Chunks, Kept, Lengths};
+use std::test::Fail;
+use tql_memory::memory;
+use tql_result::std_sink::StdSink;
+use tql_run::run::{Fault, Summary, run};
+use tql_run::std_source::StdSource;
+
+/// What a run of a script meets.
+#[derive(Clone, Copy)]
+struct Setting {
+    /// How many bytes a read gives at once, at the most.
+    size: usize,
+    reads: u64,
+    writes: u64,
+    flushes: bool,
+    /// How many blocks of memory are granted.
+    granted: u64,
+}
+
+/// Devices that do not fail, and memory that does not end.
+const SOUND: Setting = Setting {
+    size: usize::MAX,
+    reads: u64::MAX,
+    writes: u64::MAX,
+    flushes: true,
+    granted: u64::MAX,
+};
+
+/// How a run ended: its counts of statements and of refusals, or its fault.
+type End = Result<(u64, u64), Fault>;
+
+/// What a run answered, and what it wrote.
+#[derive(Drop)]
+struct Outcome {
+    end: End,
+    text: Vec<u8>,
+}
+
+fn counts(summary: Summary) -> (u64, u64) {
+    (summary.statements, summary.refused)
+}
+
+/// Runs a script.
+fn run_script(rt: &impl AllocGlobal, script: &[u8], setting: Setting) -> Result<Outcome, Fail> {
+    let mut lengths = Lengths {
+        memory: memory(rt.alloc(), setting.granted)?,
+    };
+    let mut source = StdSource::new(Chunks {
+        left: script,
+        size: setting.size,
+        reads_left: setting.reads,
+        interrupts: 0,
+        interrupts_left: 0,
+    });
+    let mut sink = StdSink::new(Kept {
+        bytes: Vec::new(rt.alloc()),
+        size: usize::MAX,
+        writes_left: setting.writes,
+        flushes: setting.flushes,
+    });
+    let end = run(&mut lengths, &mut source, &mut sink).map(counts);
+    Ok(Outcome {
+        end,
+        text: sink.into_writer().bytes,
+    })
+}
+
+const SCRIPT: &[u8] = b"abc;no;defgh;rest";
+
+const FIRST: &str = "INSERT 3\n";
+
+const TWO: &str = "INSERT 3\nREFUSED E10 not a statement\n";
+
+const THREE: &str = "INSERT 3\nREFUSED E10 not a statement\nINSERT 5\n";
+
+const WHOLE: &str =
+    "INSERT 3\nREFUSED E10 not a statement\nINSERT 5\nREFUSED E12 unfinished statement\n";
+
+/// Reads of one byte, and of three.
+const BY_ONE: Setting = Setting { size: 1, ..SOUND };
+
+const BY_THREE: Setting = Setting { size: 3, ..SOUND };
+
+/// Reads of four bytes.
+const BY_FOUR: Setting = Setting { size: 4, ..SOUND };
+
+const UNFLUSHED: Setting = Setting {
+    flushes: false,
+    ..SOUND
+};
+
+const CUT: &str = "INSERT 1\nREFUSED E12 unfinished statement\n";
+
+const NOT_UTF8: &str = "INSERT 1\nREFUSED E11 not UTF-8\n";
+
+const CASES: [(&[u8], Setting, End, &str); 28] = [
+    // a read fails: what was whole before it is answered
+    (
+        SCRIPT,
+        Setting {
+            reads: 0,
+            ..BY_FOUR
+        },
+        Err(Fault::Read),
+        "",
+    ),
+    (
+        SCRIPT,
+        Setting {
+            reads: 1,
+            ..BY_FOUR
+        },
+        Err(Fault::Read),
+        FIRST,
+    ),
+    (
+        SCRIPT,
+        Setting {
+            reads: 2,
+            ..BY_FOUR
+        },
+        Err(Fault::Read),
+        TWO,
+    ),
+    (
+        SCRIPT,
+        Setting {
+            reads: 3,
+            ..BY_FOUR
+        },
+        Err(Fault::Read),
+        TWO,
+    ),
+    (
+        SCRIPT,
+        Setting {
+            reads: 4,
+            ..BY_FOUR
+        },
+        Err(Fault::Read),
+        THREE,
+    ),
+    (
+        SCRIPT,
+        Setting {
+            reads: 5,
+            ..BY_FOUR
+        },
+        Err(Fault::Read),
+        THREE,
+    ),
+    (SCRIPT, BY_FOUR, Ok((4, 2)), WHOLE),
+    (SCRIPT, SOUND, Ok((4, 2)), WHOLE),
+    // the flush fails
+    (SCRIPT, UNFLUSHED, Err(Fault::Write), WHOLE),
+    (b"", UNFLUSHED, Err(Fault::Write), ""),
+    // no memory for the buffer, or for what was read
+    (
+        SCRIPT,
+        Setting {
+            granted: 0,
+            ..SOUND
+        },
+        Err(Fault::Memory),
+        "",
+    ),
+    (
+        SCRIPT,
+        Setting {
+            granted: 1,
+            ..SOUND
+        },
+        Err(Fault::Memory),
+        "",
+    ),
+    (
+        SCRIPT,
+        Setting {
+            granted: 2,
+            ..SOUND
+        },
+        Ok((4, 2)),
+        WHOLE,
+    ),
+    // what no semicolon ends, read in parts of each size
+    (b"a;b", BY_ONE, Ok((2, 1)), CUT),
+    (b"a;b", BY_THREE, Ok((2, 1)), CUT),
+    (b"a;b", SOUND, Ok((2, 1)), CUT),
+    (b"a;'b;", BY_ONE, Ok((2, 1)), CUT),
+    (b"a;'b;", BY_THREE, Ok((2, 1)), CUT),
+    (b"a;'b;", SOUND, Ok((2, 1)), CUT),
+    (b"a;\xff", BY_ONE, Ok((2, 1)), NOT_UTF8),
+    (b"a;\xff", BY_THREE, Ok((2, 1)), NOT_UTF8),
+    (b"a;\xff", SOUND, Ok((2, 1)), NOT_UTF8),
+    (b"a; -- \xff", BY_ONE, Ok((1, 0)), "INSERT 1\n"),
+    (b"a; -- \xff", BY_THREE, Ok((1, 0)), "INSERT 1\n"),
+    (b"a; -- \xff", SOUND, Ok((1, 0)), "INSERT 1\n"),
+    (b"", BY_ONE, Ok((0, 0)), ""),
+    (b"", BY_THREE, Ok((0, 0)), ""),
+    (b"", SOUND, Ok((0, 0)), ""),
+];
+
+#[test]
+fn runs_end_and_write(rt: HostRuntime) -> Result<(), Fail> {
+    for (case, (script, setting, end, text)) in CASES.into_iter().enumerate() {
+        let outcome = run_script(&rt, script, setting)?;
+        let is_right = outcome.end == end && outcome.text.as_slice() == text.as_bytes();
+        assert!(rt; is_right, "case {case}");
+    }
+    Ok(())
+}
+
+/// Whether a run whose writes fail behind so many ends so, and has written a beginning of the replies, no shorter than
+/// this; and how much it has written.
+fn cut(rt: &impl AllocGlobal, writes: u64, shortest: usize) -> Result<(bool, usize), Fail> {
+    let Outcome { end, text } = run_script(rt, SCRIPT, Setting { writes, ..SOUND })?;
+    let is_whole = text.len() == WHOLE.len();
+    let is_right = end.is_ok() == is_whole && (is_whole || end == Err(Fault::Write));
+    let is_beginning = WHOLE.as_bytes().starts_with(&text) && shortest <= text.len();
+    Ok((is_right && is_beginning, text.len()))
+}
+
+#[test]
+fn writes_a_beginning_where_a_write_fails(rt: HostRuntime) -> Result<(), Fail> {
+    let mut are_right = true;
+    let mut last = 0;
+    for writes in 0..200 {
+        let (is_right, length) = cut(&rt, writes, last)?;
+        are_right = are_right && is_right && (0 < writes || length == 0);
+        last = length;
+    }
+    assert!(rt; are_right && last == WHOLE.len());
+    Ok(())
+}
+
+#[test]
+fn refuses_a_statement_that_is_too_long(rt: HostRuntime) -> Result<(), Fail> {
+    let mut script = Vec::new(rt.alloc());
+    script.resize(1_048_576, b'x')?;
+    script.extend_from_slice(b";x")?;
+    script.resize(2_097_154, b'x')?;
+    script.extend_from_slice(b";ab;")?;
+    let Outcome { end, text } = run_script(&rt, &script, SOUND)?;
+    let wanted = b"INSERT 1048576\nREFUSED E13 statement too long\nINSERT 2\n".as_slice();
+    assert!(rt; end == Ok((3, 1)) && text.as_slice() == wanted);
+    Ok(())
+}

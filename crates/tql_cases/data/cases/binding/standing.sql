@@ -1,0 +1,24 @@
+-- Statements of the grammar that do not run yet (E10), where there is no table; a check takes them. By hand from docs/LANGUAGE.md.
+CREATE TABLE t (a DATE, b DATE, PERIOD FOR p (a, b));
+CREATE TABLE t (PRIMARY KEY (a), a INT);
+CREATE TABLE t (a INT, CHECK (a > 0));
+DROP TABLE t;
+INSERT INTO t VALUES (1), (1 + 2);
+INSERT INTO t VALUES (1 * 2);
+INSERT INTO t VALUES ((1));
+INSERT INTO t VALUES (1, - 'x');
+INSERT INTO t VALUES (+ DATE 'x');
+INSERT INTO t VALUES (a);
+INSERT INTO t SELECT * FROM u;
+UPDATE t SET a = 1;
+DELETE FROM t WHERE a = 1;
+DELETE FROM t FOR PORTION OF p FROM DATE 'x' TO DATE 'y';
+SELECT a FROM t;
+SELECT DISTINCT * FROM t;
+SELECT * FROM t, u;
+SELECT * FROM t JOIN u ON a = b;
+SELECT * FROM t AS u;
+SELECT * FROM t WHERE a = 1;
+SELECT * FROM t GROUP BY a;
+SELECT * FROM t HAVING a = 1;
+SELECT * FROM t ORDER BY a;

@@ -1,0 +1,11 @@
+-- A check runs nothing: no table, kind, value or transaction is looked at. By hand from docs/LANGUAGE.md.
+CREATE TABLE t (a INT);
+CREATE TABLE t (a INT);
+DROP TABLE u;
+COMMIT;
+ROLLBACK;
+START TRANSACTION;
+START TRANSACTION;
+INSERT INTO t VALUES (99999999999999999999);
+AT TIMESTAMP '2011-02-30 00:00:00';
+SELECT a FROM t ORDER BY 2;

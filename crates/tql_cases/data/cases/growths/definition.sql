@@ -1,0 +1,6 @@
+-- cases: growths
+-- Each growth is refused in turn: a definition with columns of all kinds, an INSERT by a list, and questions of ranges. By hand from docs/LANGUAGE.md.
+CREATE TABLE "a""b" (i INTEGER NOT NULL, e TIMESTAMP(6) NOT NULL GENERATED ALWAYS AS ROW END, j INT, k BIGINT, v VARCHAR(003) NOT NULL, "d d" DATE, PERIOD FOR SYSTEM_TIME (s, e), m TIMESTAMP(12), s TIMESTAMP GENERATED ALWAYS AS ROW START) WITH SYSTEM VERSIONING;
+AT TIMESTAMP '2011-01-01 00:00:00';
+INSERT INTO "a""b" ("d d", v, m, i) VALUES (DATE '1970-01-02', 'x', TIMESTAMP '1970-01-01 00:00:01', 1), (NULL, 'y', NULL, 2);
+SELECT * FROM "a""b" FOR SYSTEM_TIME FROM TIMESTAMP '2011-01-01 00:00:00' TO TIMESTAMP '2011-01-02 00:00:00';

@@ -1,0 +1,2 @@
+-- cases: pieces
+-- A script of no byte is the file empty_file; this one has comments alone.

@@ -1,0 +1,3 @@
+-- cases: pieces
+-- The same within a quote. By hand from docs/LANGUAGE.md.
+'ÿ'

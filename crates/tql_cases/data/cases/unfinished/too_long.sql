@@ -1,0 +1,3 @@
+-- cases: filled
+-- A text of more than 1,048,576 bytes that no `;` ends is refused as too long (E13). By hand from docs/LANGUAGE.md.
+@x

@@ -1,0 +1,55 @@
+//! Where a text first differs from the one that is listed.
+use std::alloc::{AllocError, Global};
+
+/// What stands for a line behind the last one.
+const END: &str = "(the end)";
+
+/// A line of two texts at which they differ.
+#[derive(Clone, Copy, Debug)]
+struct Difference<'a> {
+    line: u64,
+    expected: &'a str,
+    found: &'a str,
+}
+
+/// The first line at which two texts differ; texts of the same lines differ behind the last one.
+fn first_difference<'a>(expected: &'a str, found: &'a str) -> Difference<'a> {
+    let mut line = 1u64;
+    let mut lines = found.lines();
+    for expected in expected.lines() {
+        let found = lines.next().unwrap_or(END);
+        if expected != found {
+            return Difference {
+                line,
+                expected,
+                found,
+            };
+        }
+        line = line.saturating_add(1);
+    }
+    Difference {
+        line,
+        expected: END,
+        found: lines.next().unwrap_or(END),
+    }
+}
+
+/// Tells where a text first differs from the listed one; None where it does not.
+pub fn text_difference(
+    alloc: Global,
+    listed: &[u8],
+    found: &[u8],
+) -> Result<Option<String>, AllocError> {
+    if listed == found {
+        return Ok(None);
+    }
+    let (Ok(listed), Ok(found)) = (str::from_utf8(listed), str::from_utf8(found)) else {
+        return Ok(Some(String::from_str(alloc, "is not UTF-8")?));
+    };
+    let Difference {
+        line,
+        expected,
+        found,
+    } = first_difference(listed, found);
+    Ok(Some(format!(in alloc; "differs at line {line}: expected {expected}, got {found}")?))
+}

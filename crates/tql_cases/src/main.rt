@@ -1,0 +1,62 @@
+//! The cases: scripts as data, each with the text that it prints. The program runs every case of the folders in `cases/`, and
+//! prints a line a case: its name and `ok`, or where it first differs from what is listed.
+//!
+//! It exits with 0 where no case differs, and with 1 else.
+#![tactic(auto)]
+
+mod case;
+mod compare;
+mod devices;
+mod folder;
+mod growths;
+mod neighbours;
+mod runs;
+
+use crate::case::fault_of;
+use crate::folder::{case_names, names_in};
+use std::io;
+use std::process::ExitCode;
+
+/// The folder whose folders hold the cases.
+const CASES: &str = "cases";
+
+/// Prints what became of a case, and tells whether it is well.
+fn report(
+    rt: &impl Print,
+    folder: &str,
+    case: &str,
+    fault: &io::Result<Option<String>>,
+) -> io::Result<bool> {
+    match fault {
+        Ok(None) => println!(rt; "{folder}/{case} ok")?,
+        Ok(Some(fault)) => println!(rt; "{folder}/{case} {fault}")?,
+        Err(error) => println!(rt; "{folder}/{case} cannot be run: {error}")?,
+    }
+    Ok(matches!(fault, Ok(None)))
+}
+
+/// Runs the cases of a folder, in the order of their names, and tells whether all are well.
+fn run_folder(rt: &HostRuntime, folder: &str) -> io::Result<bool> {
+    let path = format!(in rt.alloc(); "{CASES}/{folder}")?;
+    let files = names_in(rt, path.as_str())?;
+    let mut are_well = true;
+    for case in case_names(rt.alloc(), &files)? {
+        let fault = fault_of(rt, path.as_str(), case);
+        are_well &= report(rt, folder, case, &fault)?;
+    }
+    Ok(are_well)
+}
+
+/// Runs all cases, folder by folder, and tells whether all are well.
+fn run_all(rt: &HostRuntime) -> io::Result<bool> {
+    let mut are_well = true;
+    for folder in names_in(rt, CASES)?.iter() {
+        are_well &= run_folder(rt, folder.as_str())?;
+    }
+    Ok(are_well)
+}
+
+fn main(rt: HostRuntime) -> io::Result<ExitCode> {
+    let are_well = run_all(&rt)?;
+    Ok(ExitCode::from(u8::from(!are_well)))
+}

@@ -1,0 +1,104 @@
+//! Statements and what stands one token off: each token left out, doubled, and put behind the next one.
+use crate::runs::check_only;
+use std::alloc::{AllocError, Global};
+use std::io;
+
+/// A step to a neighbour of a statement, at one of its tokens.
+#[derive(Clone, Copy, PartialEq, Eq, Debug)]
+enum Step {
+    Kept,
+    Without,
+    Doubled,
+    Swapped,
+}
+
+/// The place whose token stands here after a step at `changed`, or that none does.
+fn place_after(step: Step, place: usize, changed: usize) -> Option<usize> {
+    match step {
+        Step::Without if place >= changed => place.checked_add(1),
+        Step::Doubled if place > changed => place.checked_sub(1),
+        Step::Swapped if place == changed => place.checked_add(1),
+        Step::Swapped if Some(place) == changed.checked_add(1) => Some(changed),
+        _ => Some(place),
+    }
+}
+
+/// Puts the statement after a step behind a script.
+fn push_neighbour(
+    script: &mut String,
+    tokens: &[&str],
+    step: Step,
+    changed: usize,
+) -> Result<(), AllocError> {
+    for place in 0..tokens.len().saturating_add(1) {
+        if let Some(token) = place_after(step, place, changed).and_then(|from| tokens.get(from)) {
+            script.push_str(token)?;
+            script.push(' ')?;
+        }
+    }
+    script.push_str(";\n")
+}
+
+/// The neighbours of a statement by one step, as a script.
+fn neighbours(alloc: Global, tokens: &[&str], step: Step) -> Result<String, AllocError> {
+    let count = match step {
+        Step::Kept => 1,
+        Step::Without | Step::Doubled => tokens.len(),
+        Step::Swapped => tokens.len().saturating_sub(1),
+    };
+    let mut script = String::new(alloc);
+    for changed in 0..count {
+        push_neighbour(&mut script, tokens, step, changed)?;
+    }
+    Ok(script)
+}
+
+/// A mark for a reply: `x` where the text is a statement, `.` where it is none.
+fn mark(reply: &str) -> char {
+    match reply {
+        "OK" => 'x',
+        "REFUSED E10 not a statement" => '.',
+        _ => '?',
+    }
+}
+
+/// Puts a mark for each statement of a script behind some marks; `-` where it has none.
+fn push_marks(alloc: Global, marks: &mut String, script: &str) -> io::Result<()> {
+    let text = check_only(alloc, script.as_bytes(), usize::MAX, u64::MAX)?.text;
+    if text.is_empty() {
+        marks.push('-')?;
+    }
+    for reply in str::from_utf8(&text).unwrap_or("?").lines() {
+        marks.push(mark(reply))?;
+    }
+    Ok(())
+}
+
+/// Puts the marks of a statement, and of its neighbours by each step, behind some marks, and ends the line.
+fn push_line(alloc: Global, marks: &mut String, statement: &str) -> io::Result<()> {
+    let tokens: Vec<&str> = statement.split(' ').collect(alloc)?;
+    for (before, step) in [
+        ("", Step::Kept),
+        (" ", Step::Without),
+        (" ", Step::Doubled),
+        (" ", Step::Swapped),
+    ] {
+        marks.push_str(before)?;
+        let script = neighbours(alloc, tokens.as_slice(), step)?;
+        push_marks(alloc, marks, script.as_str())?;
+    }
+    marks.push('\n')?;
+    Ok(())
+}
+
+/// The marks of the statements of a script and of their neighbours, a line a statement. Each line of the script that is no
+/// comment is a statement without its `;`, with a blank between each two tokens.
+pub fn marks(alloc: Global, script: &str) -> io::Result<String> {
+    let mut marks = String::new(alloc);
+    for line in script.lines() {
+        if !line.starts_with("--") {
+            push_line(alloc, &mut marks, line)?;
+        }
+    }
+    Ok(marks)
+}

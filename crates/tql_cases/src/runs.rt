@@ -1,0 +1,92 @@
+//! Runs and checks of a script over bytes in memory.
+use crate::devices::SliceSource;
+use std::alloc::{AllocError, Global};
+use tql_check::check::check_script;
+use tql_engine::engine::Engine;
+use tql_engine::run::run;
+use tql_memory::memory;
+use tql_result::std_sink::StdSink;
+use tql_run::run::{Fault, Summary};
+
+/// How a run ended, and what it wrote.
+#[derive(Drop)]
+pub struct Outcome {
+    pub end: Result<Summary, Fault>,
+    pub text: Vec<u8>,
+}
+
+impl Outcome {
+    /// How many lines of the text are refusals.
+    fn refusals(&self) -> u64 {
+        let mut refusals = 0u64;
+        for line in str::from_utf8(&self.text).unwrap_or("").lines() {
+            if line.starts_with("REFUSED ") {
+                refusals = refusals.saturating_add(1);
+            }
+        }
+        refusals
+    }
+
+    /// Whether the run came to its end, and counted the refusals that it wrote.
+    pub fn ended_well(&self) -> bool {
+        match self.end {
+            Ok(summary) => summary.refused == self.refusals(),
+            Err(_) => false,
+        }
+    }
+}
+
+/// Whether a script is run on a new engine, or its statements are only checked.
+#[derive(Clone, Copy, PartialEq, Eq, Debug)]
+pub enum Manner {
+    Run,
+    Check,
+}
+
+/// Runs a script on a new engine, in pieces of so many bytes and in so many blocks of memory.
+pub fn run_script(
+    alloc: Global,
+    script: &[u8],
+    size: usize,
+    granted: u64,
+) -> Result<Outcome, AllocError> {
+    let mut engine = Engine::new(memory(alloc, granted)?);
+    let mut source = SliceSource::new(script, size);
+    let mut sink = StdSink::new(Vec::new(alloc));
+    let end = run(&mut engine, &mut source, &mut sink);
+    Ok(Outcome {
+        end,
+        text: sink.into_writer(),
+    })
+}
+
+/// Checks the statements of a script, in pieces of so many bytes and in so many blocks of memory.
+pub fn check_only(
+    alloc: Global,
+    script: &[u8],
+    size: usize,
+    granted: u64,
+) -> Result<Outcome, AllocError> {
+    let memory = memory(alloc, granted)?;
+    let mut source = SliceSource::new(script, size);
+    let mut sink = StdSink::new(Vec::new(alloc));
+    let end = check_script(memory, &mut source, &mut sink);
+    Ok(Outcome {
+        end,
+        text: sink.into_writer(),
+    })
+}
+
+/// Runs or checks a script.
+pub fn answer(
+    alloc: Global,
+    manner: Manner,
+    script: &[u8],
+    size: usize,
+    granted: u64,
+) -> Result<Outcome, AllocError> {
+    match manner {
+        Manner::Run => run_script(alloc, script, size, granted),
+        Manner::Check => check_only(alloc, script, size, granted),
+    }
+}

@@ -1,0 +1,134 @@
+-- The faults of a system period.
+use Rattle.std.specs.Prelude.{◌≡◌, refl, ℕ, Bool, true, false, not, ◌&&◌, ◌||◌, ◌==◌, nat_lt, IsTrue, List, [], ◌∷◌, ◌++◌, map, length, Option, Some, None, ◌<◌}
+use Rattle.std.specs.List.{slice_get}
+use Rattle.std.proofs.Common.{ap, ◌∙◌, sym, arith, get_or, drop, ◌+◌}
+use Rattle.std.proofs.lemmas.List.{at_drop_more}
+use Rattle.std.proofs.lemmas.Bool.Decides.{nat_tests}
+use Rattle.tql_spec.specs.Refusal.{Refusal, E21, E22, E23, earlier, first, fault_if}
+use Rattle.tql_spec.specs.Definition.{System}
+use Rattle.tql_spec.specs.Names.{Checked, ◌>>=◌}
+use Rattle.tql_spec.specs.Syntax.{ColumnTree}
+use Rattle.tql_spec.specs.Creation.{PeriodPart, number_in, or_first, has_number}
+use Rattle.tql_catalog.specs.Simple.{has_system}
+use Rattle.tql_define.specs.NewTables.{column_of, part_of, names_in, starts_in, stops_in, has_misfit, is_wrong, system_at, system_in, sooner, periods_fault}
+use Rattle.tql_define.specs.declared.draft.NewColumn.{NewColumn}
+use Rattle.tql_define.specs.declared.draft.NewPeriod.{NewPeriod}
+use Rattle.tql_define.proofs.FirstFault.{first_each}
+use Rattle.tql_define.proofs.ColumnLaws.{two_numbers}
+
+-- ---- the columns of the period
+
+misfit_by : (a b : Bool) → a ≡ true → first (fault_if a E22 ++ (fault_if b E23 ++ [])) ≡ Some E22
+misfit_by true true h = refl
+misfit_by true false h = refl
+misfit_by false b h = absurd (cc)
+
+wrong_by : (a b : Bool) → a ≡ false → b ≡ true → first (fault_if a E22 ++ (fault_if b E23 ++ [])) ≡ Some E23
+wrong_by true b h k = absurd (cc)
+wrong_by false true h k = refl
+wrong_by false false h k = absurd (cc)
+
+none_by : (a b : Bool) → a ≡ false → b ≡ false → first (fault_if a E22 ++ (fault_if b E23 ++ [])) ≡ None
+none_by true b h k = absurd (cc)
+none_by false true h k = absurd (cc)
+none_by false false h k = refl
+
+pub misfit_first : (cs : List ColumnTree) (p : PeriodPart) (s e : ℕ) → has_misfit cs s e ≡ true → Some E22 ≡ first (system_at cs p s e).faults
+misfit_first cs p s e h = sym (misfit_by (has_misfit cs s e) (is_wrong cs p s e) h)
+
+pub wrong_first : (cs : List ColumnTree) (p : PeriodPart) (s e : ℕ) → has_misfit cs s e ≡ false → is_wrong cs p s e ≡ true → Some E23 ≡ first (system_at cs p s e).faults
+wrong_first cs p s e h k = sym (wrong_by (has_misfit cs s e) (is_wrong cs p s e) h k)
+
+pub none_first : (cs : List ColumnTree) (p : PeriodPart) (s e : ℕ) → has_misfit cs s e ≡ false → is_wrong cs p s e ≡ false → None ≡ first (system_at cs p s e).faults
+none_first cs p s e h k = sym (none_by (has_misfit cs s e) (is_wrong cs p s e) h k)
+
+-- a start and an end that are there, in the order that the period names them
+both_there : (a b c : Bool) → (a || not b) || not c ≡ false → (b ≡ true) × (c ≡ true)
+both_there true b c h = absurd (cc)
+both_there false true true h = (refl, refl)
+both_there false true false h = absurd (cc)
+both_there false false c h = absurd (cc)
+
+system_by : (a b c : Bool) → a ≡ true → b ≡ true → c ≡ false → IsTrue (a && b && not c)
+system_by true true false h k e = refl
+system_by true true true h k e = absurd (cc)
+system_by true false c h k e = absurd (cc)
+system_by false b c h k e = absurd (cc)
+
+pub has_both : (cs : List NewColumn) (p : PeriodPart) (s e : ℕ) → s < length cs → e < length cs → is_wrong (map column_of cs) p s e ≡ false
+    → IsTrue (has_system (Some (record { start = s; end = e })) (length cs))
+has_both cs p s e h k w =
+    let both = both_there _ (has_number s (starts_in (map column_of cs))) (has_number e (stops_in (map column_of cs))) w in
+    system_by (nat_lt s (length cs)) (nat_lt e (length cs)) (s == e) (grind (arith, nat_tests)) (grind (arith, nat_tests)) (two_numbers cs s e h k both.0 both.1)
+
+-- ---- the names of the period
+
+unknown_by : (rest : List Refusal) → earlier E21 (first rest) ≡ E21 → first (E21 ∷ rest) ≡ Some E21
+unknown_by rest h = ap (λ (r : Refusal). Some r) h
+
+misfit_behind : (a b : Bool) → earlier E21 (first (fault_if a E22 ++ (fault_if b E23 ++ []))) ≡ E21
+misfit_behind true true = refl
+misfit_behind true false = refl
+misfit_behind false true = refl
+misfit_behind false false = refl
+
+end_behind : (o : Option ℕ) (a b : Bool) → earlier E21 (first ((or_first o).faults ++ (fault_if a E22 ++ (fault_if b E23 ++ [])))) ≡ E21
+end_behind (Some e) a b = misfit_behind a b
+end_behind None a b = ap (λ (r : Refusal). earlier E21 (Some r)) (misfit_behind a b)
+
+-- the period, where its names have these numbers
+abbrev system_by_numbers : List ColumnTree → PeriodPart → Option ℕ → Option ℕ → Checked System
+system_by_numbers cs p o q = do
+  s ← or_first o
+  e ← or_first q
+  system_at cs p s e
+
+pub unknown_start : (cs : List ColumnTree) (p : PeriodPart) → number_in p.start (names_in cs) ≡ None → Some E21 ≡ first (system_in cs p).faults
+unknown_start cs p h =
+    let q : Option ℕ = number_in p.end (names_in cs) in
+    sym (ap (λ (o : Option ℕ). first (system_by_numbers cs p o q).faults) h
+    ∙ unknown_by ((or_first q).faults ++ (fault_if (has_misfit cs 0 (or_first q).value) E22 ++ (fault_if (is_wrong cs p 0 (or_first q).value) E23 ++ []))) (end_behind q (has_misfit cs 0 (or_first q).value) (is_wrong cs p 0 (or_first q).value)))
+
+pub unknown_end : (cs : List ColumnTree) (p : PeriodPart) (s : ℕ) → number_in p.start (names_in cs) ≡ Some s → number_in p.end (names_in cs) ≡ None
+    → Some E21 ≡ first (system_in cs p).faults
+unknown_end cs p s h k = sym ((λ i. first (system_by_numbers cs p (h i) (k i)).faults) ∙ unknown_by (fault_if (has_misfit cs s 0) E22 ++ (fault_if (is_wrong cs p s 0) E23 ++ [])) (misfit_behind (has_misfit cs s 0) (is_wrong cs p s 0)))
+
+pub known : (cs : List ColumnTree) (p : PeriodPart) (s e : ℕ) → number_in p.start (names_in cs) ≡ Some s → number_in p.end (names_in cs) ≡ Some e
+    → system_in cs p ≡ system_at cs p s e
+known cs p s e h k = λ i. system_by_numbers cs p (h i) (k i)
+
+-- ---- the periods
+
+one_more : (o : Option Refusal) (cs : List ColumnTree) (p : NewPeriod) (ps : List NewPeriod)
+    → sooner (sooner o (first (system_in cs (part_of p)).faults)) (periods_fault cs (map part_of ps)) ≡ sooner o (periods_fault cs (map part_of (p ∷ ps)))
+one_more o cs p ps = first_each (system_in cs) o (part_of p) (map part_of ps)
+
+-- with the fault of the next period (q) the fault so far (o) becomes another (r)
+pub next_period : (cs : List ColumnTree) (ps : List NewPeriod) (i : ℕ) (p : NewPeriod) (o q r all : Option Refusal) → i < length ps → p ≡ get_or ps i p
+    → r ≡ sooner o q → q ≡ first (system_in cs (part_of p)).faults → sooner o (periods_fault cs (map part_of (drop i ps))) ≡ all
+    → sooner r (periods_fault cs (map part_of (drop (i + 1) ps))) ≡ all
+next_period cs ps i p o q r all h e f g k =
+    let rest : List NewPeriod = drop (i + 1) ps in
+    ap (λ (x : Option Refusal). sooner x (periods_fault cs (map part_of rest))) (f ∙ ap (sooner o) g)
+    ∙ one_more o cs p rest
+    ∙ ap (λ (x : NewPeriod). sooner o (periods_fault cs (map part_of (x ∷ rest)))) e
+    ∙ sym (at_drop_more (λ (xs : List NewPeriod). sooner o (periods_fault cs (map part_of xs))) ps i p h)
+    ∙ k
+
+-- none of two
+pub sooner_is_none : (p q : Option Refusal) → sooner p q ≡ None → (p ≡ None) × (q ≡ None)
+sooner_is_none None q h = (refl, h)
+sooner_is_none (Some a) q h = absurd (cc)
+
+-- where the periods show no fault, the first of them shows none
+pub none_at_first : (cs : List ColumnTree) (p : NewPeriod) (ps : List NewPeriod) → periods_fault cs (map part_of (p ∷ ps)) ≡ None → first (system_in cs (part_of p)).faults ≡ None
+none_at_first cs p ps h = (sooner_is_none (first (system_in cs (part_of p)).faults) (periods_fault cs (map part_of ps)) (one_more None cs p ps ∙ h)).0
+
+-- so the first of them has no fault
+pub no_fault_at_first : (cs : List ColumnTree) (ps : List NewPeriod) (p : NewPeriod) (e : Refusal) → Some p ≡ slice_get ps 0 → periods_fault cs (map part_of ps) ≡ None
+    → Some e ≡ first (system_in cs (part_of p)).faults → ⊥
+no_fault_at_first cs [] p e h k f = cc
+no_fault_at_first cs (q ∷ ps) p e h k f =
+    let same : p ≡ q = cc in
+    let none : first (system_in cs (part_of p)).faults ≡ None = ap (λ (x : NewPeriod). first (system_in cs (part_of x)).faults) same ∙ none_at_first cs q ps k in
+    cc

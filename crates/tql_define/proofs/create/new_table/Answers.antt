@@ -1,0 +1,26 @@
+use Rattle.std.proofs.Common.{ap, ◌∙◌}
+use Rattle.std.specs.Prelude.{string_bytes}
+use Rattle.tql_spec.specs.Definition.{Name}
+use Rattle.tql_catalog.specs.Definitions.{definitions_of}
+use Rattle.tql_define.specs.NewTables.{columns_in, parts_in, new_fault}
+use Rattle.tql_define.proofs.Definitions.{refused, made}
+use Rattle.tql_define.proofs.create.new_table.Goals as goal
+
+pub returns-in-Some-clause-binds : goal.returns-in-Some-clause-binds
+returns-in-Some-clause-binds c =
+    let defs = definitions_of c.args.tables.now in
+    let d = c.in_ok-draft in
+    let n = c.in_ok-name in
+    refused defs c.args.create.now (string_bytes n.name) (columns_in d.draft) (parts_in d.draft) c.new_fault.result c.in-Some.fault c.requires
+    (record { name = n.ensures.value; columns = d.ensures.columns; periods = d.ensures.periods }) c.in-Some.is
+    (c.new_fault.ensures ∙ ap (λ (m : Name). new_fault defs m (columns_in d.draft) (parts_in d.draft) c.args.create.now.is_versioned) c.deref.ensures)
+
+pub returns-in-None-clause-binds : goal.returns-in-None-clause-binds
+returns-in-None-clause-binds c =
+    let defs = definitions_of c.args.tables.now in
+    let d = c.in_ok-draft in
+    let n = c.in_ok-name in
+    made defs c.args.create.now (string_bytes n.name) (columns_in d.draft) (parts_in d.draft) c.new_fault.result c.definition.result c.requires
+    (record { name = n.ensures.value; columns = d.ensures.columns; periods = d.ensures.periods }) c.in-None.is
+    (c.new_fault.ensures ∙ ap (λ (m : Name). new_fault defs m (columns_in d.draft) (parts_in d.draft) c.args.create.now.is_versioned) c.deref.ensures)
+    c.definition.ensures.definition c.definition.ensures.memory

@@ -1,0 +1,175 @@
+//! What is asked of the columns of a new table.
+ghost use Rattle.std.specs.Prelude.{◌≡◌, ◌<◌, length, map, is_some, string_bytes, false};
+ghost use Rattle.std.specs.List.{list_any, list_all};
+ghost use Rattle.std.specs.Option.{ForSome};
+ghost use Rattle.tql_spec.specs.Creation as spec;
+ghost use Rattle.tql_spec.specs.Datum.{Moments, same_kind};
+ghost use Rattle.tql_spec.specs.Syntax as tree;
+ghost use Rattle.tql_spec.specs.Words.{same_text};
+ghost use Rattle.tql_tree.specs.Statements.{type_of};
+ghost use Rattle.tql_value.specs.Views.{plain_kind};
+ghost use Rattle.tql_define.specs.NewTables.{column_of, names_in, starts_in, stops_in, kind_in};
+
+use crate::draft::NewColumn;
+use crate::number::unsigned;
+use tql_tree::statement::{Generated, TypeName};
+use tql_value::value::Kind;
+
+/// Whether two texts are the same.
+pub fn is_same_text(a: &str, b: &str) -> bool
+    ensures { result ≡ same_text a.now b.now }
+{
+    a == b
+}
+
+/// Whether this is the name of the column.
+fn is_named(column: &NewColumn<'_>, name: &str) -> bool
+    ensures { result ≡ same_text name.now (string_bytes column.now.name) }
+{
+    is_same_text(name, &column.name)
+}
+
+/// The number of the column of this name, from 0.
+pub fn number_in(columns: &[NewColumn<'_>], name: &str) -> Option<usize>
+    ensures number { result ≡ spec.number_in name.now (names_in (map column_of columns.now)) }
+    ensures within { ForSome result (λ number. number < length columns.now) }
+{
+    columns.iter().position(|column| is_named(column, name))
+}
+
+/// Whether a column has this name.
+#[tactic(auto, using(crate::proofs::ColumnLaws::known_is))]
+fn has_column(columns: &[NewColumn<'_>], name: &str) -> bool
+    ensures { result ≡ spec.has_name name.now (names_in (map column_of columns.now)) }
+{
+    number_in(columns, name).is_some()
+}
+
+/// Whether two columns have one name.
+pub fn has_repeated_name(columns: &[NewColumn<'_>]) -> bool
+    ensures { result ≡ spec.repeats (names_in (map column_of columns.now)) }
+{
+    let mut left = columns;
+    while let [column, others @ ..] = left {
+        if has_column(others, &column.name) {
+            return true;
+        }
+        left = others;
+    }
+    false
+}
+
+/// Whether the length or the precision of the type is not allowed.
+fn has_bad_number(type_name: TypeName<'_>) -> bool
+    ensures { result ≡ spec.has_bad_number (type_of type_name.entry) }
+{
+    match type_name {
+        TypeName::Varchar(digits) => match unsigned(digits.as_bytes()) {
+            Some(length) => length < 1 || 65535 < length,
+            None => true,
+        },
+        TypeName::Timestamp(Some(digits)) => match unsigned(digits.as_bytes()) {
+            Some(precision) => 12 < precision,
+            None => true,
+        },
+        TypeName::Integer | TypeName::Date | TypeName::Timestamp(None) => false,
+    }
+}
+
+/// The kind of a type.
+pub fn kind_of(type_name: TypeName<'_>) -> Kind
+    ensures { plain_kind result ≡ spec.kind_of_type (type_of type_name.entry) }
+{
+    match type_name {
+        TypeName::Integer => Kind::Int,
+        TypeName::Varchar(_) => Kind::Text,
+        TypeName::Date => Kind::Day,
+        TypeName::Timestamp(_) => Kind::Moment,
+    }
+}
+
+/// The most characters of a type, where it limits them.
+pub fn limit_of(type_name: TypeName<'_>) -> Option<u64>
+    requires { spec.has_bad_number (type_of type_name) ≡ false }
+    ensures { result ≡ spec.limit_of_type (type_of type_name.entry) }
+{
+    match type_name {
+        TypeName::Varchar(digits) => unsigned(digits.as_bytes()),
+        TypeName::Integer | TypeName::Date | TypeName::Timestamp(_) => None,
+    }
+}
+
+/// Whether the type of some column has a length or a precision that is not allowed.
+pub fn has_misfit(columns: &[NewColumn<'_>]) -> bool
+    ensures { result ≡ list_any (λ (c : tree.ColumnTree). spec.has_bad_number c.type_name) (map column_of columns.now) }
+{
+    columns
+        .iter()
+        .any(|column| has_bad_number(column.type_name))
+}
+
+/// Whether no column is left to which a user can give values.
+pub fn are_all_generated(columns: &[NewColumn<'_>]) -> bool
+    ensures { result ≡ list_all (λ (c : tree.ColumnTree). is_some c.generated) (map column_of columns.now) }
+{
+    columns.iter().all(|column| column.generated.is_some())
+}
+
+/// Whether the column is a TIMESTAMP.
+fn is_moment(column: &NewColumn<'_>) -> bool
+    ensures { result ≡ same_kind (spec.kind_of_type (type_of column.now.type_name)) Moments }
+{
+    matches!(column.type_name, TypeName::Timestamp(_))
+}
+
+/// Whether the column is ROW START.
+fn is_row_start(column: &NewColumn<'_>) -> bool
+    ensures { result ≡ spec.is_row_start (column_of column.now).generated }
+{
+    matches!(column.generated, Some(Generated::RowStart))
+}
+
+/// Whether the column is ROW END.
+fn is_row_end(column: &NewColumn<'_>) -> bool
+    ensures { result ≡ spec.is_row_end (column_of column.now).generated }
+{
+    matches!(column.generated, Some(Generated::RowEnd))
+}
+
+/// How many columns are ROW START.
+pub fn start_count(columns: &[NewColumn<'_>]) -> usize
+    ensures { result ≡ length (starts_in (map column_of columns.now)) }
+{
+    columns.iter().filter(|column| is_row_start(column)).count()
+}
+
+/// How many columns are ROW END.
+pub fn end_count(columns: &[NewColumn<'_>]) -> usize
+    ensures { result ≡ length (stops_in (map column_of columns.now)) }
+{
+    columns.iter().filter(|column| is_row_end(column)).count()
+}
+
+/// Whether the column of this number is a TIMESTAMP.
+pub fn is_moment_at(columns: &[NewColumn<'_>], number: usize) -> bool
+    requires { number < length columns.now }
+    ensures { result ≡ same_kind (kind_in (map column_of columns.now) number) Moments }
+{
+    is_moment(&columns[number])
+}
+
+/// Whether the column of this number is ROW START.
+pub fn is_start_at(columns: &[NewColumn<'_>], number: usize) -> bool
+    requires { number < length columns.now }
+    ensures { result ≡ spec.has_number number (starts_in (map column_of columns.now)) }
+{
+    is_row_start(&columns[number])
+}
+
+/// Whether the column of this number is ROW END.
+pub fn is_end_at(columns: &[NewColumn<'_>], number: usize) -> bool
+    requires { number < length columns.now }
+    ensures { result ≡ spec.has_number number (stops_in (map column_of columns.now)) }
+{
+    is_row_end(&columns[number])
+}

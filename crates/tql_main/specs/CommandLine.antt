@@ -1,0 +1,89 @@
+-- The command line of the program.
+use Rattle.std.specs.Prelude.{◌≡◌, ◌⊎◌, ◌==◌, Bool, true, false, not, if◌then◌else◌, List, [], ◌∷◌, Option, Some, None, codes, option_map, Result, MatchResult, IsErrAnd}
+use Rattle.std.specs.Str.{bytes_eq}
+use Rattle.clap.specs.Simple.{on_top}
+use Rattle.clap.specs.Words.{App, Rule, Text, first_of, one_of, fault_of, kind_of, matches_of, new_app, new_rule, with_rule}
+use Rattle.clap.specs.Kinds.{Kinds}
+use Rattle.clap.specs.declared.builder.action.ArgAction.TheVariants.{SetTrue}
+use Rattle.clap.specs.declared.error.Error.{Error}
+use Rattle.clap.specs.declared.error.kind.ErrorKind.{ErrorKind}
+use Rattle.clap.specs.declared.error.kind.ErrorKind.TheVariants as kind
+use Rattle.tql_main.specs.declared.options.CommandLine.{CommandLine}
+
+-- `--check`
+abbrev pub check_rule : Rule
+check_rule = record (new_rule (codes "check")) { long = Some (codes "check"); action = Some SetTrue }
+
+-- a command that has a version to show
+abbrev pub with_version : App → App
+with_version = on_top (λ s. record s { has_version = true })
+
+-- `tql [--check] [SCRIPT]`, with `--version` and, as every command, `--help`
+abbrev pub tql_line : App
+tql_line = with_rule (with_rule (with_version (new_app (codes "tql"))) check_rule) (new_rule (codes "SCRIPT"))
+
+-- whether the script is to be checked, as a text
+abbrev pub check_in : List Text → Option Text
+check_in words = one_of (codes "check") (matches_of tql_line words)
+
+-- the word SCRIPT
+abbrev pub word_in : List Text → Option Text
+word_in words = first_of (codes "SCRIPT") (matches_of tql_line words)
+
+-- the file that such a word names: none where it is `-`, which is the standard input
+abbrev pub file_of : Option Text → Option Text
+file_of None = None
+file_of (Some word) = if bytes_eq word (codes "-") then None else Some word
+
+-- the file of the script; none where the script is the standard input
+abbrev pub script_in : List Text → Option Text
+script_in words = file_of (word_in words)
+
+-- what is wrong with the words, or asked for in place of a run; nothing where they are taken
+abbrev pub faults_in : List Text → Kinds
+faults_in words = fault_of tql_line words
+
+-- the flag that a text tells
+pub record TellsFlag (text : Option Text) (flag : Bool) : Type 0 where
+  pub set : text ≡ Some (codes "true") → flag ≡ true
+  pub clear : text ≡ Some (codes "false") → flag ≡ false
+
+-- whether a word begins with no dash
+abbrev pub is_plain_word : Text → Bool
+is_plain_word [] = true
+is_plain_word (x ∷ rest) = not (x == 45)
+
+-- the line is taken, asks for a check or not, and names this script, unless memory runs out
+abbrev pub TakesScript : Bool → Option Text → Result CommandLine Error → Type 0
+TakesScript check script r = MatchResult r (λ line. (line.check ≡ check) × (option_map (λ s. s.now) line.script ≡ script))
+    (λ e. kind_of e ≡ kind.OutOfMemory)
+
+-- the line is refused for this reason, unless memory runs out
+abbrev pub RefusesLine : ErrorKind → Result CommandLine Error → Type 0
+RefusesLine k r = IsErrAnd r (λ e. (kind_of e ≡ kind.OutOfMemory) ⊎ (kind_of e ≡ k))
+
+-- what lines of the plain forms give; the first word is the program's name
+pub record ReadsLine (words : List Text) (r : Result CommandLine Error) : Type 0 where
+  -- no script, so the standard input
+  pub alone : (name : Text) → words ≡ name ∷ [] → TakesScript false None r
+  -- a script
+  pub named : (name script : Text) → words ≡ name ∷ script ∷ [] → is_plain_word script ≡ true
+      → TakesScript false (Some script) r
+  -- a check of the standard input
+  pub checked : (name : Text) → words ≡ name ∷ codes "--check" ∷ [] → TakesScript true None r
+  -- a check of a script
+  pub checked_named : (name script : Text) → words ≡ name ∷ codes "--check" ∷ script ∷ [] → is_plain_word script ≡ true
+      → TakesScript true (Some script) r
+  -- `-`, so the standard input
+  pub dash : (name : Text) → words ≡ name ∷ codes "-" ∷ [] → TakesScript false None r
+  -- a check of it
+  pub checked_dash : (name : Text) → words ≡ name ∷ codes "--check" ∷ codes "-" ∷ [] → TakesScript true None r
+  -- a word too many
+  pub several : (name script more : Text) → words ≡ name ∷ script ∷ more ∷ [] → is_plain_word script ≡ true → is_plain_word more ≡ true
+      → RefusesLine kind.UnknownArgument r
+  -- help
+  pub help : (name : Text) → words ≡ name ∷ codes "--help" ∷ [] → RefusesLine kind.DisplayHelp r
+  pub short_help : (name : Text) → words ≡ name ∷ codes "-h" ∷ [] → RefusesLine kind.DisplayHelp r
+  -- the version
+  pub version : (name : Text) → words ≡ name ∷ codes "--version" ∷ [] → RefusesLine kind.DisplayVersion r
+  pub short_version : (name : Text) → words ≡ name ∷ codes "-V" ∷ [] → RefusesLine kind.DisplayVersion r

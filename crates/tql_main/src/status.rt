@@ -1,0 +1,32 @@
+//! The exit status.
+ghost use Rattle.std.specs.Prelude.{◌≡◌};
+ghost use Rattle.clap.specs.Words.{kind_of};
+ghost use Rattle.tql_main.specs.Status.{IsExitStatus, status_of_line};
+
+use clap::Error;
+use clap::error::ErrorKind;
+use tql_run::run::{Fault, Summary};
+
+/// The exit status after a run: 0 where no statement was refused, 1 where some statement was, and 3 where the run
+/// stopped because a device failed or memory ran out.
+pub fn exit_status(outcome: &Result<Summary, Fault>) -> u8
+    ensures { IsExitStatus outcome.now result }
+{
+    match outcome {
+        Ok(summary) if summary.refused == 0 => 0,
+        Ok(_) => 1,
+        Err(_) => 3,
+    }
+}
+
+/// The exit status of a command line that starts no run: 0 after help, 2 where the line is wrong, and 3 where memory
+/// ran out.
+pub fn line_status(error: &Error) -> u8
+    ensures { result ≡ status_of_line (kind_of error.now) }
+{
+    match error.kind() {
+        ErrorKind::DisplayHelp | ErrorKind::DisplayVersion => 0,
+        ErrorKind::OutOfMemory => 3,
+        _ => 2,
+    }
+}

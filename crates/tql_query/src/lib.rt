@@ -1,0 +1,5 @@
+//! Reading conditions and queries.
+#![tactic(auto)]
+
+pub mod conditions;
+pub mod queries;

@@ -1,0 +1,449 @@
+//! Reading queries.
+ghost use Rattle.std.specs.Prelude.{◌≡◌, option_map};
+ghost use Rattle.tql_spec.specs.Syntax as tree;
+ghost use Rattle.tql_grammar.specs.Outcome.{Read};
+ghost use Rattle.tql_grammar.specs.ReadingExpressions.{named_at};
+ghost use Rattle.tql_grammar.specs.ReadingStatements as reading;
+ghost use Rattle.tql_phrase.specs.Parsing.{Reads};
+ghost use Rattle.tql_tree.specs.Expressions.{content_of, name_of, named_of};
+ghost use Rattle.tql_tree.specs.Statements.{span_of, ref_of, join_of, chain_of, chains_of, item_of, items_of, filter_of, nameds_of, boxed_select_of, key_name_of, order_of, orders_of, statement_of};
+
+use crate::conditions::condition_here;
+use tql_lex::token::Symbol;
+use tql_memory::Memory;
+use tql_phrase::cursor::{Cursor, ParseError};
+use tql_phrase::expressions::{expr_here, named};
+use tql_phrase::lists::{Rule, Step, behind_commas, repeated, separated};
+use tql_tree::condition::Cond;
+use tql_tree::expression::{Name, Named};
+use tql_tree::statement::{
+    Chain, Item, Items, Join, KeyName, OrderKey, Query, RefTree, Select, Span, Statement,
+};
+
+/// TIMESTAMP and its quoted text.
+#[tactic(auto, unfolding(tql_grammar::specs::ReadingStatements::moment_at))]
+pub fn moment<'a>(tokens: &mut Cursor<'_, 'a>) -> Result<&'a str, ParseError>
+    ensures { Reads content_of (reading.moment_at tokens.old) result tokens.new }
+{
+    tokens.expect_word("TIMESTAMP")?;
+    tokens.quote()
+}
+
+/// What stands behind FROM in a FOR SYSTEM_TIME clause.
+#[tactic(auto, unfolding(tql_grammar::specs::ReadingStatements::from_to_at))]
+fn from_to<'a>(tokens: &mut Cursor<'_, 'a>) -> Result<Span<'a>, ParseError>
+    ensures { Reads span_of (reading.from_to_at tokens.old) result tokens.new }
+{
+    let from = moment(tokens)?;
+    tokens.expect_word("TO")?;
+    let to = moment(tokens)?;
+    Ok(Span::FromTo(from, to))
+}
+
+/// What stands behind BETWEEN in a FOR SYSTEM_TIME clause.
+#[tactic(auto, unfolding(tql_grammar::specs::ReadingStatements::between_at))]
+fn between<'a>(tokens: &mut Cursor<'_, 'a>) -> Result<Span<'a>, ParseError>
+    ensures { Reads span_of (reading.between_at tokens.old) result tokens.new }
+{
+    let from = moment(tokens)?;
+    tokens.expect_word("AND")?;
+    let to = moment(tokens)?;
+    Ok(Span::Between(from, to))
+}
+
+/// What stands behind FOR in a table reference.
+#[tactic(auto, unfolding(tql_grammar::specs::ReadingStatements::span_behind))]
+fn span_behind<'a>(tokens: &mut Cursor<'_, 'a>) -> Result<Span<'a>, ParseError>
+    ensures { Reads span_of (reading.span_behind tokens.old) result tokens.new }
+{
+    tokens.expect_word("SYSTEM_TIME")?;
+    if tokens.eat_word("AS") {
+        tokens.expect_word("OF")?;
+        let at = moment(tokens)?;
+        return Ok(Span::AsOf(at));
+    }
+    if tokens.eat_word("FROM") {
+        return from_to(tokens);
+    }
+    tokens.expect_word("BETWEEN")?;
+    between(tokens)
+}
+
+/// The FOR SYSTEM_TIME clause of a table reference, or none.
+#[tactic(auto, unfolding(tql_grammar::specs::ReadingStatements::span_at))]
+fn span<'a>(tokens: &mut Cursor<'_, 'a>) -> Result<Span<'a>, ParseError>
+    ensures { Reads span_of (reading.span_at tokens.old) result tokens.new }
+{
+    if tokens.eat_word("FOR") {
+        return span_behind(tokens);
+    }
+    Ok(Span::None)
+}
+
+/// The name that a table reference or an item is given, with AS or without.
+#[tactic(auto, unfolding(tql_grammar::specs::ReadingStatements::alias_at))]
+fn alias<'a>(tokens: &mut Cursor<'_, 'a>) -> Result<Option<Name<'a>>, ParseError>
+    ensures { Reads (option_map name_of) (reading.alias_at tokens.old) result tokens.new }
+{
+    if tokens.eat_word("AS") {
+        let name = tokens.name()?;
+        return Ok(Some(name));
+    }
+    if tokens.begins_name() {
+        let name = tokens.name()?;
+        return Ok(Some(name));
+    }
+    Ok(None)
+}
+
+/// A table reference.
+#[tactic(auto, unfolding(tql_grammar::specs::ReadingStatements::ref_at))]
+fn reference<'a>(tokens: &mut Cursor<'_, 'a>) -> Result<RefTree<'a>, ParseError>
+    ensures { Reads ref_of (reading.ref_at tokens.old) result tokens.new }
+{
+    let table = tokens.name()?;
+    let span = span(tokens)?;
+    let alias = alias(tokens)?;
+    Ok(RefTree { table, span, alias })
+}
+
+/// What stands behind JOIN in an inner join.
+#[tactic(auto, unfolding(tql_grammar::specs::ReadingStatements::joined_on_at))]
+fn inner_on<'a>(memory: Memory, tokens: &mut Cursor<'_, 'a>) -> Result<Join<'a>, ParseError>
+    ensures { Reads join_of (reading.joined_on_at tree.InnerJoin tokens.old) result tokens.new }
+{
+    let reference = reference(tokens)?;
+    tokens.expect_word("ON")?;
+    let condition = condition_here(memory, tokens)?;
+    Ok(Join::Inner(reference, condition))
+}
+
+/// What stands behind JOIN in an outer join.
+#[tactic(auto, unfolding(tql_grammar::specs::ReadingStatements::joined_on_at))]
+fn left_on<'a>(memory: Memory, tokens: &mut Cursor<'_, 'a>) -> Result<Join<'a>, ParseError>
+    ensures { Reads join_of (reading.joined_on_at tree.LeftJoin tokens.old) result tokens.new }
+{
+    let reference = reference(tokens)?;
+    tokens.expect_word("ON")?;
+    let condition = condition_here(memory, tokens)?;
+    Ok(Join::Left(reference, condition))
+}
+
+/// What stands behind INNER.
+#[tactic(auto, unfolding(tql_grammar::specs::ReadingStatements::inner_at))]
+fn inner<'a>(memory: Memory, tokens: &mut Cursor<'_, 'a>) -> Result<Join<'a>, ParseError>
+    ensures { Reads join_of (reading.inner_at tokens.old) result tokens.new }
+{
+    tokens.expect_word("JOIN")?;
+    inner_on(memory, tokens)
+}
+
+/// What stands behind LEFT.
+#[tactic(auto, unfolding(tql_grammar::specs::ReadingStatements::left_at))]
+fn left<'a>(memory: Memory, tokens: &mut Cursor<'_, 'a>) -> Result<Join<'a>, ParseError>
+    ensures { Reads join_of (reading.left_at tokens.old) result tokens.new }
+{
+    tokens.eat_word("OUTER");
+    tokens.expect_word("JOIN")?;
+    left_on(memory, tokens)
+}
+
+/// What stands behind CROSS.
+#[tactic(auto, unfolding(tql_grammar::specs::ReadingStatements::cross_at))]
+fn cross<'a>(tokens: &mut Cursor<'_, 'a>) -> Result<Join<'a>, ParseError>
+    ensures { Reads join_of (reading.cross_at tokens.old) result tokens.new }
+{
+    tokens.expect_word("JOIN")?;
+    let reference = reference(tokens)?;
+    Ok(Join::Cross(reference))
+}
+
+/// A join, where one is in front.
+struct JoinStep;
+
+impl<'a> Step<'a, Memory> for JoinStep {
+    type Item = Join<'a>;
+
+    ghost Tree = { tree.JoinTree };
+
+    ghost view = { join_of };
+
+    ghost step = { λ _. reading.next_join };
+
+    #[tactic(auto, unfolding(tql_grammar::specs::ReadingStatements::next_join))]
+    fn next(
+        &self,
+        memory: Memory,
+        tokens: &mut Cursor<'_, 'a>,
+    ) -> Result<Option<Join<'a>>, ParseError> {
+        if tokens.eat_word("INNER") {
+            let join = inner(memory, tokens)?;
+            return Ok(Some(join));
+        }
+        if tokens.eat_word("JOIN") {
+            let join = inner_on(memory, tokens)?;
+            return Ok(Some(join));
+        }
+        if tokens.eat_word("LEFT") {
+            let join = left(memory, tokens)?;
+            return Ok(Some(join));
+        }
+        if tokens.eat_word("CROSS") {
+            let join = cross(tokens)?;
+            return Ok(Some(join));
+        }
+        Ok(None)
+    }
+}
+
+/// A chain of FROM.
+struct ChainRule;
+
+impl<'a> Rule<'a, Memory> for ChainRule {
+    type Item = Chain<'a>;
+
+    ghost Tree = { tree.ChainTree };
+
+    ghost view = { chain_of };
+
+    ghost rule = { λ _. reading.chain_at };
+
+    #[tactic(auto, unfolding(tql_grammar::specs::ReadingStatements::chain_at))]
+    fn read(&self, memory: Memory, tokens: &mut Cursor<'_, 'a>) -> Result<Chain<'a>, ParseError> {
+        let first = reference(tokens)?;
+        let joins = repeated(memory, tokens, &JoinStep)?;
+        Ok(Chain { first, joins })
+    }
+}
+
+/// An item of the select list.
+struct ItemRule;
+
+impl<'a> Rule<'a, Memory> for ItemRule {
+    type Item = Item<'a>;
+
+    ghost Tree = { tree.Item };
+
+    ghost view = { item_of };
+
+    ghost rule = { λ _. reading.item_at };
+
+    #[tactic(auto, unfolding(tql_grammar::specs::ReadingStatements::item_at))]
+    fn read(&self, memory: Memory, tokens: &mut Cursor<'_, 'a>) -> Result<Item<'a>, ParseError> {
+        let value = expr_here(memory, tokens)?;
+        let alias = alias(tokens)?;
+        Ok(Item { value, alias })
+    }
+}
+
+/// The items of the select list.
+#[tactic(auto, unfolding(tql_grammar::specs::ReadingStatements::items_behind))]
+fn items_behind<'a>(memory: Memory, tokens: &mut Cursor<'_, 'a>) -> Result<Items<'a>, ParseError>
+    ensures { Reads items_of (reading.items_behind tokens.old) result tokens.new }
+{
+    let first = ItemRule.read(memory, tokens)?;
+    let more = behind_commas(memory, tokens, &ItemRule)?;
+    Ok(Items::These(first, more))
+}
+
+/// The select list.
+#[tactic(auto, unfolding(tql_grammar::specs::ReadingStatements::items_at))]
+fn items<'a>(memory: Memory, tokens: &mut Cursor<'_, 'a>) -> Result<Items<'a>, ParseError>
+    ensures { Reads items_of (reading.items_at tokens.old) result tokens.new }
+{
+    if tokens.eat_symbol(Symbol::Star) {
+        return Ok(Items::All);
+    }
+    items_behind(memory, tokens)
+}
+
+/// Whether DISTINCT is in front; goes past it, or past ALL.
+#[tactic(auto, unfolding(tql_grammar::specs::ReadingStatements::distinct_at))]
+fn distinct(tokens: &mut Cursor<'_, '_>) -> bool
+    ensures { reading.distinct_at tokens.old ≡ Read result tokens.new }
+{
+    if tokens.eat_word("DISTINCT") {
+        return true;
+    }
+    tokens.eat_word("ALL");
+    false
+}
+
+/// A WHERE clause, where one is in front.
+#[tactic(auto, unfolding(tql_grammar::specs::ReadingStatements::where_at))]
+pub fn where_clause<'a>(
+    memory: Memory,
+    tokens: &mut Cursor<'_, 'a>,
+) -> Result<Option<Box<Cond<'a>, Memory>>, ParseError>
+    ensures { Reads filter_of (reading.where_at tokens.old) result tokens.new }
+{
+    if tokens.eat_word("WHERE") {
+        let condition = condition_here(memory, tokens)?;
+        return Ok(Some(condition));
+    }
+    Ok(None)
+}
+
+/// A HAVING clause, where one is in front.
+#[tactic(auto, unfolding(tql_grammar::specs::ReadingStatements::having_at))]
+fn having_clause<'a>(
+    memory: Memory,
+    tokens: &mut Cursor<'_, 'a>,
+) -> Result<Option<Box<Cond<'a>, Memory>>, ParseError>
+    ensures { Reads filter_of (reading.having_at tokens.old) result tokens.new }
+{
+    if tokens.eat_word("HAVING") {
+        let condition = condition_here(memory, tokens)?;
+        return Ok(Some(condition));
+    }
+    Ok(None)
+}
+
+/// A column or a period.
+struct NamedRule;
+
+impl<'a> Rule<'a, Memory> for NamedRule {
+    type Item = Named<'a>;
+
+    ghost Tree = { tree.Named };
+
+    ghost view = { named_of };
+
+    ghost rule = { λ _. named_at };
+
+    fn read(&self, _memory: Memory, tokens: &mut Cursor<'_, 'a>) -> Result<Named<'a>, ParseError> {
+        named(tokens)
+    }
+}
+
+/// A GROUP BY clause; no columns where none is in front.
+#[tactic(auto, unfolding(tql_grammar::specs::ReadingStatements::group_by_at))]
+fn group_by<'a>(
+    memory: Memory,
+    tokens: &mut Cursor<'_, 'a>,
+) -> Result<Vec<Named<'a>, Memory>, ParseError>
+    ensures { Reads nameds_of (reading.group_by_at tokens.old) result tokens.new }
+{
+    if tokens.eat_word("GROUP") {
+        tokens.expect_word("BY")?;
+        return separated(memory, tokens, &NamedRule);
+    }
+    Ok(Vec::new(memory))
+}
+
+/// What stands behind the FROM clause of a select.
+#[tactic(auto, unfolding(tql_grammar::specs::ReadingStatements::select_end))]
+fn select_end<'a>(
+    memory: Memory,
+    tokens: &mut Cursor<'_, 'a>,
+    is_distinct: bool,
+    items: Items<'a>,
+    first: Chain<'a>,
+    more: Vec<Chain<'a>, Memory>,
+) -> Result<Box<Select<'a>, Memory>, ParseError>
+    ensures { Reads boxed_select_of (reading.select_end is_distinct (items_of items.entry) (chain_of first.entry) (chains_of more.entry) tokens.old) result tokens.new }
+{
+    let filter = where_clause(memory, tokens)?;
+    let grouping = group_by(memory, tokens)?;
+    let having = having_clause(memory, tokens)?;
+    let select = Select {
+        is_distinct,
+        items,
+        first,
+        more,
+        filter,
+        grouping,
+        having,
+    };
+    Ok(Box::new(memory, select)?)
+}
+
+/// What stands behind SELECT, but ORDER BY.
+#[tactic(auto, unfolding(tql_grammar::specs::ReadingStatements::select_at))]
+pub fn select<'a>(
+    memory: Memory,
+    tokens: &mut Cursor<'_, 'a>,
+) -> Result<Box<Select<'a>, Memory>, ParseError>
+    ensures { Reads boxed_select_of (reading.select_at tokens.old) result tokens.new }
+{
+    let is_distinct = distinct(tokens);
+    let items = items(memory, tokens)?;
+    tokens.expect_word("FROM")?;
+    let first = ChainRule.read(memory, tokens)?;
+    let more = behind_commas(memory, tokens, &ChainRule)?;
+    select_end(memory, tokens, is_distinct, items, first, more)
+}
+
+/// A position by its digits, or a heading.
+#[tactic(auto, unfolding(tql_grammar::specs::ReadingStatements::key_name_at))]
+fn key_name<'a>(tokens: &mut Cursor<'_, 'a>) -> Result<KeyName<'a>, ParseError>
+    ensures { Reads key_name_of (reading.key_name_at tokens.old) result tokens.new }
+{
+    if let Some(digits) = tokens.eat_number() {
+        return Ok(KeyName::Position(digits));
+    }
+    let name = tokens.name()?;
+    Ok(KeyName::Heading(name))
+}
+
+/// Whether DESC is in front; goes past it, or past ASC.
+#[tactic(auto, unfolding(tql_grammar::specs::ReadingStatements::direction_at))]
+fn direction(tokens: &mut Cursor<'_, '_>) -> bool
+    ensures { reading.direction_at tokens.old ≡ Read result tokens.new }
+{
+    if tokens.eat_word("DESC") {
+        return true;
+    }
+    tokens.eat_word("ASC");
+    false
+}
+
+/// A key of ORDER BY.
+struct OrderKeyRule;
+
+impl<'a> Rule<'a, Memory> for OrderKeyRule {
+    type Item = OrderKey<'a>;
+
+    ghost Tree = { tree.OrderTree };
+
+    ghost view = { order_of };
+
+    ghost rule = { λ _. reading.order_key_at };
+
+    #[tactic(auto, unfolding(tql_grammar::specs::ReadingStatements::order_key_at))]
+    fn read(
+        &self,
+        _memory: Memory,
+        tokens: &mut Cursor<'_, 'a>,
+    ) -> Result<OrderKey<'a>, ParseError> {
+        let key = key_name(tokens)?;
+        let falls = direction(tokens);
+        Ok(OrderKey { key, falls })
+    }
+}
+
+/// An ORDER BY clause; no keys where none is in front.
+#[tactic(auto, unfolding(tql_grammar::specs::ReadingStatements::order_by_at))]
+fn order_by<'a>(
+    memory: Memory,
+    tokens: &mut Cursor<'_, 'a>,
+) -> Result<Vec<OrderKey<'a>, Memory>, ParseError>
+    ensures { Reads orders_of (reading.order_by_at tokens.old) result tokens.new }
+{
+    if tokens.eat_word("ORDER") {
+        tokens.expect_word("BY")?;
+        return separated(memory, tokens, &OrderKeyRule);
+    }
+    Ok(Vec::new(memory))
+}
+
+/// What stands behind SELECT in a query.
+#[tactic(auto, unfolding(tql_grammar::specs::ReadingStatements::query_at))]
+pub fn query<'a>(memory: Memory, tokens: &mut Cursor<'_, 'a>) -> Result<Statement<'a>, ParseError>
+    ensures { Reads statement_of (reading.query_at tokens.old) result tokens.new }
+{
+    let select = select(memory, tokens)?;
+    let ordering = order_by(memory, tokens)?;
+    let query = Query { select, ordering };
+    Ok(Statement::Query(Box::new(memory, query)?))
+}

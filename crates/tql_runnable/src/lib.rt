@@ -1,0 +1,4 @@
+// Which statements run so far.
+#![tactic(auto)]
+
+pub mod running;

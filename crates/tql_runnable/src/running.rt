@@ -1,0 +1,182 @@
+//! Which statements run so far, a part of the whole grammar.
+ghost use Rattle.std.specs.Prelude.{◌≡◌, map};
+ghost use Rattle.std.specs.List.{list_all};
+ghost use Rattle.tql_spec.specs.Binding as binding;
+ghost use Rattle.tql_spec.specs.Running as running;
+ghost use Rattle.tql_tree.specs.Expressions.{expr_of, primary_of, signed_of};
+ghost use Rattle.tql_tree.specs.Statements.{cell_of, create_of, delete_of, element_of, insert_of, items_of, query_of, select_of, statement_of, tuple_of};
+
+use tql_tree::expression::{Expr, Primary, Sign, Signed};
+use tql_tree::statement::{
+    Cell, CreateTree, Delete, Element, Insert, Items, Query, Rows, Select, Statement, Tuple,
+};
+
+/// Whether a primary is a number.
+fn is_number(primary: &Primary<'_>) -> bool
+    ensures { result ≡ running.is_number (primary_of primary.now) }
+{
+    match primary {
+        Primary::Number(_) => true,
+        Primary::Text(_)
+        | Primary::Date(_)
+        | Primary::Timestamp(_)
+        | Primary::Column(_)
+        | Primary::Enclosed(_)
+        | Primary::CountStar
+        | Primary::Over(_, _) => false,
+    }
+}
+
+/// Whether a primary is a literal.
+fn is_literal(primary: &Primary<'_>) -> bool
+    ensures { result ≡ running.is_literal (primary_of primary.now) }
+{
+    match primary {
+        Primary::Number(_) | Primary::Text(_) | Primary::Date(_) | Primary::Timestamp(_) => true,
+        Primary::Column(_) | Primary::Enclosed(_) | Primary::CountStar | Primary::Over(_, _) => {
+            false
+        }
+    }
+}
+
+/// Whether a primary with its sign is a literal: only a number may have a sign.
+fn is_signed_literal(signed: &Signed<'_>) -> bool
+    ensures { result ≡ running.is_signed_literal (signed_of signed.now) }
+{
+    match signed.sign {
+        Sign::None => is_literal(&signed.primary),
+        Sign::Plus | Sign::Minus => is_number(&signed.primary),
+    }
+}
+
+/// Whether an expression is a literal.
+fn is_literal_sum(value: &Expr<'_>) -> bool
+    ensures { result ≡ running.is_literal_sum (expr_of value.now) }
+{
+    if !value.more.is_empty() {
+        return false;
+    }
+    if !value.first.more.is_empty() {
+        return false;
+    }
+    is_signed_literal(&value.first.first)
+}
+
+/// Whether a cell is a literal or NULL.
+fn is_literal_cell(cell: &Cell<'_>) -> bool
+    ensures { result ≡ running.is_literal_cell (cell_of cell.now) }
+{
+    match cell {
+        Cell::Null => true,
+        Cell::Value(value) => is_literal_sum(value),
+    }
+}
+
+/// Whether each cell is a literal or NULL.
+fn are_literal_cells(cells: &[Cell<'_>]) -> bool
+    ensures { result ≡ list_all running.is_literal_cell (map cell_of cells.now) }
+{
+    cells.iter().all(|cell| is_literal_cell(cell))
+}
+
+/// Whether each cell of a tuple is a literal or NULL.
+fn is_literal_tuple(tuple: &Tuple<'_>) -> bool
+    ensures { result ≡ running.is_literal_tuple (tuple_of tuple.now) }
+{
+    is_literal_cell(&tuple.first) && are_literal_cells(&tuple.more)
+}
+
+/// Whether each cell of each tuple is a literal or NULL.
+fn are_literal_tuples(tuples: &[Tuple<'_>]) -> bool
+    ensures { result ≡ list_all running.is_literal_tuple (map tuple_of tuples.now) }
+{
+    tuples.iter().all(|tuple| is_literal_tuple(tuple))
+}
+
+/// Whether an element of CREATE is a column or the system period.
+fn is_plain_element(element: &Element<'_>) -> bool
+    ensures { result ≡ running.is_plain_element (element_of element.now) }
+{
+    match element {
+        Element::Column(_) => true,
+        Element::Period(period) => period.name.is_none(),
+        Element::Constraint(_) => false,
+    }
+}
+
+/// Whether each element of CREATE is a column or the system period.
+fn are_plain_elements(elements: &[Element<'_>]) -> bool
+    ensures { result ≡ list_all running.is_plain_element (map element_of elements.now) }
+{
+    elements.iter().all(|element| is_plain_element(element))
+}
+
+/// Whether a select asks for all columns of one table, and for nothing more.
+fn is_whole_table(select: &Select<'_>) -> bool
+    ensures { result ≡ running.is_whole_table (select_of select.now) }
+{
+    !select.is_distinct
+        && is_star(&select.items)
+        && select.first.joins.is_empty()
+        && select.first.first.alias.is_none()
+        && select.more.is_empty()
+        && select.filter.is_none()
+        && select.grouping.is_empty()
+        && select.having.is_none()
+}
+
+/// Whether a select list is `*`.
+fn is_star(items: &Items<'_>) -> bool
+    ensures { result ≡ binding.is_star (items_of items.now) }
+{
+    match items {
+        Items::All => true,
+        Items::These(_, _) => false,
+    }
+}
+
+/// Whether CREATE runs.
+fn does_create_run(create: &CreateTree<'_>) -> bool
+    ensures { result ≡ running.does_run (create_of create.now) }
+{
+    is_plain_element(&create.first) && are_plain_elements(&create.more)
+}
+
+/// Whether INSERT runs.
+fn does_insert_run(insert: &Insert<'_>) -> bool
+    ensures { result ≡ running.does_run (insert_of insert.now) }
+{
+    match &insert.rows {
+        Rows::Values(first, more) => is_literal_tuple(first) && are_literal_tuples(more),
+        Rows::Select(_) => false,
+    }
+}
+
+/// Whether DELETE runs.
+fn does_delete_run(delete: &Delete<'_>) -> bool
+    ensures { result ≡ running.does_run (delete_of delete.now) }
+{
+    delete.portion.is_none() && delete.filter.is_none()
+}
+
+/// Whether a query runs.
+fn does_query_run(query: &Query<'_>) -> bool
+    ensures { result ≡ running.does_run (query_of query.now) }
+{
+    query.ordering.is_empty() && is_whole_table(&query.select)
+}
+
+/// Whether a statement runs.
+pub fn does_run(statement: &Statement<'_>) -> bool
+    ensures { result ≡ running.does_run (statement_of statement.now) }
+{
+    match statement {
+        Statement::Create(create) => does_create_run(create),
+        Statement::Insert(insert) => does_insert_run(insert),
+        Statement::Delete(delete) => does_delete_run(delete),
+        Statement::Query(query) => does_query_run(query),
+        Statement::StartTransaction | Statement::Commit | Statement::Rollback | Statement::At(_) =>
+            true,
+        Statement::DropTable(_) | Statement::Update(_) => false,
+    }
+}

@@ -1,0 +1,131 @@
+-- Keys and references hold in every copy after each statement of a run.
+use Rattle.std.proofs.Common.{◌≡◌, refl, ap, ◌∙◌, ℕ, Bool, true, false, List, [], ◌∷◌, ◌++◌, map, length}
+use Rattle.std.specs.Prelude.{not, remove, ℤ, Option, Some, None}
+use Rattle.std.specs.List.{AllByRecursion}
+use Rattle.std.proofs.Math.ListN.{length-set}
+use Rattle.tql_spec.specs.Refusal.{E24, E35, E36, fault_if}
+use Rattle.tql_spec.specs.Definition.{Name, TableDef, place_of}
+use Rattle.tql_spec.specs.History.{Copy, Entry}
+use Rattle.tql_spec.specs.Constraint.{keys_hold, references_hold}
+use Rattle.tql_spec.specs.Machine.{State, Bound, CreateTable, DropTable, SetClock, Start, Commit, Rollback, Alter, Ask, changed_table, manner_of, state_faults, effect, newest_copy, constraint_faults}
+use Rattle.tql_spec.specs.Syntax.{Statement, CreateTree, DropTree, InsertValues, InsertSelect, UpdateTree, DeleteTree, QueryTree, StartTree, CommitTree, RollbackTree, AtTree}
+use Rattle.tql_spec.specs.Binding.{bind, or_no_table, is_referenced}
+use Rattle.tql_spec.specs.Run.{CopyHolds, ConstraintsHold, RunsKeepConstraints}
+use Rattle.tql_spec.proofs.RunKeeps.{no_left, no_right, asked_stays, changed_copy, altered_keeps, EffectKeeps, run_keeps}
+use Rattle.tql_spec.proofs.InOrder.{state, no_fault}
+use Rattle.tql_spec.proofs.Constraints.{holds_empty, holds_more, holds_less}
+
+-- ---- DROP TABLE
+
+-- a table that is dropped is one that no reference names
+record IsDropped (defs : List TableDef) (t : ℕ) : Type 0 where
+  name : Name
+  there : place_of name defs ≡ Some t
+  free : is_referenced name defs ≡ false
+
+-- DROP TABLE without a fault drops such a table
+dropped : (defs : List TableDef) (st : Statement) → (bind defs st).faults ≡ [] → (t : ℕ)
+    → (bind defs st).value ≡ DropTable t → IsDropped defs t
+dropped defs (DropTree n) e t q = by_place (place_of n defs) refl e q
+  where
+    by_place : (o : Option ℕ) → place_of n defs ≡ o
+        → (or_no_table o).faults ++ fault_if (is_referenced n defs) E24 ≡ []
+        → DropTable (or_no_table o).value ≡ DropTable t → IsDropped defs t
+    by_place None p f v = absurd (cc)
+    by_place (Some k) p f v =
+        record { name = n; there = p ∙ ap (λ i. Some i) (cc); free = no_fault (is_referenced n defs) E24 f }
+dropped defs (CreateTree n x es versioned) e t q = absurd (cc)
+dropped defs (InsertValues n ns x ts) e t q = absurd (cc)
+dropped defs (InsertSelect n ns s) e t q = absurd (cc)
+dropped defs (UpdateTree n p s ss c) e t q = absurd (cc)
+dropped defs (DeleteTree n p c) e t q = absurd (cc)
+dropped defs (QueryTree s keys) e t q = absurd (cc)
+dropped defs StartTree e t q = absurd (cc)
+dropped defs CommitTree e t q = absurd (cc)
+dropped defs RollbackTree e t q = absurd (cc)
+dropped defs (AtTree m) e t q = absurd (cc)
+
+-- ---- copies
+
+-- keys and references hold in each of some copies
+abbrev EachHolds : List TableDef → List Entry → Type 0
+EachHolds defs es = AllByRecursion (λ (e : Entry). CopyHolds defs e.copy) es
+
+-- what is done to every copy, for CREATE and DROP
+holds_in_each : (g : Copy → Copy) (defs new : List TableDef)
+    → ((copy : Copy) → CopyHolds defs copy → CopyHolds new (g copy)) → (es : List Entry) → EachHolds defs es
+    → EachHolds new (map (λ (e : Entry). record e { copy = g e.copy }) es)
+holds_in_each g defs new k [] h = tt
+holds_in_each g defs new k (e ∷ es) h = (k e.copy h.0, holds_in_each g defs new k es h.1)
+
+-- they hold in the newest copy
+newest_holds : (defs : List TableDef) (es : List Entry) → EachHolds defs es → CopyHolds defs (newest_copy defs es)
+newest_holds defs [] h = holds_empty defs
+newest_holds defs (e ∷ es) h = h.0
+
+-- a test whose contrary fails
+not_not : (b : Bool) → not b ≡ false → b ≡ true
+not_not true e = refl
+not_not false e = cc
+
+-- a change whose result no fault of keys or references refuses
+changed_holds : (defs : List TableDef) (copy : Copy) → length copy ≡ length defs → constraint_faults defs copy ≡ []
+    → CopyHolds defs copy
+changed_holds defs copy n e =
+    let first = no_left (fault_if (not (keys_hold defs copy)) E35) (fault_if (not (references_hold defs copy)) E36) e in
+    let second = no_right (fault_if (not (keys_hold defs copy)) E35)
+    (fault_if (not (references_hold defs copy)) E36) e in
+    record {
+      as_many = n;
+      keys = not_not (keys_hold defs copy) (no_fault (not (keys_hold defs copy)) E35 first);
+      references = not_not (references_hold defs copy) (no_fault (not (references_hold defs copy)) E36 second);
+    }
+
+-- ---- statements and runs
+
+-- each effect keeps keys and references
+effect_holds : (defs : List TableDef) (history : List Entry) (next : ℤ) (begun : Option Entry) (b : Bound)
+    → state_faults (state defs history next begun) (manner_of b) ≡ []
+    → ((t : ℕ) → b ≡ DropTable t → IsDropped defs t)
+    → ConstraintsHold (state defs history next begun) → ConstraintsHold (effect (state defs history next begun) b).1
+effect_holds defs history next None (CreateTable d) e g h =
+    holds_in_each (λ copy. copy ++ [] ∷ []) defs (defs ++ d ∷ []) (holds_more defs d) history h
+effect_holds defs history next (Some w) (CreateTable d) e g h = absurd (cc)
+effect_holds defs history next None (DropTable t) e g h =
+    let k = g t refl in holds_in_each (λ copy. remove copy t) defs (remove defs t)
+    (λ copy. holds_less defs copy k.name t k.there k.free) history h
+effect_holds defs history next (Some w) (DropTable t) e g h = absurd (cc)
+effect_holds defs history next begun (SetClock m) e g h = h
+effect_holds defs history next None Start e g h = (newest_holds defs history h, h)
+effect_holds defs history next (Some w) Start e g h = absurd (cc)
+effect_holds defs history next None Commit e g h = h
+effect_holds defs history next (Some w) Commit e g h = h
+effect_holds defs history next None Rollback e g h = h
+effect_holds defs history next (Some w) Rollback e g h = h.1
+effect_holds defs history next None (Alter c) e g h =
+    let s : State = state defs history next None in
+    altered_keeps ConstraintsHold s c h
+    (λ q. (
+      changed_holds defs (changed_copy s c)
+          (length-set (newest_copy defs history) (changed_table c) _ ∙ (newest_holds defs history h).as_many) q.holds,
+      h,
+    ))
+effect_holds defs history next (Some w) (Alter c) e g h =
+    let s : State = state defs history next (Some w) in
+    altered_keeps ConstraintsHold s c h
+    (λ q. (
+      changed_holds defs (changed_copy s c) (length-set w.copy (changed_table c) _ ∙ h.0.as_many) q.holds,
+      h.1,
+    ))
+effect_holds defs history next begun (Ask q) e g h = asked_stays ConstraintsHold (state defs history next begun) q _ h
+
+-- each statement that is taken keeps them
+keeps_constraints : EffectKeeps ConstraintsHold
+keeps_constraints s t k h =
+    effect_holds s.definitions s.history s.next s.transaction (bind s.definitions t).value k.free
+    (λ i q. dropped s.definitions t k.sound i q) h
+
+-- so does a run
+pub runs_keep_constraints : RunsKeepConstraints
+runs_keep_constraints old new pieces replies h r =
+    run_keeps ConstraintsHold keeps_constraints old pieces replies new r h

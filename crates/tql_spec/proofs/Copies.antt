@@ -1,0 +1,121 @@
+-- The rows of a table in a copy that has changed, and the newest copy.
+use Rattle.std.proofs.Common.{◌≡◌, refl, sym, ap, ◌∙◌, ℕ, zero, suc, ◌+◌, List, [], ◌∷◌, ◌++◌, map, get_or, length, inl, inr, arith, length-append}
+use Rattle.std.specs.Prelude.{◌⊎◌, remove, slice_set, ℤ, Option, Some, None}
+use Rattle.std.proofs.lemmas.List.{length-map}
+use Rattle.std.proofs.Math.ListN.{length-set}
+use Rattle.tql_spec.specs.Bag.{In}
+use Rattle.tql_spec.specs.Definition.{TableDef, Stamped}
+use Rattle.tql_spec.specs.History.{Copy, Entry, rows_in}
+use Rattle.tql_spec.specs.Machine.{State, Bound, CreateTable, DropTable, SetClock, Start, Commit, Rollback, Alter, Ask, changed_table, manner_of, state_faults, effect, newest_copy}
+use Rattle.tql_spec.specs.Binding.{bind}
+use Rattle.tql_spec.specs.Reached.{CopiesFit}
+use Rattle.tql_spec.proofs.MemberLists.{in_image}
+use Rattle.tql_spec.proofs.RunKeeps.{asked_stays, changed_entry, altered_keeps, EffectKeeps}
+use Rattle.tql_spec.proofs.InOrder.{state}
+
+-- ---- the rows of one table
+
+-- one more table, empty
+pub rows_more : (copy : Copy) (t : ℕ) → rows_in (copy ++ [] ∷ []) t ≡ rows_in copy t
+rows_more [] zero = refl
+rows_more [] (suc t) = refl
+rows_more (rows ∷ copy) zero = refl
+rows_more (rows ∷ copy) (suc t) = rows_more copy t
+
+-- where an element stood before one at place k was removed
+abbrev pub skip : ℕ → ℕ → ℕ
+skip zero i = suc i
+skip (suc k) zero = zero
+skip (suc k) (suc i) = suc (skip k i)
+
+-- an element of a list without one stands where it stood, or one place before
+pub removed_at : {X : Type 0} (xs : List X) (k i : ℕ) (d : X) → get_or (remove xs k) i d ≡ get_or xs (skip k i) d
+removed_at [] zero i d = refl
+removed_at [] (suc k) zero d = refl
+removed_at [] (suc k) (suc i) d = refl
+removed_at (x ∷ xs) zero i d = refl
+removed_at (x ∷ xs) (suc k) zero d = refl
+removed_at (x ∷ xs) (suc k) (suc i) d = removed_at xs k i d
+
+-- other rows of one table
+pub rows_set : (copy : Copy) (k : ℕ) (rows : List Stamped) (t : ℕ)
+    → (rows_in (slice_set copy k rows) t ≡ rows_in copy t) ⊎ ((t ≡ k) × (rows_in (slice_set copy k rows) t ≡ rows))
+rows_set [] k rows t = inl refl
+rows_set (x ∷ copy) zero rows zero = inr (refl, refl)
+rows_set (x ∷ copy) zero rows (suc t) = inl refl
+rows_set (x ∷ copy) (suc k) rows zero = inl refl
+rows_set (x ∷ copy) (suc k) rows (suc t) =
+    elim (rows_set copy k rows t) [ inl e ↦ inl e | inr e ↦ inr (ap suc e.0, e.1) ]
+
+-- a new copy has no rows
+pub no_rows : (defs : List TableDef) (t : ℕ) → rows_in (map (λ d. []) defs) t ≡ []
+no_rows [] t = refl
+no_rows (d ∷ defs) zero = refl
+no_rows (d ∷ defs) (suc t) = no_rows defs t
+
+-- ---- copies fit the definitions
+
+-- lists of one length without one element each are of one length
+pub length_removed : {X Y : Type 0} (xs : List X) (ys : List Y) (k : ℕ) → length xs ≡ length ys
+    → length (remove xs k) ≡ length (remove ys k)
+length_removed [] [] zero e = refl
+length_removed [] [] (suc k) e = refl
+length_removed [] (y ∷ ys) k e = absurd (omega arith)
+length_removed (x ∷ xs) [] k e = absurd (omega arith)
+length_removed (x ∷ xs) (y ∷ ys) zero e = omega arith
+length_removed (x ∷ xs) (y ∷ ys) (suc k) e = ap suc (length_removed xs ys k (omega arith))
+
+-- the newest copy has rows for each definition, for what stands on it
+pub newest_fits : (defs : List TableDef) (es : List Entry) → ((e : Entry) → In e es → length e.copy ≡ length defs)
+    → length (newest_copy defs es) ≡ length defs
+newest_fits defs [] f = length-map defs _
+newest_fits defs (e ∷ es) f = f e (inl refl)
+
+-- what is done to every copy, for CREATE and DROP
+each_fits : (g : Copy → Copy) (defs new : List TableDef) (es : List Entry)
+    → ((e : Entry) → In e es → length e.copy ≡ length defs)
+    → ((copy : Copy) → length copy ≡ length defs → length (g copy) ≡ length new)
+    → (e : Entry) → In e (map (λ (x : Entry). record x { copy = g x.copy }) es) → length e.copy ≡ length new
+each_fits g defs new es f k e m =
+    let i = in_image (λ (x : Entry). record x { copy = g x.copy }) e es m in ap (λ (x : Entry). length x.copy) i.2
+    ∙ k i.0.copy (f i.0 i.1)
+
+-- one more entry
+first_fits : (e : Entry) (es : List Entry) (n : ℕ) → length e.copy ≡ n → ((x : Entry) → In x es → length x.copy ≡ n)
+    → (x : Entry) → In x (e ∷ es) → length x.copy ≡ n
+first_fits e es n h k x (inl q) = ap (λ (y : Entry). length y.copy) q ∙ h
+first_fits e es n h k x (inr m) = k x m
+
+-- each effect keeps the number of tables in copies
+effect_fits : (defs : List TableDef) (history : List Entry) (next : ℤ) (begun : Option Entry) (b : Bound)
+    → state_faults (state defs history next begun) (manner_of b) ≡ []
+    → CopiesFit (state defs history next begun) → CopiesFit (effect (state defs history next begun) b).1
+effect_fits defs history next None (CreateTable d) e f =
+    each_fits (λ copy. copy ++ [] ∷ []) defs (defs ++ d ∷ []) history f
+    (λ copy h. length-append copy ([] ∷ []) ∙ ap (λ n. n + 1) h ∙ sym (length-append defs (d ∷ [])))
+effect_fits defs history next (Some w) (CreateTable d) e f = absurd (cc)
+effect_fits defs history next None (DropTable t) e f =
+    each_fits (λ copy. remove copy t) defs (remove defs t) history f (λ copy h. length_removed copy defs t h)
+effect_fits defs history next (Some w) (DropTable t) e f = absurd (cc)
+effect_fits defs history next begun (SetClock m) e f = f
+effect_fits defs history next None Start e f = first_fits _ history (length defs) (newest_fits defs history f) f
+effect_fits defs history next (Some w) Start e f = absurd (cc)
+effect_fits defs history next None Commit e f = f
+effect_fits defs history next (Some w) Commit e f = f
+effect_fits defs history next None Rollback e f = f
+effect_fits defs history next (Some w) Rollback e f = λ x m. f x (inr m)
+effect_fits defs history next None (Alter c) e f =
+    let s : State = state defs history next None in
+    altered_keeps CopiesFit s c f
+    (λ q. first_fits (changed_entry s c) history (length defs)
+    (length-set (newest_copy defs history) (changed_table c) _ ∙ newest_fits defs history f) f)
+effect_fits defs history next (Some w) (Alter c) e f =
+    let s : State = state defs history next (Some w) in
+    altered_keeps CopiesFit s c f
+    (λ q. first_fits (changed_entry s c) history (length defs)
+    (length-set w.copy (changed_table c) _ ∙ f w (inl refl)) (λ x m. f x (inr m)))
+effect_fits defs history next begun (Ask q) e f = asked_stays CopiesFit (state defs history next begun) q _ f
+
+-- each statement that is taken keeps it
+pub keeps_fit : EffectKeeps CopiesFit
+keeps_fit s t k f = effect_fits s.definitions s.history s.next s.transaction (bind s.definitions t).value k.free f

@@ -1,0 +1,107 @@
+-- What each statement keeps, a run keeps.
+use Rattle.std.proofs.Common.{◌≡◌, refl, sym, ap, subst, List, [], ◌∷◌, ◌++◌, inl, inr}
+use Rattle.std.specs.Prelude.{Option, Some, None, slice_set}
+use Rattle.tql_spec.specs.Refusal.{Refusal, first}
+use Rattle.tql_spec.specs.Datum.{Row}
+use Rattle.tql_spec.specs.Query.{Query}
+use Rattle.tql_spec.specs.Change.{Outcome}
+use Rattle.tql_spec.specs.History.{Copy, Entry}
+use Rattle.tql_spec.specs.Machine.{State, Reply, Done, Change, effect, unless, asked, altered, manner_of, state_faults, working, with_working, outcome, changed_table, constraint_faults, verb_of}
+use Rattle.tql_spec.specs.Script.{Piece}
+use Rattle.tql_spec.specs.Syntax.{Statement}
+use Rattle.tql_spec.specs.Binding.{bind, manner}
+use Rattle.tql_spec.specs.Run.{Sense, Says, Faulty, Answers, Run, respond_to, statement_faults}
+use Rattle.tql_spec.proofs.FirstFaults.{none_first, manner_kept}
+
+-- no list is empty whose first part is not
+pub no_left : {X : Type 0} (xs ys : List X) → xs ++ ys ≡ [] → xs ≡ []
+no_left [] ys e = refl
+no_left (x ∷ xs) ys e = absurd (cc)
+
+-- nor one whose second part is not
+pub no_right : {X : Type 0} (xs ys : List X) → xs ++ ys ≡ [] → ys ≡ []
+no_right [] ys e = e
+no_right (x ∷ xs) ys e = absurd (cc)
+
+-- a property of states that a statement can keep
+pub unless_either : (P : State → Type 0) (o : Option Refusal) (old : State) (reply : Reply) (new : State) → P old
+    → (o ≡ None → P new) → P (unless o old reply new).1
+unless_either P None old reply new p q = q refl
+unless_either P (Some e) old reply new p q = p
+
+-- a question leaves the state as it was
+pub asked_stays : (P : State → Type 0) (s : State) (q : Query) (o : Option (List Row)) → P s → P (asked s q o).1
+asked_stays P s q None p = p
+asked_stays P s q (Some rows) p = p
+
+-- the working copy after a change
+abbrev pub changed_copy : State → Change → Copy
+changed_copy s c =
+    let e = working s s.transaction in
+    let o = outcome s e.moment e.copy c in
+    slice_set e.copy (changed_table c) o.rows
+
+-- a change without a fault, on whose result keys and references hold
+pub record IsChange (s : State) (c : Change) : Type 0 where
+  pub sound : (outcome s (working s s.transaction).moment (working s s.transaction).copy c).faults ≡ []
+  pub holds : constraint_faults s.definitions (changed_copy s c) ≡ []
+
+-- the entry after a change
+abbrev pub changed_entry : State → Change → Entry
+changed_entry s c = record { moment = (working s s.transaction).moment; copy = changed_copy s c }
+
+-- a change is refused and leaves the state, or has no fault and keeps what its result keeps
+pub altered_keeps : (P : State → Type 0) (s : State) (c : Change) → P s
+    → (IsChange s c → P (with_working s s.transaction (changed_entry s c))) → P (altered s c).1
+altered_keeps P s c p k =
+    let e : Entry = working s s.transaction in
+    let o : Outcome = outcome s e.moment e.copy c in
+    let copy : Copy = changed_copy s c in
+    unless_either P (first (o.faults ++ constraint_faults s.definitions copy)) s (Done (verb_of c) (Some o.count))
+    (with_working s s.transaction (changed_entry s c)) p
+    (λ q. let none = none_first (o.faults ++ constraint_faults s.definitions copy) q in
+    k (record {
+      sound = no_left o.faults (constraint_faults s.definitions copy) none;
+      holds = no_right o.faults
+          (constraint_faults s.definitions copy) none;
+    }))
+
+-- what a statement is bound to, without a fault of names, and none by the state
+pub record IsTaken (s : State) (t : Statement) : Type 0 where
+  pub sound : (bind s.definitions t).faults ≡ []
+  pub free : state_faults s (manner_of (bind s.definitions t).value) ≡ []
+
+-- a statement without any fault is taken, for answer_keeps
+taken : (s : State) (t : Statement) → first (statement_faults s t) ≡ None → IsTaken s t
+taken s t e =
+    let none = none_first (statement_faults s t) e in
+    let sound = no_right (state_faults s (manner t)) (bind s.definitions t).faults none in
+    record {
+      sound = sound;
+      free = subst (λ m. state_faults s m ≡ []) (manner_kept s.definitions t (ap first sound))
+          (no_left (state_faults s (manner t)) (bind s.definitions t).faults none);
+    }
+
+-- the effect keeps the property, of each statement that is taken
+abbrev pub EffectKeeps : (State → Type 0) → Type 0
+EffectKeeps P = (s : State) (t : Statement) → IsTaken s t → P s → P (effect s (bind s.definitions t).value).1
+
+-- an answer keeps what each effect keeps
+answer_keeps : (P : State → Type 0) → EffectKeeps P → (s : State) (sense : Sense) → P s → P (respond_to s sense).1
+answer_keeps P k s (Faulty e) p = p
+answer_keeps P k s (Says t) p =
+    let r = effect s (bind s.definitions t).value in
+    unless_either P (first (statement_faults s t)) s r.0 r.1 p (λ e. k s t (taken s t e) p)
+
+-- so does a run: the laws of states that a run reaches stand on this
+pub run_keeps : (P : State → Type 0) → EffectKeeps P
+    → (old : State) (pieces : List Piece) (replies : List Reply) (new : State) → Run old pieces replies new → P old
+    → P new
+run_keeps P k old [] [] new r p = subst P (sym r) p
+run_keeps P k old [] (x ∷ xs) new r p = absurd r
+run_keeps P k old (p' ∷ ps) [] new r p = absurd r
+run_keeps P k old (p' ∷ ps) (x ∷ xs) new r p = run_keeps P k r.0 ps xs new r.2 (one r.1)
+  where
+    one : Answers old p' x r.0 → P r.0
+    one (inl a) = subst P (sym (ap (λ (y : Reply × State). y.1) a.2)) (answer_keeps P k old a.0 p)
+    one (inr e) = subst P (sym e.1) p

@@ -1,0 +1,250 @@
+-- Each copy leaves the rows of the one before it as often as they were, or takes them away: kept by each statement,
+-- and why rows are steady.
+use Rattle.std.proofs.Common.{◌≡◌, refl, sym, ap, subst, ◌∙◌, ℕ, List, [], ◌∷◌, ◌++◌, map, inl, inr, arith}
+use Rattle.std.specs.Prelude.{◌⊎◌, slice_set, remove, ℤ, ◌<ℤ◌, ◌≤ℤ◌, Option, Some, None}
+use Rattle.std.proofs.lemmas.Int.{ints}
+use Rattle.tql_spec.specs.Bag.{In}
+use Rattle.tql_spec.specs.Calendar.{high}
+use Rattle.tql_spec.specs.Definition.{TableDef, Stamped}
+use Rattle.tql_spec.specs.History.{Copy, Entry, FallingFrom, Falling, rows_in}
+use Rattle.tql_spec.specs.Machine.{State, Bound, CreateTable, DropTable, SetClock, Start, Commit, Rollback, Alter, Ask, Change, outcome, changed_table, manner_of, state_faults, effect, entries, newest_copy, new_state}
+use Rattle.tql_spec.specs.Binding.{bind}
+use Rattle.tql_spec.specs.Spans.{times, InEach, IsSteady}
+use Rattle.tql_spec.specs.Reached.{IsInOrder, ReachedAreSteady, ReachedReadBySpans}
+use Rattle.tql_spec.proofs.MemberLists.{times_some, times_none, there_if}
+use Rattle.tql_spec.proofs.RunKeeps.{asked_stays, altered_keeps, EffectKeeps, run_keeps}
+use Rattle.tql_spec.proofs.InOrder.{state, keeps_in_order, first_in_order, reached_in_order}
+use Rattle.tql_spec.proofs.Copies.{rows_more, skip, removed_at, rows_set, no_rows}
+use Rattle.tql_spec.proofs.Steady.{Passes, change_passes}
+use Rattle.tql_spec.proofs.SpanLaws.{reads_by_spans}
+use Rattle.tql_spec.proofs.SteadyRanges.{steady_ranges_agree}
+
+-- ---- one copy after another
+
+-- rows of a copy of the moment m: those that began before m stand as often as in an older one or not at all, and none
+-- begins later
+record Leaves (m : ℤ) (rows old : List Stamped) : Type 0 where
+  as_before : (r : Stamped) → r.start <ℤ m → (times r rows ≡ 0) ⊎ (times r rows ≡ times r old)
+  not_after : (r : Stamped) → In r rows → r.start ≤ℤ m
+
+-- in each table
+abbrev Follows : ℤ → Copy → Copy → Type 0
+Follows m copy old = (t : ℕ) → Leaves m (rows_in copy t) (rows_in old t)
+
+-- the newest copy, none before any commit
+abbrev newest : List Entry → Copy
+newest [] = []
+newest (e ∷ es) = e.copy
+
+-- each copy follows the one before it
+abbrev Chain : List Entry → Type 0
+Chain [] = Unit {0}
+Chain (e ∷ es) = Follows e.moment e.copy (newest es) × Chain es
+
+-- ---- from copies that follow one another to steady rows
+
+-- a row that began before the copies down to an older one is in each of them, as often
+down_to : (t : ℕ) (r : Stamped) (c : Entry) (between : List Entry) (d : Entry) (older : List Entry)
+    → Chain (c ∷ (between ++ d ∷ older)) → FallingFrom c.moment (between ++ d ∷ older)
+    → In r (rows_in c.copy t) → r.start ≤ℤ d.moment
+    → InEach t between r × (times r (rows_in c.copy t) ≡ times r (rows_in d.copy t))
+down_to t r c [] d older k f n h = (
+  (λ x m. absurd m),
+  elim ((k.0 t).as_before r (omega (arith, ints, h, f.0))) [
+    | inl z ↦ absurd (omega (arith, z, times_some r (rows_in c.copy t) n))
+    | inr e ↦ e
+  ],
+)
+down_to t r c (e ∷ between) d older k f n h =
+    let sooner : d.moment <ℤ e.moment = below e.moment between f.1 in
+    let same : times r (rows_in c.copy t) ≡ times r (rows_in e.copy t) = elim
+    ((k.0 t).as_before r (omega (arith, ints, h, sooner, f.0))) [
+      | inl z ↦ absurd (omega (arith, z, times_some r (rows_in c.copy t) n))
+      | inr q ↦ q
+    ] in
+    let there : In r (rows_in e.copy t) = there_if r (rows_in e.copy t)
+    (omega (arith, same, times_some r (rows_in c.copy t) n)) in
+    let rest = down_to t r e between d older k.1 f.1 there h in (
+      (λ x m. elim m [ inl q ↦ subst (λ (y : Entry). In r (rows_in y.copy t)) (sym q) there | inr i ↦ rest.0 x i ]),
+      same ∙ rest.1,
+    )
+  where
+    below : (until : ℤ) (xs : List Entry) → FallingFrom until (xs ++ d ∷ older) → d.moment <ℤ until
+    below until [] g = g.0
+    below until (x ∷ xs) g = let l = below x.moment xs g.1 in omega (arith, ints, g.0)
+
+-- of two entries one stands before the other, or they are one
+part_at : (x : Entry) (xs : List Entry) → In x xs
+    → (before : List Entry) × (after : List Entry) × (xs ≡ before ++ x ∷ after)
+part_at x [] m = absurd m
+part_at x (y ∷ ys) (inl e) = ([], ys, ap {B = List Entry} (λ (z : Entry). z ∷ ys) (sym e))
+part_at x (y ∷ ys) (inr m) = let p = part_at x ys m in (y ∷ p.0, p.1, ap {B = List Entry} (λ zs. y ∷ zs) p.2)
+
+-- what holds of all copies holds of those from some copy on
+drop_chain : (newer es : List Entry) → Chain (newer ++ es) → Chain es
+drop_chain [] es k = k
+drop_chain (x ∷ newer) es k = drop_chain newer es k.1
+
+-- and their moments fall
+drop_falling : (until : ℤ) (newer : List Entry) (c : Entry) (es : List Entry) → FallingFrom until (newer ++ c ∷ es)
+    → FallingFrom c.moment es
+drop_falling until [] c es f = f.1
+drop_falling until (x ∷ newer) c es f = drop_falling x.moment newer c es f.1
+
+-- no row of a copy begins after it
+begun_by : (t : ℕ) (r : Stamped) (d : Entry) (older : List Entry) → Chain (d ∷ older) → In r (rows_in d.copy t)
+    → r.start ≤ℤ d.moment
+begun_by t r d older k n = (k.0 t).not_after r n
+
+-- the newest copy and an older one
+newest_and : (t : ℕ) (r : Stamped) (c : Entry) (es : List Entry) (d : Entry) → Chain (c ∷ es)
+    → FallingFrom c.moment es → In d es → In r (rows_in c.copy t) → In r (rows_in d.copy t)
+    → times r (rows_in c.copy t) ≡ times r (rows_in d.copy t)
+newest_and t r c es d k f m n o =
+    let p = part_at d es m in
+    let chain : Chain (c ∷ (p.0 ++ d ∷ p.1)) = subst (λ xs. Chain (c ∷ xs)) p.2 k in
+    (down_to t r c p.0 d p.1 chain (subst (FallingFrom c.moment) p.2 f) n
+    (begun_by t r d p.1 (drop_chain (c ∷ p.0) (d ∷ p.1) chain) o)).1
+
+-- a row stands equally often in any two copies that have it
+one_for_all : (t : ℕ) (until : ℤ) (es : List Entry) → Chain es → FallingFrom until es → (r : Stamped) (c d : Entry)
+    → In c es → In d es → In r (rows_in c.copy t) → In r (rows_in d.copy t)
+    → times r (rows_in c.copy t) ≡ times r (rows_in d.copy t)
+one_for_all t until [] k f r c d m n i j = absurd m
+one_for_all t until (e ∷ es) k f r c d (inl p) (inl q) i j =
+    ap (λ (x : Entry). times r (rows_in x.copy t)) (p ∙ sym q)
+one_for_all t until (e ∷ es) k f r c d (inl p) (inr n) i j =
+    ap (λ (x : Entry). times r (rows_in x.copy t)) p
+    ∙ newest_and t r e es d k f.1 n (subst (λ (x : Entry). In r (rows_in x.copy t)) p i) j
+one_for_all t until (e ∷ es) k f r c d (inr m) (inl q) i j =
+    sym (ap (λ (x : Entry). times r (rows_in x.copy t)) q
+    ∙ newest_and t r e es c k f.1 m (subst (λ (x : Entry). In r (rows_in x.copy t)) q j) i)
+one_for_all t until (e ∷ es) k f r c d (inr m) (inr n) i j = one_for_all t e.moment es k.1 f.1 r c d m n i j
+
+-- a chain of copies is steady
+steady : (t : ℕ) (es : List Entry) → Chain es → Falling es → IsSteady t es
+steady t es k f = record {
+  one_multiplicity = λ r c d m n i j. one_for_all t high es k f r c d m n i j;
+  no_return = λ r newer between older c d q i j.
+      let chain : Chain (c ∷ (between ++ d ∷ older)) = drop_chain newer (c ∷ (between ++ d ∷ older))
+      (subst Chain q k) in
+      let falls : FallingFrom c.moment (between ++ d ∷ older) = drop_falling high newer c (between ++ d ∷ older)
+      (subst Falling q f) in
+      (down_to t r c between d older chain falls i
+      (begun_by t r d older (drop_chain (c ∷ between) (d ∷ older) chain) j)).0;
+}
+
+-- ---- what a statement keeps
+
+-- the same rows in other places
+leaves_as : (m : ℤ) {rows rows' old old' : List Stamped} → rows' ≡ rows → old' ≡ old → Leaves m rows old
+    → Leaves m rows' old'
+leaves_as m {rows} {rows'} {old} {old'} p q l = subst (λ x. Leaves m x old') (sym p) (subst (Leaves m rows) (sym q) l)
+
+-- each table stands in each copy where another stood, none beyond the last
+chain_in_each : (g : Copy → Copy) (from : ℕ → ℕ)
+    → ((copy : Copy) (t : ℕ) → rows_in (g copy) t ≡ rows_in copy (from t)) → (es : List Entry) → Chain es
+    → Chain (map (λ (e : Entry). record e { copy = g e.copy }) es)
+chain_in_each g from h [] k = tt
+chain_in_each g from h (e
+    ∷ es) k = ((λ t. leaves_as e.moment (h e.copy t) (below es t) (k.0 (from t))), chain_in_each g from h es k.1)
+  where
+    below : (xs : List Entry) (t : ℕ)
+        → rows_in (newest (map (λ (x : Entry). record x { copy = g x.copy }) xs)) t ≡ rows_in (newest xs) (from t)
+    below [] t = refl
+    below (x ∷ xs) t = h x.copy t
+
+-- a copy of the copies' newest, later than it
+leaves_same : (m : ℤ) (defs : List TableDef) (es : List Entry) → Chain es → FallingFrom m es
+    → Follows m (newest_copy defs es) (newest es)
+leaves_same m defs [] k f t = record {
+  as_before = λ r h. inl (times_none r (rows_in (newest_copy defs []) t)
+      (λ n. subst (λ xs. In r xs) (no_rows defs t) n));
+  not_after = λ r n. absurd (subst (λ xs. In r xs) (no_rows defs t) n);
+}
+leaves_same m defs (e ∷ es) k f t =
+    record {
+      as_before = λ r h. inr refl;
+      not_after = λ r n. let l = (k.0 t).not_after r n in omega
+          (arith, ints, l, f.0);
+    }
+
+-- a change in one copy
+changed_follows : (s : State) (m : ℤ) (copy old : Copy) (c : Change) → Follows m copy old
+    → Follows m (slice_set copy (changed_table c) (outcome s m copy c).rows) old
+changed_follows s m copy old c k t = elim (rows_set copy (changed_table c) (outcome s m copy c).rows t) [
+  | inl e ↦ leaves_as m e refl (k t)
+  | inr e ↦ leaves_as m e.1 refl
+      (after (change_passes s m copy c) (subst (λ i. Leaves m (rows_in copy i) (rows_in old t)) e.0 (k t)))
+]
+  where
+    after : {rows new before : List Stamped} → Passes m rows new → Leaves m rows before → Leaves m new before
+    after p l = record {
+      as_before = λ r h. elim (p.as_before r h) [
+        | inl z ↦ inl z
+        | inr e ↦ elim (l.as_before r h) [ inl z ↦ inl (e ∙ z) | inr q ↦ inr (e ∙ q) ]
+      ];
+      not_after = p.not_after l.not_after;
+    }
+
+-- in order, and each copy follows the one before it
+record IsChained (s : State) : Type 0 where
+  in_order : IsInOrder s
+  chain : Chain (entries s)
+
+-- each effect keeps the chain
+effect_chained : (defs : List TableDef) (history : List Entry) (next : ℤ) (begun : Option Entry) (b : Bound)
+    → state_faults (state defs history next begun) (manner_of b) ≡ []
+    → IsInOrder (state defs history next begun) → Chain (entries (state defs history next begun))
+    → Chain (entries (effect (state defs history next begun) b).1)
+effect_chained defs history next None (CreateTable d) e o k =
+    chain_in_each (λ copy. copy ++ [] ∷ []) (λ t. t) rows_more history k
+effect_chained defs history next (Some w) (CreateTable d) e o k = absurd (cc)
+effect_chained defs history next None (DropTable t) e o k =
+    chain_in_each (λ copy. remove copy t) (skip t) (λ copy i. removed_at copy t i []) history k
+effect_chained defs history next (Some w) (DropTable t) e o k = absurd (cc)
+effect_chained defs history next begun (SetClock m) e o k = k
+effect_chained defs history next None Start e o k = (leaves_same next defs history k o.below_clock, k)
+effect_chained defs history next (Some w) Start e o k = absurd (cc)
+effect_chained defs history next None Commit e o k = k
+effect_chained defs history next (Some w) Commit e o k = k
+effect_chained defs history next None Rollback e o k = k
+effect_chained defs history next (Some w) Rollback e o k = k.1
+effect_chained defs history next None (Alter c) e o k =
+    let s : State = state defs history next None in
+    altered_keeps (λ x. Chain (entries x)) s c k
+    (λ q. (
+      changed_follows s next (newest_copy defs history) (newest history) c
+          (leaves_same next defs history k o.below_clock),
+      k,
+    ))
+effect_chained defs history next (Some w) (Alter c) e o k =
+    let s : State = state defs history next (Some w) in
+    altered_keeps (λ x. Chain (entries x)) s c k (λ q. (changed_follows s w.moment w.copy (newest history) c k.0, k.1))
+effect_chained defs history next begun (Ask q) e o k =
+    asked_stays (λ x. Chain (entries x)) (state defs history next begun) q _ k
+
+-- each statement that is taken keeps it
+keeps_chained : EffectKeeps IsChained
+keeps_chained s t k c = record {
+  in_order = keeps_in_order s t k c.in_order;
+  chain = effect_chained s.definitions s.history s.next s.transaction
+      (bind s.definitions t).value k.free c.in_order c.chain;
+}
+
+-- rows are steady in every state that a run reaches
+pub reached_are_steady : ReachedAreSteady
+reached_are_steady s r t =
+    let c = run_keeps IsChained keeps_chained new_state r.pieces r.replies s r.run
+    (record { in_order = first_in_order; chain = tt }) in
+    steady t (entries s) c.chain c.in_order.falling
+
+-- so questions there find what spans say, and any copy met will do
+pub reached_read_by_spans : ReachedReadBySpans
+reached_read_by_spans s r t =
+    let falling = (reached_in_order s r).falling in
+    record {
+      by_spans = reads_by_spans t (entries s) falling;
+      any_copy = λ a b. steady_ranges_agree t a b
+          (entries s) falling (reached_are_steady s r t);
+    }

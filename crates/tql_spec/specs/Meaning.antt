@@ -1,0 +1,28 @@
+-- A script means one thing: what a piece says, and what a run replies. tql_grammar has the proofs, of the whole
+-- grammar.
+use Rattle.std.specs.Prelude.{◌≡◌, List}
+use Rattle.tql_spec.specs.Bag.{In}
+use Rattle.tql_spec.specs.Refusal.{E01}
+use Rattle.tql_spec.specs.Machine.{State, Reply, Refused}
+use Rattle.tql_spec.specs.Script.{Piece}
+use Rattle.tql_spec.specs.Grammar.{IsStatement}
+use Rattle.tql_spec.specs.Running.{Runs}
+use Rattle.tql_spec.specs.Run.{Language, Sense, HasSense, Run}
+
+-- in the language a piece says one thing, or has one first fault
+abbrev pub HasOneSense : Language → Type 0
+HasOneSense L = (p : Piece) (a b : Sense) → HasSense L p a → HasSense L p b → a ≡ b
+
+-- the law: a piece has one sense, among the statements that run and in the whole grammar
+abbrev pub SensesAreOne : Type 0
+SensesAreOne = HasOneSense Runs × HasOneSense IsStatement
+
+-- no reply is out of memory
+abbrev pub NoneOutOfMemory : List Reply → Type 0
+NoneOutOfMemory replies = (r : Reply) → In r replies → r ≡ Refused E01 → ⊥
+
+-- the law: two runs from one state over the same pieces, neither out of memory, reply the same and end alike
+abbrev pub RunsAgree : Type 0
+RunsAgree = (old new new' : State) (pieces : List Piece) (replies replies' : List Reply)
+    → Run old pieces replies new → Run old pieces replies' new' → NoneOutOfMemory replies → NoneOutOfMemory replies'
+    → (replies ≡ replies') × (new ≡ new')

@@ -1,0 +1,62 @@
+-- What holds in every state that a run reaches.
+use Rattle.std.specs.Prelude.{◌≡◌, ℕ, ◌+◌, List, length, ℤ, Some}
+use Rattle.tql_spec.specs.Bag.{In}
+use Rattle.tql_spec.specs.Definition.{TableDef, Stamped, table_at}
+use Rattle.tql_spec.specs.Binding.{generated_columns}
+use Rattle.tql_spec.specs.History.{Entry, FallingFrom, Falling, rows_in}
+use Rattle.tql_spec.specs.Spans.{IsSteady, QuestionsBySpans, AnyCopyMetWill}
+use Rattle.tql_spec.specs.Machine.{State, Reply, entries, new_state}
+use Rattle.tql_spec.specs.Script.{Piece}
+use Rattle.tql_spec.specs.Run.{Run}
+
+-- some run from the first state ends in the state
+pub record IsReached (s : State) : Type 0 where
+  pub pieces : List Piece
+  pub replies : List Reply
+  pub run : Run new_state pieces replies s
+
+-- ---- the order of commits
+
+-- the moments fall from the newest copy to the oldest, below the highest and, of those committed, below the clock; an
+-- open
+-- transaction has the clock's
+pub record IsInOrder (s : State) : Type 0 where
+  pub falling : Falling (entries s)
+  pub below_clock : FallingFrom s.next s.history
+  pub opened : (e : Entry) → s.transaction ≡ Some e → e.moment ≡ s.next
+
+-- each copy has rows for each definition
+abbrev pub CopiesFit : State → Type 0
+CopiesFit s = (e : Entry) → In e (entries s) → length e.copy ≡ length s.definitions
+
+-- a row has a cell for each column of its table that is not generated
+abbrev pub Fits : TableDef → Stamped → Type 0
+Fits d r = length r.cells + length (generated_columns d.system) ≡ length d.columns
+
+-- each row of each copy fits its table
+abbrev pub RowsFit : State → Type 0
+RowsFit s =
+    (e : Entry) → In e (entries s) → (t : ℕ) (r : Stamped) → In r (rows_in e.copy t) → Fits (table_at s.definitions t) r
+
+-- the law: every state that a run reaches is in order
+abbrev pub ReachedAreInOrder : Type 0
+ReachedAreInOrder = (s : State) → IsReached s → IsInOrder s
+
+-- the law: its copies and their rows fit its definitions
+abbrev pub ReachedFit : Type 0
+ReachedFit = (s : State) → IsReached s → CopiesFit s × RowsFit s
+
+-- ---- rows and questions
+
+-- the law: in every state that a run reaches, rows are steady, in each table
+abbrev pub ReachedAreSteady : Type 0
+ReachedAreSteady = (s : State) → IsReached s → (t : ℕ) → IsSteady t (entries s)
+
+-- each question of a table finds what the spans of the copies say, and of a range any copy met will do
+pub record ReadsInReached (s : State) (t : ℕ) : Type 0 where
+  pub by_spans : QuestionsBySpans t (entries s)
+  pub any_copy : (a b : ℤ) → AnyCopyMetWill t a b (entries s)
+
+-- the law: so it is in every state that a run reaches
+abbrev pub ReachedReadBySpans : Type 0
+ReachedReadBySpans = (s : State) → IsReached s → (t : ℕ) → ReadsInReached s t

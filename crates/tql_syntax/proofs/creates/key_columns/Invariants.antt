@@ -1,8 +1,0 @@
-use Rattle.std.proofs.Common.{◌≡◌, ◌-◌, [], map}
-use Rattle.tql_syntax.specs.Outcome.{more, repeated}
-use Rattle.tql_syntax.specs.ReadingStatements.{next_key_column}
-use Rattle.tql_syntax.specs.Expressions.{name_of}
-use Rattle.tql_syntax.proofs.creates.key_columns.Given as goal
-
-abbrev pub invariant-loop-turn : goal.invariant-loop-turn
-invariant-loop-turn l = more next_key_column [] l.fn.tokens ≡ repeated next_key_column (l._turn-end - l._turn) (map name_of l.found.items) l.tokens

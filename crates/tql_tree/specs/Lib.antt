@@ -1,0 +1,4 @@
+pub mod Expressions
+pub mod Conditions
+pub mod Statements
+pub mod Trees

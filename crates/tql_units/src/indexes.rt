@@ -1,0 +1,69 @@
+// The indexes of periods, each as a list of steps.
+use crate::line::Line;
+use crate::parts::{count, int, period, write_yes};
+use crate::stop::Stop;
+use std::alloc::AllocError;
+use tql_index::index::{Id, IntervalIndex};
+use tql_index::list_index::ListIndex;
+use tql_index::tree_index::TreeIndex;
+use tql_memory::Memory;
+use tql_period::period::Period;
+
+/// An entry: a period and a number, with `#` between them.
+fn entry(text: &str) -> Result<(Period, Id), Stop> {
+    let (ends, id) = text.split_once('#').ok_or(Stop::Form)?;
+    Ok((period(ends)?, count(id)?))
+}
+
+/// Writes numbers by rising size.
+fn write_ids(out: &mut String, mut ids: Vec<Id, Memory>) -> Result<(), AllocError> {
+    ids.sort()?;
+    for id in &ids {
+        write!(out, "{id} ")?;
+    }
+    Ok(())
+}
+
+fn remove<I: IntervalIndex>(index: &mut I, out: &mut String, rest: &str) -> Result<(), Stop> {
+    let (period, id) = entry(rest)?;
+    write_yes(out, index.remove(period, id))?;
+    Ok(())
+}
+
+fn add<I: IntervalIndex>(index: &mut I, rest: &str) -> Result<(), Stop> {
+    let (period, id) = entry(rest)?;
+    index.add(period, id)?;
+    Ok(())
+}
+
+/// Makes a step, and writes what it finds.
+fn make<I: IntervalIndex>(index: &mut I, out: &mut String, step: &str) -> Result<(), Stop> {
+    let (word, rest) = step.split_once(' ').ok_or(Stop::Form)?;
+    match word {
+        "add" => return add(index, rest),
+        "remove" => remove(index, out, rest)?,
+        "at" => write_ids(out, index.stab(int(rest)?)?)?,
+        "over" => write_ids(out, index.overlapping(period(rest)?)?)?,
+        _ => return Err(Stop::Form),
+    }
+    out.push(';')?;
+    Ok(())
+}
+
+/// Makes steps on a new index.
+fn run<I: IntervalIndex>(memory: Memory, out: &mut String, steps: &str) -> Result<(), Stop> {
+    let mut index = I::new(memory);
+    for step in steps.split("; ") {
+        make(&mut index, out, step)?;
+    }
+    Ok(())
+}
+
+/// Answers a line about indexes.
+pub fn answer(memory: Memory, line: &Line<'_>, out: &mut String) -> Result<(), Stop> {
+    match line.command {
+        "list" => run::<ListIndex>(memory, out, line.input),
+        "tree" => run::<TreeIndex>(memory, out, line.input),
+        _ => Err(Stop::Form),
+    }
+}

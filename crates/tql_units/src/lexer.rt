@@ -1,0 +1,169 @@
+// The tokens of a text, and the pieces of a script.
+ghost use Rattle.std.specs.Prelude.{◌≡◌, ◌<◌};
+
+use crate::line::Line;
+use crate::parts::{count, sides, two, write_yes};
+use crate::stop::Stop;
+use std::alloc::AllocError;
+use tql_lex::splitter::{Piece, Splitter};
+use tql_lex::token::{Symbol, Token, TokenKind};
+use tql_lex::tokens::tokens;
+use tql_memory::Memory;
+
+const SYMBOLS: [Symbol; 13] = [
+    Symbol::Open,
+    Symbol::Close,
+    Symbol::Comma,
+    Symbol::Dot,
+    Symbol::PlusSign,
+    Symbol::MinusSign,
+    Symbol::Star,
+    Symbol::EqualSign,
+    Symbol::UnequalSign,
+    Symbol::LessSign,
+    Symbol::AtMostSign,
+    Symbol::MoreSign,
+    Symbol::AtLeastSign,
+];
+
+/// A letter for each kind of token.
+fn letter(kind: TokenKind) -> char {
+    match kind {
+        TokenKind::Word => 'w',
+        TokenKind::QuotedName => 'n',
+        TokenKind::Number => 'd',
+        TokenKind::Quote => 't',
+        TokenKind::Sign(_) => 's',
+    }
+}
+
+/// What a token says, behind the letter of its kind.
+fn write_token(out: &mut String, memory: Memory, token: &Token<'_>) -> Result<(), Stop> {
+    let content = token.content(memory)?;
+    write!(out, "{}{content} ", letter(token.kind))?;
+    Ok(())
+}
+
+fn write_tokens(out: &mut String, memory: Memory, text: &str) -> Result<(), Stop> {
+    let found = tokens(memory, text)?;
+    for token in &found {
+        write_token(out, memory, token)?;
+    }
+    Ok(())
+}
+
+/// Where each token starts, and its text as it is written.
+fn write_places(out: &mut String, memory: Memory, text: &str) -> Result<(), Stop> {
+    let found = tokens(memory, text)?;
+    for token in &found {
+        write!(out, "{}:{} ", token.start, token.text)?;
+    }
+    Ok(())
+}
+
+/// Whether each token is reserved.
+fn write_reserved(out: &mut String, memory: Memory, text: &str) -> Result<(), Stop> {
+    let found = tokens(memory, text)?;
+    for token in &found {
+        out.push(if token.is_reserved() { 'Y' } else { 'N' })?;
+    }
+    Ok(())
+}
+
+/// Which of the symbols the first token is.
+fn write_symbols(out: &mut String, memory: Memory, text: &str) -> Result<(), Stop> {
+    let found = tokens(memory, text)?;
+    let token = found.first().ok_or(Stop::Form)?;
+    for (place, symbol) in SYMBOLS.iter().enumerate() {
+        if token.is_sign(*symbol) {
+            write!(out, "{place} ")?;
+        }
+    }
+    Ok(())
+}
+
+/// Whether the first token is the word.
+fn write_is_word(out: &mut String, memory: Memory, input: &str) -> Result<(), Stop> {
+    let (text, word) = sides(input)?;
+    let found = tokens(memory, text)?;
+    let token = found.first().ok_or(Stop::Form)?;
+    write_yes(out, token.is_word(word))?;
+    Ok(())
+}
+
+/// Writes a text, or how long it is where it is not UTF-8, and a mark behind it.
+fn write_text(out: &mut String, text: &[u8], mark: char) -> Result<(), AllocError> {
+    match str::from_utf8(text) {
+        Ok(text) => write!(out, "{text}{mark}"),
+        Err(_) => write!(out, "{} bytes{mark}", text.len()),
+    }
+}
+
+fn write_piece(out: &mut String, piece: Piece<'_>) -> Result<(), AllocError> {
+    match piece {
+        Piece::Text(text) => write_text(out, text, '|'),
+        Piece::Unfinished(text) => write_text(out, text, '?'),
+        Piece::TooLong => out.push('!'),
+        Piece::NoMemory => out.push('0'),
+    }
+}
+
+/// Writes all pieces that there are now.
+fn drain(out: &mut String, splitter: &mut Splitter) -> Result<(), AllocError>
+    ensures { splitter.new.ended ≡ splitter.old.ended }
+{
+    while let Some(piece) = splitter.next_statement() {
+        write_piece(out, piece)?;
+    }
+    Ok(())
+}
+
+/// A text's bytes, with the byte 0xff, which no UTF-8 has, in the place of each replacement character.
+fn bytes_of(memory: Memory, text: &str) -> Result<Vec<u8, Memory>, AllocError> {
+    let mut bytes = Vec::new(memory);
+    for (place, part) in text.split('\u{fffd}').enumerate() {
+        if place > 0 {
+            bytes.push(0xff)?;
+        }
+        bytes.extend_from_slice(part.as_bytes())?;
+    }
+    Ok(bytes)
+}
+
+/// The pieces of a script that is fed in parts of this size.
+fn write_pieces(out: &mut String, memory: Memory, size: usize, script: &[u8]) -> Result<(), Stop>
+    requires { 0 < size }
+{
+    let mut splitter = Splitter::new(memory);
+    for part in script.chunks(size) {
+        splitter.feed(part)?;
+        drain(out, &mut splitter)?;
+    }
+    splitter.finish();
+    drain(out, &mut splitter)?;
+    Ok(())
+}
+
+/// The pieces of a script behind the size of the parts in which it is fed.
+fn cut(out: &mut String, memory: Memory, input: &str) -> Result<(), Stop> {
+    let (size, script) = two(input)?;
+    let size = count(size)?;
+    if size == 0 {
+        return Err(Stop::Form);
+    }
+    let bytes = bytes_of(memory, script)?;
+    write_pieces(out, memory, size, &bytes)
+}
+
+/// Answers a line about tokens or pieces.
+pub fn answer(memory: Memory, line: &Line<'_>, out: &mut String) -> Result<(), Stop> {
+    match line.command {
+        "tokens" => write_tokens(out, memory, line.input),
+        "places" => write_places(out, memory, line.input),
+        "reserved" => write_reserved(out, memory, line.input),
+        "symbols" => write_symbols(out, memory, line.input),
+        "word" => write_is_word(out, memory, line.input),
+        "cut" => cut(out, memory, line.input),
+        _ => Err(Stop::Form),
+    }
+}

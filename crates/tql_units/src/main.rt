@@ -1,0 +1,81 @@
+// Reads the lines of the files of data/, answers each, and prints how many lines a file has. Before that it prints each
+// line whose answer is not the one that it asks for.
+//
+//     rt try $(for file in data/*; do echo --data $(basename $file)=$file; done)
+#![tactic(auto)]
+
+mod answer;
+mod calendar;
+mod indexes;
+mod inserts;
+mod lexer;
+mod line;
+mod parts;
+mod periods;
+mod replies;
+mod stop;
+mod values;
+
+use crate::answer::{Subject, answer_in_turn};
+use crate::line::{Line, is_case, line_of, unmarked};
+use std::fs::Files;
+use std::{fs, io};
+
+/// The files, and what each is about.
+const FILES: [(&str, Subject); 7] = [
+    ("calendar", Subject::Calendar),
+    ("indexes", Subject::Indexes),
+    ("inserts", Subject::Inserts),
+    ("lexer", Subject::Lexer),
+    ("periods", Subject::Periods),
+    ("replies", Subject::Replies),
+    ("values", Subject::Values),
+];
+
+/// Whether a line is answered as it asks for; else it is printed with its answer.
+fn is_met(rt: &(impl Print + AllocGlobal), subject: Subject, line: &Line<'_>) -> io::Result<bool> {
+    let answer = answer_in_turn(rt, subject, line)?;
+    if answer.as_str() == line.wanted {
+        return Ok(true);
+    }
+    println!(rt; "{} {} -> {}", line.command, line.input, answer)?;
+    Ok(false)
+}
+
+/// Whether a line as it is written in a file is met.
+fn is_right(rt: &(impl Print + AllocGlobal), subject: Subject, written: &str) -> io::Result<bool> {
+    let text = unmarked(rt.alloc(), written)?;
+    match line_of(text.as_str()) {
+        Some(line) => is_met(rt, subject, &line),
+        None => {
+            println!(rt; "no line: {text}")?;
+            Ok(false)
+        }
+    }
+}
+
+/// Answers the lines of a file, and prints how many they are.
+fn check_file(
+    rt: &(impl Print + Files + AllocGlobal),
+    name: &str,
+    subject: Subject,
+) -> io::Result<()> {
+    let path = format!(in rt.alloc(); "{name}.txt")?;
+    let text = fs::read_to_string(rt, &path)?;
+    let mut lines = 0u64;
+    let mut wrong = 0u64;
+    for written in text.lines().filter(|written| is_case(written)) {
+        lines = lines.saturating_add(1);
+        if !is_right(rt, subject, written)? {
+            wrong = wrong.saturating_add(1);
+        }
+    }
+    println!(rt; "{name}: {lines} lines, {wrong} wrong")
+}
+
+fn main(rt: HostRuntime) -> io::Result<()> {
+    for (name, subject) in FILES {
+        check_file(&rt, name, subject)?;
+    }
+    Ok(())
+}

@@ -1,0 +1,112 @@
+// Parts of a line, read and written.
+use crate::stop::Stop;
+use std::alloc::AllocError;
+use tql_memory::Memory;
+use tql_period::period::Period;
+use tql_value::value::{Value, View};
+
+/// What stands on both sides of the first ` | `.
+pub fn sides(text: &str) -> Result<(&str, &str), Stop> {
+    text.split_once(" | ").ok_or(Stop::Form)
+}
+
+/// Two parts with a blank between them.
+pub fn two(text: &str) -> Result<(&str, &str), Stop> {
+    text.split_once(' ').ok_or(Stop::Form)
+}
+
+/// A whole number.
+pub fn int(text: &str) -> Result<i64, Stop> {
+    text.parse().map_err(|_| Stop::Form)
+}
+
+/// A whole number that is not negative.
+pub fn count(text: &str) -> Result<usize, Stop> {
+    text.parse().map_err(|_| Stop::Form)
+}
+
+/// A period, by its ends.
+pub fn period(text: &str) -> Result<Period, Stop> {
+    let (start, end) = two(text)?;
+    Period::new(int(start)?, int(end)?).ok_or(Stop::Form)
+}
+
+/// A text in quotes.
+fn quoted(text: &str) -> Result<View<'_>, Stop> {
+    let behind = text.strip_prefix('\'').ok_or(Stop::Form)?;
+    let content = behind.strip_suffix('\'').ok_or(Stop::Form)?;
+    Ok(View::Text(content))
+}
+
+/// A value: `NULL`, a number, `day N`, `moment N`, or a text in quotes, in which a quote stands once.
+pub fn view(text: &str) -> Result<View<'_>, Stop> {
+    if text == "NULL" {
+        return Ok(View::Null);
+    }
+    if let Some(day) = text.strip_prefix("day ") {
+        return Ok(View::Day(int(day)?));
+    }
+    if let Some(moment) = text.strip_prefix("moment ") {
+        return Ok(View::Moment(int(moment)?));
+    }
+    match int(text) {
+        Ok(number) => Ok(View::Int(number)),
+        Err(_) => quoted(text),
+    }
+}
+
+/// Two values.
+pub fn two_views(text: &str) -> Result<(View<'_>, View<'_>), Stop> {
+    let (a, b) = sides(text)?;
+    Ok((view(a)?, view(b)?))
+}
+
+/// Writes a value as `view` reads it.
+pub fn write_view(out: &mut String, view: View<'_>) -> Result<(), AllocError> {
+    match view {
+        View::Null => out.push_str("NULL"),
+        View::Int(number) => write!(out, "{number}"),
+        View::Text(text) => write!(out, "'{text}'"),
+        View::Day(day) => write!(out, "day {day}"),
+        View::Moment(moment) => write!(out, "moment {moment}"),
+    }
+}
+
+/// Writes `yes` or `no`.
+pub fn write_yes(out: &mut String, holds: bool) -> Result<(), AllocError> {
+    out.push_str(if holds { "yes" } else { "no" })
+}
+
+/// A value in memory of its own.
+fn value(memory: Memory, text: &str) -> Result<Value, Stop> {
+    Ok(view(text)?.to_value(memory)?)
+}
+
+/// Values with `, ` between them.
+pub fn row(memory: Memory, text: &str) -> Result<Vec<Value, Memory>, Stop> {
+    let mut row = Vec::new(memory);
+    for part in text.split(", ") {
+        row.push(value(memory, part)?)?;
+    }
+    Ok(row)
+}
+
+/// Rows with `; ` between them, or none.
+pub fn rows(memory: Memory, text: &str) -> Result<Vec<Vec<Value, Memory>, Memory>, Stop> {
+    let mut rows = Vec::new(memory);
+    for part in text.split("; ").filter(|part| !part.is_empty()) {
+        rows.push(row(memory, part)?)?;
+    }
+    Ok(rows)
+}
+
+/// Writes a row as `row` reads it.
+pub fn write_row(out: &mut String, row: &[Value]) -> Result<(), AllocError> {
+    for (place, value) in row.iter().enumerate() {
+        if place > 0 {
+            out.push_str(", ")?;
+        }
+        write_view(out, value.view())?;
+    }
+    Ok(())
+}

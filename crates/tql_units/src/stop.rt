@@ -1,0 +1,40 @@
+// Why a line has no answer of its own.
+use std::alloc::{AllocError, AllocFailed};
+use tql_value::refusal::Refusal;
+
+/// Why a line has no answer of its own.
+#[derive(Clone, Copy)]
+pub enum Stop {
+    /// The line is not written as its command wants it.
+    Form,
+    /// What is asked was refused.
+    Refused(Refusal),
+}
+
+impl Stop {
+    /// What is answered in its place.
+    pub fn text(self) -> &'static str {
+        match self {
+            Stop::Form => "this is not how the line is written",
+            Stop::Refused(refusal) => refusal.text(),
+        }
+    }
+}
+
+impl From<Refusal> for Stop {
+    fn from(refusal: Refusal) -> Self {
+        Stop::Refused(refusal)
+    }
+}
+
+impl From<AllocError> for Stop {
+    fn from(_error: AllocError) -> Self {
+        Stop::Refused(Refusal::OutOfMemory)
+    }
+}
+
+impl<T: Drop> From<AllocFailed<T>> for Stop {
+    fn from(_failed: AllocFailed<T>) -> Self {
+        Stop::Refused(Refusal::OutOfMemory)
+    }
+}

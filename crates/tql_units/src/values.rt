@@ -1,0 +1,203 @@
+// Comparison, order, arithmetic, truths, texts, numbers of tables, and refusals.
+use crate::line::Line;
+use crate::parts::{count, two, two_views, view, write_view};
+use crate::stop::Stop;
+use std::alloc::AllocError;
+use std::cmp::Ordering;
+use tql_memory::Memory;
+use tql_value::arithmetic::{Range, add, mul, sub};
+use tql_value::comparison::{Comparison, compare, order};
+use tql_value::refusal::Refusal;
+use tql_value::table::TableId;
+use tql_value::text::{Text, characters};
+use tql_value::truth::Truth;
+use tql_value::value::{Kind, Value, View};
+
+const SIGNS: [Comparison; 6] = [
+    Comparison::Equal,
+    Comparison::NotEqual,
+    Comparison::Less,
+    Comparison::LessOrEqual,
+    Comparison::Greater,
+    Comparison::GreaterOrEqual,
+];
+
+const REFUSALS: [Refusal; 25] = [
+    Refusal::OutOfMemory,
+    Refusal::NotAStatement,
+    Refusal::NotUtf8,
+    Refusal::UnfinishedStatement,
+    Refusal::StatementTooLong,
+    Refusal::NestedTooDeep,
+    Refusal::TooManyColumnsOrTables,
+    Refusal::TooManyTablesOrReaders,
+    Refusal::TableUnknownOrAlreadyThere,
+    Refusal::NameUnknownAmbiguousOrRepeated,
+    Refusal::TypesDoNotFit,
+    Refusal::FormNotAllowedHere,
+    Refusal::TableIsReferenced,
+    Refusal::ValueOutOfRange,
+    Refusal::PortionNotRising,
+    Refusal::NullNotAllowed,
+    Refusal::PeriodNotRising,
+    Refusal::CheckFailed,
+    Refusal::DuplicateKey,
+    Refusal::ReferenceNotMet,
+    Refusal::NotInThisTransactionState,
+    Refusal::MomentNotAllowed,
+    Refusal::BeforeTheHorizon,
+    Refusal::ReaderNotUsable,
+    Refusal::ReadersAreOpen,
+];
+
+/// A truth value as `F`, `U` or `T`.
+pub fn letter(truth: Truth) -> char {
+    match truth {
+        Truth::False => 'F',
+        Truth::Unknown => 'U',
+        Truth::True => 'T',
+    }
+}
+
+fn truth(letter: &str) -> Result<Truth, Stop> {
+    match letter {
+        "F" => Ok(Truth::False),
+        "U" => Ok(Truth::Unknown),
+        "T" => Ok(Truth::True),
+        _ => Err(Stop::Form),
+    }
+}
+
+fn two_truths(text: &str) -> Result<(Truth, Truth), Stop> {
+    let (a, b) = two(text)?;
+    Ok((truth(a)?, truth(b)?))
+}
+
+fn write_truth(out: &mut String, truth: Truth) -> Result<(), Stop> {
+    out.push(letter(truth))?;
+    Ok(())
+}
+
+/// What each sign says of two values, and how they are ordered.
+fn write_comparison(out: &mut String, a: View<'_>, b: View<'_>) -> Result<(), Stop> {
+    if !a.is_comparable_with(b) {
+        out.push_str("apart")?;
+        return Ok(());
+    }
+    for sign in SIGNS {
+        out.push(letter(compare(sign, a, b)))?;
+    }
+    out.push_str(match order(a, b) {
+        Ordering::Less => " less",
+        Ordering::Equal => " equal",
+        Ordering::Greater => " greater",
+    })?;
+    Ok(())
+}
+
+fn write_kind(out: &mut String, kind: Option<Kind>) -> Result<(), AllocError> {
+    out.push_str(match kind {
+        None => "none",
+        Some(Kind::Int) => "number",
+        Some(Kind::Text) => "text",
+        Some(Kind::Day) => "day",
+        Some(Kind::Moment) => "moment",
+    })
+}
+
+/// A value, and a copy of it.
+fn write_copies(out: &mut String, memory: Memory, view: View<'_>) -> Result<(), Stop> {
+    let value = view.to_value(memory)?;
+    write_view(out, value.view())?;
+    out.push_str(" and ")?;
+    let copy: Value = value.clone()?;
+    write_view(out, copy.view())?;
+    Ok(())
+}
+
+/// How many characters a text has, and how many bytes.
+fn write_lengths(out: &mut String, memory: Memory, content: &str) -> Result<(), Stop> {
+    let text = Text::from(String::from_str(memory, content)?);
+    let characters = characters(text.as_str());
+    write!(out, "{} of {} bytes", characters, text.as_str().len())?;
+    Ok(())
+}
+
+fn write_calculated(out: &mut String, calculated: Result<View<'_>, Range>) -> Result<(), Stop> {
+    match calculated {
+        Ok(view) => write_view(out, view)?,
+        Err(range) => out.push_str(Refusal::from(range).text())?,
+    }
+    Ok(())
+}
+
+fn write_table(out: &mut String, number: usize) -> Result<(), Stop> {
+    match TableId::new(u16::try_from(number).map_err(|_| Stop::Form)?) {
+        Some(table) => write!(out, "{}", table.number())?,
+        None => out.push_str("none")?,
+    }
+    Ok(())
+}
+
+/// The refusal of a number.
+pub fn refusal(number: &str) -> Result<Refusal, Stop> {
+    let number = count(number)?;
+    let found = REFUSALS
+        .iter()
+        .find(|refusal| refusal.number() as usize == number);
+    found.copied().ok_or(Stop::Form)
+}
+
+/// The place of a refusal in the order of report, its text, and how it is displayed.
+fn write_refusal(out: &mut String, refusal: Refusal) -> Result<(), Stop> {
+    write!(out, "{} {} = {refusal}", refusal.place(), refusal.text())?;
+    Ok(())
+}
+
+fn write_earlier(out: &mut String, text: &str) -> Result<(), Stop> {
+    let (a, b) = two(text)?;
+    write!(out, "{}", refusal(a)?.earlier(refusal(b)?).number())?;
+    Ok(())
+}
+
+/// What is calculated of two values.
+fn answer_calculation(line: &Line<'_>, out: &mut String) -> Result<(), Stop> {
+    let (a, b) = two_views(line.input)?;
+    match line.command {
+        "compare" => write_comparison(out, a, b),
+        "add" => write_calculated(out, add(a, b)),
+        "sub" => write_calculated(out, sub(a, b)),
+        "mul" => write_calculated(out, mul(a, b)),
+        _ => Err(Stop::Form),
+    }
+}
+
+/// What is said of truth values.
+fn answer_truth(line: &Line<'_>, out: &mut String) -> Result<(), Stop> {
+    if line.command == "not" {
+        return write_truth(out, truth(line.input)?.not());
+    }
+    let (a, b) = two_truths(line.input)?;
+    write_truth(
+        out,
+        if line.command == "and" {
+            a.and(b)
+        } else {
+            a.or(b)
+        },
+    )
+}
+
+/// Answers a line about values.
+pub fn answer(memory: Memory, line: &Line<'_>, out: &mut String) -> Result<(), Stop> {
+    match line.command {
+        "and" | "or" | "not" => answer_truth(line, out),
+        "kind" => Ok(write_kind(out, view(line.input)?.kind())?),
+        "copies" => write_copies(out, memory, view(line.input)?),
+        "lengths" => write_lengths(out, memory, line.input),
+        "table" => write_table(out, count(line.input)?),
+        "refusal" => write_refusal(out, refusal(line.input)?),
+        "earlier" => write_earlier(out, line.input),
+        _ => answer_calculation(line, out),
+    }
+}

@@ -1,2 +1,0 @@
-mod calendar;
-mod values;
