@@ -4,8 +4,9 @@
 # make edits    tries the edits that the prover must refuse: all, or CRATE=name, or EDIT=name too
 # make lines    tries the program's command lines, in a minute or two and without a proof
 # make bench-index   proves and runs the program that times the two indexes; COUNTS="1000 10000" are its numbers of entries
+# make copies   looks whether the scripts of crates/tql_cases/data/cases/copies are what tools/copies.py writes
 # make cost     what each crate weighs in the gate, and which are over a bound
-.PHONY: run build test edits lines bench-index cost
+.PHONY: run build test edits lines bench-index copies cost
 SCRIPT ?= crates/tql_cases/data/cases/examples/march.sql
 
 run:
@@ -25,6 +26,9 @@ lines:
 
 bench-index:
 	@benches/index.sh $(COUNTS)
+
+copies:
+	@tools/copies.py --look
 
 cost:
 	@tools/cost.py

@@ -1,7 +1,7 @@
 -- INSERT into a table that is found.
-use Rattle.std.specs.Prelude.{◌≡◌, refl, ℕ, zero, suc, true, false, List, [], ◌∷◌, map, Some, None, IsTrue, slice_index_or, ◌<◌, length}
+use Rattle.std.specs.Prelude.{◌≡◌, ℕ, true, false, List, map, Some, None, IsTrue}
 use Rattle.std.specs.List.{list_all, list_any}
-use Rattle.std.proofs.Common.{sym, ap, subst, ◌∙◌, arith}
+use Rattle.std.proofs.Common.{sym, ap, subst, ◌∙◌}
 use Rattle.tql_spec.specs.Refusal.{Refusal, first}
 use Rattle.tql_spec.specs.Datum.{Row}
 use Rattle.tql_spec.specs.Definition.{Name, TableDef, table_at, place_of}
@@ -10,23 +10,12 @@ use Rattle.tql_spec.specs.Machine.{Alter, InsertTuples}
 use Rattle.tql_spec.specs.Binding.{insert_values, is_generated}
 use Rattle.tql_spec.specs.Running.{is_literal_tuple}
 use Rattle.tql_spec.specs.Syntax.{Tuple}
-use Rattle.tql_catalog.specs.Definitions.{def_of, definitions_of}
-use Rattle.tql_catalog.specs.Simple.{are_assignable}
-use Rattle.tql_catalog.specs.declared.table.Table.{Table}
+use Rattle.tql_catalog.specs.Rows.{are_assignable}
 use Rattle.tql_bind.specs.Spellings.{Spelling, tuple_spellings}
 use Rattle.tql_bind.specs.Inserts.{columns_checked, rows_checked}
 use Rattle.tql_bind.proofs.InsertLaws.{columns_refused, rows_told, rows_value}
 use Rattle.tql_bind.proofs.ChosenLaws.{may_be_filled}
 use Rattle.tql_bind.proofs.RowLaws.{rows_assignable}
-
--- the definition of a table that is there
-definition_of_place : (tables : List Table) (i : ℕ) (t : Table) → i < length tables → def_of (slice_index_or tables i t).definition ≡ table_at (definitions_of tables) i
-definition_of_place [] i t h = absurd (omega (arith, h))
-definition_of_place (x ∷ tables) zero t h = refl
-definition_of_place (x ∷ tables) (suc i) t h = definition_of_place tables i t (omega (arith, h))
-
-pub definition_there : (tables : List Table) (i : ℕ) (t : Table) → i < length tables → t ≡ slice_index_or tables i t → def_of t.definition ≡ table_at (definitions_of tables) i
-definition_there tables i t h e = ap (λ (k : Table). def_of k.definition) e ∙ definition_of_place tables i t h
 
 module _ (defs : List TableDef) (n : Name) (t : ℕ) (ns : List Name) (ts : List Tuple) (l : list_all is_literal_tuple ts ≡ true) (e : place_of n defs ≡ Some t) where
   abbrev tuples : List (List Spelling)

@@ -1,8 +1,8 @@
 -- The cells that are literals, bound.
 use Rattle.std.specs.Prelude.{◌≡◌, refl, ℕ, ◌^◌, Bool, true, false, not, nat_le, List, [], ◌++◌, ℤ, pos, neg_ℤ, Option, Some, None, option_map, is_none, if◌then◌else◌}
 use Rattle.tql_spec.specs.Calendar.{number_of, read_date, read_timestamp}
-use Rattle.tql_spec.specs.Datum.{Datum, Int, Day, Moment, Kind, Days, Moments}
-use Rattle.tql_spec.specs.Refusal.{E30, fault_if}
+use Rattle.tql_spec.specs.Datum.{Datum, Null, Int, Day, Moment, Kind, Days, Moments}
+use Rattle.tql_spec.specs.Refusal.{ValueOutOfRange, fault_if}
 use Rattle.tql_spec.specs.Expression.{Literal}
 use Rattle.tql_spec.specs.Names.{Checked, Typed, literal}
 use Rattle.tql_spec.specs.Binding.{cell}
@@ -12,21 +12,21 @@ use Rattle.tql_bind.specs.Spellings.{Spelling, cell_spelling, spelled_kind, spel
 
 -- what is bound is what is spelled
 pub record IsBoundTo (c : Checked Typed) (s : Spelling) : Type 0 where
-  pub faults : c.faults ≡ fault_if (is_out s) E30
+  pub faults : c.faults ≡ fault_if (is_out s) ValueOutOfRange
   pub kind : c.value.kind ≡ spelled_kind s
   pub expr : (v : Datum) → spelled_value s ≡ Some v → c.value.expr ≡ Literal v
 
 -- ---- numbers
 
-number_fault : (b : Bool) (v : Datum) → ((fault_if (not b) E30 ++ []) ++ []) ++ [] ≡ fault_if (is_none (if b then Some v else None)) E30
+number_fault : (b : Bool) (v : Datum) → ((fault_if (not b) ValueOutOfRange ++ []) ++ []) ++ [] ≡ fault_if (is_none (if b then Some v else None)) ValueOutOfRange
 number_fault true v = refl
 number_fault false v = refl
 
-plus_fault : (b : Bool) (v : Datum) → (((fault_if (not b) E30 ++ []) ++ []) ++ []) ++ [] ≡ fault_if (is_none (if b then Some v else None)) E30
+plus_fault : (b : Bool) (v : Datum) → (((fault_if (not b) ValueOutOfRange ++ []) ++ []) ++ []) ++ [] ≡ fault_if (is_none (if b then Some v else None)) ValueOutOfRange
 plus_fault true v = refl
 plus_fault false v = refl
 
-value_where : (b : Bool) (v w : Datum) → (if b then Some v else None) ≡ Some w → Literal v ≡ Literal w
+value_where : (b : Bool) (v w : Datum) → (if b then Some v else None) ≡ Some w → Literal (if b then v else Null) ≡ Literal w
 value_where true v w e = cc
 value_where false v w e = absurd cc
 

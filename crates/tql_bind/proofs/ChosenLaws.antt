@@ -3,12 +3,12 @@ use Rattle.std.specs.Prelude.{◌≡◌, refl, ℕ, suc, ◌+◌, Bool, true, fa
 use Rattle.std.specs.List.{list_all, list_any}
 use Rattle.std.proofs.Common.{sym, ap, ◌∙◌, arith, eqb-true}
 use Rattle.std.proofs.lemmas.List.{length-map}
-use Rattle.tql_spec.specs.Refusal.{E21, first}
+use Rattle.tql_spec.specs.Refusal.{NameUnknownAmbiguousOrRepeated, first}
 use Rattle.tql_spec.specs.Definition as spec
 use Rattle.tql_spec.specs.Definition.{TableDef}
 use Rattle.tql_spec.specs.Creation.{names_of, repeats}
 use Rattle.tql_spec.specs.Binding.{all_assignable, is_generated}
-use Rattle.tql_catalog.specs.Simple.{numbers_repeat, are_assignable}
+use Rattle.tql_catalog.specs.Rows.{numbers_repeat, are_assignable}
 use Rattle.tql_tree.specs.Expressions.{name_of}
 use Rattle.tql_tree.specs.declared.expression.Name.{Name}
 use Rattle.tql_bind.specs.Inserts.{columns_checked}
@@ -34,13 +34,13 @@ module _ (d : TableDef) where
 
   -- a column that stands twice
   pub named_twice : (names : List Name) (is : List ℕ) → (length names == 0) ≡ false → places (names_of d) (map name_of names) ≡ Some is → numbers_repeat is ≡ true
-      → first (columns_checked d (map name_of names)).faults ≡ Some E21
+      → first (columns_checked d (map name_of names)).faults ≡ Some NameUnknownAmbiguousOrRepeated
   named_twice [] is h e r = absurd cc
   named_twice (n ∷ names) is h e r =
       columns_level d (map name_of (n ∷ names)) ∙ (λ i. level (is_none (e i) || (same_repeats (names_of d) (map name_of (n ∷ names)) is e ∙ r) i) false false false)
 
   -- a name that is no column's
-  pub named_unknown : (names : List Name) → (length names == 0) ≡ false → places (names_of d) (map name_of names) ≡ None → first (columns_checked d (map name_of names)).faults ≡ Some E21
+  pub named_unknown : (names : List Name) → (length names == 0) ≡ false → places (names_of d) (map name_of names) ≡ None → first (columns_checked d (map name_of names)).faults ≡ Some NameUnknownAmbiguousOrRepeated
   named_unknown [] h e = absurd cc
   named_unknown (n ∷ names) h e = columns_level d (map name_of (n ∷ names)) ∙ (λ i. level (is_none (e i) || repeats (map name_of (n ∷ names))) false false false)
 

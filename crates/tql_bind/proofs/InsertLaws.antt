@@ -2,7 +2,7 @@
 use Rattle.std.specs.Prelude.{◌≡◌, refl, ℕ, Bool, true, false, ◌||◌, List, [], ◌∷◌, ◌++◌, map, Option, Some, None, is_none}
 use Rattle.std.specs.List.{list_all, list_any}
 use Rattle.std.proofs.Common.{sym, ap, ◌∙◌, append-nil, append_assoc}
-use Rattle.tql_spec.specs.Refusal.{Refusal, E20, E21, E23, E30, first, fault_if}
+use Rattle.tql_spec.specs.Refusal.{Refusal, TableUnknownOrAlreadyThere, NameUnknownAmbiguousOrRepeated, FormNotAllowedHere, ValueOutOfRange, first, fault_if}
 use Rattle.tql_spec.specs.Datum.{Row}
 use Rattle.tql_spec.specs.Definition.{Name, TableDef, table_at, place_of}
 use Rattle.tql_spec.specs.Expression.{Expr, Literal}
@@ -28,8 +28,8 @@ bad_names d (k ∷ ns) = is_none (places (names_of d) (k ∷ ns)) || repeats (k 
 listed_first : (names ns : List Name) (n m g o : Bool) (rest : List Refusal) → first rest ≡ level n m g o
     → first ((column_numbers names ns).faults ++ rest) ≡ level ((is_none (places names ns) || repeats ns) || n) m g o
 listed_first names ns n m g o rest h =
-    rw (append_assoc (check_each (column_number names) ns).faults (fault_if (repeats ns) E21) rest, either_assoc (is_none (places names ns)) (repeats ns) n)
-    (numbers_first names ns (repeats ns || n) m g o (fault_if (repeats ns) E21 ++ rest) (name_first (repeats ns) n m g o rest h))
+    rw (append_assoc (check_each (column_number names) ns).faults (fault_if (repeats ns) NameUnknownAmbiguousOrRepeated) rest, either_assoc (is_none (places names ns)) (repeats ns) n)
+    (numbers_first names ns (repeats ns || n) m g o (fault_if (repeats ns) NameUnknownAmbiguousOrRepeated ++ rest) (name_first (repeats ns) n m g o rest h))
 
 -- their first fault
 pub columns_level : (d : TableDef) (ns : List Name) → first (columns_checked d ns).faults ≡ level (bad_names d ns) false false false
@@ -48,12 +48,12 @@ filled_first : (d : TableDef) (ns : List Name) (n m g o : Bool) (rest : List Ref
 filled_first d [] n m g o rest h = rw (all_free d) h
 filled_first d (k ∷ ns) n m g o rest h =
     let b : Bool = list_any (is_generated d) (column_numbers (names_of d) (k ∷ ns)).value in
-    rw (append_assoc (column_numbers (names_of d) (k ∷ ns)).faults (fault_if b E23) rest)
-    (listed_first (names_of d) (k ∷ ns) n m (b || g) o (fault_if b E23 ++ rest) (generated_first b n m g o rest h))
+    rw (append_assoc (column_numbers (names_of d) (k ∷ ns)).faults (fault_if b FormNotAllowedHere) rest)
+    (listed_first (names_of d) (k ∷ ns) n m (b || g) o (fault_if b FormNotAllowedHere ++ rest) (generated_first b n m g o rest h))
 
 -- ---- the rows
 
-out_alone : (o : Bool) → first (fault_if o E30) ≡ level false false false o
+out_alone : (o : Bool) → first (fault_if o ValueOutOfRange) ≡ level false false false o
 out_alone true = refl
 out_alone false = refl
 
@@ -64,7 +64,7 @@ rows_level d is tuples =
     let m : Bool = list_any (misfits (kinds_for d is)) tuples in
     let g : Bool = list_any (is_generated d) is in
     let o : Bool = is_none (spelled_rows tuples) in
-    misfit_first m false false (g || false) o (fault_if g E23 ++ fault_if o E30) (generated_first g false false false o (fault_if o E30) (out_alone o))
+    misfit_first m false false (g || false) o (fault_if g FormNotAllowedHere ++ fault_if o ValueOutOfRange) (generated_first g false false false o (fault_if o ValueOutOfRange) (out_alone o))
     ∙ (λ i. level false (either_false m i) (either_false g i) o)
 
 -- ---- all of it
@@ -103,7 +103,7 @@ module _ (ns : List Name) (ts : List Tuple) (l : list_all is_literal_tuple ts �
       ∙ ap (λ (is : List ℕ). level (bad_names d ns) (list_any (misfits (kinds_for d is)) tuples) g o) (filled_value d ns)
 
   -- an unknown table
-  pub unknown : (defs : List TableDef) (n : Name) → place_of n defs ≡ None → first (insert_values defs n ns ts).faults ≡ Some E20
+  pub unknown : (defs : List TableDef) (n : Name) → place_of n defs ≡ None → first (insert_values defs n ns ts).faults ≡ Some TableUnknownOrAlreadyThere
   unknown defs n e =
       let d : TableDef = table_at defs 0 in
       ap (λ (o : Option ℕ). first (into defs (or_no_table o) ns ts).faults) e

@@ -4,12 +4,12 @@ use Rattle.std.specs.List.{list_all, list_any, range_with_len}
 use Rattle.std.specs.Cmp.Lexicographic.{texts_ties, bytes_decides}
 use Rattle.std.proofs.Common.{sym, ap, subst, ◌∙◌, arith, append-nil, append_assoc, eq-eqb, eqb-true, ne_eqb, lt-ltb}
 use Rattle.tql_spec.specs.Words.{same_text, map_all}
-use Rattle.tql_spec.specs.Refusal.{Refusal, E21, first, fault_if}
+use Rattle.tql_spec.specs.Refusal.{Refusal, NameUnknownAmbiguousOrRepeated, first, fault_if}
 use Rattle.tql_spec.specs.Definition.{Name, TableDef, next_place}
 use Rattle.tql_spec.specs.Names.{check_each}
 use Rattle.tql_spec.specs.Creation.{has_name, repeats, number_in, or_first, column_number, has_number}
 use Rattle.tql_spec.specs.Binding.{all_assignable, is_generated}
-use Rattle.tql_catalog.specs.Simple.{numbers_repeat}
+use Rattle.tql_catalog.specs.Rows.{numbers_repeat}
 use Rattle.tql_bind.proofs.FaultLaws.{level, name_first, either_assoc}
 use Rattle.tql_bind.proofs.TupleLaws.{front_parts, none_front}
 
@@ -85,7 +85,7 @@ same_repeats names (n ∷ ns) is f =
 
 -- ---- the numbers, bound
 
-or_first_fault : (o : Option ℕ) → (or_first o).faults ≡ fault_if (is_none o) E21
+or_first_fault : (o : Option ℕ) → (or_first o).faults ≡ fault_if (is_none o) NameUnknownAmbiguousOrRepeated
 or_first_fault None = refl
 or_first_fault (Some i) = refl
 
@@ -193,27 +193,3 @@ not_not false = refl
 -- none of them is generated
 pub all_free : (d : TableDef) → list_any (is_generated d) (all_assignable d) ≡ false
 all_free d = (λ k. list_any (λ i. sym (not_not (is_generated d i)) k) (all_assignable d)) ∙ kept_pass (λ i. not (is_generated d i)) 0 (length d.columns)
-
--- a column more of those that are not generated
-pub one_more_free : (d : TableDef) (done all : List ℕ) (a end : ℕ) → a < end → is_generated d a ≡ false
-    → done ++ filter (λ i. not (is_generated d i)) (range_with_len a (end - a)) ≡ all
-    → (done ++ a ∷ []) ++ filter (λ i. not (is_generated d i)) (range_with_len (a + 1) (end - (a + 1))) ≡ all
-one_more_free d done all a end h g e =
-    let behind : List ℕ = filter (λ i. not (is_generated d i)) (range_with_len (a + 1) (end - (a + 1))) in
-    let one_more : end - a ≡ suc (end - (a + 1)) = omega (arith, h) in
-    let whole : filter (λ i. not (is_generated d i)) (range_with_len a (end - a)) ≡ a ∷ behind =
-    ap (λ (n : ℕ). filter (λ i. not (is_generated d i)) (range_with_len a n)) one_more
-    ∙ ap (λ (b : Bool). if not b then a ∷ behind else behind) g in
-    append_assoc done (a ∷ []) behind ∙ ap (λ (is : List ℕ). done ++ is) (sym whole) ∙ e
-
--- a generated column
-pub one_more_generated : (d : TableDef) (done all : List ℕ) (a end : ℕ) → a < end → is_generated d a ≡ true
-    → done ++ filter (λ i. not (is_generated d i)) (range_with_len a (end - a)) ≡ all
-    → done ++ filter (λ i. not (is_generated d i)) (range_with_len (a + 1) (end - (a + 1))) ≡ all
-one_more_generated d done all a end h g e =
-    let behind : List ℕ = filter (λ i. not (is_generated d i)) (range_with_len (a + 1) (end - (a + 1))) in
-    let one_more : end - a ≡ suc (end - (a + 1)) = omega (arith, h) in
-    let whole : filter (λ i. not (is_generated d i)) (range_with_len a (end - a)) ≡ behind =
-    ap (λ (n : ℕ). filter (λ i. not (is_generated d i)) (range_with_len a n)) one_more
-    ∙ ap (λ (b : Bool). if not b then a ∷ behind else behind) g in
-    ap (λ (is : List ℕ). done ++ is) (sym whole) ∙ e

@@ -1,13 +1,12 @@
 -- A question for all columns of one table: what it is bound to, and the first of its faults.
-use Rattle.std.specs.Prelude.{◌≡◌, ◌<◌, refl, ℕ, suc, Bool, option_map, true, false, List, [], ◌∷◌, ◌++◌, map, length, ℤ, Option, Some, None, is_none, Ok, Err}
+use Rattle.std.specs.Prelude.{◌≡◌, refl, ℕ, suc, Bool, true, false, List, [], ◌∷◌, ◌++◌, map, length, ℤ, Option, Some, None, is_none, is_some, not, Ok, Err}
 use Rattle.std.specs.List.{list_any}
-use Rattle.std.proofs.Common.{ap, sym, subst, ◌∙◌, append-nil, get_or}
-use Rattle.std.proofs.lemmas.List.{get_or-map, length-map}
+use Rattle.std.proofs.Common.{ap, sym, subst, ◌∙◌, append-nil}
 use Rattle.tql_spec.specs.Calendar.{read_timestamp}
 use Rattle.tql_spec.specs.Refusal as spec
-use Rattle.tql_spec.specs.Refusal.{E20, E23, E30, earlier, first, fault_if}
+use Rattle.tql_spec.specs.Refusal.{TableUnknownOrAlreadyThere, FormNotAllowedHere, ValueOutOfRange, earlier, first, fault_if}
 use Rattle.tql_spec.specs.Expression.{Expr}
-use Rattle.tql_spec.specs.Definition.{Name, Column, TableDef, place_of, no_table, table_at}
+use Rattle.tql_spec.specs.Definition.{Name, Column, TableDef, place_of, table_at}
 use Rattle.tql_spec.specs.History as history
 use Rattle.tql_spec.specs.Machine.{Bound, Ask}
 use Rattle.tql_spec.specs.Names.{Checked, ◌>>=◌, sound}
@@ -15,9 +14,6 @@ use Rattle.tql_spec.specs.Syntax.{RefTree, SelectTree, AllColumns, QueryTree, Sp
 use Rattle.tql_spec.specs.Creation.{has_aggregate, nests_aggregates}
 use Rattle.tql_spec.specs.Binding.{Output, all_columns_from, or_bad_moment, or_no_table, moment, table_number, when, bind}
 use Rattle.tql_value.specs.declared.refusal.Refusal.{Refusal}
-use Rattle.tql_catalog.specs.Definitions.{system_of, def_of, definitions_of}
-use Rattle.tql_catalog.specs.declared.definition.System.{System}
-use Rattle.tql_catalog.specs.declared.table.Table.{Table}
 use Rattle.tql_bind.specs.Bounds.{whole_table}
 use Rattle.tql_define.specs.Binds.{Binds}
 use Rattle.tql_bind.specs.Clauses.{asks_past, clause, asked}
@@ -98,21 +94,21 @@ versioned d (FromToTree a b) e = rw e (λ i. record { faults = sym (append-nil (
 versioned d (BetweenTree a b) e = rw e (λ i. record { faults = sym (append-nil ((moment a).faults ++ ((moment b).faults ++ []))) i; value = history.Between (moment a).value (moment b).value })
 
 -- the faults of a clause come behind an unknown table, and its moments behind a table without versions
-moment_behind : (x : spec.Refusal) (o : Option ℤ) → earlier x (Some E30) ≡ x → earlier x (first ((or_bad_moment o).faults ++ [])) ≡ x
+moment_behind : (x : spec.Refusal) (o : Option ℤ) → earlier x (Some ValueOutOfRange) ≡ x → earlier x (first ((or_bad_moment o).faults ++ [])) ≡ x
 moment_behind x None k = k
 moment_behind x (Some m) k = refl
 
-range_behind : (x : spec.Refusal) (o p : Option ℤ) → earlier x (Some E30) ≡ x → earlier x (first ((or_bad_moment o).faults ++ ((or_bad_moment p).faults ++ []))) ≡ x
+range_behind : (x : spec.Refusal) (o p : Option ℤ) → earlier x (Some ValueOutOfRange) ≡ x → earlier x (first ((or_bad_moment o).faults ++ ((or_bad_moment p).faults ++ []))) ≡ x
 range_behind x None None k = k
 range_behind x None (Some m) k = k
 range_behind x (Some m) None k = k
 range_behind x (Some m) (Some l) k = refl
 
-pub unversioned : (d : TableDef) (span : SpanTree) → is_none d.system ≡ true → asks_past span ≡ true → first (when d span).faults ≡ Some E23
+pub unversioned : (d : TableDef) (span : SpanTree) → is_none d.system ≡ true → asks_past span ≡ true → first (when d span).faults ≡ Some FormNotAllowedHere
 unversioned d NoSpan e k = cc
-unversioned d (AsOfTree t) e k = rw e (ap Some (moment_behind E23 (read_timestamp t) refl))
-unversioned d (FromToTree a b) e k = rw e (ap Some (range_behind E23 (read_timestamp a) (read_timestamp b) refl))
-unversioned d (BetweenTree a b) e k = rw e (ap Some (range_behind E23 (read_timestamp a) (read_timestamp b) refl))
+unversioned d (AsOfTree t) e k = rw e (ap Some (moment_behind FormNotAllowedHere (read_timestamp t) refl))
+unversioned d (FromToTree a b) e k = rw e (ap Some (range_behind FormNotAllowedHere (read_timestamp a) (read_timestamp b) refl))
+unversioned d (BetweenTree a b) e k = rw e (ap Some (range_behind FormNotAllowedHere (read_timestamp a) (read_timestamp b) refl))
 
 -- a question without a clause
 pub now_asked : (d : TableDef) (span : SpanTree) → asks_past span ≡ false → when d span ≡ sound history.Now
@@ -124,13 +120,13 @@ now_asked d (BetweenTree a b) e = absurd (cc)
 -- ---- tables
 
 -- the faults of the clause come behind an unknown table
-moment_after : (b : Bool) (o : Option ℤ) → earlier E20 (first (fault_if b E23 ++ ((or_bad_moment o).faults ++ []))) ≡ E20
+moment_after : (b : Bool) (o : Option ℤ) → earlier TableUnknownOrAlreadyThere (first (fault_if b FormNotAllowedHere ++ ((or_bad_moment o).faults ++ []))) ≡ TableUnknownOrAlreadyThere
 moment_after true None = refl
 moment_after true (Some m) = refl
 moment_after false None = refl
 moment_after false (Some m) = refl
 
-range_after : (b : Bool) (o p : Option ℤ) → earlier E20 (first (fault_if b E23 ++ ((or_bad_moment o).faults ++ ((or_bad_moment p).faults ++ [])))) ≡ E20
+range_after : (b : Bool) (o p : Option ℤ) → earlier TableUnknownOrAlreadyThere (first (fault_if b FormNotAllowedHere ++ ((or_bad_moment o).faults ++ ((or_bad_moment p).faults ++ [])))) ≡ TableUnknownOrAlreadyThere
 range_after true None None = refl
 range_after true None (Some m) = refl
 range_after true (Some m) None = refl
@@ -140,7 +136,7 @@ range_after false None (Some m) = refl
 range_after false (Some m) None = refl
 range_after false (Some m) (Some l) = refl
 
-clause_after : (d : TableDef) (span : SpanTree) → earlier E20 (first (when d span).faults) ≡ E20
+clause_after : (d : TableDef) (span : SpanTree) → earlier TableUnknownOrAlreadyThere (first (when d span).faults) ≡ TableUnknownOrAlreadyThere
 clause_after d NoSpan = refl
 clause_after d (AsOfTree t) = moment_after (is_none d.system) (read_timestamp t)
 clause_after d (FromToTree a b) = range_after (is_none d.system) (read_timestamp a) (read_timestamp b)
@@ -155,7 +151,7 @@ by_place : {C : Type 0} (view : C → Bound) (defs : List TableDef) (span : Span
 by_place view defs span None e h =
     let d : TableDef = table_at defs 0 in
     same_fault (λ (t : ℕ). t) view (or_no_table None) (asked_at defs span None) e
-    (ap Some (ap (λ (fs : List spec.Refusal). earlier E20 (first fs)) (append-nil (when d span).faults) ∙ clause_after d span)) h
+    (ap Some (ap (λ (fs : List spec.Refusal). earlier TableUnknownOrAlreadyThere (first fs)) (append-nil (when d span).faults) ∙ clause_after d span)) h
 by_place view defs span (Some t) e h = only_memory (λ (t : ℕ). t) view (or_no_table (Some t)) (asked_at defs span (Some t)) e refl h
 
 -- a question refused at its table
@@ -178,13 +174,7 @@ clause_refused part view defs n span t e h k =
     (same_fault part view (when (table_at defs t) span) (when (table_at defs t) span >>= λ w. sound (Ask (whole_table (table_at defs t) t w))) e
     (ap first (append-nil (when (table_at defs t) span).faults)) k)
 
--- the definition of a table that was read
-pub table_read : (tables : List Table) (t : ℕ) (x : Table) → t < length (definitions_of tables) → def_of (get_or tables t x).definition ≡ table_at (definitions_of tables) t
-table_read tables t x b =
-    let f : Table → TableDef = λ y. def_of y.definition in
-    let within : t < length tables = subst (λ (n : ℕ). t < n) (length-map tables f) b in
-    sym (get_or-map f tables t x no_table within)
-
-pub no_system : (o : Option System) (b : Bool) → is_none o ≡ b → is_none (option_map system_of o) ≡ b
-no_system None b e = e
-no_system (Some s) b e = e
+-- a table without a system period, told by whether it has one
+pub system_told : {X : Type 0} (o : Option X) (b : Bool) → b ≡ is_some o → is_none o ≡ not b
+system_told None b e = sym (ap not e)
+system_told (Some x) b e = sym (ap not e)

@@ -6,11 +6,11 @@ use Rattle.std.proofs.lemmas.List.{length-map}
 use Rattle.std.proofs.lemmas.List.Elements.{All-nil, All-cons, All-head, All-tail, All-map}
 use Rattle.tql_spec.specs.Words.{map_all}
 use Rattle.tql_spec.specs.Datum.{Kind, Row}
-use Rattle.tql_spec.specs.Refusal.{E22, E23, E30, first}
+use Rattle.tql_spec.specs.Refusal.{TypesDoNotFit, FormNotAllowedHere, ValueOutOfRange, first}
 use Rattle.tql_spec.specs.Definition.{TableDef}
 use Rattle.tql_spec.specs.Names.{is_other_kind}
 use Rattle.tql_spec.specs.Binding.{cells_misfit, is_generated, kinds_for}
-use Rattle.tql_catalog.specs.Simple.{IsTupleOf}
+use Rattle.tql_catalog.specs.Rows.{IsTupleOf}
 use Rattle.tql_value.specs.Points.{IsPrintable}
 use Rattle.tql_value.specs.Views.{datum_of_value}
 use Rattle.tql_value.specs.declared.refusal.Refusal.{Refusal}
@@ -78,16 +78,16 @@ all_printable (row ∷ rows) p =
 
 module _ (d : TableDef) (is : List ℕ) (tuples : List (List Spelling)) where
   -- a tuple that does not fit
-  pub rows_misfit : list_any (misfits (kinds_for d is)) tuples ≡ true → first (rows_checked d is tuples).faults ≡ Some E22
+  pub rows_misfit : list_any (misfits (kinds_for d is)) tuples ≡ true → first (rows_checked d is tuples).faults ≡ Some TypesDoNotFit
   rows_misfit m = rows_level d is tuples ∙ (λ i. level false (m i) (list_any (is_generated d) is) (is_none (spelled_rows tuples)))
 
   module _ (m : list_any (misfits (kinds_for d is)) tuples ≡ false) where
     -- a generated column
-    pub rows_generated : list_any (is_generated d) is ≡ true → first (rows_checked d is tuples).faults ≡ Some E23
+    pub rows_generated : list_any (is_generated d) is ≡ true → first (rows_checked d is tuples).faults ≡ Some FormNotAllowedHere
     rows_generated g = rows_level d is tuples ∙ (λ i. level false (m i) (g i) (is_none (spelled_rows tuples)))
 
     -- a value out of range
-    rows_out : list_any (is_generated d) is ≡ false → spelled_rows tuples ≡ None → first (rows_checked d is tuples).faults ≡ Some E30
+    rows_out : list_any (is_generated d) is ≡ false → spelled_rows tuples ≡ None → first (rows_checked d is tuples).faults ≡ Some ValueOutOfRange
     rows_out g o = rows_level d is tuples ∙ (λ i. level false (m i) (g i) (is_none (o i)))
 
     -- what was read, or why not

@@ -7,7 +7,7 @@ use Rattle.tql_value.specs.declared.value.Kind as code
 use Rattle.tql_value.specs.Views.{plain_kind}
 use Rattle.tql_spec.specs.Words.{map_all, with_front}
 use Rattle.tql_spec.specs.Datum.{Datum, Kind, Row}
-use Rattle.tql_spec.specs.Refusal.{Refusal, E22, first, fault_if}
+use Rattle.tql_spec.specs.Refusal.{Refusal, TypesDoNotFit, first, fault_if}
 use Rattle.tql_spec.specs.Expression.{Literal}
 use Rattle.tql_spec.specs.Names.{Typed, check_each}
 use Rattle.tql_spec.specs.Syntax.{CellTree, Tuple}
@@ -83,8 +83,8 @@ tuple_first : (kinds : List Kind) (t : Tuple) → is_literal_tuple t ≡ true �
 tuple_first kinds t l n m g o rest h =
     let cs : List CellTree = cells_of_tree t in
     let b : Bool = misfits kinds (tuple_spellings t) in
-    rw (kinds_are cs l, append_assoc (check_each (cell []) cs).faults (fault_if b E22) rest)
-    (cells_first cs l n (b || m) g o (fault_if b E22 ++ rest) (misfit_first b n m g o rest h))
+    rw (kinds_are cs l, append_assoc (check_each (cell []) cs).faults (fault_if b TypesDoNotFit) rest)
+    (cells_first cs l n (b || m) g o (fault_if b TypesDoNotFit ++ rest) (misfit_first b n m g o rest h))
 
 -- the tuples, before other faults
 pub tuples_first : (kinds : List Kind) (ts : List Tuple) → list_all is_literal_tuple ts ≡ true → (n m g o : Bool) (rest : List Refusal) → first rest ≡ level n m g o

@@ -1,7 +1,7 @@
 -- The bound statements that those of the code stand for, and what is true of each.
-use Rattle.std.specs.Prelude.{◌<◌, ℕ, Bool, true, false, ◌||◌, IsTrue, List, [], ◌∷◌, map, length, All, None, is_some, Vec}
+use Rattle.std.specs.Prelude.{◌≡◌, ◌<◌, ℕ, Bool, true, false, ◌||◌, IsTrue, List, [], ◌∷◌, map, length, All, None, is_some, Vec}
 use Rattle.tql_spec.specs.Datum.{Row}
-use Rattle.tql_spec.specs.Definition.{TableDef, table_at}
+use Rattle.tql_spec.specs.Definition.{TableDef, place_of, table_at}
 use Rattle.tql_spec.specs.Expression.{Literal}
 use Rattle.tql_spec.specs.History as history
 use Rattle.tql_spec.specs.Query.{Query}
@@ -9,8 +9,7 @@ use Rattle.tql_spec.specs.Change.{Remove}
 use Rattle.tql_spec.specs.Creation.{names_of}
 use Rattle.tql_spec.specs.Binding.{Output, all_columns_from}
 use Rattle.tql_spec.specs.Machine as machine
-use Rattle.tql_catalog.specs.Definitions.{def_of}
-use Rattle.tql_catalog.specs.Simple.{IsSimple, IsTupleOf, are_assignable}
+use Rattle.tql_catalog.specs.Rows.{IsTupleOf, are_assignable}
 use Rattle.tql_value.specs.Points.{IsMoment}
 use Rattle.tql_value.specs.Views.{datum_of_value}
 use Rattle.tql_value.specs.declared.value.Value.{Value}
@@ -61,7 +60,7 @@ insert_of x = machine.InsertTuples x.table x.columns.items (map (map Literal) (r
 
 -- the statement, over these tables
 abbrev pub bound_of : List TableDef → Bound → machine.Bound
-bound_of defs (CreateTable d) = machine.CreateTable (def_of d)
+bound_of defs (CreateTable d) = machine.CreateTable d
 bound_of defs (Inserts x) = machine.Alter (insert_of x)
 bound_of defs (DeleteAll t) = machine.Alter (machine.Modify t None Remove [])
 bound_of defs (Ask q) = machine.Ask (query_of defs q)
@@ -72,9 +71,9 @@ bound_of defs Rollback = machine.Rollback
 
 -- ---- what is true of them
 
--- the table has columns and at most a system period, and there is room for one more
+-- no table has the name, and there is room for one more
 pub record IsSoundTable (defs : List TableDef) (d : TableDef) : Type 0 where
-  pub simple : IsSimple d
+  pub free : place_of d.name defs ≡ None
   pub room : length defs < 1000
 
 -- the table is there, its columns may be given values, and each tuple has a value for each of them
@@ -95,7 +94,7 @@ pub record IsSoundQuestion (defs : List TableDef) (q : Question) : Type 0 where
 
 -- over these tables
 abbrev pub IsSound : List TableDef → Bound → Type 0
-IsSound defs (CreateTable d) = IsSoundTable defs (def_of d)
+IsSound defs (CreateTable d) = IsSoundTable defs d
 IsSound defs (Inserts x) = IsSoundInsert defs x
 IsSound defs (DeleteAll t) = t < length defs
 IsSound defs (Ask q) = IsSoundQuestion defs q

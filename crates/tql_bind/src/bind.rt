@@ -4,7 +4,7 @@ ghost use Rattle.tql_spec.specs.Binding.{bind};
 ghost use Rattle.tql_spec.specs.FirstToken.{content};
 ghost use Rattle.tql_spec.specs.Running.{does_run};
 ghost use Rattle.tql_spec.specs.Syntax.{AtTree};
-ghost use Rattle.tql_catalog.specs.Definitions.{definitions_of};
+ghost use Rattle.tql_catalog.specs.Tables.{definitions_of};
 ghost use Rattle.tql_tree.specs.Expressions.{name_of};
 ghost use Rattle.tql_tree.specs.Statements.{create_of, delete_of, insert_of, span_of, statement_of};
 ghost use Rattle.tql_define.specs.Binds.{Binds};
@@ -17,7 +17,7 @@ use crate::delete::bind_delete;
 use crate::insert::bind_insert;
 use crate::moment::bind_moment;
 use crate::question::question;
-use tql_catalog::table::Table;
+use tql_catalog::catalog::Catalog;
 use tql_define::create::new_table;
 use tql_memory::Memory;
 use tql_tree::statement::{CreateTree, Delete, Insert, RefTree, Statement};
@@ -25,7 +25,7 @@ use tql_value::refusal::Refusal;
 
 /// CREATE TABLE with its names bound.
 #[tactic(auto, using(crate::proofs::Chains::same_refusal))]
-fn create(memory: Memory, tables: &[Table], create: &CreateTree<'_>) -> Result<Bound, Refusal>
+fn create(memory: Memory, tables: &Catalog, create: &CreateTree<'_>) -> Result<Bound, Refusal>
     requires { IsTrue (does_run (create_of create.now)) }
     ensures binds { Binds (bound_of (definitions_of tables.now)) (bind (definitions_of tables.now) (create_of create.now)) result }
     ensures sound { IfOk result (IsSound (definitions_of tables.now)) }
@@ -38,7 +38,7 @@ fn create(memory: Memory, tables: &[Table], create: &CreateTree<'_>) -> Result<B
 
 /// INSERT with its names bound.
 #[tactic(auto, using(crate::proofs::Chains::same_refusal))]
-fn insert(memory: Memory, tables: &[Table], insert: &Insert<'_>) -> Result<Bound, Refusal>
+fn insert(memory: Memory, tables: &Catalog, insert: &Insert<'_>) -> Result<Bound, Refusal>
     requires { IsTrue (does_run (insert_of insert.now)) }
     ensures binds { Binds (bound_of (definitions_of tables.now)) (bind (definitions_of tables.now) (insert_of insert.now)) result }
     ensures sound { IfOk result (IsSound (definitions_of tables.now)) }
@@ -51,7 +51,7 @@ fn insert(memory: Memory, tables: &[Table], insert: &Insert<'_>) -> Result<Bound
 
 /// DELETE with its names bound.
 #[tactic(auto, using(crate::proofs::Chains::same_refusal))]
-fn delete(memory: Memory, tables: &[Table], delete: &Delete<'_>) -> Result<Bound, Refusal>
+fn delete(memory: Memory, tables: &Catalog, delete: &Delete<'_>) -> Result<Bound, Refusal>
     requires { IsTrue (does_run (delete_of delete.now)) }
     ensures binds { Binds (bound_of (definitions_of tables.now)) (bind (definitions_of tables.now) (delete_of delete.now)) result }
     ensures sound { IfOk result (IsSound (definitions_of tables.now)) }
@@ -64,7 +64,7 @@ fn delete(memory: Memory, tables: &[Table], delete: &Delete<'_>) -> Result<Bound
 
 /// A question of one table reference, bound.
 #[tactic(auto, using(crate::proofs::Chains::same_refusal))]
-fn ask(memory: Memory, tables: &[Table], reference: RefTree<'_>) -> Result<Bound, Refusal>
+fn ask(memory: Memory, tables: &Catalog, reference: RefTree<'_>) -> Result<Bound, Refusal>
     ensures binds { Binds (bound_of (definitions_of tables.now)) (asked (definitions_of tables.now) (name_of reference.entry.table) (span_of reference.entry.span)) result }
     ensures sound { IfOk result (IsSound (definitions_of tables.now)) }
 {
@@ -76,7 +76,7 @@ fn ask(memory: Memory, tables: &[Table], reference: RefTree<'_>) -> Result<Bound
 
 /// AT with its moment read.
 #[tactic(auto, using(crate::proofs::Chains::same_refusal))]
-fn clock(memory: Memory, tables: &[Table], quoted: &str) -> Result<Bound, Refusal>
+fn clock(memory: Memory, tables: &Catalog, quoted: &str) -> Result<Bound, Refusal>
     ensures binds { Binds (bound_of (definitions_of tables.now)) (bind (definitions_of tables.now) (AtTree (content 39 quoted.now))) result }
     ensures sound { IfOk result (IsSound (definitions_of tables.now)) }
 {
@@ -106,7 +106,7 @@ fn reference_in<'a>(statement: &Statement<'a>) -> Option<RefTree<'a>>
 
 /// The statement with its names bound. Refused: the first of the faults of names, kinds, forms and literals that are present, in the
 /// order of report; or memory.
-pub fn bind(memory: Memory, tables: &[Table], statement: &Statement<'_>) -> Result<Bound, Refusal>
+pub fn bind(memory: Memory, tables: &Catalog, statement: &Statement<'_>) -> Result<Bound, Refusal>
     requires { IsTrue (does_run (statement_of statement.now)) }
     ensures binds { Binds (bound_of (definitions_of tables.now)) (bind (definitions_of tables.now) (statement_of statement.now)) result }
     ensures sound { IfOk result (IsSound (definitions_of tables.now)) }

@@ -1,5 +1,5 @@
 //! Statements whose names are bound.
-use tql_catalog::definition::TableDef;
+use tql_catalog::table_def::TableDef;
 use tql_memory::Memory;
 use tql_value::value::Value;
 

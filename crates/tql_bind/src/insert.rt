@@ -8,8 +8,8 @@ ghost use Rattle.tql_spec.specs.Definition.{table_at};
 ghost use Rattle.tql_spec.specs.Machine.{Alter};
 ghost use Rattle.tql_spec.specs.Running.{does_run, is_literal_tuple};
 ghost use Rattle.tql_spec.specs.Words.{same_text, map_all};
-ghost use Rattle.tql_catalog.specs.Definitions.{def_of, definitions_of};
-ghost use Rattle.tql_catalog.specs.Simple.{IsTupleOf, numbers_repeat};
+ghost use Rattle.tql_catalog.specs.Tables.{definitions_of};
+ghost use Rattle.tql_catalog.specs.Rows.{IsTupleOf, numbers_repeat};
 ghost use Rattle.tql_tree.specs.Expressions.{name_of};
 ghost use Rattle.tql_tree.specs.Statements as tree;
 ghost use Rattle.tql_value.specs.Points.{IsPrintable};
@@ -23,8 +23,9 @@ ghost use Rattle.tql_bind.specs.Spellings.{cell_spelling, tuple_spellings, spell
 
 use crate::bound::Insert;
 use crate::literal::{is_other_kind, read_cell};
-use tql_catalog::definition::{Column, TableDef};
-use tql_catalog::table::{Table, place_of};
+use tql_catalog::catalog::Catalog;
+use tql_catalog::definition::Column;
+use tql_catalog::table_def::TableDef;
 use tql_memory::Memory;
 use tql_tree::expression::Name;
 use tql_tree::statement as tree;
@@ -41,17 +42,17 @@ fn is_named(column: &Column, name: &str) -> bool
 
 /// The number of the column of this name.
 fn column_place(definition: &TableDef, name: &str) -> Option<usize>
-    ensures { result ≡ number_in name.now (names_of (def_of definition.now)) }
+    ensures { result ≡ number_in name.now (names_of definition.now) }
 {
     definition
-        .columns
+        .columns()
         .iter()
         .position(|column| is_named(column, name))
 }
 
 /// The number of the column that a name means. Refused: a name that is no column's, and a growth.
 fn column_number(memory: Memory, definition: &TableDef, name: Name<'_>) -> Result<usize, Refusal>
-    ensures { Finds (λ i. i) (number_in (name_of name.entry) (names_of (def_of definition.now))) result }
+    ensures { Finds (λ i. i) (number_in (name_of name.entry) (names_of definition.now)) result }
 {
     let name = name.meant(memory)?;
     match column_place(definition, &name) {
@@ -66,7 +67,7 @@ fn listed_columns(
     definition: &TableDef,
     names: &[Name<'_>],
 ) -> Result<Vec<usize, Memory>, Refusal>
-    ensures { Finds (λ v. v.items) (map_all (λ n. number_in n (names_of (def_of definition.now))) (map name_of names.now)) result }
+    ensures { Finds (λ v. v.items) (map_all (λ n. number_in n (names_of definition.now)) (map name_of names.now)) result }
 {
     let mut columns = Vec::with_capacity(memory, names.len())?;
     for name in names {
@@ -75,22 +76,12 @@ fn listed_columns(
     Ok(columns)
 }
 
-/// Whether a column is generated.
-fn is_generated(definition: &TableDef, column: usize) -> bool
-    ensures { result ≡ binding.is_generated (def_of definition.now) column }
-{
-    match definition.system {
-        None => false,
-        Some(system) => column == system.start || column == system.end,
-    }
-}
-
 /// Whether one of the columns is generated.
 fn has_generated(definition: &TableDef, columns: &[usize]) -> bool
-    ensures { result ≡ list_any (binding.is_generated (def_of definition.now)) columns.now }
+    ensures { result ≡ list_any (binding.is_generated definition.now) columns.now }
 {
     for column in columns {
-        if is_generated(definition, *column) {
+        if definition.is_generated(*column) {
             return true;
         }
     }
@@ -99,16 +90,10 @@ fn has_generated(definition: &TableDef, columns: &[usize]) -> bool
 
 /// The numbers of all columns that are not generated. The only error is a refused growth.
 fn assignable_columns(memory: Memory, definition: &TableDef) -> Result<Vec<usize, Memory>, Refusal>
-    ensures columns { IfOk result (λ v. v.items ≡ binding.all_assignable (def_of definition.now)) }
+    ensures columns { IfOk result (λ v. v.items ≡ binding.all_assignable definition.now) }
     ensures memory { IfErr result (λ e. e ≡ OutOfMemory) }
 {
-    let mut columns = Vec::with_capacity(memory, definition.columns.len())?;
-    for column in 0..definition.columns.len() {
-        if !is_generated(definition, column) {
-            columns.push(column)?;
-        }
-    }
-    Ok(columns)
+    Ok(Vec::from_slice(memory, definition.assignable())?)
 }
 
 /// Whether a number stands twice.
@@ -132,7 +117,7 @@ fn filled_columns(
     definition: &TableDef,
     names: &[Name<'_>],
 ) -> Result<Vec<usize, Memory>, Refusal>
-    ensures { Binds (λ v. v.items) (columns_checked (def_of definition.now) (map name_of names.now)) result }
+    ensures { Binds (λ v. v.items) (columns_checked definition.now (map name_of names.now)) result }
 {
     if names.is_empty() {
         return assignable_columns(memory, definition);
@@ -149,9 +134,9 @@ fn filled_columns(
 
 /// The kind of the column with this number.
 fn column_kind(definition: &TableDef, column: usize) -> Kind
-    ensures { plain_kind result ≡ slice_index_or (kinds_of (def_of definition.now)) column Ints }
+    ensures { plain_kind result ≡ slice_index_or (kinds_of definition.now) column Ints }
 {
-    match definition.columns.get(column) {
+    match definition.columns().get(column) {
         Some(column) => column.kind,
         None => Kind::Int,
     }
@@ -163,7 +148,7 @@ fn column_kinds(
     definition: &TableDef,
     columns: &[usize],
 ) -> Result<Vec<Kind, Memory>, Refusal>
-    ensures kinds { IfOk result (λ kinds. map plain_kind kinds.items ≡ binding.kinds_for (def_of definition.now) columns.now) }
+    ensures kinds { IfOk result (λ kinds. map plain_kind kinds.items ≡ binding.kinds_for definition.now columns.now) }
     ensures memory { IfErr result (λ e. e ≡ OutOfMemory) }
 {
     let mut kinds = Vec::with_capacity(memory, columns.len())?;
@@ -254,7 +239,7 @@ fn do_misfit(
     first: &Tuple<'_>,
     more: &[Tuple<'_>],
 ) -> Result<bool, Refusal>
-    ensures misfit { IfOk result (λ b. b ≡ list_any (misfits (binding.kinds_for (def_of definition.now) columns.now)) (spellings_of first.now more.now)) }
+    ensures misfit { IfOk result (λ b. b ≡ list_any (misfits (binding.kinds_for definition.now columns.now)) (spellings_of first.now more.now)) }
     ensures memory { IfErr result (λ e. e ≡ OutOfMemory) }
 {
     let kinds = column_kinds(memory, definition, columns)?;
@@ -270,7 +255,7 @@ fn rows_for(
     first: &Tuple<'_>,
     more: &[Tuple<'_>],
 ) -> Result<Vec<Vec<Value, Memory>, Memory>, Refusal>
-    ensures value { Binds (λ v. rows_of v.items) (rows_checked (def_of definition.now) columns.now (spellings_of first.now more.now)) result }
+    ensures value { Binds (λ v. rows_of v.items) (rows_checked definition.now columns.now (spellings_of first.now more.now)) result }
     ensures tuples { IfOk result (λ v. All (IsTupleOf (length columns.now)) (rows_of v.items)) }
 {
     if do_misfit(memory, definition, columns, first, more)? {
@@ -283,17 +268,17 @@ fn rows_for(
 }
 
 /// The definition of the table at a place.
-fn definition_at(tables: &[Table], place: usize) -> &TableDef
+fn definition_at(tables: &Catalog, place: usize) -> &TableDef
     requires { place < length tables.now }
-    ensures { def_of result.now ≡ table_at (definitions_of tables.now) place }
+    ensures { result.now ≡ table_at (definitions_of tables.now) place }
 {
-    &tables[place].definition
+    &tables.table(place).definition
 }
 
 /// The bound INSERT of tuples: of the first, and of those behind it.
 fn bind_tuples(
     memory: Memory,
-    tables: &[Table],
+    tables: &Catalog,
     insert: &tree::Insert<'_>,
     first: &Tuple<'_>,
     more: &[Tuple<'_>],
@@ -303,7 +288,7 @@ fn bind_tuples(
     ensures sound { IfOk result (IsSoundInsert (definitions_of tables.now)) }
 {
     let name = insert.table.meant(memory)?;
-    let place = match place_of(tables, &name) {
+    let place = match tables.place_of(&name) {
         Some(place) => place,
         None => return Err(Refusal::TableUnknownOrAlreadyThere),
     };
@@ -328,7 +313,7 @@ fn bind_tuples(
 /// the list; a literal out of range; memory.
 pub fn bind_insert(
     memory: Memory,
-    tables: &[Table],
+    tables: &Catalog,
     insert: &tree::Insert<'_>,
 ) -> Result<Insert, Refusal>
     requires { IsTrue (does_run (tree.insert_of insert.now)) }

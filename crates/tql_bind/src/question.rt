@@ -4,7 +4,7 @@ ghost use Rattle.tql_spec.specs.Binding.{bind, when};
 ghost use Rattle.tql_spec.specs.FirstToken.{content};
 ghost use Rattle.tql_spec.specs.Machine.{Ask};
 ghost use Rattle.tql_spec.specs.Running.{does_run};
-ghost use Rattle.tql_catalog.specs.Definitions.{def_of, definitions_of};
+ghost use Rattle.tql_catalog.specs.Tables.{definitions_of};
 ghost use Rattle.tql_tree.specs.Expressions.{name_of};
 ghost use Rattle.tql_tree.specs.Statements as tree;
 ghost use Rattle.tql_tree.specs.Statements.{span_of};
@@ -15,8 +15,8 @@ ghost use Rattle.tql_bind.specs.Clauses.{asked, asks_past, clause, range};
 use crate::bound::{Question, When};
 use crate::moment::moment_quoted;
 use crate::names::table_named;
-use tql_catalog::definition::TableDef;
-use tql_catalog::table::Table;
+use tql_catalog::catalog::Catalog;
+use tql_catalog::table_def::TableDef;
 use tql_memory::Memory;
 use tql_tree::expression::Name;
 use tql_tree::statement::{Query, Span};
@@ -77,13 +77,13 @@ fn asks_past(span: Span<'_>) -> bool
 /// The versions of a table that a clause asks for. Refused, the first of them: a clause where the table keeps no versions; a literal
 /// that reads as no moment; memory.
 fn bind_span(memory: Memory, definition: &TableDef, span: Span<'_>) -> Result<When, Refusal>
-    ensures binds { Binds when_of (when (def_of definition.now) (span_of span.entry)) result }
-    ensures versioned { IfOk result (λ w. IsTrue (is_now w || is_some (def_of definition.now).system)) }
+    ensures binds { Binds when_of (when definition.now (span_of span.entry)) result }
+    ensures versioned { IfOk result (λ w. IsTrue (is_now w || is_some definition.now.system)) }
 {
     if !asks_past(span) {
         return Ok(When::Now);
     }
-    if definition.system.is_none() {
+    if !definition.is_versioned() {
         return Err(Refusal::FormNotAllowedHere);
     }
     versions(memory, span)
@@ -93,7 +93,7 @@ fn bind_span(memory: Memory, definition: &TableDef, span: Span<'_>) -> Result<Wh
 /// versions; a literal that reads as no moment; memory.
 pub(crate) fn question(
     memory: Memory,
-    tables: &[Table],
+    tables: &Catalog,
     name: Name<'_>,
     span: Span<'_>,
 ) -> Result<Question, Refusal>
@@ -104,7 +104,7 @@ pub(crate) fn question(
         Ok(table) => table,
         Err(refusal) => return Err(refusal),
     };
-    match bind_span(memory, &tables[table].definition, span) {
+    match bind_span(memory, &tables.table(table).definition, span) {
         Ok(when) => Ok(Question { table, when }),
         Err(refusal) => Err(refusal),
     }
@@ -112,7 +112,7 @@ pub(crate) fn question(
 
 /// SELECT of all columns of one table, with its names bound. Refused, the first of them: no table of that name; FOR SYSTEM_TIME on a
 /// table that is not system-versioned; a literal that reads as no moment; memory.
-pub fn bind_query(memory: Memory, tables: &[Table], query: &Query<'_>) -> Result<Question, Refusal>
+pub fn bind_query(memory: Memory, tables: &Catalog, query: &Query<'_>) -> Result<Question, Refusal>
     requires { IsTrue (does_run (tree.query_of query.now)) }
     ensures binds { Binds (λ q. Ask (query_of (definitions_of tables.now) q)) (bind (definitions_of tables.now) (tree.query_of query.now)) result }
     ensures sound { IfOk result (IsSoundQuestion (definitions_of tables.now)) }

@@ -6,7 +6,6 @@
 
 mod case;
 mod compare;
-mod devices;
 mod folder;
 mod growths;
 mod neighbours;

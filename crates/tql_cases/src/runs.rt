@@ -1,18 +1,18 @@
 //! Runs and checks of a script over bytes in memory.
-use crate::devices::SliceSource;
 use std::alloc::{AllocError, Global};
 use tql_check::check::check_script;
 use tql_engine::engine::Engine;
-use tql_engine::run::run;
-use tql_memory::memory;
-use tql_result::std_sink::StdSink;
+use tql_engine::run::{run, run_bytes};
+use tql_memory::{Memory, memory};
+use tql_result::vec_sink::VecSink;
 use tql_run::run::{Fault, Summary};
+use tql_run::slice_source::SliceSource;
 
 /// How a run ended, and what it wrote.
 #[derive(Drop)]
 pub struct Outcome {
     pub end: Result<Summary, Fault>,
-    pub text: Vec<u8>,
+    pub text: Vec<u8, Memory>,
 }
 
 impl Outcome {
@@ -43,20 +43,28 @@ pub enum Manner {
     Check,
 }
 
+/// Runs a script on a new engine, whole and in so many blocks of memory.
+fn run_whole(alloc: Global, script: &[u8], granted: u64) -> Result<Outcome, AllocError> {
+    let mut engine = Engine::new(memory(alloc, granted)?);
+    let mut text = Vec::new(memory(alloc, u64::MAX)?);
+    let end = run_bytes(&mut engine, script, &mut text);
+    Ok(Outcome { end, text })
+}
+
 /// Runs a script on a new engine, in pieces of so many bytes and in so many blocks of memory.
-pub fn run_script(
+fn run_pieces(
     alloc: Global,
     script: &[u8],
     size: usize,
     granted: u64,
 ) -> Result<Outcome, AllocError> {
     let mut engine = Engine::new(memory(alloc, granted)?);
-    let mut source = SliceSource::new(script, size);
-    let mut sink = StdSink::new(Vec::new(alloc));
+    let mut source = SliceSource::in_pieces(script, size);
+    let mut sink = VecSink::new(Vec::new(memory(alloc, u64::MAX)?));
     let end = run(&mut engine, &mut source, &mut sink);
     Ok(Outcome {
         end,
-        text: sink.into_writer(),
+        text: sink.into_bytes(),
     })
 }
 
@@ -67,17 +75,16 @@ pub fn check_only(
     size: usize,
     granted: u64,
 ) -> Result<Outcome, AllocError> {
-    let memory = memory(alloc, granted)?;
-    let mut source = SliceSource::new(script, size);
-    let mut sink = StdSink::new(Vec::new(alloc));
-    let end = check_script(memory, &mut source, &mut sink);
+    let mut source = SliceSource::in_pieces(script, size);
+    let mut sink = VecSink::new(Vec::new(memory(alloc, u64::MAX)?));
+    let end = check_script(memory(alloc, granted)?, &mut source, &mut sink);
     Ok(Outcome {
         end,
-        text: sink.into_writer(),
+        text: sink.into_bytes(),
     })
 }
 
-/// Runs or checks a script.
+/// Runs or checks a script: in pieces, or whole where a piece may have any size.
 pub fn answer(
     alloc: Global,
     manner: Manner,
@@ -86,7 +93,8 @@ pub fn answer(
     granted: u64,
 ) -> Result<Outcome, AllocError> {
     match manner {
-        Manner::Run => run_script(alloc, script, size, granted),
+        Manner::Run if size == usize::MAX => run_whole(alloc, script, granted),
+        Manner::Run => run_pieces(alloc, script, size, granted),
         Manner::Check => check_only(alloc, script, size, granted),
     }
 }

@@ -1,1 +1,4 @@
-pub mod PlaceLaws
+pub mod ColumnNames
+pub mod Numbers
+pub mod Definitions
+pub mod Catalogs

@@ -1,2 +1,6 @@
 pub mod Definitions
-pub mod Simple
+pub mod Rows
+pub mod Codes
+pub mod Defined
+pub mod Columns
+pub mod Tables

@@ -1,4 +1,4 @@
-//! The definition of a table.
+//! What the definition of a table is made of.
 use tql_memory::Memory;
 use tql_value::value::Kind;
 
@@ -20,14 +20,6 @@ pub struct System {
     pub end: usize,
 }
 
-/// The definition of a table.
-pub struct TableDef {
-    pub name: String<Memory>,
-    pub columns: Vec<Column, Memory>,
-    /// The system period; none where the table is not system-versioned.
-    pub system: Option<System>,
-}
-
 impl Drop for Column {
     fn drop(self) {
         let Column {
@@ -37,17 +29,5 @@ impl Drop for Column {
             is_required: _,
         } = self;
         drop(name);
-    }
-}
-
-impl Drop for TableDef {
-    fn drop(self) {
-        let TableDef {
-            name,
-            columns,
-            system: _,
-        } = self;
-        drop(name);
-        drop(columns);
     }
 }

@@ -1,5 +1,8 @@
 // The tables that are there, and their definitions.
 #![tactic(auto)]
 
+mod assignable;
+pub mod catalog;
+mod definable;
 pub mod definition;
-pub mod table;
+pub mod table_def;

@@ -2,12 +2,13 @@
 ghost use Rattle.std.specs.Prelude.{⊤};
 ghost use Rattle.tql_spec.specs.Machine.{State};
 ghost use Rattle.tql_spec.specs.Run.{Checks, finished};
-ghost use Rattle.tql_result.specs.Replies.{reply_of, IsPrintableReply};
+ghost use Rattle.tql_result.specs.Replies.{answer_of, IsPrintableAnswer};
 ghost use Rattle.tql_run.specs.Runs.{Runs, source_change, sink_change};
 ghost use Rattle.tql_run.proofs.Faults.{checks_refuse};
 
 use tql_memory::Memory;
-use tql_result::reply::{Reply, Verb};
+use tql_result::answer::Answer;
+use tql_result::reply::Reply;
 use tql_result::sink::Sink;
 use tql_run::device::Source;
 use tql_run::responder::Responder;
@@ -16,21 +17,23 @@ use tql_syntax::text::read_text;
 use tql_tree::width::is_too_wide;
 use tql_value::refusal::Refusal;
 
-/// Checks one finished statement by its text, without its `;`. Any bytes are taken. The reply is `OK`, or the refusal of
+/// Checks one finished statement by its text, without its `;`. Any bytes are taken. It is accepted, or refused for
 /// the first fault: more than 1,048,576 bytes, bytes that are not UTF-8, more than 64 parentheses open at once, a text
 /// that is no statement, and more than 64 columns or 8 table references. Out of memory is refused too.
-pub fn check(memory: Memory, text: &[u8]) -> Reply
-    ensures answered { (s : State) → Checks s (finished text.now) (reply_of result) s }
-    ensures printable { IsPrintableReply (reply_of result) }
+pub fn check(memory: Memory, text: &[u8]) -> Answer
+    ensures answered { (s : State) → Checks s (finished text.now) (answer_of result) s }
+    ensures printable { IsPrintableAnswer (answer_of result) }
 {
     match read_text(memory, text) {
-        Ok(tree) if is_too_wide(&tree.statement) => Reply::Refused(Refusal::TooManyColumnsOrTables),
-        Ok(_) => Reply::Done(Verb::Accepted, None),
-        Err(refusal) => Reply::Refused(refusal),
+        Ok(tree) if is_too_wide(&tree.statement) => {
+            Answer::Replied(Reply::Refused(Refusal::TooManyColumnsOrTables))
+        }
+        Ok(_) => Answer::Accepted,
+        Err(refusal) => Answer::Replied(Reply::Refused(refusal)),
     }
 }
 
-/// What checks the statements of a script. It stands for any state, since no reply depends on one.
+/// What checks the statements of a script. It stands for any state, since no answer depends on one.
 #[derive(Drop)]
 struct Checker {
     memory: Memory,
@@ -45,7 +48,7 @@ impl Responder for Checker {
         self.memory
     }
 
-    fn answer(&mut self, text: &[u8]) -> Reply {
+    fn answer(&mut self, text: &[u8]) -> Answer {
         check(self.memory, text)
     }
 
@@ -53,8 +56,8 @@ impl Responder for Checker {
 }
 
 /// Checks a script without running it: reads it from the source to its end, checks its statements one after another,
-/// writes each reply to the sink, and flushes it. A device that fails ends the check as it ends a run, and a refused
-/// statement ends nothing. The summary counts the replies, and the refusals among them.
+/// writes each answer to the sink, and flushes it. A device that fails ends the check as it ends a run, and a refused
+/// statement ends nothing. The summary counts the answers, and the refusals among them.
 pub fn check_script<I: Source, O: Sink>(
     memory: Memory,
     source: &mut I,

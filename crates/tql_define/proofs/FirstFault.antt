@@ -1,7 +1,7 @@
 -- Which of several faults is first.
 use Rattle.std.specs.Prelude.{◌≡◌, refl, Bool, true, false, ◌||◌, List, [], ◌∷◌, ◌++◌, Option, Some, None, if◌then◌else◌}
 use Rattle.std.proofs.Common.{ap, ◌∙◌, sym, append-nil, append_assoc}
-use Rattle.tql_spec.specs.Refusal.{Refusal, E16, E20, E21, E22, E23, earlier, first, fault_if}
+use Rattle.tql_spec.specs.Refusal.{Refusal, TooManyTablesOrReaders, TableUnknownOrAlreadyThere, NameUnknownAmbiguousOrRepeated, TypesDoNotFit, FormNotAllowedHere, earlier, first, fault_if}
 use Rattle.tql_spec.specs.Names.{Checked, check_each}
 use Rattle.tql_spec.specs.Words.{listed}
 use Rattle.tql_spec.proofs.FirstFaults.{first_append}
@@ -43,69 +43,69 @@ in_front false e rest q h k = h
 
 -- what is first behind a test
 abbrev first_many : Bool → Option Refusal
-first_many many = if many then Some E16 else None
+first_many many = if many then Some TooManyTablesOrReaders else None
 
 abbrev first_wrong : Bool → Bool → Option Refusal
-first_wrong wrong many = if wrong then Some E23 else first_many many
+first_wrong wrong many = if wrong then Some FormNotAllowedHere else first_many many
 
 abbrev first_misfit : Bool → Bool → Bool → Option Refusal
-first_misfit misfit wrong many = if misfit then Some E22 else first_wrong wrong many
+first_misfit misfit wrong many = if misfit then Some TypesDoNotFit else first_wrong wrong many
 
 abbrev first_repeated : Bool → Bool → Bool → Bool → Option Refusal
-first_repeated repeated misfit wrong many = if repeated then Some E21 else first_misfit misfit wrong many
+first_repeated repeated misfit wrong many = if repeated then Some NameUnknownAmbiguousOrRepeated else first_misfit misfit wrong many
 
-many_is : (many : Bool) → first (fault_if many E16) ≡ first_many many
+many_is : (many : Bool) → first (fault_if many TooManyTablesOrReaders) ≡ first_many many
 many_is true = refl
 many_is false = refl
 
-many_behind : (many : Bool) → earlier E23 (first_many many) ≡ E23
+many_behind : (many : Bool) → earlier FormNotAllowedHere (first_many many) ≡ FormNotAllowedHere
 many_behind true = refl
 many_behind false = refl
 
-wrong_behind : (wrong many : Bool) → earlier E22 (first_wrong wrong many) ≡ E22
+wrong_behind : (wrong many : Bool) → earlier TypesDoNotFit (first_wrong wrong many) ≡ TypesDoNotFit
 wrong_behind true many = refl
 wrong_behind false true = refl
 wrong_behind false false = refl
 
-misfit_behind : (misfit wrong many : Bool) → earlier E21 (first_misfit misfit wrong many) ≡ E21
+misfit_behind : (misfit wrong many : Bool) → earlier NameUnknownAmbiguousOrRepeated (first_misfit misfit wrong many) ≡ NameUnknownAmbiguousOrRepeated
 misfit_behind true wrong many = refl
 misfit_behind false true many = refl
 misfit_behind false false true = refl
 misfit_behind false false false = refl
 
-repeated_behind : (repeated misfit wrong many : Bool) → earlier E20 (first_repeated repeated misfit wrong many) ≡ E20
+repeated_behind : (repeated misfit wrong many : Bool) → earlier TableUnknownOrAlreadyThere (first_repeated repeated misfit wrong many) ≡ TableUnknownOrAlreadyThere
 repeated_behind true misfit wrong many = refl
 repeated_behind false true wrong many = refl
 repeated_behind false false true many = refl
 repeated_behind false false false true = refl
 repeated_behind false false false false = refl
 
-wrong_before : (wrong many : Bool) → earlier E23 (first_wrong wrong many) ≡ E23
+wrong_before : (wrong many : Bool) → earlier FormNotAllowedHere (first_wrong wrong many) ≡ FormNotAllowedHere
 wrong_before true many = refl
 wrong_before false many = many_behind many
 
 -- one more test of the form
-wrong_more : (b wrong many : Bool) (rest : List Refusal) → first rest ≡ first_wrong wrong many → first (fault_if b E23 ++ rest) ≡ first_wrong (b || wrong) many
-wrong_more true wrong many rest h = ap (λ (o : Option Refusal). Some (earlier E23 o)) h ∙ ap (λ (r : Refusal). Some r) (wrong_before wrong many)
+wrong_more : (b wrong many : Bool) (rest : List Refusal) → first rest ≡ first_wrong wrong many → first (fault_if b FormNotAllowedHere ++ rest) ≡ first_wrong (b || wrong) many
+wrong_more true wrong many rest h = ap (λ (o : Option Refusal). Some (earlier FormNotAllowedHere o)) h ∙ ap (λ (r : Refusal). Some r) (wrong_before wrong many)
 wrong_more false wrong many rest h = h
 
 -- the faults of the table as a whole, by their tests
 abbrev pub whole : (there repeated misfit values several systems ends keys many : Bool) → List Refusal
 whole there repeated misfit values several systems ends keys many =
-    fault_if there E20
-    ++ fault_if repeated E21
-    ++ fault_if misfit E22
-    ++ fault_if values E23
-    ++ fault_if several E23
-    ++ fault_if systems E23
-    ++ fault_if ends E23
-    ++ fault_if keys E23
-    ++ fault_if many E16
+    fault_if there TableUnknownOrAlreadyThere
+    ++ fault_if repeated NameUnknownAmbiguousOrRepeated
+    ++ fault_if misfit TypesDoNotFit
+    ++ fault_if values FormNotAllowedHere
+    ++ fault_if several FormNotAllowedHere
+    ++ fault_if systems FormNotAllowedHere
+    ++ fault_if ends FormNotAllowedHere
+    ++ fault_if keys FormNotAllowedHere
+    ++ fault_if many TooManyTablesOrReaders
 
 -- the faults in one row
 in_a_row : (there repeated misfit values several systems ends keys many : Bool)
     → whole there repeated misfit values several systems ends keys many
-    ≡ fault_if there E20 ++ (fault_if repeated E21 ++ (fault_if misfit E22 ++ (fault_if values E23 ++ (fault_if several E23 ++ (fault_if systems E23 ++ (fault_if ends E23 ++ (fault_if keys E23 ++ fault_if many E16)))))))
+    ≡ fault_if there TableUnknownOrAlreadyThere ++ (fault_if repeated NameUnknownAmbiguousOrRepeated ++ (fault_if misfit TypesDoNotFit ++ (fault_if values FormNotAllowedHere ++ (fault_if several FormNotAllowedHere ++ (fault_if systems FormNotAllowedHere ++ (fault_if ends FormNotAllowedHere ++ (fault_if keys FormNotAllowedHere ++ fault_if many TooManyTablesOrReaders)))))))
 in_a_row there repeated misfit values several systems ends keys many = simp append_assoc
 
 pub whole_first : (there repeated misfit values several systems ends keys many : Bool)
@@ -114,9 +114,9 @@ pub whole_first : (there repeated misfit values several systems ends keys many :
 whole_first there repeated misfit values several systems ends keys many =
     let wrong : Bool = values || (several || (systems || (ends || (keys || false)))) in
     ap first (in_a_row there repeated misfit values several systems ends keys many)
-    ∙ in_front there E20 _ _ (
-    in_front repeated E21 _ _ (
-    in_front misfit E22 _ _ (
+    ∙ in_front there TableUnknownOrAlreadyThere _ _ (
+    in_front repeated NameUnknownAmbiguousOrRepeated _ _ (
+    in_front misfit TypesDoNotFit _ _ (
     wrong_more values _ many _ (wrong_more several _ many _ (wrong_more systems _ many _ (wrong_more ends _ many _ (wrong_more keys false many _ (many_is many)))))
     ) (wrong_behind wrong many)
     ) (misfit_behind misfit wrong many)

@@ -2,15 +2,16 @@
 use Rattle.std.specs.Prelude.{◌≡◌, refl, ℕ, Bool, true, false, not, ◌&&◌, ◌||◌, ◌==◌, nat_lt, IsTrue, List, [], ◌∷◌, ◌++◌, map, length, Option, Some, None, ◌<◌}
 use Rattle.std.specs.List.{slice_get}
 use Rattle.std.proofs.Common.{ap, ◌∙◌, sym, arith, get_or, drop, ◌+◌}
-use Rattle.std.proofs.lemmas.List.{at_drop_more}
+use Rattle.std.proofs.lemmas.List.{at_drop_more, length-map}
 use Rattle.std.proofs.lemmas.Bool.Decides.{nat_tests}
-use Rattle.tql_spec.specs.Refusal.{Refusal, E21, E22, E23, earlier, first, fault_if}
+use Rattle.tql_spec.specs.Datum.{Moments, same_kind}
+use Rattle.tql_spec.specs.Refusal.{Refusal, NameUnknownAmbiguousOrRepeated, TypesDoNotFit, FormNotAllowedHere, earlier, first, fault_if}
 use Rattle.tql_spec.specs.Definition.{System}
 use Rattle.tql_spec.specs.Names.{Checked, ◌>>=◌}
 use Rattle.tql_spec.specs.Syntax.{ColumnTree}
-use Rattle.tql_spec.specs.Creation.{PeriodPart, number_in, or_first, has_number}
-use Rattle.tql_catalog.specs.Simple.{has_system}
-use Rattle.tql_define.specs.NewTables.{column_of, part_of, names_in, starts_in, stops_in, has_misfit, is_wrong, system_at, system_in, sooner, periods_fault}
+use Rattle.tql_spec.specs.Creation.{PeriodPart, number_in, or_first, has_number, kind_of_type}
+use Rattle.tql_catalog.specs.Defined.{is_system_period}
+use Rattle.tql_define.specs.NewTables.{column_of, part_of, names_in, kinds_in, kind_in, starts_in, stops_in, has_misfit, is_wrong, system_at, system_in, sooner, periods_fault}
 use Rattle.tql_define.specs.declared.draft.NewColumn.{NewColumn}
 use Rattle.tql_define.specs.declared.draft.NewPeriod.{NewPeriod}
 use Rattle.tql_define.proofs.FirstFault.{first_each}
@@ -18,25 +19,25 @@ use Rattle.tql_define.proofs.ColumnLaws.{two_numbers}
 
 -- ---- the columns of the period
 
-misfit_by : (a b : Bool) → a ≡ true → first (fault_if a E22 ++ (fault_if b E23 ++ [])) ≡ Some E22
+misfit_by : (a b : Bool) → a ≡ true → first (fault_if a TypesDoNotFit ++ (fault_if b FormNotAllowedHere ++ [])) ≡ Some TypesDoNotFit
 misfit_by true true h = refl
 misfit_by true false h = refl
 misfit_by false b h = absurd (cc)
 
-wrong_by : (a b : Bool) → a ≡ false → b ≡ true → first (fault_if a E22 ++ (fault_if b E23 ++ [])) ≡ Some E23
+wrong_by : (a b : Bool) → a ≡ false → b ≡ true → first (fault_if a TypesDoNotFit ++ (fault_if b FormNotAllowedHere ++ [])) ≡ Some FormNotAllowedHere
 wrong_by true b h k = absurd (cc)
 wrong_by false true h k = refl
 wrong_by false false h k = absurd (cc)
 
-none_by : (a b : Bool) → a ≡ false → b ≡ false → first (fault_if a E22 ++ (fault_if b E23 ++ [])) ≡ None
+none_by : (a b : Bool) → a ≡ false → b ≡ false → first (fault_if a TypesDoNotFit ++ (fault_if b FormNotAllowedHere ++ [])) ≡ None
 none_by true b h k = absurd (cc)
 none_by false true h k = absurd (cc)
 none_by false false h k = refl
 
-pub misfit_first : (cs : List ColumnTree) (p : PeriodPart) (s e : ℕ) → has_misfit cs s e ≡ true → Some E22 ≡ first (system_at cs p s e).faults
+pub misfit_first : (cs : List ColumnTree) (p : PeriodPart) (s e : ℕ) → has_misfit cs s e ≡ true → Some TypesDoNotFit ≡ first (system_at cs p s e).faults
 misfit_first cs p s e h = sym (misfit_by (has_misfit cs s e) (is_wrong cs p s e) h)
 
-pub wrong_first : (cs : List ColumnTree) (p : PeriodPart) (s e : ℕ) → has_misfit cs s e ≡ false → is_wrong cs p s e ≡ true → Some E23 ≡ first (system_at cs p s e).faults
+pub wrong_first : (cs : List ColumnTree) (p : PeriodPart) (s e : ℕ) → has_misfit cs s e ≡ false → is_wrong cs p s e ≡ true → Some FormNotAllowedHere ≡ first (system_at cs p s e).faults
 wrong_first cs p s e h k = sym (wrong_by (has_misfit cs s e) (is_wrong cs p s e) h k)
 
 pub none_first : (cs : List ColumnTree) (p : PeriodPart) (s e : ℕ) → has_misfit cs s e ≡ false → is_wrong cs p s e ≡ false → None ≡ first (system_at cs p s e).faults
@@ -49,32 +50,42 @@ both_there false true true h = (refl, refl)
 both_there false true false h = absurd (cc)
 both_there false false c h = absurd (cc)
 
-system_by : (a b c : Bool) → a ≡ true → b ≡ true → c ≡ false → IsTrue (a && b && not c)
-system_by true true false h k e = refl
-system_by true true true h k e = absurd (cc)
-system_by true false c h k e = absurd (cc)
-system_by false b c h k e = absurd (cc)
+-- two kinds that are both right
+both_right : (a b : Bool) → not a || not b ≡ false → (a ≡ true) × (b ≡ true)
+both_right true true h = (refl, refl)
+both_right true false h = absurd (cc)
+both_right false b h = absurd (cc)
 
-pub has_both : (cs : List NewColumn) (p : PeriodPart) (s e : ℕ) → s < length cs → e < length cs → is_wrong (map column_of cs) p s e ≡ false
-    → IsTrue (has_system (Some (record { start = s; end = e })) (length cs))
-has_both cs p s e h k w =
-    let both = both_there _ (has_number s (starts_in (map column_of cs))) (has_number e (stops_in (map column_of cs))) w in
-    system_by (nat_lt s (length cs)) (nat_lt e (length cs)) (s == e) (grind (arith, nat_tests)) (grind (arith, nat_tests)) (two_numbers cs s e h k both.0 both.1)
+-- two columns of so many
+there : (n width count : ℕ) → n < count → width ≡ count → nat_lt n width ≡ true
+there n width count h e = grind (arith, nat_tests)
+
+pub has_both : (cs : List NewColumn) (p : PeriodPart) (s e : ℕ) → s < length cs → e < length cs → has_misfit (map column_of cs) s e ≡ false → is_wrong (map column_of cs) p s e ≡ false
+    → IsTrue (is_system_period (kinds_in (map column_of cs)) (Some (record { start = s; end = e })))
+has_both cs p s e h k m w =
+    let trees : List ColumnTree = map column_of cs in
+    let both = both_there _ (has_number s (starts_in trees)) (has_number e (stops_in trees)) w in
+    let moments = both_right (same_kind (kind_in trees s) Moments) (same_kind (kind_in trees e) Moments) m in
+    let count : length (kinds_in trees) ≡ length cs = length-map trees (λ (c : ColumnTree). kind_of_type c.type_name) ∙ length-map cs column_of in
+    let from : nat_lt s (length (kinds_in trees)) ≡ true = there s (length (kinds_in trees)) (length cs) h count in
+    let to : nat_lt e (length (kinds_in trees)) ≡ true = there e (length (kinds_in trees)) (length cs) k count in
+    let apart : (s == e) ≡ false = two_numbers cs s e h k both.0 both.1 in
+    λ i. (from i && moments.0 i) && (to i && moments.1 i) && not (apart i)
 
 -- ---- the names of the period
 
-unknown_by : (rest : List Refusal) → earlier E21 (first rest) ≡ E21 → first (E21 ∷ rest) ≡ Some E21
+unknown_by : (rest : List Refusal) → earlier NameUnknownAmbiguousOrRepeated (first rest) ≡ NameUnknownAmbiguousOrRepeated → first (NameUnknownAmbiguousOrRepeated ∷ rest) ≡ Some NameUnknownAmbiguousOrRepeated
 unknown_by rest h = ap (λ (r : Refusal). Some r) h
 
-misfit_behind : (a b : Bool) → earlier E21 (first (fault_if a E22 ++ (fault_if b E23 ++ []))) ≡ E21
+misfit_behind : (a b : Bool) → earlier NameUnknownAmbiguousOrRepeated (first (fault_if a TypesDoNotFit ++ (fault_if b FormNotAllowedHere ++ []))) ≡ NameUnknownAmbiguousOrRepeated
 misfit_behind true true = refl
 misfit_behind true false = refl
 misfit_behind false true = refl
 misfit_behind false false = refl
 
-end_behind : (o : Option ℕ) (a b : Bool) → earlier E21 (first ((or_first o).faults ++ (fault_if a E22 ++ (fault_if b E23 ++ [])))) ≡ E21
+end_behind : (o : Option ℕ) (a b : Bool) → earlier NameUnknownAmbiguousOrRepeated (first ((or_first o).faults ++ (fault_if a TypesDoNotFit ++ (fault_if b FormNotAllowedHere ++ [])))) ≡ NameUnknownAmbiguousOrRepeated
 end_behind (Some e) a b = misfit_behind a b
-end_behind None a b = ap (λ (r : Refusal). earlier E21 (Some r)) (misfit_behind a b)
+end_behind None a b = ap (λ (r : Refusal). earlier NameUnknownAmbiguousOrRepeated (Some r)) (misfit_behind a b)
 
 -- the period, where its names have these numbers
 abbrev system_by_numbers : List ColumnTree → PeriodPart → Option ℕ → Option ℕ → Checked System
@@ -83,15 +94,15 @@ system_by_numbers cs p o q = do
   e ← or_first q
   system_at cs p s e
 
-pub unknown_start : (cs : List ColumnTree) (p : PeriodPart) → number_in p.start (names_in cs) ≡ None → Some E21 ≡ first (system_in cs p).faults
+pub unknown_start : (cs : List ColumnTree) (p : PeriodPart) → number_in p.start (names_in cs) ≡ None → Some NameUnknownAmbiguousOrRepeated ≡ first (system_in cs p).faults
 unknown_start cs p h =
     let q : Option ℕ = number_in p.end (names_in cs) in
     sym (ap (λ (o : Option ℕ). first (system_by_numbers cs p o q).faults) h
-    ∙ unknown_by ((or_first q).faults ++ (fault_if (has_misfit cs 0 (or_first q).value) E22 ++ (fault_if (is_wrong cs p 0 (or_first q).value) E23 ++ []))) (end_behind q (has_misfit cs 0 (or_first q).value) (is_wrong cs p 0 (or_first q).value)))
+    ∙ unknown_by ((or_first q).faults ++ (fault_if (has_misfit cs 0 (or_first q).value) TypesDoNotFit ++ (fault_if (is_wrong cs p 0 (or_first q).value) FormNotAllowedHere ++ []))) (end_behind q (has_misfit cs 0 (or_first q).value) (is_wrong cs p 0 (or_first q).value)))
 
 pub unknown_end : (cs : List ColumnTree) (p : PeriodPart) (s : ℕ) → number_in p.start (names_in cs) ≡ Some s → number_in p.end (names_in cs) ≡ None
-    → Some E21 ≡ first (system_in cs p).faults
-unknown_end cs p s h k = sym ((λ i. first (system_by_numbers cs p (h i) (k i)).faults) ∙ unknown_by (fault_if (has_misfit cs s 0) E22 ++ (fault_if (is_wrong cs p s 0) E23 ++ [])) (misfit_behind (has_misfit cs s 0) (is_wrong cs p s 0)))
+    → Some NameUnknownAmbiguousOrRepeated ≡ first (system_in cs p).faults
+unknown_end cs p s h k = sym ((λ i. first (system_by_numbers cs p (h i) (k i)).faults) ∙ unknown_by (fault_if (has_misfit cs s 0) TypesDoNotFit ++ (fault_if (is_wrong cs p s 0) FormNotAllowedHere ++ [])) (misfit_behind (has_misfit cs s 0) (is_wrong cs p s 0)))
 
 pub known : (cs : List ColumnTree) (p : PeriodPart) (s e : ℕ) → number_in p.start (names_in cs) ≡ Some s → number_in p.end (names_in cs) ≡ Some e
     → system_in cs p ≡ system_at cs p s e

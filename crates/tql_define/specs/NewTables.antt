@@ -3,7 +3,7 @@ use Rattle.std.specs.Prelude.{ℕ, Bool, not, ◌||◌, ◌==◌, nat_le, List, 
 use Rattle.std.specs.List.{list_any, list_all}
 use Rattle.tql_spec.specs.Words.{same_text}
 use Rattle.tql_spec.specs.Datum.{Kind, Ints, Moments, same_kind}
-use Rattle.tql_spec.specs.Refusal.{Refusal, E16, E20, E21, E22, E23, earlier, first}
+use Rattle.tql_spec.specs.Refusal.{Refusal, TooManyTablesOrReaders, TableUnknownOrAlreadyThere, NameUnknownAmbiguousOrRepeated, TypesDoNotFit, FormNotAllowedHere, earlier, first}
 use Rattle.tql_spec.specs.Definition.{Name, TableDef, System, place_of}
 use Rattle.tql_spec.specs.Names.{Checked, ◌>>=◌, sound, refuse_if, check_each}
 use Rattle.tql_spec.specs.Syntax.{ColumnTree, Element}
@@ -52,9 +52,13 @@ starts_in cs = numbers_where (λ c. is_row_start c.generated) 0 cs
 abbrev pub stops_in : List ColumnTree → List ℕ
 stops_in cs = numbers_where (λ c. is_row_end c.generated) 0 cs
 
+-- the kinds
+abbrev pub kinds_in : List ColumnTree → List Kind
+kinds_in cs = map (λ (c : ColumnTree). kind_of_type c.type_name) cs
+
 -- the kind of the column of this number
 abbrev pub kind_in : List ColumnTree → ℕ → Kind
-kind_in cs i = slice_index_or (map (λ (c : ColumnTree). kind_of_type c.type_name) cs) i Ints
+kind_in cs i = slice_index_or (kinds_in cs) i Ints
 
 -- a column that is no moment
 abbrev pub has_misfit : List ColumnTree → ℕ → ℕ → Bool
@@ -67,8 +71,8 @@ is_wrong cs p s e = same_text p.start p.end || not (has_number s (starts_in cs))
 -- the system period of the columns of these numbers
 abbrev pub system_at : List ColumnTree → PeriodPart → ℕ → ℕ → Checked System
 system_at cs p s e = do
-  u ← refuse_if (has_misfit cs s e) E22
-  v ← refuse_if (is_wrong cs p s e) E23
+  u ← refuse_if (has_misfit cs s e) TypesDoNotFit
+  v ← refuse_if (is_wrong cs p s e) FormNotAllowedHere
   sound (record { start = s; end = e })
 
 -- the system period
@@ -100,11 +104,11 @@ is_misformed cs ps versioned =
 -- by what is true of the table as a whole
 abbrev pub whole_fault : (there repeated misfit wrong many : Bool) → Option Refusal
 whole_fault there repeated misfit wrong many =
-    if there then Some E20
-    else (if repeated then Some E21
-    else (if misfit then Some E22
-    else (if wrong then Some E23
-    else (if many then Some E16 else None))))
+    if there then Some TableUnknownOrAlreadyThere
+    else (if repeated then Some NameUnknownAmbiguousOrRepeated
+    else (if misfit then Some TypesDoNotFit
+    else (if wrong then Some FormNotAllowedHere
+    else (if many then Some TooManyTablesOrReaders else None))))
 
 -- the first fault of the periods
 abbrev pub periods_fault : List ColumnTree → List PeriodPart → Option Refusal

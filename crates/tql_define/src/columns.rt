@@ -1,7 +1,8 @@
 //! What is asked of the columns of a new table.
-ghost use Rattle.std.specs.Prelude.{◌≡◌, ◌<◌, length, map, is_some, string_bytes, false};
+ghost use Rattle.std.specs.Prelude.{◌≡◌, ◌<◌, length, map, is_some, Some, None, if◌then◌else◌, string_bytes};
 ghost use Rattle.std.specs.List.{list_any, list_all};
 ghost use Rattle.std.specs.Option.{ForSome};
+ghost use Rattle.tql_spec.specs.Calendar.{number_of};
 ghost use Rattle.tql_spec.specs.Creation as spec;
 ghost use Rattle.tql_spec.specs.Datum.{Moments, same_kind};
 ghost use Rattle.tql_spec.specs.Syntax as tree;
@@ -59,15 +60,24 @@ pub fn has_repeated_name(columns: &[NewColumn<'_>]) -> bool
     false
 }
 
+/// The length of a VARCHAR, from 1 to 65,535 characters, where it is allowed.
+fn length_of(digits: &[u8]) -> Option<u64>
+    ensures { result ≡ (if spec.is_length (number_of digits.now) then Some (number_of digits.now) else None) }
+{
+    let length = unsigned(digits)?;
+    if 1 <= length && length <= 65535 {
+        Some(length)
+    } else {
+        None
+    }
+}
+
 /// Whether the length or the precision of the type is not allowed.
 fn has_bad_number(type_name: TypeName<'_>) -> bool
     ensures { result ≡ spec.has_bad_number (type_of type_name.entry) }
 {
     match type_name {
-        TypeName::Varchar(digits) => match unsigned(digits.as_bytes()) {
-            Some(length) => length < 1 || 65535 < length,
-            None => true,
-        },
+        TypeName::Varchar(digits) => length_of(digits.as_bytes()).is_none(),
         TypeName::Timestamp(Some(digits)) => match unsigned(digits.as_bytes()) {
             Some(precision) => 12 < precision,
             None => true,
@@ -88,13 +98,12 @@ pub fn kind_of(type_name: TypeName<'_>) -> Kind
     }
 }
 
-/// The most characters of a type, where it limits them.
+/// The most characters of a type, where it limits them to a length that is allowed.
 pub fn limit_of(type_name: TypeName<'_>) -> Option<u64>
-    requires { spec.has_bad_number (type_of type_name) ≡ false }
     ensures { result ≡ spec.limit_of_type (type_of type_name.entry) }
 {
     match type_name {
-        TypeName::Varchar(digits) => unsigned(digits.as_bytes()),
+        TypeName::Varchar(digits) => length_of(digits.as_bytes()),
         TypeName::Integer | TypeName::Date | TypeName::Timestamp(_) => None,
     }
 }

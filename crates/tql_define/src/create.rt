@@ -11,21 +11,23 @@ ghost use Rattle.tql_spec.specs.Running.{does_run};
 ghost use Rattle.tql_spec.specs.Syntax as tree;
 ghost use Rattle.tql_value.specs.Refusals.{refusal_of};
 ghost use Rattle.tql_value.specs.declared.refusal.Refusal.TheVariants.{OutOfMemory};
+ghost use Rattle.tql_catalog.specs.Defined.{is_system_period};
 ghost use Rattle.tql_catalog.specs.Definitions as catalog;
-ghost use Rattle.tql_catalog.specs.Definitions.{def_of, definitions_of, system_of};
-ghost use Rattle.tql_catalog.specs.Simple.{IsSimple, has_system};
+ghost use Rattle.tql_catalog.specs.Definitions.{system_of};
+ghost use Rattle.tql_catalog.specs.Tables.{definitions_of};
 ghost use Rattle.tql_tree.specs.Statements.{type_of, create_of};
 ghost use Rattle.tql_define.specs.Binds.{Binds};
 ghost use Rattle.tql_define.specs.NewTables as new;
-ghost use Rattle.tql_define.specs.NewTables.{column_of, part_of, columns_in, parts_in, names_in, system_in, system_at, fault_of};
+ghost use Rattle.tql_define.specs.NewTables.{column_of, part_of, columns_in, parts_in, names_in, kinds_in, system_in, system_at, fault_of};
 
 use crate::columns::{
     are_all_generated, end_count, has_misfit, has_repeated_name, is_end_at, is_moment_at,
     is_same_text, is_start_at, kind_of, limit_of, number_in, start_count,
 };
 use crate::draft::{Draft, NewColumn, NewPeriod, draft_of};
-use tql_catalog::definition::{Column, System, TableDef};
-use tql_catalog::table::{Table, place_of};
+use tql_catalog::catalog::Catalog;
+use tql_catalog::definition::{Column, System};
+use tql_catalog::table_def::TableDef;
 use tql_memory::Memory;
 use tql_tree::statement::CreateTree;
 use tql_value::refusal::Refusal;
@@ -74,7 +76,7 @@ fn system_of_columns(
     requires end { end < length columns.now }
     ensures fault { fault_of result ≡ first (system_at (map column_of columns.now) (part_of period.now) start end).faults }
     ensures system { IfOk result (λ s. system_of s ≡ (system_at (map column_of columns.now) (part_of period.now) start end).value) }
-    ensures within { IfOk result (λ s. IsTrue (has_system (Some (system_of s)) (length columns.now))) }
+    ensures within { IfOk result (λ s. IsTrue (is_system_period (kinds_in (map column_of columns.now)) (Some (system_of s)))) }
 {
     if has_no_moment(columns, start, end) {
         Err(Refusal::TypesDoNotFit)
@@ -91,7 +93,7 @@ fn system_of_columns(
 fn system_period(columns: &[NewColumn<'_>], period: &NewPeriod) -> Result<System, Refusal>
     ensures fault { fault_of result ≡ first (system_in (map column_of columns.now) (part_of period.now)).faults }
     ensures system { IfOk result (λ s. system_of s ≡ (system_in (map column_of columns.now) (part_of period.now)).value) }
-    ensures within { IfOk result (λ s. IsTrue (has_system (Some (system_of s)) (length columns.now))) }
+    ensures within { IfOk result (λ s. IsTrue (is_system_period (kinds_in (map column_of columns.now)) (Some (system_of s)))) }
 {
     let Some(start) = number_in(columns, &period.start) else {
         return Err(Refusal::NameUnknownAmbiguousOrRepeated);
@@ -138,7 +140,7 @@ fn is_misformed(columns: &[NewColumn<'_>], periods: &[NewPeriod], is_versioned: 
 
 /// The first fault that the table shows as a whole.
 fn whole_fault(
-    tables: &[Table],
+    tables: &Catalog,
     name: &str,
     draft: &Draft<'_>,
     is_versioned: bool,
@@ -150,7 +152,7 @@ fn whole_fault(
         (new.is_misformed (columns_in draft.now) (parts_in draft.now) is_versioned)
         (nat_le 1000 (length (definitions_of tables.now))) }
 {
-    if place_of(tables, name).is_some() {
+    if tables.place_of(name).is_some() {
         Some(Refusal::TableUnknownOrAlreadyThere)
     } else if has_repeated_name(&draft.columns) {
         Some(Refusal::NameUnknownAmbiguousOrRepeated)
@@ -166,7 +168,7 @@ fn whole_fault(
 }
 
 /// The first fault of a new table.
-fn new_fault(tables: &[Table], name: &str, draft: &Draft<'_>, is_versioned: bool) -> Option<Refusal>
+fn new_fault(tables: &Catalog, name: &str, draft: &Draft<'_>, is_versioned: bool) -> Option<Refusal>
     ensures { option_map refusal_of result ≡ new.new_fault (definitions_of tables.now) name.now (columns_in draft.now) (parts_in draft.now) is_versioned }
 {
     sooner(
@@ -179,7 +181,7 @@ fn new_fault(tables: &[Table], name: &str, draft: &Draft<'_>, is_versioned: bool
 fn first_system(columns: &[NewColumn<'_>], periods: &[NewPeriod]) -> Option<System>
     requires { new.periods_fault (map column_of columns.now) (map part_of periods.now) ≡ None }
     ensures system { option_map system_of result ≡ spec.first_of (check_each (system_in (map column_of columns.now)) (map part_of periods.now)).value }
-    ensures within { IsTrue (has_system (option_map system_of result) (length columns.now)) }
+    ensures within { IsTrue (is_system_period (kinds_in (map column_of columns.now)) (option_map system_of result)) }
 {
     match system_period(columns, periods.first()?) {
         Ok(system) => Some(system),
@@ -190,7 +192,6 @@ fn first_system(columns: &[NewColumn<'_>], periods: &[NewPeriod]) -> Option<Syst
 /// The column of the definition.
 #[tactic(auto, using(crate::proofs::ColumnLaws::or_false))]
 fn definition_column(memory: Memory, column: &NewColumn<'_>) -> Result<Column, Refusal>
-    requires { spec.has_bad_number (type_of column.now.type_name) ≡ false }
     ensures column { IfOk result (λ c. catalog.column_of c ≡ spec.column [] (column_of column.now)) }
     ensures memory { IfErr result (λ e. e ≡ OutOfMemory) }
 {
@@ -204,7 +205,6 @@ fn definition_column(memory: Memory, column: &NewColumn<'_>) -> Result<Column, R
 
 /// The columns of the definition.
 fn definitions(memory: Memory, columns: &[NewColumn<'_>]) -> Result<Vec<Column, Memory>, Refusal>
-    requires { list_any (λ (c : tree.ColumnTree). spec.has_bad_number c.type_name) (map column_of columns.now) ≡ false }
     ensures columns { IfOk result (λ cs. map catalog.column_of cs.items ≡ map (spec.column []) (map column_of columns.now)) }
     ensures memory { IfErr result (λ e. e ≡ OutOfMemory) }
 {
@@ -216,21 +216,16 @@ fn definitions(memory: Memory, columns: &[NewColumn<'_>]) -> Result<Vec<Column, 
 }
 
 /// The definition, where its columns and its periods show no fault. The only error is a refused growth.
-#[tactic(auto, using(crate::proofs::Definitions::is_simple))]
+#[tactic(auto, using(crate::proofs::Definitions::definable))]
 fn definition(memory: Memory, name: String<Memory>, draft: &Draft<'_>) -> Result<TableDef, Refusal>
-    requires fitting { list_any (λ (c : tree.ColumnTree). spec.has_bad_number c.type_name) (columns_in draft.now) ≡ false }
+    requires once { spec.repeats (names_in (columns_in draft.now)) ≡ false }
     requires sound { new.periods_fault (columns_in draft.now) (parts_in draft.now) ≡ None }
-    ensures definition { IfOk result (λ d. def_of d ≡ new.definition_of (string_bytes name.entry) (columns_in draft.now) (parts_in draft.now)) }
-    ensures simple { IfOk result (λ d. IsSimple (def_of d)) }
+    ensures definition { IfOk result (λ d. d ≡ new.definition_of (string_bytes name.entry) (columns_in draft.now) (parts_in draft.now)) }
     ensures memory { IfErr result (λ e. e ≡ OutOfMemory) }
 {
     let columns = definitions(memory, &draft.columns)?;
     let system = first_system(&draft.columns, &draft.periods);
-    Ok(TableDef {
-        name,
-        columns,
-        system,
-    })
+    Ok(TableDef::new(memory, name, columns, system)?)
 }
 
 /// The definition that a CREATE TABLE of columns and system periods gives. Refused are, the first of them: a table of that name is
@@ -240,12 +235,11 @@ fn definition(memory: Memory, name: String<Memory>, draft: &Draft<'_>) -> Result
 /// that order); a thousand tables. Where memory runs out, that is the refusal.
 pub fn new_table(
     memory: Memory,
-    tables: &[Table],
+    tables: &Catalog,
     create: &CreateTree<'_>,
 ) -> Result<TableDef, Refusal>
     requires { IsTrue (does_run (create_of create.now)) }
-    ensures binds { Binds (λ d. CreateTable (def_of d)) (bind (definitions_of tables.now) (create_of create.now)) result }
-    ensures simple { IfOk result (λ d. IsSimple (def_of d)) }
+    ensures { Binds CreateTable (bind (definitions_of tables.now) (create_of create.now)) result }
 {
     let name = create.table.meant(memory)?;
     let draft = draft_of(memory, create)?;

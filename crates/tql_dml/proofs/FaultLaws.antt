@@ -6,12 +6,14 @@ use Rattle.std.proofs.lemmas.List.{append-nil}
 use Rattle.std.proofs.lemmas.List.Edits.{length-insert, length-remove}
 use borrow.Author.Tests.{ltb-true, ltb-false}
 use Rattle.tql_spec.specs.Datum.{Row, Moment, is_null}
-use Rattle.tql_spec.specs.Refusal.{Refusal, E30, E32, first, earlier, fault_if}
+use Rattle.tql_spec.specs.Refusal.{Refusal, ValueOutOfRange, NullNotAllowed, first, earlier, fault_if}
 use Rattle.tql_spec.specs.Definition.{Column, System, TableDef, Stamped, with_generated, shown}
 use Rattle.tql_spec.specs.Calendar.{high}
 use Rattle.tql_spec.specs.Expression.{judge}
 use Rattle.tql_spec.specs.Change.{is_too_long, cell_faults, row_faults, period_faults_by, check_fault}
-use Rattle.tql_catalog.specs.Simple.{IsSimple, has_system}
+use Rattle.tql_catalog.specs.Defined.{IsDefinition}
+use Rattle.tql_catalog.proofs.Definitions.{has_its_system}
+use Rattle.tql_catalog.specs.Rows.{has_system}
 use Rattle.tql_value.specs.Views.{datum_of_value}
 use Rattle.tql_value.specs.declared.value.Value.{Value}
 use Rattle.tql_dml.specs.Cells.{no_column, columns_at, has_long_text, lacks_a_value, rows_faults}
@@ -20,7 +22,7 @@ use Rattle.tql_dml.proofs.Kept.{kept, Within, within}
 
 -- ---- the generated cells have no fault
 
-quiet : (limit : Option ℕ) (required : Bool) (m : ℤ) → fault_if (is_too_long limit (Moment m)) E30 ++ fault_if (required && is_null (Moment m)) E32 ≡ []
+quiet : (limit : Option ℕ) (required : Bool) (m : ℤ) → fault_if (is_too_long limit (Moment m)) ValueOutOfRange ++ fault_if (required && is_null (Moment m)) NullNotAllowed ≡ []
 quiet None true m = refl
 quiet None false m = refl
 quiet (Some n) true m = refl
@@ -31,7 +33,7 @@ moment_in [] row i m l e = absurd (omega arith)
 moment_in (c ∷ cs) row zero m l e = ap (λ (fs : List Refusal). fs ++ cell_faults cs row) (quiet c.limit c.required m)
 moment_in (c ∷ cs) [] (suc i) m l e = absurd (omega arith)
 moment_in (c ∷ cs) (v ∷ vs) (suc i) m l e =
-    ap (λ (fs : List Refusal). fault_if (is_too_long c.limit v) E30 ++ fault_if (c.required && is_null v) E32 ++ fs) (moment_in cs vs i m (omega arith) (omega arith))
+    ap (λ (fs : List Refusal). fault_if (is_too_long c.limit v) ValueOutOfRange ++ fault_if (c.required && is_null v) NullNotAllowed ++ fs) (moment_in cs vs i m (omega arith) (omega arith))
 
 shown_by : (s : System) (cs : List Column) (cells : Row) (m e : ℤ) (b : Bool) → nat_lt s.start s.end ≡ b → Within s (length cs) → length cells + 2 ≡ length cs
     → cell_faults cs (if b then insert (insert cells s.start (Moment m)) s.end (Moment e) else insert (insert cells s.end (Moment e)) s.start (Moment m))
@@ -70,33 +72,33 @@ shown_law (Some s) cs cells m e h k =
     let n = two_less s cs (nat_lt s.start s.end) refl w in
     shown_by s cs cells m e (nat_lt s.start s.end) refl w (omega arith)
 
--- a simple table has no other faults
-pub simple_faults : (d : TableDef) (r : Stamped) → IsSimple d → length r.cells ≡ length (kept d.system d.columns) → row_faults d (shown d r) ≡ cell_faults (kept d.system d.columns) r.cells
-simple_faults d r h k =
+-- a row of a table has no other faults
+pub plain_faults : (d : TableDef) (r : Stamped) → IsDefinition d → length r.cells ≡ length (kept d.system d.columns) → row_faults d (shown d r) ≡ cell_faults (kept d.system d.columns) r.cells
+plain_faults d r h k =
     let row : Row = shown d r in
     let faults : List Refusal = cell_faults d.columns row in
     let plain : row_faults d row ≡ faults ++ [] ++ [] = λ i. faults ++ period_faults_by (h.application i) d row ++ flat_map (λ c. check_fault (judge [] row c)) (h.checks i) in
-    plain ∙ append-nil (faults ++ []) ∙ append-nil faults ∙ shown_law d.system d.columns r.cells r.start high h.system k
+    plain ∙ append-nil (faults ++ []) ∙ append-nil faults ∙ shown_law d.system d.columns r.cells r.start high (has_its_system d h) k
 
 -- ---- the first fault
 
 -- which fault comes first, where a text is too long or a value is missing
 abbrev pub verdict : Bool → Bool → Option Refusal
-verdict true b = Some E30
-verdict false true = Some E32
+verdict true b = Some ValueOutOfRange
+verdict false true = Some NullNotAllowed
 verdict false false = None
 
-one_cell : (p q a b : Bool) (rest : List Refusal) → first rest ≡ verdict a b → first (fault_if p E30 ++ fault_if q E32 ++ rest) ≡ verdict (p || a) (q || b)
+one_cell : (p q a b : Bool) (rest : List Refusal) → first rest ≡ verdict a b → first (fault_if p ValueOutOfRange ++ fault_if q NullNotAllowed ++ rest) ≡ verdict (p || a) (q || b)
 one_cell false false a b rest h = h
-one_cell true false true b rest h = ap (λ o. Some (earlier E30 o)) h
-one_cell true false false true rest h = ap (λ o. Some (earlier E30 o)) h
-one_cell true false false false rest h = ap (λ o. Some (earlier E30 o)) h
-one_cell false true true b rest h = ap (λ o. Some (earlier E32 o)) h
-one_cell false true false true rest h = ap (λ o. Some (earlier E32 o)) h
-one_cell false true false false rest h = ap (λ o. Some (earlier E32 o)) h
-one_cell true true true b rest h = ap (λ o. Some (earlier E30 (Some (earlier E32 o)))) h
-one_cell true true false true rest h = ap (λ o. Some (earlier E30 (Some (earlier E32 o)))) h
-one_cell true true false false rest h = ap (λ o. Some (earlier E30 (Some (earlier E32 o)))) h
+one_cell true false true b rest h = ap (λ o. Some (earlier ValueOutOfRange o)) h
+one_cell true false false true rest h = ap (λ o. Some (earlier ValueOutOfRange o)) h
+one_cell true false false false rest h = ap (λ o. Some (earlier ValueOutOfRange o)) h
+one_cell false true true b rest h = ap (λ o. Some (earlier NullNotAllowed o)) h
+one_cell false true false true rest h = ap (λ o. Some (earlier NullNotAllowed o)) h
+one_cell false true false false rest h = ap (λ o. Some (earlier NullNotAllowed o)) h
+one_cell true true true b rest h = ap (λ o. Some (earlier ValueOutOfRange (Some (earlier NullNotAllowed o)))) h
+one_cell true true false true rest h = ap (λ o. Some (earlier ValueOutOfRange (Some (earlier NullNotAllowed o)))) h
+one_cell true true false false rest h = ap (λ o. Some (earlier ValueOutOfRange (Some (earlier NullNotAllowed o)))) h
 
 or_assoc : (a b c : Bool) → a || (b || c) ≡ (a || b) || c
 or_assoc true b c = refl
@@ -109,7 +111,7 @@ one_row (c ∷ cs) [] a b rest h = h
 one_row (c ∷ cs) (v ∷ vs) a b rest h =
     let p = is_too_long c.limit v in
     let q = c.required && is_null v in
-    ap first (append_assoc (fault_if p E30 ++ fault_if q E32) (cell_faults cs vs) rest)
+    ap first (append_assoc (fault_if p ValueOutOfRange ++ fault_if q NullNotAllowed) (cell_faults cs vs) rest)
     ∙ one_cell p q (has_long_text cs vs || a) (lacks_a_value cs vs || b) (cell_faults cs vs ++ rest) (one_row cs vs a b rest h)
     ∙ (λ i. verdict (or_assoc p (has_long_text cs vs) a i) (or_assoc q (lacks_a_value cs vs) b i))
 
@@ -151,5 +153,5 @@ lacking_rows cs rows b e = sym (e ∙ any_of_rows (lacks_a_value cs) rows cells_
 pub first_is : (cs : List Column) (rows : List Row) (a b : Bool) → list_any (has_long_text cs) rows ≡ a → list_any (lacks_a_value cs) rows ≡ b → verdict a b ≡ first (rows_faults cs rows)
 first_is cs rows a b e f = sym (first_law cs rows ∙ (λ i. verdict (e i) (f i)))
 
-pub long_is_first : (cs : List Column) (rows : List Row) → list_any (has_long_text cs) rows ≡ true → Some E30 ≡ first (rows_faults cs rows)
+pub long_is_first : (cs : List Column) (rows : List Row) → list_any (has_long_text cs) rows ≡ true → Some ValueOutOfRange ≡ first (rows_faults cs rows)
 long_is_first cs rows e = first_is cs rows true (list_any (lacks_a_value cs) rows) e refl

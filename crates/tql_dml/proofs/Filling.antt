@@ -1,5 +1,5 @@
 -- The cells of a new row: their number, their values, and the row whose values are given in order.
-use Rattle.std.specs.Prelude.{◌≡◌, refl, ℕ, zero, suc, ◌<◌, Bool, true, false, not, ◌&&◌, ◌||◌, ◌==◌, nat_lt, List, [], ◌∷◌, map, filter, length, replicate, slice_set, slice_index_or, All, Option, Some, None}
+use Rattle.std.specs.Prelude.{◌≡◌, refl, ℕ, zero, suc, ◌<◌, Bool, true, false, not, ◌&&◌, ◌||◌, ◌==◌, nat_lt, List, [], ◌∷◌, map, filter, length, replicate, slice_set, slice_index_or, All, IsTrue, Option, Some, None}
 use Rattle.std.specs.List.{list_all, range_with_len}
 use Rattle.std.proofs.Common.{sym, ap, subst, ◌∙◌, arith}
 use Rattle.std.proofs.lemmas.List.{length-set, length-map, length-replicate, get_or-set_same, get_or-set_other}
@@ -10,7 +10,9 @@ use Rattle.tql_spec.specs.Definition.{TableDef, System, without_generated, cell}
 use Rattle.tql_spec.specs.Change.{filled, row_of}
 use Rattle.tql_spec.specs.Creation.{has_number}
 use Rattle.tql_spec.specs.Binding.{all_assignable, is_generated, generated_columns}
-use Rattle.tql_catalog.specs.Simple.{IsSimple, IsTupleOf, IsRowOf, has_system, numbers_repeat, are_assignable}
+use Rattle.tql_catalog.specs.Defined.{IsDefinition}
+use Rattle.tql_catalog.proofs.Definitions.{has_its_system}
+use Rattle.tql_catalog.specs.Rows.{IsTupleOf, IsRowOf, has_system, numbers_repeat, are_assignable}
 use Rattle.tql_value.specs.Points.{IsPrintable}
 use Rattle.tql_dml.specs.Cells.{stored_cells}
 use Rattle.tql_dml.proofs.Kept.{kept, kept_law, and_left, and_right, not_is}
@@ -64,22 +66,26 @@ pub length-row : (d : TableDef) (js : List ℕ) (vs : Row) → length (row_of d 
 length-row d js vs = length-filled (replicate (length d.columns) Null) js vs ∙ length-replicate (length d.columns) Null
 
 -- the cells of the columns that are not generated, in order
-stored_law : (d : TableDef) (js : List ℕ) (vs : Row) → IsSimple d → stored_cells d js vs ≡ map (cell (row_of d js vs)) (all_assignable d)
+stored_law : (d : TableDef) (js : List ℕ) (vs : Row) → IsDefinition d → stored_cells d js vs ≡ map (cell (row_of d js vs)) (all_assignable d)
 stored_law d js vs s =
     let row = row_of d js vs in
     without_is d.system row
     ∙ subst (λ n. kept d.system row ≡ map (cell row) (filter (λ i. not (has_number i (generated_columns d.system))) (range_with_len 0 n))) (length-row d js vs)
-    (kept_law Null d.system row (subst (λ n. has_system d.system n ≡ true) (sym (length-row d js vs)) s.system))
+    (kept_law Null d.system row (subst (λ n. has_system d.system n ≡ true) (sym (length-row d js vs)) (has_its_system d s)))
 
 -- a new row whose values are given for all its columns in order
-pub usual_row : (d : TableDef) (js : List ℕ) (vs : Row) → IsSimple d → js ≡ all_assignable d → are_assignable d js ≡ true → length vs ≡ length js → stored_cells d js vs ≡ vs
+pub usual_row : (d : TableDef) (js : List ℕ) (vs : Row) → IsDefinition d → js ≡ all_assignable d → are_assignable d js ≡ true → length vs ≡ length js → stored_cells d js vs ≡ vs
 usual_row d js vs s e a k =
     stored_law d js vs s ∙ ap (map (cell (row_of d js vs))) (sym e)
     ∙ filled_cells d (replicate (length d.columns) Null) js vs (length-replicate (length d.columns) Null) k
     (and_left (list_all (is_open d) js) _ a) (not_is (numbers_repeat js) (and_right (list_all (is_open d) js) _ a))
 
-pub length-stored : (d : TableDef) (js : List ℕ) (vs : Row) → IsSimple d → length (stored_cells d js vs) ≡ length (all_assignable d)
+pub length-stored : (d : TableDef) (js : List ℕ) (vs : Row) → IsDefinition d → length (stored_cells d js vs) ≡ length (all_assignable d)
 length-stored d js vs s = ap length (stored_law d js vs s) ∙ length-map (all_assignable d) (cell (row_of d js vs))
+
+-- the generated columns are two of a row of all columns
+pub system_fits : (d : TableDef) (s : Option System) (n : ℕ) → IsDefinition d → s ≡ d.system → n ≡ length d.columns → IsTrue (has_system s n)
+system_fits d s n right e w = (λ i. has_system (e i) (w i)) ∙ has_its_system d right
 
 -- ---- values that have texts
 
@@ -95,7 +101,7 @@ printable_filled row (j ∷ js) (v ∷ vs) p q =
     printable_filled (slice_set row j v) js vs (All-set IsPrintable row j v (All-head IsPrintable v vs q) p) (All-tail IsPrintable v vs q)
 
 -- what is stored is a row of the table
-pub stored_fits : (d : TableDef) (js : List ℕ) (vs : Row) → IsSimple d → IsTupleOf (length js) vs → IsRowOf d (stored_cells d js vs)
+pub stored_fits : (d : TableDef) (js : List ℕ) (vs : Row) → IsDefinition d → IsTupleOf (length js) vs → IsRowOf d (stored_cells d js vs)
 stored_fits d js vs s t =
     let row = row_of d js vs in
     let printable : All IsPrintable row = printable_filled (replicate (length d.columns) Null) js vs (All-replicate IsPrintable (length d.columns) Null tt) t.printable in
@@ -105,7 +111,7 @@ stored_fits d js vs s t =
     }
 
 -- new rows whose values are given for all columns in order
-pub usual_rows : (d : TableDef) (js : List ℕ) (tuples : List Row) → IsSimple d → js ≡ all_assignable d → are_assignable d js ≡ true → All (IsTupleOf (length js)) tuples
+pub usual_rows : (d : TableDef) (js : List ℕ) (tuples : List Row) → IsDefinition d → js ≡ all_assignable d → are_assignable d js ≡ true → All (IsTupleOf (length js)) tuples
     → tuples ≡ map (stored_cells d js) tuples
 usual_rows d js [] s e a h = refl
 usual_rows d js (vs ∷ tuples) s e a h =

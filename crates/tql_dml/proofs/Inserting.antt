@@ -9,7 +9,9 @@ use Rattle.tql_spec.specs.Refusal.{first}
 use Rattle.tql_spec.specs.Definition.{TableDef, Column, Stamped, stamped, shown}
 use Rattle.tql_spec.specs.Change.{row_faults, row_of, cell_faults}
 use Rattle.tql_spec.specs.Binding.{all_assignable}
-use Rattle.tql_catalog.specs.Simple.{IsSimple, IsTupleOf, IsRowOf}
+use Rattle.tql_catalog.specs.Defined.{IsDefinition}
+use Rattle.tql_catalog.proofs.Definitions.{has_its_system}
+use Rattle.tql_catalog.specs.Rows.{IsTupleOf, IsRowOf}
 use Rattle.tql_store.specs.declared.store.Delta.{Delta}
 use Rattle.tql_value.specs.Refusals.{refusal_of}
 use Rattle.tql_value.specs.declared.refusal.Refusal.{Refusal}
@@ -17,34 +19,34 @@ use Rattle.tql_value.specs.declared.refusal.Refusal.TheVariants as r
 use Rattle.tql_dml.specs.Cells.{no_column, columns_at, stored_columns, stored_cells, rows_faults}
 use Rattle.tql_dml.specs.Inserts.{rows_of, new_rows, new_faults, Adds, Inserts}
 use Rattle.tql_dml.proofs.Kept.{kept, kept_law}
-use Rattle.tql_dml.proofs.FaultLaws.{simple_faults}
+use Rattle.tql_dml.proofs.FaultLaws.{plain_faults}
 use Rattle.tql_dml.proofs.Filling.{length-stored, stored_fits}
 
 new_cells : (d : TableDef) (m : ℤ) (js : List ℕ) (tuples : List Row) → map (λ (r : Stamped). r.cells) (new_rows d m js tuples) ≡ map (stored_cells d js) tuples
 new_cells d m js [] = refl
 new_cells d m js (vs ∷ tuples) = ap {B = List Row} (λ rows. stored_cells d js vs ∷ rows) (new_cells d m js tuples)
 
-kept_columns : (d : TableDef) → IsSimple d → kept d.system d.columns ≡ stored_columns d
-kept_columns d s = kept_law no_column d.system d.columns s.system
+kept_columns : (d : TableDef) → IsDefinition d → kept d.system d.columns ≡ stored_columns d
+kept_columns d s = kept_law no_column d.system d.columns (has_its_system d s)
 
 -- the faults of a new row
-one_row : (d : TableDef) (m : ℤ) (js : List ℕ) (vs : Row) → IsSimple d
+one_row : (d : TableDef) (m : ℤ) (js : List ℕ) (vs : Row) → IsDefinition d
     → row_faults d (shown d (stamped d m (row_of d js vs))) ≡ cell_faults (stored_columns d) (stored_cells d js vs)
 one_row d m js vs s =
     let wide : length (stored_cells d js vs) ≡ length (kept d.system d.columns) = length-stored d js vs s ∙ sym (length-map (all_assignable d) _) ∙ ap length (sym (kept_columns d s)) in
-    simple_faults d (stamped d m (row_of d js vs)) s wide ∙ ap (λ cs. cell_faults cs (stored_cells d js vs)) (kept_columns d s)
+    plain_faults d (stamped d m (row_of d js vs)) s wide ∙ ap (λ cs. cell_faults cs (stored_cells d js vs)) (kept_columns d s)
 
-faults_are : (d : TableDef) (m : ℤ) (js : List ℕ) (tuples : List Row) → IsSimple d → new_faults d m js tuples ≡ rows_faults (stored_columns d) (map (stored_cells d js) tuples)
+faults_are : (d : TableDef) (m : ℤ) (js : List ℕ) (tuples : List Row) → IsDefinition d → new_faults d m js tuples ≡ rows_faults (stored_columns d) (map (stored_cells d js) tuples)
 faults_are d m js [] s = refl
 faults_are d m js (vs ∷ tuples) s = λ i. one_row d m js vs s i ++ faults_are d m js tuples s i
 
 -- the first fault of the new rows, from that of what is stored
-first_of : (d : TableDef) (m : ℤ) (js : List ℕ) (tuples rows : List Row) (o : Option spec.Refusal) → IsSimple d → rows ≡ map (stored_cells d js) tuples
+first_of : (d : TableDef) (m : ℤ) (js : List ℕ) (tuples rows : List Row) (o : Option spec.Refusal) → IsDefinition d → rows ≡ map (stored_cells d js) tuples
     → o ≡ first (rows_faults (stored_columns d) rows) → first (new_faults d m js tuples) ≡ o
 first_of d m js tuples rows o s e f = ap first (faults_are d m js tuples s ∙ ap (rows_faults (stored_columns d)) (sym e)) ∙ sym f
 
 -- rows without a fault are added
-pub adds : (d : TableDef) (id : ℕ) (js : List ℕ) (tuples : List Row) (delta : Delta) → IsSimple d → All (IsTupleOf (length js)) tuples → delta.table ≡ id → delta.removed.items ≡ []
+pub adds : (d : TableDef) (id : ℕ) (js : List ℕ) (tuples : List Row) (delta : Delta) → IsDefinition d → All (IsTupleOf (length js)) tuples → delta.table ≡ id → delta.removed.items ≡ []
     → rows_of delta.added.items ≡ map (stored_cells d js) tuples → delta.count ≡ length delta.added.items → None ≡ first (rows_faults (stored_columns d) (rows_of delta.added.items))
     → Adds d id js tuples delta
 adds d id js tuples delta s t table removed rows count faults = record {
@@ -58,7 +60,7 @@ adds d id js tuples delta s t table removed rows count faults = record {
 }
 
 -- a fault is told
-pub refused : (d : TableDef) (id : ℕ) (js : List ℕ) (tuples rows : List Row) (e : Refusal) → IsSimple d → rows ≡ map (stored_cells d js) tuples
+pub refused : (d : TableDef) (id : ℕ) (js : List ℕ) (tuples rows : List Row) (e : Refusal) → IsDefinition d → rows ≡ map (stored_cells d js) tuples
     → Some (refusal_of e) ≡ first (rows_faults (stored_columns d) rows) → Inserts d id js tuples (Err e)
 refused d id js tuples rows r.OutOfMemory s e f = tt
 refused d id js tuples rows why s e f = λ m. first_of d m js tuples rows (Some (refusal_of why)) s e f

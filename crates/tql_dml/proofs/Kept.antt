@@ -6,7 +6,7 @@ use borrow.Author.Tests.{ltb-true, ltb-false}
 use Rattle.tql_spec.specs.Definition.{System}
 use Rattle.tql_spec.specs.Creation.{has_number}
 use Rattle.tql_spec.specs.Binding.{generated_columns}
-use Rattle.tql_catalog.specs.Simple.{has_system}
+use Rattle.tql_catalog.specs.Rows.{has_system}
 
 -- the list without the places that a test tells, counted from here
 abbrev pub except : {X : Type 0} → (ℕ → Bool) → ℕ → List X → List X

@@ -1,15 +1,14 @@
--- Values taken out of a row, told of their data; and numbers and values that are added one by one.
-use Rattle.std.specs.Prelude.{◌≡◌, ℕ, zero, suc, ◌+◌, ◌<◌, ◌≤◌, Bool, List, [], ◌∷◌, ◌++◌, map, filter, take, drop, remove, length, replicate, Option, Some, option_map, All, Vec, slice_set, slice_index_or}
-use Rattle.std.specs.List.{range_with_len}
-use Rattle.std.proofs.Common.{sym, ap, subst, append_assoc, ◌∙◌, arith, lt-ltb, add-one}
+-- Values taken out of a row, told of their data; and values that are added one by one.
+use Rattle.std.specs.Prelude.{◌≡◌, ℕ, zero, suc, ◌+◌, ◌<◌, ◌≤◌, List, [], ◌∷◌, ◌++◌, map, take, drop, remove, length, replicate, Option, Some, option_map, All, Vec, slice_set, slice_index_or}
+use Rattle.std.proofs.Common.{sym, ap, subst, append_assoc, ◌∙◌, arith, lt-ltb}
 use Rattle.std.proofs.lemmas.List.{length-map, map-set, drop_more, drop-set-lt, map-append, take-map, drop-map, map_push, replicate_more}
-use Rattle.std.proofs.lemmas.List.Elements.{filter-append, All-head, All-tail}
+use Rattle.std.proofs.lemmas.List.Elements.{All-head, All-tail}
 use borrow.Author.Tests.{le-ltb}
 use Rattle.tql_spec.specs.Datum.{Row, Null}
 use Rattle.tql_spec.specs.Definition.{without_generated}
 use Rattle.tql_spec.specs.Change.{filled}
 use Rattle.tql_catalog.specs.Definitions.{system_of}
-use Rattle.tql_catalog.specs.Simple.{IsTupleOf}
+use Rattle.tql_catalog.specs.Rows.{IsTupleOf}
 use Rattle.tql_catalog.specs.declared.definition.System.{System}
 use Rattle.tql_value.specs.Views.{datum_of_value}
 use Rattle.tql_value.specs.declared.value.Value.{Value}
@@ -31,14 +30,6 @@ end_removed_first o s old mid new e l f g = rw (e, lt-ltb s.start s.end l) (both
 pub start_removed_first : (o : Option System) (s : System) (old mid new : List Value) → o ≡ Some s → s.end ≤ s.start → mid ≡ remove old s.start → new ≡ remove mid s.end
     → row_of new ≡ without_generated (option_map system_of o) (row_of old)
 start_removed_first o s old mid new e l f g = rw (e, le-ltb s.start s.end l) (both_removed old mid new s.start s.end f g)
-
-range_more : (a n k : ℕ) → a + n ≡ k → range_with_len a (suc n) ≡ range_with_len a n ++ k ∷ []
-range_more a zero k e = ap {B = List ℕ} (λ i. i ∷ []) (omega arith)
-range_more a (suc n) k e = ap {B = List ℕ} (λ is. a ∷ is) (range_more (a + 1) n k (omega arith))
-
--- one more number that is tested
-pub one_more_number : (t : ℕ → Bool) (n : ℕ) → filter t (range_with_len 0 n) ++ filter t (n ∷ []) ≡ filter t (range_with_len 0 (n + 1))
-one_more_number t n = sym (ap (λ k. filter t (range_with_len 0 k)) (add-one n) ∙ ap (filter t) (range_more 0 n n (omega arith)) ∙ filter-append t (range_with_len 0 n) (n ∷ []))
 
 -- one more null
 pub one_more_null : (row : List Value) (v : Value) (n : ℕ) → datum_of_value v ≡ Null → row_of row ≡ replicate n Null → row_of (row ++ v ∷ []) ≡ replicate (n + 1) Null

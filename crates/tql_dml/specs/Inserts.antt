@@ -7,7 +7,7 @@ use Rattle.tql_spec.specs.Refusal.{first}
 use Rattle.tql_spec.specs.Definition.{TableDef, Stamped, stamped, shown}
 use Rattle.tql_spec.specs.Change as change
 use Rattle.tql_spec.specs.Change.{row_faults}
-use Rattle.tql_catalog.specs.Simple.{IsRowOf}
+use Rattle.tql_catalog.specs.Rows.{IsRowOf}
 use Rattle.tql_store.specs.declared.store.Delta.{Delta}
 use Rattle.tql_value.specs.Refusals.{refusal_of}
 use Rattle.tql_value.specs.Views.{datum_of_value}

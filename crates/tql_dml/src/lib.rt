@@ -4,4 +4,4 @@
 mod faults;
 pub mod insert;
 mod spread;
-mod stored;
+pub mod tuples;

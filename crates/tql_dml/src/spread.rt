@@ -2,15 +2,15 @@ ghost use Rattle.std.specs.Prelude.{◌≡◌, ◌<◌, IsTrue, All, replicate, 
 ghost use Rattle.tql_spec.specs.Datum.{Null};
 ghost use Rattle.tql_spec.specs.Definition.{without_generated};
 ghost use Rattle.tql_spec.specs.Change.{filled};
-ghost use Rattle.tql_spec.specs.Binding.{all_assignable};
-ghost use Rattle.tql_catalog.specs.Definitions.{def_of, system_of};
-ghost use Rattle.tql_catalog.specs.Simple.{IsSimple, IsTupleOf, has_system, are_assignable};
+ghost use Rattle.tql_catalog.specs.Definitions.{system_of};
+ghost use Rattle.tql_catalog.specs.Rows.{IsTupleOf, has_system, are_assignable};
 ghost use Rattle.tql_value.specs.declared.refusal.Refusal.TheVariants.{OutOfMemory};
 ghost use Rattle.tql_dml.specs.Cells.{stored_cells};
 ghost use Rattle.tql_dml.specs.Inserts.{row_of, rows_of};
 
 use std::mem;
-use tql_catalog::definition::{System, TableDef};
+use tql_catalog::definition::System;
+use tql_catalog::table_def::TableDef;
 use tql_memory::Memory;
 use tql_value::refusal::Refusal;
 use tql_value::value::Value;
@@ -61,15 +61,14 @@ fn spread(
     columns: &[usize],
     values: &mut [Value],
 ) -> Result<Vec<Value, Memory>, Refusal>
-    requires simple { IsSimple (def_of definition.now) }
-    requires columns { IsTrue (are_assignable (def_of definition.now) columns.now) }
+    requires columns { IsTrue (are_assignable definition.now columns.now) }
     requires width { length values.old ≡ length columns.now }
-    ensures row { IfOk result (λ row. row_of row.items ≡ stored_cells (def_of definition.now) columns.now (row_of values.old)) }
+    ensures row { IfOk result (λ row. row_of row.items ≡ stored_cells definition.now columns.now (row_of values.old)) }
     ensures memory { IfErr result (λ e. e ≡ OutOfMemory) }
 {
-    let mut row = nulls(memory, definition.columns.len())?;
+    let mut row = nulls(memory, definition.columns().len())?;
     fill(&mut row, columns, values);
-    drop_generated(&mut row, definition.system);
+    drop_generated(&mut row, definition.system());
     Ok(row)
 }
 
@@ -80,10 +79,9 @@ fn spread_each(
     columns: &[usize],
     mut tuples: Vec<Vec<Value, Memory>, Memory>,
 ) -> Result<Vec<Vec<Value, Memory>, Memory>, Refusal>
-    requires simple { IsSimple (def_of definition.now) }
-    requires columns { IsTrue (are_assignable (def_of definition.now) columns.now) }
+    requires columns { IsTrue (are_assignable definition.now columns.now) }
     requires tuples { All (IsTupleOf (length columns.now)) (rows_of tuples.items) }
-    ensures rows { IfOk result (λ rows. rows_of rows.items ≡ map (stored_cells (def_of definition.now) columns.now) (rows_of tuples.entry.items)) }
+    ensures rows { IfOk result (λ rows. rows_of rows.items ≡ map (stored_cells definition.now columns.now) (rows_of tuples.entry.items)) }
     ensures memory { IfErr result (λ e. e ≡ OutOfMemory) }
 {
     let mut rows = Vec::with_capacity(memory, tuples.len())?;
@@ -93,22 +91,19 @@ fn spread_each(
     Ok(rows)
 }
 
-/// The cells of each new row, where the columns that are not generated have these numbers. Tuples that name them all in order are the rows.
+/// The cells of each new row. Tuples that name all columns that are not generated, in order, are the rows.
 pub fn new_rows(
     memory: Memory,
     definition: &TableDef,
-    stored: &[usize],
     columns: &[usize],
     tuples: Vec<Vec<Value, Memory>, Memory>,
 ) -> Result<Vec<Vec<Value, Memory>, Memory>, Refusal>
-    requires simple { IsSimple (def_of definition.now) }
-    requires stored { stored.now ≡ all_assignable (def_of definition.now) }
-    requires columns { IsTrue (are_assignable (def_of definition.now) columns.now) }
+    requires columns { IsTrue (are_assignable definition.now columns.now) }
     requires tuples { All (IsTupleOf (length columns.now)) (rows_of tuples.items) }
-    ensures rows { IfOk result (λ rows. rows_of rows.items ≡ map (stored_cells (def_of definition.now) columns.now) (rows_of tuples.entry.items)) }
+    ensures rows { IfOk result (λ rows. rows_of rows.items ≡ map (stored_cells definition.now columns.now) (rows_of tuples.entry.items)) }
     ensures memory { IfErr result (λ e. e ≡ OutOfMemory) }
 {
-    if columns == stored {
+    if columns == definition.assignable() {
         return Ok(tuples);
     }
     spread_each(memory, definition, columns, tuples)

@@ -1,11 +1,11 @@
--- What changes make of simple tables: rows added, or all of them removed.
+-- What changes make of tables: rows added, or all of them removed.
 use Rattle.std.specs.Prelude.{◌≡◌, refl, ℕ, suc, Bool, true, not, List, [], ◌∷◌, ◌++◌, map, length, slice_set, ℤ, Some, None}
 use Rattle.std.specs.List.{list_all, AllByRecursion}
 use Rattle.std.proofs.Common.{ap, ◌∙◌, append-nil}
 use Rattle.std.proofs.lemmas.List.{length-map}
 use Rattle.tql_spec.specs.Words.{map_all, with_front}
 use Rattle.tql_spec.specs.Datum.{Datum, Row}
-use Rattle.tql_spec.specs.Refusal.{Refusal, E35, E36, first, fault_if}
+use Rattle.tql_spec.specs.Refusal.{Refusal, DuplicateKey, ReferenceNotMet, first, fault_if}
 use Rattle.tql_spec.specs.Expression.{Literal, eval}
 use Rattle.tql_spec.specs.Definition.{TableDef, Stamped, shown, stamped, place_of}
 use Rattle.tql_spec.specs.History.{Copy}
@@ -13,7 +13,7 @@ use Rattle.tql_spec.specs.Change as change
 use Rattle.tql_spec.specs.Change.{Outcome, Work, Fate, Replaced, after_fates, touched_count, fate, modify, insert, added_to}
 use Rattle.tql_spec.specs.Constraint.{each_table, key_holds, keys_hold, reference_to, references_hold}
 use Rattle.tql_spec.specs.Machine.{State, Reply, Done, Change, outcome, altered, changed_table, verb_of, constraint_faults, unless}
-use Rattle.tql_catalog.specs.Simple.{IsSimple}
+use Rattle.tql_catalog.specs.Defined.{IsDefinition}
 use Rattle.tql_dml.specs.Inserts.{new_rows, new_faults}
 use Rattle.tql_engine.proofs.ChangeKeeps.{working_now, with_table_rows, begun_at}
 
@@ -39,23 +39,23 @@ rows_begun d m columns tuples rows e = begun_so d m columns tuples ∙ ap (begun
 
 -- ---- no key and no reference
 
-each_holds : (test : TableDef → List Row → Bool) → ((d : TableDef) → IsSimple d → (rows : List Row) → test d rows ≡ true)
-    → (ds : List TableDef) → AllByRecursion IsSimple ds → (copy : Copy) → each_table test ds copy ≡ true
+each_holds : (test : TableDef → List Row → Bool) → ((d : TableDef) → IsDefinition d → (rows : List Row) → test d rows ≡ true)
+    → (ds : List TableDef) → AllByRecursion IsDefinition ds → (copy : Copy) → each_table test ds copy ≡ true
 each_holds test h [] a [] = refl
 each_holds test h [] a (rows ∷ copy) = refl
 each_holds test h (d ∷ ds) a [] = refl
 each_holds test h (d ∷ ds) a (rows ∷ copy) = rw (h d a.0 _, each_holds test h ds a.1 copy)
 
-no_key : (ds : List TableDef) → AllByRecursion IsSimple ds → (copy : Copy) → keys_hold ds copy ≡ true
+no_key : (ds : List TableDef) → AllByRecursion IsDefinition ds → (copy : Copy) → keys_hold ds copy ≡ true
 no_key ds a copy = each_holds (λ d rows. list_all (key_holds d rows) d.keys) (λ d k rows. ap (list_all (key_holds d rows)) k.keys) ds a copy
 
-no_reference : (ds : List TableDef) → AllByRecursion IsSimple ds → (copy : Copy) → references_hold ds copy ≡ true
+no_reference : (ds : List TableDef) → AllByRecursion IsDefinition ds → (copy : Copy) → references_hold ds copy ≡ true
 no_reference ds a copy =
     each_holds (λ d rows. list_all (λ f. reference_to ds copy d rows f (place_of f.parent ds)) d.references)
     (λ d k rows. ap (list_all (λ f. reference_to ds copy d rows f (place_of f.parent ds))) k.references) ds a copy
 
-no_constraint : (ds : List TableDef) → AllByRecursion IsSimple ds → (copy : Copy) → constraint_faults ds copy ≡ []
-no_constraint ds a copy = λ i. fault_if (not (no_key ds a copy i)) E35 ++ fault_if (not (no_reference ds a copy i)) E36
+no_constraint : (ds : List TableDef) → AllByRecursion IsDefinition ds → (copy : Copy) → constraint_faults ds copy ≡ []
+no_constraint ds a copy = λ i. fault_if (not (no_key ds a copy i)) DuplicateKey ++ fault_if (not (no_reference ds a copy i)) ReferenceNotMet
 
 -- ---- a change by its outcome
 
@@ -63,7 +63,7 @@ no_constraint ds a copy = λ i. fault_if (not (no_key ds a copy i)) E35 ++ fault
 abbrev altered_as : State → Change → List Refusal → Outcome → Reply × State
 altered_as s c faults o = unless (first faults) s (Done (verb_of c) (Some o.count)) (with_table_rows s (changed_table c) o.rows)
 
-pub altered_by : (s : State) (c : Change) (o : Outcome) → AllByRecursion IsSimple s.definitions → outcome s (working_now s).moment (working_now s).copy c ≡ o
+pub altered_by : (s : State) (c : Change) (o : Outcome) → AllByRecursion IsDefinition s.definitions → outcome s (working_now s).moment (working_now s).copy c ≡ o
     → altered s c ≡ unless (first o.faults) s (Done (verb_of c) (Some o.count)) (with_table_rows s (changed_table c) o.rows)
 altered_by s c o a e =
     let copy : Copy = slice_set (working_now s).copy (changed_table c) o.rows in

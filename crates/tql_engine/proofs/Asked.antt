@@ -15,14 +15,16 @@ use Rattle.tql_spec.specs.Definition.{Stamped, Version, System, TableDef, table_
 use Rattle.tql_spec.specs.History.{Copy, Entry, TableEntry, When, Now, AsOf, FromTo, Between, FallingFrom, has_row, has_version, rows_in, table_history, completed, ends_before, still, meets, as_of_from, found_from, found, versions}
 use Rattle.tql_spec.specs.Machine.{State, entries}
 use Rattle.tql_spec.specs.Query.{placed, row_order, in_order}
-use Rattle.tql_engine.specs.Tables.{Placed, definitions, table_of}
-use Rattle.tql_catalog.specs.Simple.{IsSimple, IsRowOf}
+use Rattle.tql_catalog.specs.Tables.{definitions_of}
+use Rattle.tql_catalog.specs.declared.catalog.Table.{Table}
+use Rattle.tql_catalog.specs.Defined.{IsDefinition}
+use Rattle.tql_catalog.specs.Rows.{IsRowOf}
 use Rattle.tql_store.specs.Represents.{seen_by}
 use Rattle.tql_value.specs.Points.{IsPrintable, ArePrintable, IsMoment}
 use Rattle.tql_engine.specs.Fitting.{RowsFit, CopyFits, HistoryFits, WorkingFits}
 use Rattle.tql_engine.specs.Questions.{Answers}
 use Rattle.tql_engine.specs.Stands.{Held, StandsFor, AreSince, IsDated, copies_of, moment_of, working_of}
-use Rattle.tql_engine.proofs.Standing.{some_is, definition_law, simple_law}
+use Rattle.tql_engine.proofs.Standing.{some_is, definition_law, defined_law}
 use Rattle.tql_engine.proofs.Copies.{history_found}
 use Rattle.tql_engine.proofs.Columns.{Wide}
 use Rattle.tql_engine.proofs.Widths.{full_width}
@@ -30,10 +32,10 @@ use Rattle.tql_engine.proofs.Widths.{full_width}
 -- ---- rows
 
 -- the rows of a table in a copy that fits
-pub rows_fit : (ps : List Placed) (t : ℕ) (p : Placed) → slice_get ps t ≡ Some p → (copy : Copy) → CopyFits (definitions ps) copy → RowsFit (table_of p) (rows_in copy t)
+pub rows_fit : (ps : List Table) (t : ℕ) (p : Table) → slice_get ps t ≡ Some p → (copy : Copy) → CopyFits (definitions_of ps) copy → RowsFit p.definition (rows_in copy t)
 rows_fit [] t p e copy f = cc
 rows_fit (q ∷ ps) t p e [] f = absurd f
-rows_fit (q ∷ ps) zero p e (rows ∷ copy) f = subst (λ (x : Placed). RowsFit (table_of x) rows) (some_is q p e) f.0
+rows_fit (q ∷ ps) zero p e (rows ∷ copy) f = subst (λ (x : Table). RowsFit x.definition rows) (some_is q p e) f.0
 rows_fit (q ∷ ps) (suc t) p e (rows ∷ copy) f = rows_fit ps t p e copy f.1
 
 -- ---- versions that can be printed
@@ -130,54 +132,54 @@ past_fit ps bound (e ∷ es) top since falls f =
     (f.0, ((since.0, under), past_fit ps e.moment es under since.1 falls.1 f.1))
 
 -- an open transaction counts as the last commit
-entries_fit_by : (h : Held) (s : State) (o : Option Entry) → StandsFor h s → s.transaction ≡ o → EntriesFit (definitions h.tables) (listed o ++ s.history)
-entries_fit_by h s None f e = past_fit (definitions h.tables) s.next s.history f.not_after f.since f.falls f.fits.rows
+entries_fit_by : (h : Held) (s : State) (o : Option Entry) → StandsFor h s → s.transaction ≡ o → EntriesFit (definitions_of h.tables) (listed o ++ s.history)
+entries_fit_by h s None f e = past_fit (definitions_of h.tables) s.next s.history f.not_after f.since f.falls f.fits.rows
 entries_fit_by h s (Some x) f e =
     let dated = subst (λ o. IsDated s.next o) e f.dated in
     let low = f.not_before in
     let up = f.not_after in (
-      subst (λ o. WorkingFits (definitions h.tables) o) e f.fits.working,
+      subst (λ o. WorkingFits (definitions_of h.tables) o) e f.fits.working,
       (
         (subst (λ m. first_moment ≤ℤ m) (sym dated.0) low, subst (λ m. m ≤ℤ high) (sym dated.0) up),
-        past_fit (definitions h.tables) s.next s.history up f.since f.falls f.fits.rows,
+        past_fit (definitions_of h.tables) s.next s.history up f.since f.falls f.fits.rows,
       ),
     )
 
-entries_fit : (h : Held) (s : State) → StandsFor h s → EntriesFit (definitions h.tables) (entries s)
+entries_fit : (h : Held) (s : State) → StandsFor h s → EntriesFit (definitions_of h.tables) (entries s)
 entries_fit h s f = entries_fit_by h s s.transaction f refl
 
 -- the versions that a question finds
 abbrev versions_found : State → ℕ → When → List Version
 versions_found s t when = found when (table_history t (entries s))
 
-versions_fit : (h : Held) (s : State) (t : ℕ) (p : Placed) (when : When) → StandsFor h s → slice_get h.tables t ≡ Some p → VersionsFit (table_of p) (versions_found s t when)
-versions_fit h s t p when f e = found_fit (table_of p) (definitions h.tables) t (rows_fit h.tables t p e) when (entries s) (entries_fit h s f)
+versions_fit : (h : Held) (s : State) (t : ℕ) (p : Table) (when : When) → StandsFor h s → slice_get h.tables t ≡ Some p → VersionsFit p.definition (versions_found s t when)
+versions_fit h s t p when f e = found_fit p.definition (definitions_of h.tables) t (rows_fit h.tables t p e) when (entries s) (entries_fit h s f)
 
 -- the rows of a table that a question finds; an open transaction counts as the last commit
 abbrev pub rows_when : State → ℕ → When → List Row
 rows_when s t when = versions (table_at s.definitions t) t when (entries s)
 
 -- they are these versions
-rows_are : (h : Held) (s : State) (t : ℕ) (p : Placed) (when : When) → StandsFor h s → slice_get h.tables t ≡ Some p → rows_when s t when ≡ map (full (table_of p)) (versions_found s t when)
+rows_are : (h : Held) (s : State) (t : ℕ) (p : Table) (when : When) → StandsFor h s → slice_get h.tables t ≡ Some p → rows_when s t when ≡ map (full p.definition) (versions_found s t when)
 rows_are h s t p when f e = ap (λ (d : TableDef). map (full d) (versions_found s t when)) (definition_law h s t p f e)
 
-all_wide : (d : TableDef) → IsSimple d → (vs : List Version) → VersionsFit d vs → Wide (length d.columns) (map (full d) vs)
+all_wide : (d : TableDef) → IsDefinition d → (vs : List Version) → VersionsFit d vs → Wide (length d.columns) (map (full d) vs)
 all_wide d k [] f = tt
 all_wide d k (v ∷ vs) f = (full_width d v k f.0.cells.width, all_wide d k vs f.1)
 
 -- each has a cell for each column
-pub wide_law : (h : Held) (s : State) (t : ℕ) (p : Placed) (when : When) → StandsFor h s → slice_get h.tables t ≡ Some p → Wide (length p.columns) (rows_when s t when)
+pub wide_law : (h : Held) (s : State) (t : ℕ) (p : Table) (when : When) → StandsFor h s → slice_get h.tables t ≡ Some p → Wide (length p.definition.columns) (rows_when s t when)
 wide_law h s t p when f e =
-    subst (Wide (length p.columns)) (sym (rows_are h s t p when f e))
-    (all_wide (table_of p) (simple_law h s t p f e) (versions_found s t when) (versions_fit h s t p when f e))
+    subst (Wide (length p.definition.columns)) (sym (rows_are h s t p when f e))
+    (all_wide p.definition (defined_law h s t p f e) (versions_found s t when) (versions_fit h s t p when f e))
 
 -- the copies that the store answers from are those that the machine does
-seen_copies : (tables : List Placed) (es : List Entry) (o : Option Entry) (id : ℕ) → seen_by (moment_of o) (copies_of tables es) (working_of tables o) id ≡ copies_of tables (listed o ++ es) id
+seen_copies : (tables : List Table) (es : List Entry) (o : Option Entry) (id : ℕ) → seen_by (moment_of o) (copies_of tables es) (working_of tables o) id ≡ copies_of tables (listed o ++ es) id
 seen_copies tables es None id = refl
 seen_copies tables es (Some e) id = refl
 
 -- the copies of a table that questions see
-pub seen_law : (h : Held) (s : State) (t : ℕ) (p : Placed) → StandsFor h s → slice_get h.tables t ≡ Some p
+pub seen_law : (h : Held) (s : State) (t : ℕ) (p : Table) → StandsFor h s → slice_get h.tables t ≡ Some p
     → seen_by h.rows.working (copies_of h.tables s.history) (working_of h.tables s.transaction) p.id ≡ table_history t (entries s)
 seen_law h s t p f e =
     ap (λ (w : Option ℤ). seen_by w (copies_of h.tables s.history) (working_of h.tables s.transaction) p.id) f.opened
@@ -185,12 +187,12 @@ seen_law h s t p f e =
     ∙ history_found h.rows h.tables t p f.placed e (entries s)
 
 -- what the store answers is what the machine does
-pub asked_law : (h : Held) (s : State) (t : ℕ) (p : Placed) (when : When) (found_now : List Version) → StandsFor h s → slice_get h.tables t ≡ Some p
-    → Answers h.rows p.id when found_now → SameBag (map (full (table_of p)) found_now) (rows_when s t when)
+pub asked_law : (h : Held) (s : State) (t : ℕ) (p : Table) (when : When) (found_now : List Version) → StandsFor h s → slice_get h.tables t ≡ Some p
+    → Answers h.rows p.id when found_now → SameBag (map (full p.definition) found_now) (rows_when s t when)
 asked_law h s t p when found_now f e answers =
     let same : SameBag found_now (versions_found s t when) =
     subst (λ (es : List TableEntry). SameBag found_now (found when es)) (seen_law h s t p f e) (answers (copies_of h.tables s.history) (working_of h.tables s.transaction) f.stands) in
-    subst (SameBag (map (full (table_of p)) found_now)) (sym (rows_are h s t p when f e)) (same-map (full (table_of p)) same)
+    subst (SameBag (map (full p.definition) found_now)) (sym (rows_are h s t p when f e)) (same-map (full p.definition) same)
 
 -- ---- what can be printed
 
@@ -232,8 +234,8 @@ ordered_all P [] e = tt
 ordered_all P (r ∷ rows) e = placed_all P (row_order []) r (in_order [] rows) e.0 (ordered_all P rows e.1)
 
 -- a reply of the rows that a question finds has a text
-pub printable_law : (h : Held) (s : State) (t : ℕ) (p : Placed) (when : When) → StandsFor h s → slice_get h.tables t ≡ Some p → ArePrintable (in_order [] (rows_when s t when))
+pub printable_law : (h : Held) (s : State) (t : ℕ) (p : Table) (when : When) → StandsFor h s → slice_get h.tables t ≡ Some p → ArePrintable (in_order [] (rows_when s t when))
 printable_law h s t p when f e =
     All-from_recursion (All IsPrintable) (in_order [] (rows_when s t when))
     (ordered_all (All IsPrintable) (rows_when s t when)
-    (subst (AllByRecursion (All IsPrintable)) (sym (rows_are h s t p when f e)) (versions_print (table_of p) (versions_found s t when) (versions_fit h s t p when f e))))
+    (subst (AllByRecursion (All IsPrintable)) (sym (rows_are h s t p when f e)) (versions_print p.definition (versions_found s t when) (versions_fit h s t p when f e))))

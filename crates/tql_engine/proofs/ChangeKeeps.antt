@@ -16,8 +16,9 @@ use Rattle.tql_store.specs.Changes.{alive, last_rows, rows_after}
 use Rattle.tql_store.specs.Represents as represents
 use Rattle.tql_store.specs.Represents.{Copies, Working, Represents, BeginCopies, ChangeReplaces, RollbackRestores, Judged}
 use Rattle.tql_store.specs.declared.tables.Place.{Place}
-use Rattle.tql_engine.specs.Tables.{Placed, definitions, table_of}
-use Rattle.tql_catalog.specs.Simple.{IsRowOf}
+use Rattle.tql_catalog.specs.Tables.{definitions_of}
+use Rattle.tql_catalog.specs.declared.catalog.Table.{Table}
+use Rattle.tql_catalog.specs.Rows.{IsRowOf}
 use Rattle.tql_engine.specs.Fitting.{RowsFit, CopyFits, HistoryFits}
 use Rattle.tql_engine.specs.Stands.{Held, StandsFor, ArePlaced, rows_of_id, copies_of, working_of}
 use Rattle.tql_engine.specs.Committing.{CommitsRows, Undoes, ReplacesRows, ChangesRows, KeepsRows}
@@ -51,7 +52,7 @@ AreRowsOf d rows = AllByRecursion (IsRowOf d) rows
 -- ---- the last copy
 
 -- its rows are those of the last copies as the store numbers its tables
-pub last_found : (tables : List Placed) (defs : List TableDef) (es : List Entry) (id : ℕ) → last_rows (copies_of tables es id) ≡ rows_of_id tables (newest_copy defs es) id
+pub last_found : (tables : List Table) (defs : List TableDef) (es : List Entry) (id : ℕ) → last_rows (copies_of tables es id) ≡ rows_of_id tables (newest_copy defs es) id
 last_found tables defs [] id = sym (rows_empty tables defs id)
 last_found tables defs (e ∷ older) id = refl
 
@@ -85,11 +86,11 @@ begun_fit : (p : TableDef) (m : ℤ) (rows : List Row) → first_moment ≤ℤ m
 begun_fit p m [] from until f = tt
 begun_fit p m (cells ∷ rows) from until f = (record { cells = f.0; not_before = from; below = until }, begun_fit p m rows from until f.1)
 
-set_fits : (ps : List Placed) (t : ℕ) (p : Placed) → slice_get ps t ≡ Some p → (copy : Copy) → CopyFits (definitions ps) copy → (rows : List Stamped) → RowsFit (table_of p) rows
-    → CopyFits (definitions ps) (slice_set copy t rows)
+set_fits : (ps : List Table) (t : ℕ) (p : Table) → slice_get ps t ≡ Some p → (copy : Copy) → CopyFits (definitions_of ps) copy → (rows : List Stamped) → RowsFit p.definition rows
+    → CopyFits (definitions_of ps) (slice_set copy t rows)
 set_fits [] t p e copy f rows k = cc
 set_fits (q ∷ ps) t p e [] f rows k = absurd f
-set_fits (q ∷ ps) zero p e (old ∷ copy) f rows k = (subst (λ (x : Placed). RowsFit (table_of x) rows) (sym (some_is q p e)) k, f.1)
+set_fits (q ∷ ps) zero p e (old ∷ copy) f rows k = (subst (λ (x : Table). RowsFit x.definition rows) (sym (some_is q p e)) k, f.1)
 set_fits (q ∷ ps) (suc t) p e (old ∷ copy) f rows k = (f.0, set_fits ps t p e copy f.1 rows k)
 
 -- ---- a copy in which rows of one table are replaced
@@ -102,34 +103,34 @@ replaced_rows m gone added copy t = rows_after m gone added (rows_in copy t)
 abbrev pub replaced_copy : ℤ → (Stamped → Bool) → List Row → Copy → ℕ → Copy
 replaced_copy m gone added copy t = slice_set copy t (replaced_rows m gone added copy t)
 
-module _ (rows : store.Held) (ps : List Placed) (placed : ArePlaced rows ps) (t : ℕ) (p : Placed) (there : slice_get ps t ≡ Some p) where
-  replaced_found : (m : ℤ) (gone : Stamped → Bool) (added : List Row) (copy : Copy) → CopyFits (definitions ps) copy → (id : ℕ)
+module _ (rows : store.Held) (ps : List Table) (placed : ArePlaced rows ps) (t : ℕ) (p : Table) (there : slice_get ps t ≡ Some p) where
+  replaced_found : (m : ℤ) (gone : Stamped → Bool) (added : List Row) (copy : Copy) → CopyFits (definitions_of ps) copy → (id : ℕ)
       → represents.with_rows p.id (rows_after m gone added (rows_of_id ps copy p.id)) (rows_of_id ps copy) id ≡ rows_of_id ps (replaced_copy m gone added copy t) id
   replaced_found m gone added copy fits id =
       ap (λ (xs : List Stamped). if nat_eq id p.id then rows_after m gone added xs else rows_of_id ps copy id) (rows_found rows ps t p placed there copy)
-      ∙ sym (rows_set rows ps t p placed there copy (fits_length (definitions ps) copy fits ∙ length-map ps table_of) (replaced_rows m gone added copy t) id)
+      ∙ sym (rows_set rows ps t p placed there copy (fits_length (definitions_of ps) copy fits ∙ length-map ps (λ (t : Table). t.definition)) (replaced_rows m gone added copy t) id)
 
   -- what stands for the copy stands for the one after the change
   pub replaced_stands : (r1 r2 : store.Held) (copies : Copies) (copy : Copy) (m : ℤ) (gone : Stamped → Bool) (removed : List ℕ) (added : List Row)
-      → CopyFits (definitions ps) copy → r1.working ≡ Some m → Judged p.id gone removed r1.slots → ChangeReplaces p.id removed added r1 r2
+      → CopyFits (definitions_of ps) copy → r1.working ≡ Some m → Judged p.id gone removed r1.slots → ChangeReplaces p.id removed added r1 r2
       → Represents r1 copies (rows_of_id ps copy) → Represents r2 copies (rows_of_id ps (replaced_copy m gone added copy t))
   replaced_stands r1 r2 copies copy m gone removed added fits is1 judged changes r =
       same_working r2 copies _ (rows_of_id ps (replaced_copy m gone added copy t)) (replaced_found m gone added copy fits)
       (changes copies (rows_of_id ps copy) m gone is1 judged r)
 
   -- it fits the tables
-  pub replaced_fits : (m : ℤ) (gone : Stamped → Bool) (added : List Row) (copy : Copy) → first_moment ≤ℤ m → m <ℤ high → AreRowsOf (table_of p) added
-      → CopyFits (definitions ps) copy → CopyFits (definitions ps) (replaced_copy m gone added copy t)
+  pub replaced_fits : (m : ℤ) (gone : Stamped → Bool) (added : List Row) (copy : Copy) → first_moment ≤ℤ m → m <ℤ high → AreRowsOf p.definition added
+      → CopyFits (definitions_of ps) copy → CopyFits (definitions_of ps) (replaced_copy m gone added copy t)
   replaced_fits m gone added copy from until ok fits =
-      let old : RowsFit (table_of p) (rows_in copy t) = rows_fit ps t p there copy fits in
+      let old : RowsFit p.definition (rows_in copy t) = rows_fit ps t p there copy fits in
       set_fits ps t p there copy fits (replaced_rows m gone added copy t)
-      (rows_both (table_of p) (filter (λ r. not (gone r)) (rows_in copy t)) (begun_at m added) (rows_left (table_of p) (λ r. not (gone r)) (rows_in copy t) old)
-      (begun_fit (table_of p) m added from until ok))
+      (rows_both p.definition (filter (λ r. not (gone r)) (rows_in copy t)) (begun_at m added) (rows_left p.definition (λ r. not (gone r)) (rows_in copy t) old)
+      (begun_fit p.definition m added from until ok))
 
 -- ---- what begins
 
 -- the working copy of a transaction that begins is the last one
-pub begun_stands : (tables : List Placed) (defs : List TableDef) (es : List Entry) (old new : store.Held) → BeginCopies old new
+pub begun_stands : (tables : List Table) (defs : List TableDef) (es : List Entry) (old new : store.Held) → BeginCopies old new
     → Represents old (copies_of tables es) (working_of tables None) → Represents new (copies_of tables es) (rows_of_id tables (newest_copy defs es))
 begun_stands tables defs es old new begins r =
     same_working new (copies_of tables es) _ (rows_of_id tables (newest_copy defs es)) (last_found tables defs es) (begins (copies_of tables es) (working_of tables None) r)
@@ -147,19 +148,19 @@ module _ (h : Held) (defs : List TableDef) (es : List Entry) (next : ℤ) where
   abbrev idle : State
   idle = record { definitions = defs; history = es; next = next; transaction = None }
 
-  own_changed : (t : ℕ) (p : Placed) (gone : Stamped → Bool) (removed : List ℕ) (added : List Row) (r : store.Held) → StandsFor h idle → slice_get h.tables t ≡ Some p → next <ℤ high
-      → AreRowsOf (table_of p) added → Judged p.id gone removed h.rows.slots → CommitsRows next p.id removed added h.rows r
+  own_changed : (t : ℕ) (p : Table) (gone : Stamped → Bool) (removed : List ℕ) (added : List Row) (r : store.Held) → StandsFor h idle → slice_get h.tables t ≡ Some p → next <ℤ high
+      → AreRowsOf p.definition added → Judged p.id gone removed h.rows.slots → CommitsRows next p.id removed added h.rows r
       → StandsFor (record { tables = h.tables; rows = r; next = next +ℤ pos 1 }) (with_table_rows idle t (rows_after next gone added (working_rows idle t)))
   own_changed t p gone removed added r f there below ok judged c =
       let copy : Copy = newest_copy defs es in
-      let fits : CopyFits (definitions h.tables) copy = last_fits (definitions h.tables) defs es f.fits.definitions f.fits.rows in
+      let fits : CopyFits (definitions_of h.tables) copy = last_fits (definitions_of h.tables) defs es f.fits.definitions f.fits.rows in
       let opened : Represents c.opened (copies_of h.tables es) (rows_of_id h.tables copy) = begun_stands h.tables defs es h.rows c.opened c.begins f.stands in
       let judged1 : Judged p.id gone removed c.opened.slots = subst (λ (ss : List Slot). Judged p.id gone removed ss) (sym c.same_slots) judged in
       let changed : Represents c.changed (copies_of h.tables es) (rows_of_id h.tables (replaced_copy next gone added copy t)) =
       replaced_stands h.rows h.tables f.placed t p there c.opened c.changed (copies_of h.tables es) copy next gone removed added fits c.is_open judged1 c.changes opened in
       let from = f.not_before in
       record {
-        fits = record { definitions = f.fits.definitions; simple = f.fits.simple; rows = (replaced_fits h.rows h.tables f.placed t p there next gone added copy from below ok fits, f.fits.rows); working = tt };
+        fits = record { definitions = f.fits.definitions; defined = f.fits.defined; rows = (replaced_fits h.rows h.tables f.placed t p there next gone added copy from below ok fits, f.fits.rows); working = tt };
         clock = refl;
         not_before = omega (arith, ints);
         not_after = omega (arith, ints);
@@ -195,8 +196,8 @@ module _ (h : Held) (defs : List TableDef) (es : List Entry) (next : ℤ) where
   abbrev within : Entry → State
   within e = record { definitions = defs; history = es; next = next; transaction = Some e }
 
-  within_changed : (e : Entry) (t : ℕ) (p : Placed) (gone : Stamped → Bool) (removed : List ℕ) (added : List Row) (r : store.Held) → StandsFor h (within e) → slice_get h.tables t ≡ Some p
-      → AreRowsOf (table_of p) added → Judged p.id gone removed h.rows.slots → ReplacesRows e.moment p.id removed added h.rows r
+  within_changed : (e : Entry) (t : ℕ) (p : Table) (gone : Stamped → Bool) (removed : List ℕ) (added : List Row) (r : store.Held) → StandsFor h (within e) → slice_get h.tables t ≡ Some p
+      → AreRowsOf p.definition added → Judged p.id gone removed h.rows.slots → ReplacesRows e.moment p.id removed added h.rows r
       → StandsFor (record { tables = h.tables; rows = r; next = next }) (with_table_rows (within e) t (rows_after e.moment gone added (working_rows (within e) t)))
   within_changed e t p gone removed added r f there ok judged c =
       let from = f.not_before in
@@ -205,7 +206,7 @@ module _ (h : Held) (defs : List TableDef) (es : List Entry) (next : ℤ) where
       record {
         fits = record {
           definitions = f.fits.definitions;
-          simple = f.fits.simple;
+          defined = f.fits.defined;
           rows = f.fits.rows;
           working = replaced_fits h.rows h.tables f.placed t p there e.moment gone added e.copy (subst (λ m. first_moment ≤ℤ m) (sym same) from) (subst (λ m. m <ℤ high) (sym same) below) ok f.fits.working;
         };
@@ -221,10 +222,10 @@ module _ (h : Held) (defs : List TableDef) (es : List Entry) (next : ℤ) where
         count = same_count h.rows r _ c.places f.count;
       }
 
-  changed_by : (o : Option Entry) (t : ℕ) (p : Placed) (gone : Stamped → Bool) (removed : List ℕ) (added : List Row) (r : store.Held) (after : ℤ)
+  changed_by : (o : Option Entry) (t : ℕ) (p : Table) (gone : Stamped → Bool) (removed : List ℕ) (added : List Row) (r : store.Held) (after : ℤ)
       → (let s : State = record { definitions = defs; history = es; next = next; transaction = o } in
       StandsFor h s → slice_get h.tables t ≡ Some p → (IsNone h.rows.working → next <ℤ high)
-      → AreRowsOf (table_of p) added → Judged p.id gone removed h.rows.slots → ChangesRows h.rows.working next after p.id removed added h.rows r
+      → AreRowsOf p.definition added → Judged p.id gone removed h.rows.slots → ChangesRows h.rows.working next after p.id removed added h.rows r
       → StandsFor (record { tables = h.tables; rows = r; next = after }) (with_table_rows s t (rows_after (working_now s).moment gone added (working_rows s t))))
   changed_by None t p gone removed added r after f there below ok judged c =
       let d = subst (λ w. ChangesRows w next after p.id removed added h.rows r) f.opened c in
@@ -243,8 +244,8 @@ module _ (h : Held) (defs : List TableDef) (es : List Entry) (next : ℤ) where
       subst (λ (x : store.Held). StandsFor (record h { rows = x }) (within e)) (sym same) f
 
 -- rows replaced, in the open transaction or in one of their own
-pub change_law : (h : Held) (s : State) (t : ℕ) (p : Placed) (gone : Stamped → Bool) (removed : List ℕ) (added : List Row) (r : store.Held) (after : ℤ) → StandsFor h s
-    → slice_get h.tables t ≡ Some p → (IsNone h.rows.working → h.next <ℤ high) → AreRowsOf (table_of p) added → Judged p.id gone removed h.rows.slots
+pub change_law : (h : Held) (s : State) (t : ℕ) (p : Table) (gone : Stamped → Bool) (removed : List ℕ) (added : List Row) (r : store.Held) (after : ℤ) → StandsFor h s
+    → slice_get h.tables t ≡ Some p → (IsNone h.rows.working → h.next <ℤ high) → AreRowsOf p.definition added → Judged p.id gone removed h.rows.slots
     → ChangesRows h.rows.working h.next after p.id removed added h.rows r
     → StandsFor (record { tables = h.tables; rows = r; next = after }) (with_table_rows s t (rows_after (working_now s).moment gone added (working_rows s t)))
 change_law h s t p gone removed added r after f there below ok judged c =

@@ -13,8 +13,9 @@ use Rattle.tql_store.specs.Slots.{is_kept, is_taken, has_table, place_for, table
 use Rattle.tql_store.specs.Represents.{AddsTable, AddKeepsCopies}
 use Rattle.tql_store.specs.declared.tables.Place.{Place}
 use Rattle.tql_store.specs.declared.tables.Place.TheVariants.{Free}
-use Rattle.tql_engine.specs.Tables.{Placed, definitions, table_of}
-use Rattle.tql_catalog.specs.Simple.{IsSimple}
+use Rattle.tql_catalog.specs.Tables.{definitions_of}
+use Rattle.tql_catalog.specs.declared.catalog.Table.{Table}
+use Rattle.tql_catalog.specs.Defined.{IsDefinition}
 use Rattle.tql_engine.specs.Fitting.{CopyFits, HistoryFits, WorkingFits}
 use Rattle.tql_engine.specs.Stands.{Held, StandsFor, ArePlaced, IsKept, AreSince, is_free, copies_of, moment_of, working_of}
 use Rattle.tql_engine.proofs.Standing.{closed_law}
@@ -46,21 +47,21 @@ since_more : (m : ℤ) (es : List Entry) → AreSince m es → AreSince m (entri
 since_more m [] f = tt
 since_more m (e ∷ older) f = (f.0, since_more m older f.1)
 
-copies_more : (tables : List Placed) (q : Placed) (es : List Entry) (id : ℕ) → HistoryFits (definitions tables) es → copies_of tables es id ≡ copies_of (tables ++ q ∷ []) (entries_more es) id
+copies_more : (tables : List Table) (q : Table) (es : List Entry) (id : ℕ) → HistoryFits (definitions_of tables) es → copies_of tables es id ≡ copies_of (tables ++ q ∷ []) (entries_more es) id
 copies_more tables q [] id f = refl
 copies_more tables q (e ∷ older) id f =
-    let long : length e.copy ≡ length tables = fits_length (definitions tables) e.copy f.0 ∙ length-map tables table_of in
+    let long : length e.copy ≡ length tables = fits_length (definitions_of tables) e.copy f.0 ∙ length-map tables (λ (t : Table). t.definition) in
     λ i. record { moment = e.moment; rows = sym (rows_more tables q e.copy long id) i } ∷ copies_more tables q older id f.1 i
 
 -- ---- the number of the new table
 
-free_more : (id : ℕ) (ps : List Placed) (q : Placed) → IsTrue (is_free id ps) → nat_eq q.id id ≡ false → IsTrue (is_free id (ps ++ q ∷ []))
+free_more : (id : ℕ) (ps : List Table) (q : Table) → IsTrue (is_free id ps) → nat_eq q.id id ≡ false → IsTrue (is_free id (ps ++ q ∷ []))
 free_more id [] q f e = ap (λ (b : Bool). not b && true) e
 free_more id (p ∷ ps) q f e = let g = both (not (nat_eq p.id id)) (is_free id ps) f in ap (λ (b : Bool). b && is_free id (ps ++ q ∷ [])) g.0 ∙ free_more id ps q g.1 e
 
-simple_more : (ps : List TableDef) (d : TableDef) → AllByRecursion IsSimple ps → IsSimple d → AllByRecursion IsSimple (ps ++ d ∷ [])
-simple_more [] d a k = (k, tt)
-simple_more (p ∷ ps) d a k = (a.0, simple_more ps d a.1 k)
+defined_more : (ps : List TableDef) (d : TableDef) → AllByRecursion IsDefinition ps → IsDefinition d → AllByRecursion IsDefinition (ps ++ d ∷ [])
+defined_more [] d a k = (k, tt)
+defined_more (p ∷ ps) d a k = (a.0, defined_more ps d a.1 k)
 
 -- a place that is filled is taken, and keeps its history where that is wanted
 taken_for : (b : Bool) → is_taken (place_for b) ≡ true
@@ -71,13 +72,13 @@ kept_for : (b : Bool) → is_kept (place_for b) ≡ b
 kept_for true = refl
 kept_for false = refl
 
-module _ (old new : store.Held) (q : Placed) (a : AddsTable (is_some q.system) q.id old new) where
+module _ (old new : store.Held) (q : Table) (a : AddsTable (is_some q.definition.system) q.id old new) where
   -- what is put there
   abbrev put : Place
-  put = place_for (is_some q.system)
+  put = place_for (is_some q.definition.system)
 
   -- a table that is there stands at another number
-  other_number : (p : Placed) → IsTrue (has_table old p.id) → nat_eq p.id q.id ≡ false
+  pub other_number : (p : Table) → IsTrue (has_table old p.id) → nat_eq p.id q.id ≡ false
   other_number p v = by_bool (nat_eq p.id q.id)
       (λ same. absurd (never (sym (ap is_taken (ap (store.place_of old.tables) (decided p.id q.id same) ∙ a.free)) ∙ v)))
       (λ other. other)
@@ -88,41 +89,41 @@ module _ (old new : store.Held) (q : Placed) (a : AddsTable (is_some q.system) q
       never : is_taken Free ≡ true → ⊥
       never e = cc
 
-  still_kept : (p : Placed) → IsKept old p → IsKept new p
+  still_kept : (p : Table) → IsKept old p → IsKept new p
   still_kept p k =
       let same : store.place_of new.tables p.id ≡ store.place_of old.tables p.id =
       a.takes.places p.id ∙ ap (λ (b : Bool). if b then put else store.place_of old.tables p.id) (other_number p k.there) in
       record { there = ap is_taken same ∙ k.there; versioned = ap is_kept same ∙ k.versioned }
 
-  new_kept : IsKept new q
+  pub new_kept : IsKept new q
   new_kept =
       let here : store.place_of new.tables q.id ≡ put =
       a.takes.places q.id ∙ ap (λ (b : Bool). if b then put else store.place_of old.tables q.id) (self q.id) in
-      record { there = ap is_taken here ∙ taken_for (is_some q.system); versioned = ap is_kept here ∙ kept_for (is_some q.system) }
+      record { there = ap is_taken here ∙ taken_for (is_some q.definition.system); versioned = ap is_kept here ∙ kept_for (is_some q.definition.system) }
     where
       self : (n : ℕ) → nat_eq n n ≡ true
       self n = grind (arith, nat_tests)
 
-  placed_more : (ps : List Placed) → ArePlaced old ps → ArePlaced new (ps ++ q ∷ [])
+  placed_more : (ps : List Table) → ArePlaced old ps → ArePlaced new (ps ++ q ∷ [])
   placed_more [] k = (refl, new_kept, tt)
   placed_more (p ∷ ps) k = (free_more p.id ps q k.0 (turned p.id q.id false (other_number p k.1.there)), still_kept p k.1, placed_more ps k.2)
 
 -- ---- the law
 
-pub create_law : (h : Held) (s : State) (q : Placed) (r : store.Held) → StandsFor h s → IsNone h.rows.working → IsSimple (table_of q)
-    → AddsTable (is_some q.system) q.id h.rows r → AddKeepsCopies h.rows r
-    → StandsFor (record { tables = h.tables ++ q ∷ []; rows = r; next = h.next }) (with_table (table_of q) s)
-create_law h s q r f closed simple a keeps =
+pub create_law : (h : Held) (s : State) (q : Table) (r : store.Held) → StandsFor h s → IsNone h.rows.working → IsDefinition q.definition
+    → AddsTable (is_some q.definition.system) q.id h.rows r → AddKeepsCopies h.rows r
+    → StandsFor (record { tables = h.tables ++ q ∷ []; rows = r; next = h.next }) (with_table q.definition s)
+create_law h s q r f closed right a keeps =
     let none : s.transaction ≡ None = closed_law h s f closed in
     let idle : r.working ≡ None = ap (λ (x : store.Held). x.working) a.rest ∙ f.opened ∙ ap moment_of none in
-    let d : TableDef = table_of q in
-    let more : definitions (h.tables ++ q ∷ []) ≡ definitions h.tables ++ d ∷ [] = map-append table_of h.tables (q ∷ []) in
+    let d : TableDef = q.definition in
+    let more : definitions_of (h.tables ++ q ∷ []) ≡ definitions_of h.tables ++ d ∷ [] = map-append (λ (t : Table). t.definition) h.tables (q ∷ []) in
     record {
       fits = record {
         definitions = ap (λ (ds : List TableDef). ds ++ d ∷ []) f.fits.definitions ∙ sym more;
-        simple = subst (AllByRecursion IsSimple) (sym more) (simple_more (definitions h.tables) d f.fits.simple simple);
-        rows = subst (λ (ps : List TableDef). HistoryFits ps (entries_more s.history)) (sym more) (history_fits (definitions h.tables) d s.history f.fits.rows);
-        working = subst (λ (o : Option Entry). WorkingFits (definitions (h.tables ++ q ∷ [])) o) (sym none) tt;
+        defined = subst (AllByRecursion IsDefinition) (sym more) (defined_more (definitions_of h.tables) d f.fits.defined right);
+        rows = subst (λ (ps : List TableDef). HistoryFits ps (entries_more s.history)) (sym more) (history_fits (definitions_of h.tables) d s.history f.fits.rows);
+        working = subst (λ (o : Option Entry). WorkingFits (definitions_of (h.tables ++ q ∷ [])) o) (sym none) tt;
       };
       clock = f.clock;
       not_before = f.not_before;

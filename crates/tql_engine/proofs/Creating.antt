@@ -1,30 +1,123 @@
--- An engine with a new table.
-use Rattle.std.proofs.Common.{◌≡◌, refl, sym, ap, subst, ◌∙◌, Bool, List, [], ◌∷◌, ◌++◌, map, Option, Some, None}
-use Rattle.std.specs.Prelude.{ℤ, is_some, option_map, IsNone}
-use Rattle.std.proofs.lemmas.List.{map-append}
+-- An engine with a new table, and one whose new table was given up.
+use Rattle.std.proofs.Common.{◌≡◌, ◌≢◌, ◌<◌, ℕ, ◌+◌, Bool, true, false, List, [], ◌∷◌, ◌++◌, length, refl, sym, ap, subst, ◌∙◌, arith, None}
+use Rattle.std.specs.Prelude.{ℤ, nat_eq, nat_le, is_some, IsNone, IsTrue, All, if◌then◌else◌}
+use Rattle.std.proofs.lemmas.Bool.Decides.{nat_tests}
+use Rattle.std.proofs.lemmas.List.Elements.{All-nil, All-cons, All-head, All-tail}
+use Rattle.tql_spec.proofs.Members.{by_bool}
+use Rattle.tql_spec.specs.Refusal.{TableUnknownOrAlreadyThere, TooManyTablesOrReaders, first, fault_if}
+use Rattle.tql_spec.specs.Definition.{TableDef, Stamped}
+use Rattle.tql_spec.specs.History.{Copy, Entry}
 use Rattle.tql_spec.specs.Machine.{State, with_table}
 use Rattle.tql_store.specs.Slots as store
-use Rattle.tql_store.specs.Represents.{AddsTable, AddKeepsCopies}
-use Rattle.tql_catalog.specs.Definitions.{def_of, system_of}
-use Rattle.tql_catalog.specs.Simple.{IsSimple}
-use Rattle.tql_catalog.specs.declared.table.Table.{Table}
-use Rattle.tql_engine.specs.Tables.{Placed, placed_of}
-use Rattle.tql_engine.specs.Stands.{StandsFor}
-use Rattle.tql_engine.proofs.CreateKeeps.{create_law}
+use Rattle.tql_store.specs.Slots.{has_table, is_kept, is_taken, table_count, without}
+use Rattle.tql_store.specs.Changes.{emptied}
+use Rattle.tql_store.specs.Represents.{Represents, Takes, AddsTable, AddKeepsCopies, DropEmpties, copies_without}
+use Rattle.tql_store.specs.declared.tables.Place.TheVariants.{Free}
+use Rattle.tql_catalog.specs.Defined.{IsDefinition}
+use Rattle.tql_catalog.specs.Tables.{IsFree, creation_faults}
+use Rattle.tql_catalog.specs.declared.catalog.Table.{Table}
+use Rattle.tql_bind.specs.Bounds.{IsSoundTable}
+use Rattle.tql_engine.specs.Stands.{Held, StandsFor, ArePlaced, IsKept, rows_of_id, copies_of, working_of}
+use Rattle.tql_engine.proofs.Copies.{passed, same_copies}
+use Rattle.tql_engine.proofs.CreateKeeps.{create_law, other_number, new_kept}
 
-some_mapped : {X Y : Type 0} (f : X → Y) (o : Option X) → is_some (option_map f o) ≡ is_some o
-some_mapped f None = refl
-some_mapped f (Some x) = refl
+-- the tables that are there show no fault of a table that is bound
+few : (n : ℕ) → n < 1000 → nat_le 1000 n ≡ false
+few n h = grind (arith, nat_tests)
+
+pub no_fault : (defs : List TableDef) (d : TableDef) → IsSoundTable defs d → first (creation_faults defs d.name) ≡ None
+no_fault defs d k = λ i. first (fault_if (is_some (k.free i)) TableUnknownOrAlreadyThere ++ fault_if (few (length defs) k.room i) TooManyTablesOrReaders)
+
+-- ---- a table that is made
 
 -- the engine with the new table stands for the state with it
 pub made_law : (s : State) (tables more : List Table) (table : Table) (old new : store.Held) (next : ℤ) (versioned : Bool)
-    → StandsFor (record { tables = map placed_of tables; rows = old; next = next }) s → IsNone old.working → IsSimple (def_of table.definition)
+    → StandsFor (record { tables = tables; rows = old; next = next }) s → IsNone old.working → IsDefinition table.definition
     → AddsTable versioned table.id old new → AddKeepsCopies old new → versioned ≡ is_some table.definition.system
     → more ≡ tables ++ table ∷ []
-    → StandsFor (record { tables = map placed_of more; rows = new; next = next }) (with_table (def_of table.definition) s)
-made_law s tables more table old new next versioned st closed simple adds keeps same e =
-    let placed : map placed_of tables ++ placed_of table ∷ [] ≡ map placed_of more = sym (map-append placed_of tables (table ∷ [])) ∙ ap (map placed_of) (sym e) in
-    let kept : versioned ≡ is_some (option_map system_of table.definition.system) = same ∙ sym (some_mapped system_of table.definition.system) in
-    subst (λ (ps : List Placed). StandsFor (record { tables = ps; rows = new; next = next }) (with_table (def_of table.definition) s)) placed
-    (create_law (record { tables = map placed_of tables; rows = old; next = next }) s (placed_of table) new st closed simple
-    (subst (λ b. AddsTable b table.id old new) kept adds) keeps)
+    → StandsFor (record { tables = more; rows = new; next = next }) (with_table table.definition s)
+made_law s tables more table old new next versioned st closed right adds keeps same e =
+    subst (λ (ts : List Table). StandsFor (record { tables = ts; rows = new; next = next }) (with_table table.definition s)) (sym e)
+    (create_law (record { tables = tables; rows = old; next = next }) s table new st closed right (subst (λ (b : Bool). AddsTable b table.id old new) same adds) keeps)
+
+-- ---- a number that the store has given out
+
+module _ (old mid : store.Held) (q : Table) (a : AddsTable (is_some q.definition.system) q.id old mid) where
+  -- no table has it
+  pub free_number : (ps : List Table) → ArePlaced old ps → IsFree q.id ps
+  free_number [] k = All-nil _
+  free_number (p ∷ ps) k = All-cons (λ (t : Table). t.id ≢ q.id) p ps (differs p.id q.id (other_number old mid q a p k.1.there)) (free_number ps k.2)
+    where
+      differs : (n m : ℕ) → nat_eq n m ≡ false → n ≢ m
+      differs n m e f = grind (arith, nat_tests)
+
+  -- a table is there now
+  pub there_now : IsTrue (has_table mid q.id)
+  there_now = (new_kept old mid q a).there
+
+-- ---- a table that is given up
+
+no_rows : (ps : List Table) (id : ℕ) → IsFree id ps → (copy : Copy) → rows_of_id ps copy id ≡ []
+no_rows [] id f copy = refl
+no_rows (p ∷ ps) id f [] = refl
+no_rows (p ∷ ps) id f (rows ∷ copy) =
+    passed (nat_eq p.id id) rows (rows_of_id ps copy id) (apart p.id id (All-head (λ (t : Table). t.id ≢ id) p ps f))
+    ∙ no_rows ps id (All-tail (λ (t : Table). t.id ≢ id) p ps f) copy
+  where
+    apart : (n m : ℕ) → n ≢ m → nat_eq n m ≡ false
+    apart n m e = grind (arith, nat_tests)
+
+none_emptied : (ps : List Table) (id : ℕ) → IsFree id ps → (es : List Entry) → emptied (copies_of ps es id) ≡ copies_of ps es id
+none_emptied ps id f [] = refl
+none_emptied ps id f (e ∷ older) = λ i. record { moment = e.moment; rows = sym (no_rows ps id f e.copy) i } ∷ none_emptied ps id f older i
+
+without_none : (ps : List Table) (id : ℕ) → IsFree id ps → (es : List Entry) (u : ℕ) → copies_without id (copies_of ps es) u ≡ copies_of ps es u
+without_none ps id f es u = by_bool (nat_eq u id)
+    (λ b. ap (λ (c : Bool). if c then emptied (copies_of ps es u) else copies_of ps es u) b
+    ∙ subst (λ (n : ℕ). emptied (copies_of ps es n) ≡ copies_of ps es n) (the_same u id b) (none_emptied ps id f es))
+    (λ b. passed (nat_eq u id) (emptied (copies_of ps es u)) (copies_of ps es u) b)
+  where
+    the_same : (n m : ℕ) → nat_eq n m ≡ true → m ≡ n
+    the_same n m e = grind (arith, nat_tests)
+
+-- the new table is dropped from the store
+module _ (old mid new : store.Held) (q : Table) (a : AddsTable (is_some q.definition.system) q.id old mid)
+    (places : Takes q.id Free mid.tables new.tables) (count : table_count new + 1 ≡ table_count mid)
+    (slots : new ≡ record mid { tables = new.tables; slots = without q.id mid.slots }) (copies : DropEmpties q.id mid new) where
+  same_place : (p : Table) → IsTrue (has_table old p.id) → store.place_of new.tables p.id ≡ store.place_of old.tables p.id
+  same_place p there =
+      let other : nat_eq p.id q.id ≡ false = other_number old mid q a p there in
+      places.places p.id ∙ passed (nat_eq p.id q.id) Free (store.place_of mid.tables p.id) other
+      ∙ a.takes.places p.id ∙ passed (nat_eq p.id q.id) (store.place_for (is_some q.definition.system)) (store.place_of old.tables p.id) other
+
+  placed_still : (ps : List Table) → ArePlaced old ps → ArePlaced new ps
+  placed_still [] k = tt
+  placed_still (p ∷ ps) k = (
+    k.0,
+    record { there = ap is_taken (same_place p k.1.there) ∙ k.1.there; versioned = ap is_kept (same_place p k.1.there) ∙ k.1.versioned },
+    placed_still ps k.2,
+  )
+
+  less : (n m k : ℕ) → n + 1 ≡ m → m ≡ k + 1 → n ≡ k
+  less n m k e f = omega arith
+
+  -- the engine stands for the state as it was
+  pub given_up_law : (s : State) (tables : List Table) (next : ℤ) → StandsFor (record { tables = tables; rows = old; next = next }) s → AddKeepsCopies old mid
+      → StandsFor (record { tables = tables; rows = new; next = next }) s
+  given_up_law s tables next f keeps =
+      let working = working_of tables s.transaction in
+      record {
+        fits = f.fits;
+        clock = f.clock;
+        not_before = f.not_before;
+        not_after = f.not_after;
+        falls = f.falls;
+        since = f.since;
+        opened = ap (λ (h : store.Held). h.working) slots ∙ ap (λ (h : store.Held). h.working) a.rest ∙ f.opened;
+        dated = f.dated;
+        stands = same_copies new (copies_without q.id (copies_of tables s.history)) (copies_of tables s.history) working
+            (without_none tables q.id (free_number old mid q a tables f.placed) s.history)
+            (copies (copies_of tables s.history) working (keeps (copies_of tables s.history) working f.stands));
+        placed = placed_still tables f.placed;
+        count = less (table_count new) (table_count mid) (table_count old) count a.count ∙ f.count;
+      }

@@ -13,11 +13,12 @@ use Rattle.tql_spec.specs.History.{Entry, TableEntry, When, rows_in, table_histo
 use Rattle.tql_spec.specs.Query.{in_order}
 use Rattle.tql_spec.specs.Creation.{names_of}
 use Rattle.tql_spec.specs.Change.{Outcome, Work}
-use Rattle.tql_spec.specs.Refusal.{Refusal, E40, E41, first}
+use Rattle.tql_spec.specs.Refusal.{Refusal, NotInThisTransactionState, MomentNotAllowed, first}
 use Rattle.tql_spec.specs.Machine.{State, Reply, Refused, Done, Table, CreatedTable, ClockSet, Inserted, Deleted, Started, Committed, RolledBack, Change, CreateTable, SetClock, Start, Commit, Rollback, Alter, Ask, InsertTuples, Modify, step, altered, unless, is_not_later, is_clock_at_end, entries, newest_copy, with_table, with_commit, working, asked, bag_of}
 use Rattle.tql_bind.specs.Bounds.{whole_table}
-use Rattle.tql_engine.specs.Tables.{Placed, definitions, table_of}
-use Rattle.tql_catalog.specs.Simple.{IsSimple}
+use Rattle.tql_catalog.specs.Tables.{definitions_of}
+use Rattle.tql_catalog.specs.declared.catalog.Table.{Table as CatalogTable}
+use Rattle.tql_catalog.specs.Defined.{IsDefinition}
 use Rattle.tql_dml.specs.Inserts.{new_rows, new_faults}
 use Rattle.tql_store.specs.Slots as store
 use Rattle.tql_store.specs.Represents.{BeginCopies, CommitAppends, RollbackRestores, Judged}
@@ -73,15 +74,15 @@ lacks_law h s st = λ i. idle_law h s st i && int_le high (sym st.clock i)
 
 -- ---- CREATE
 
-pub create_refused : (h : Held) (s : State) (d : TableDef) → StandsFor h s → is_some h.rows.working ≡ true → Does h (Refused E40) (step s (CreateTable d))
+pub create_refused : (h : Held) (s : State) (d : TableDef) → StandsFor h s → is_some h.rows.working ≡ true → Does h (Refused NotInThisTransactionState) (step s (CreateTable d))
 create_refused h s d st e =
-    by_step h (Refused E40) (step s (CreateTable d)) (refused E40 s)
-    (create_step s d ∙ chosen (is_some s.transaction) (refused E40 s) (Done CreatedTable None, with_table d s) (open_law h s st ∙ e)) (refuses h s E40 st)
+    by_step h (Refused NotInThisTransactionState) (step s (CreateTable d)) (refused NotInThisTransactionState s)
+    (create_step s d ∙ chosen (is_some s.transaction) (refused NotInThisTransactionState s) (Done CreatedTable None, with_table d s) (open_law h s st ∙ e)) (refuses h s NotInThisTransactionState st)
 
 pub create_does : (h new : Held) (s : State) (d : TableDef) → StandsFor h s → is_some h.rows.working ≡ false → StandsFor new (with_table d s) → Does new (Done CreatedTable None) (step s (CreateTable d))
 create_does h new s d st e made =
     by_step new (Done CreatedTable None) (step s (CreateTable d)) (Done CreatedTable None, with_table d s)
-    (create_step s d ∙ passed (is_some s.transaction) (refused E40 s) (Done CreatedTable None, with_table d s) (open_law h s st ∙ e)) (record { replies = refl; stands = made })
+    (create_step s d ∙ passed (is_some s.transaction) (refused NotInThisTransactionState s) (Done CreatedTable None, with_table d s) (open_law h s st ∙ e)) (record { replies = refl; stands = made })
 
 -- ---- AT
 
@@ -90,18 +91,18 @@ abbrev set_to : ℤ → State → Reply × State
 set_to m s = (Done ClockSet None, record s { next = m })
 
 abbrev clock_left : ℤ → State → Reply × State
-clock_left m s = if is_not_later m s.history then refused E41 s else set_to m s
+clock_left m s = if is_not_later m s.history then refused MomentNotAllowed s else set_to m s
 
-pub clock_open : (h : Held) (s : State) (m : ℤ) → StandsFor h s → is_some h.rows.working ≡ true → Does h (Refused E40) (step s (SetClock m))
+pub clock_open : (h : Held) (s : State) (m : ℤ) → StandsFor h s → is_some h.rows.working ≡ true → Does h (Refused NotInThisTransactionState) (step s (SetClock m))
 clock_open h s m st e =
-    by_step h (Refused E40) (step s (SetClock m)) (refused E40 s) (clock_step s m ∙ chosen (is_some s.transaction) (refused E40 s) (clock_left m s) (open_law h s st ∙ e)) (refuses h s E40 st)
+    by_step h (Refused NotInThisTransactionState) (step s (SetClock m)) (refused NotInThisTransactionState s) (clock_step s m ∙ chosen (is_some s.transaction) (refused NotInThisTransactionState s) (clock_left m s) (open_law h s st ∙ e)) (refuses h s NotInThisTransactionState st)
 
 -- with a moment that is not later than the last commit's
-pub clock_refused : (h : Held) (s : State) (m : ℤ) → StandsFor h s → is_some h.rows.working ≡ false → not_later_than m h.rows.last ≡ true → Does h (Refused E41) (step s (SetClock m))
+pub clock_refused : (h : Held) (s : State) (m : ℤ) → StandsFor h s → is_some h.rows.working ≡ false → not_later_than m h.rows.last ≡ true → Does h (Refused MomentNotAllowed) (step s (SetClock m))
 clock_refused h s m st c e =
-    by_step h (Refused E41) (step s (SetClock m)) (refused E41 s)
-    (clock_step s m ∙ passed (is_some s.transaction) (refused E40 s) (clock_left m s) (open_law h s st ∙ c)
-    ∙ chosen (is_not_later m s.history) (refused E41 s) (set_to m s) (last_law h s m st ∙ e)) (refuses h s E41 st)
+    by_step h (Refused MomentNotAllowed) (step s (SetClock m)) (refused MomentNotAllowed s)
+    (clock_step s m ∙ passed (is_some s.transaction) (refused NotInThisTransactionState s) (clock_left m s) (open_law h s st ∙ c)
+    ∙ chosen (is_not_later m s.history) (refused MomentNotAllowed s) (set_to m s) (last_law h s m st ∙ e)) (refuses h s MomentNotAllowed st)
 
 -- with a later one
 pub clock_set : (h : Held) (s : State) (m : ℤ) → StandsFor h s → IsNone h.rows.working → not_later_than m h.rows.last ≡ false → first_moment ≤ℤ m → m ≤ℤ high
@@ -109,40 +110,40 @@ pub clock_set : (h : Held) (s : State) (m : ℤ) → StandsFor h s → IsNone h.
 clock_set h s m st c e low up =
     let later : is_not_later m s.history ≡ false = last_law h s m st ∙ e in
     by_step (record h { next = m }) (Done ClockSet None) (step s (SetClock m)) (set_to m s)
-    (clock_step s m ∙ passed (is_some s.transaction) (refused E40 s) (clock_left m s) (open_law h s st ∙ c)
-    ∙ passed (is_not_later m s.history) (refused E41 s) (set_to m s) later) (record { replies = refl; stands = clock_law h s m st c later low up })
+    (clock_step s m ∙ passed (is_some s.transaction) (refused NotInThisTransactionState s) (clock_left m s) (open_law h s st ∙ c)
+    ∙ passed (is_not_later m s.history) (refused MomentNotAllowed s) (set_to m s) later) (record { replies = refl; stands = clock_law h s m st c later low up })
 
 -- ---- SELECT
 
 -- what the machine answers
-pub asked_is : (h : Held) (s : State) (t : ℕ) (p : Placed) (w : When) → StandsFor h s → slice_get h.tables t ≡ Some p
-    → step s (Ask (whole_table (table_at (definitions h.tables) t) t w)) ≡ (Table (names_of (table_of p)) (in_order [] (rows_when s t w)), s)
+pub asked_is : (h : Held) (s : State) (t : ℕ) (p : CatalogTable) (w : When) → StandsFor h s → slice_get h.tables t ≡ Some p
+    → step s (Ask (whole_table (table_at (definitions_of h.tables) t) t w)) ≡ (Table (names_of p.definition) (in_order [] (rows_when s t w)), s)
 asked_is h s t p w st e =
     ap (λ d. step s (Ask (whole_table d t w))) (definition_of h.tables t p e)
-    ∙ ap (asked s (whole_table (table_of p) t w)) (whole_answered (bag_of s) (table_of p) t w (rows_when s t w) refl (wide_law h s t p w st e))
+    ∙ ap (asked s (whole_table p.definition t w)) (whole_answered (bag_of s) p.definition t w (rows_when s t w) refl (wide_law h s t p w st e))
 
 -- the rows found, sorted, under the names of the columns
-pub asked_does : (h : Held) (s : State) (t : ℕ) (p : Placed) (when : When) (found : List Version) (headings : List Name) (rows : List Row)
+pub asked_does : (h : Held) (s : State) (t : ℕ) (p : CatalogTable) (when : When) (found : List Version) (headings : List Name) (rows : List Row)
     → StandsFor h s → slice_get h.tables t ≡ Some p → Answers h.rows p.id when found
-    → ((bag : List Row) → SameBag (map (full (table_of p)) found) bag → rows ≡ in_order [] bag)
-    → headings ≡ names_of (table_of p)
-    → Does h (Table headings rows) (step s (Ask (whole_table (table_at (definitions h.tables) t) t when)))
+    → ((bag : List Row) → SameBag (map (full p.definition) found) bag → rows ≡ in_order [] bag)
+    → headings ≡ names_of p.definition
+    → Does h (Table headings rows) (step s (Ask (whole_table (table_at (definitions_of h.tables) t) t when)))
 asked_does h s t p when found headings rows st e answers sorted heads =
     let order : rows ≡ in_order [] (rows_when s t when) = sorted (rows_when s t when) (asked_law h s t p when found st e answers) in
-    by_step h (Table headings rows) (step s (Ask (whole_table (table_at (definitions h.tables) t) t when))) (Table (names_of (table_of p)) (in_order [] (rows_when s t when)), s)
+    by_step h (Table headings rows) (step s (Ask (whole_table (table_at (definitions_of h.tables) t) t when))) (Table (names_of p.definition) (in_order [] (rows_when s t when)), s)
     (asked_is h s t p when st e) (record { replies = λ i. Table (heads i) (order i); stands = st })
 
 -- ---- changes
 
--- each table of the state is simple
-simple_all : (h : Held) (s : State) → StandsFor h s → AllByRecursion IsSimple s.definitions
-simple_all h s st = subst (AllByRecursion IsSimple) (sym st.fits.definitions) st.fits.simple
+-- the definition of each table of the state is right
+defined_all : (h : Held) (s : State) → StandsFor h s → AllByRecursion IsDefinition s.definitions
+defined_all h s st = subst (AllByRecursion IsDefinition) (sym st.fits.definitions) st.fits.defined
 
 -- a change without a moment
-pub change_refused : (h : Held) (s : State) (c : Change) → StandsFor h s → (is_none h.rows.working && int_le high h.next) ≡ true → Does h (Refused E41) (step s (Alter c))
+pub change_refused : (h : Held) (s : State) (c : Change) → StandsFor h s → (is_none h.rows.working && int_le high h.next) ≡ true → Does h (Refused MomentNotAllowed) (step s (Alter c))
 change_refused h s c st e =
-    by_step h (Refused E41) (step s (Alter c)) (refused E41 s)
-    (alter_step s c ∙ chosen (is_none s.transaction && is_clock_at_end s) (refused E41 s) (altered s c) (lacks_law h s st ∙ e)) (refuses h s E41 st)
+    by_step h (Refused MomentNotAllowed) (step s (Alter c)) (refused MomentNotAllowed s)
+    (alter_step s c ∙ chosen (is_none s.transaction && is_clock_at_end s) (refused MomentNotAllowed s) (altered s c) (lacks_law h s st ∙ e)) (refuses h s MomentNotAllowed st)
 
 -- with one
 no_moment : (w : Option ℤ) (n : ℤ) → (IsNone w → n <ℤ high) → (is_none w && int_le high n) ≡ false
@@ -151,7 +152,7 @@ no_moment (Some m) n k = refl
 
 change_step : (h : Held) (s : State) (c : Change) → StandsFor h s → (IsNone h.rows.working → h.next <ℤ high) → step s (Alter c) ≡ altered s c
 change_step h s c st below =
-    alter_step s c ∙ passed (is_none s.transaction && is_clock_at_end s) (refused E41 s) (altered s c) (lacks_law h s st ∙ no_moment h.rows.working h.next below)
+    alter_step s c ∙ passed (is_none s.transaction && is_clock_at_end s) (refused MomentNotAllowed s) (altered s c) (lacks_law h s st ∙ no_moment h.rows.working h.next below)
 
 -- ---- INSERT
 
@@ -160,23 +161,23 @@ abbrev pub of_tuples : ℕ → List ℕ → List Row → Change
 of_tuples t columns tuples = InsertTuples t columns (map (map Literal) tuples)
 
 -- what the machine does, by the first fault of the new rows
-insert_is : (h : Held) (s : State) (t : ℕ) (p : Placed) (columns : List ℕ) (tuples : List Row) → StandsFor h s → slice_get h.tables t ≡ Some p → (IsNone h.rows.working → h.next <ℤ high)
+insert_is : (h : Held) (s : State) (t : ℕ) (p : CatalogTable) (columns : List ℕ) (tuples : List Row) → StandsFor h s → slice_get h.tables t ≡ Some p → (IsNone h.rows.working → h.next <ℤ high)
     → (let m = (working_now s).moment in step s (Alter (of_tuples t columns tuples))
-    ≡ unless (first (new_faults (table_of p) m columns tuples)) s (Done Inserted (Some (length tuples))) (with_table_rows s t (working_rows s t ++ new_rows (table_of p) m columns tuples)))
+    ≡ unless (first (new_faults p.definition m columns tuples)) s (Done Inserted (Some (length tuples))) (with_table_rows s t (working_rows s t ++ new_rows p.definition m columns tuples)))
 insert_is h s t p columns tuples st e below =
     let m : ℤ = (working_now s).moment in
     let rows : List Stamped = working_rows s t in
     change_step h s (of_tuples t columns tuples) st below
-    ∙ altered_by s (of_tuples t columns tuples) (record { rows = rows ++ new_rows (table_of p) m columns tuples; count = length tuples; faults = new_faults (table_of p) m columns tuples }) (simple_all h s st)
+    ∙ altered_by s (of_tuples t columns tuples) (record { rows = rows ++ new_rows p.definition m columns tuples; count = length tuples; faults = new_faults p.definition m columns tuples }) (defined_all h s st)
     (insert_outcome (table_at s.definitions t) m rows columns tuples
     ∙ ap {B = Outcome} (λ d. record { rows = rows ++ new_rows d m columns tuples; count = length tuples; faults = new_faults d m columns tuples }) (definition_law h s t p st e))
 
 -- the first fault of the new rows
-pub insert_refused : (h : Held) (s : State) (t : ℕ) (p : Placed) (columns : List ℕ) (tuples : List Row) (f : Refusal) → StandsFor h s → slice_get h.tables t ≡ Some p → (IsNone h.rows.working → h.next <ℤ high)
-    → ((m : ℤ) → first (new_faults (table_of p) m columns tuples) ≡ Some f) → Does h (Refused f) (step s (Alter (of_tuples t columns tuples)))
+pub insert_refused : (h : Held) (s : State) (t : ℕ) (p : CatalogTable) (columns : List ℕ) (tuples : List Row) (f : Refusal) → StandsFor h s → slice_get h.tables t ≡ Some p → (IsNone h.rows.working → h.next <ℤ high)
+    → ((m : ℤ) → first (new_faults p.definition m columns tuples) ≡ Some f) → Does h (Refused f) (step s (Alter (of_tuples t columns tuples)))
 insert_refused h s t p columns tuples f st e below k =
     let m : ℤ = (working_now s).moment in
-    let new : State = with_table_rows s t (working_rows s t ++ new_rows (table_of p) m columns tuples) in
+    let new : State = with_table_rows s t (working_rows s t ++ new_rows p.definition m columns tuples) in
     by_step h (Refused f) (step s (Alter (of_tuples t columns tuples))) (refused f s)
     (insert_is h s t p columns tuples st e below ∙ ap (λ o. unless o s (Done Inserted (Some (length tuples))) new) (k m)) (refuses h s f st)
 
@@ -184,8 +185,8 @@ insert_refused h s t p columns tuples f st e below k =
 abbrev pub inserted : State → ℕ → List Row → State
 inserted s t rows = with_table_rows s t (working_rows s t ++ begun_at (working_now s).moment rows)
 
-pub rows_added : (h : Held) (s : State) (t : ℕ) (p : Placed) (rows : List Row) (removed : List ℕ) (r : store.Held) (after : ℤ) → StandsFor h s → slice_get h.tables t ≡ Some p
-    → (IsNone h.rows.working → h.next <ℤ high) → AreRowsOf (table_of p) rows → removed ≡ [] → ChangesRows h.rows.working h.next after p.id removed rows h.rows r
+pub rows_added : (h : Held) (s : State) (t : ℕ) (p : CatalogTable) (rows : List Row) (removed : List ℕ) (r : store.Held) (after : ℤ) → StandsFor h s → slice_get h.tables t ≡ Some p
+    → (IsNone h.rows.working → h.next <ℤ high) → AreRowsOf p.definition rows → removed ≡ [] → ChangesRows h.rows.working h.next after p.id removed rows h.rows r
     → StandsFor (record { tables = h.tables; rows = r; next = after }) (inserted s t rows)
 rows_added h s t p rows removed r after st e below fit none c =
     subst (λ (xs : List Stamped). StandsFor (record { tables = h.tables; rows = r; next = after }) (with_table_rows s t xs)) (only_added (working_now s).moment rows (working_rows s t))
@@ -193,10 +194,10 @@ rows_added h s t p rows removed r after st e below fit none c =
     (subst (λ is. ChangesRows h.rows.working h.next after p.id is rows h.rows r) none c))
 
 -- and the reply
-pub insert_does : (h : Held) (s : State) (t : ℕ) (p : Placed) (columns : List ℕ) (tuples rows : List Row) (removed : List ℕ) (r : store.Held) (after : ℤ) (count : ℕ)
-    → StandsFor h s → slice_get h.tables t ≡ Some p → (IsNone h.rows.working → h.next <ℤ high) → AreRowsOf (table_of p) rows → removed ≡ []
+pub insert_does : (h : Held) (s : State) (t : ℕ) (p : CatalogTable) (columns : List ℕ) (tuples rows : List Row) (removed : List ℕ) (r : store.Held) (after : ℤ) (count : ℕ)
+    → StandsFor h s → slice_get h.tables t ≡ Some p → (IsNone h.rows.working → h.next <ℤ high) → AreRowsOf p.definition rows → removed ≡ []
     → ChangesRows h.rows.working h.next after p.id removed rows h.rows r
-    → ((m : ℤ) → map (λ (x : Stamped). x.cells) (new_rows (table_of p) m columns tuples) ≡ rows) → ((m : ℤ) → first (new_faults (table_of p) m columns tuples) ≡ None) → count ≡ length tuples
+    → ((m : ℤ) → map (λ (x : Stamped). x.cells) (new_rows p.definition m columns tuples) ≡ rows) → ((m : ℤ) → first (new_faults p.definition m columns tuples) ≡ None) → count ≡ length tuples
     → Does (record { tables = h.tables; rows = r; next = after }) (Done Inserted (Some count)) (step s (Alter (of_tuples t columns tuples)))
 insert_does h s t p columns tuples rows removed r after count st e below fit none c cells sound n =
     let m : ℤ = (working_now s).moment in
@@ -204,8 +205,8 @@ insert_does h s t p columns tuples rows removed r after count st e below fit non
     let h2 : Held = record { tables = h.tables; rows = r; next = after } in
     by_step h2 (Done Inserted (Some count)) (step s (Alter (of_tuples t columns tuples))) (Done Inserted (Some count), inserted s t rows)
     (insert_is h s t p columns tuples st e below
-    ∙ ap (λ o. unless o s (Done Inserted (Some (length tuples))) (new (new_rows (table_of p) m columns tuples))) (sound m)
-    ∙ (λ i. (Done Inserted (Some (sym n i)), new (rows_begun (table_of p) m columns tuples rows (cells m) i))))
+    ∙ ap (λ o. unless o s (Done Inserted (Some (length tuples))) (new (new_rows p.definition m columns tuples))) (sound m)
+    ∙ (λ i. (Done Inserted (Some (sym n i)), new (rows_begun p.definition m columns tuples rows (cells m) i))))
     (record { replies = refl; stands = rows_added h s t p rows removed r after st e below fit none c })
 
 -- ---- DELETE
@@ -219,11 +220,11 @@ remove_is : (h : Held) (s : State) (t : ℕ) → StandsFor h s → (IsNone h.row
     → step s (Alter (of_all t)) ≡ (Done Deleted (Some (length (working_rows s t))), with_table_rows s t [])
 remove_is h s t st below =
     change_step h s (of_all t) st below
-    ∙ altered_by s (of_all t) (record { rows = []; count = length (working_rows s t); faults = [] }) (simple_all h s st)
+    ∙ altered_by s (of_all t) (record { rows = []; count = length (working_rows s t); faults = [] }) (defined_all h s st)
     (remove_outcome (table_at s.definitions t) (working_now s).moment (working_rows s t))
 
 -- the state with no row
-pub rows_removed : (h : Held) (s : State) (t : ℕ) (p : Placed) (removed : List ℕ) (r : store.Held) (after : ℤ) → StandsFor h s → slice_get h.tables t ≡ Some p
+pub rows_removed : (h : Held) (s : State) (t : ℕ) (p : CatalogTable) (removed : List ℕ) (r : store.Held) (after : ℤ) → StandsFor h s → slice_get h.tables t ≡ Some p
     → (IsNone h.rows.working → h.next <ℤ high) → Judged p.id (λ (x : Stamped). true) removed h.rows.slots → ChangesRows h.rows.working h.next after p.id removed [] h.rows r
     → StandsFor (record { tables = h.tables; rows = r; next = after }) (with_table_rows s t [])
 rows_removed h s t p removed r after st e below judged c =
@@ -250,7 +251,7 @@ current_rows : (s : State) (t : ℕ) → length (current (table_history t (entri
 current_rows s t = current_by s.definitions s.history s.next t s.transaction
 
 -- and the reply
-pub remove_does : (h : Held) (s : State) (t : ℕ) (p : Placed) (removed : List ℕ) (r : store.Held) (after : ℤ) → StandsFor h s → slice_get h.tables t ≡ Some p
+pub remove_does : (h : Held) (s : State) (t : ℕ) (p : CatalogTable) (removed : List ℕ) (r : store.Held) (after : ℤ) → StandsFor h s → slice_get h.tables t ≡ Some p
     → (IsNone h.rows.working → h.next <ℤ high) → Judged p.id (λ (x : Stamped). true) removed h.rows.slots → CountsNow h.rows p.id (length removed)
     → ChangesRows h.rows.working h.next after p.id removed [] h.rows r
     → Does (record { tables = h.tables; rows = r; next = after }) (Done Deleted (Some (length removed))) (step s (Alter (of_all t)))
@@ -269,16 +270,16 @@ abbrev begun_so : State → Reply × State
 begun_so s = (Done Started None, record s { transaction = Some (working s None) })
 
 abbrev start_left : State → Reply × State
-start_left s = if is_clock_at_end s then refused E41 s else begun_so s
+start_left s = if is_clock_at_end s then refused MomentNotAllowed s else begun_so s
 
-pub start_open : (h : Held) (s : State) → StandsFor h s → is_some h.rows.working ≡ true → Does h (Refused E40) (step s Start)
-start_open h s st e = by_step h (Refused E40) (step s Start) (refused E40 s) (start_step s ∙ chosen (is_some s.transaction) (refused E40 s) (start_left s) (open_law h s st ∙ e)) (refuses h s E40 st)
+pub start_open : (h : Held) (s : State) → StandsFor h s → is_some h.rows.working ≡ true → Does h (Refused NotInThisTransactionState) (step s Start)
+start_open h s st e = by_step h (Refused NotInThisTransactionState) (step s Start) (refused NotInThisTransactionState s) (start_step s ∙ chosen (is_some s.transaction) (refused NotInThisTransactionState s) (start_left s) (open_law h s st ∙ e)) (refuses h s NotInThisTransactionState st)
 
-pub start_late : (h : Held) (s : State) → StandsFor h s → is_some h.rows.working ≡ false → int_le high h.next ≡ true → Does h (Refused E41) (step s Start)
+pub start_late : (h : Held) (s : State) → StandsFor h s → is_some h.rows.working ≡ false → int_le high h.next ≡ true → Does h (Refused MomentNotAllowed) (step s Start)
 start_late h s st c e =
-    by_step h (Refused E41) (step s Start) (refused E41 s)
-    (start_step s ∙ passed (is_some s.transaction) (refused E40 s) (start_left s) (open_law h s st ∙ c)
-    ∙ chosen (is_clock_at_end s) (refused E41 s) (begun_so s) (ap (int_le high) (sym st.clock) ∙ e)) (refuses h s E41 st)
+    by_step h (Refused MomentNotAllowed) (step s Start) (refused MomentNotAllowed s)
+    (start_step s ∙ passed (is_some s.transaction) (refused NotInThisTransactionState s) (start_left s) (open_law h s st ∙ c)
+    ∙ chosen (is_clock_at_end s) (refused MomentNotAllowed s) (begun_so s) (ap (int_le high) (sym st.clock) ∙ e)) (refuses h s MomentNotAllowed st)
 
 not_over : (n : ℤ) → n <ℤ high → int_le high n ≡ false
 not_over n below = grind (arith, ints)
@@ -287,8 +288,8 @@ pub start_does : (h : Held) (s : State) (r : store.Held) → StandsFor h s → I
     → Does (record h { rows = r }) (Done Started None) (step s Start)
 start_does h s r st closed below begins is_open places =
     by_step (record h { rows = r }) (Done Started None) (step s Start) (begun_so s)
-    (start_step s ∙ passed (is_some s.transaction) (refused E40 s) (start_left s) (open_law h s st ∙ closed)
-    ∙ passed (is_clock_at_end s) (refused E41 s) (begun_so s) (ap (int_le high) (sym st.clock) ∙ not_over h.next below))
+    (start_step s ∙ passed (is_some s.transaction) (refused NotInThisTransactionState s) (start_left s) (open_law h s st ∙ closed)
+    ∙ passed (is_clock_at_end s) (refused MomentNotAllowed s) (begun_so s) (ap (int_le high) (sym st.clock) ∙ not_over h.next below))
     (record { replies = refl; stands = begun_law h s r st (closed_law h s st closed) below begins is_open places })
 
 -- no transaction is open
@@ -298,10 +299,10 @@ closed_none h s st e = none_of s.transaction false (open_law h s st ∙ e)
 open_some : (h : Held) (s : State) → StandsFor h s → is_some h.rows.working ≡ true → is_none s.transaction ≡ false
 open_some h s st e = none_of s.transaction true (open_law h s st ∙ e)
 
-pub commit_refused : (h : Held) (s : State) → StandsFor h s → is_some h.rows.working ≡ false → Does h (Refused E40) (step s Commit)
+pub commit_refused : (h : Held) (s : State) → StandsFor h s → is_some h.rows.working ≡ false → Does h (Refused NotInThisTransactionState) (step s Commit)
 commit_refused h s st e =
-    by_step h (Refused E40) (step s Commit) (refused E40 s)
-    (commit_step s ∙ chosen (is_none s.transaction) (refused E40 s) (Done Committed None, with_commit s s.transaction) (closed_none h s st e)) (refuses h s E40 st)
+    by_step h (Refused NotInThisTransactionState) (step s Commit) (refused NotInThisTransactionState s)
+    (commit_step s ∙ chosen (is_none s.transaction) (refused NotInThisTransactionState s) (Done Committed None, with_commit s s.transaction) (closed_none h s st e)) (refuses h s NotInThisTransactionState st)
 
 -- committed
 pub commit_does : (h : Held) (s : State) (r : store.Held) → StandsFor h s → IsSome h.rows.working → CommitAppends h.rows r → r.working ≡ None → r.tables ≡ h.rows.tables
@@ -309,14 +310,14 @@ pub commit_does : (h : Held) (s : State) (r : store.Held) → StandsFor h s → 
 commit_does h s r st is_open commits is_idle places =
     let e = open_entry h s st is_open in
     by_step (record { tables = h.tables; rows = r; next = h.next +ℤ pos 1 }) (Done Committed None) (step s Commit) (Done Committed None, with_commit s (Some e.0))
-    (commit_step s ∙ passed (is_none s.transaction) (refused E40 s) (Done Committed None, with_commit s s.transaction) (open_some h s st is_open)
+    (commit_step s ∙ passed (is_none s.transaction) (refused NotInThisTransactionState s) (Done Committed None, with_commit s s.transaction) (open_some h s st is_open)
     ∙ ap {B = Reply × State} (λ o. (Done Committed None, with_commit s o)) e.1)
     (record { replies = refl; stands = ended_law h s e.0 r st e.1 commits is_idle places })
 
-pub rollback_refused : (h : Held) (s : State) → StandsFor h s → is_some h.rows.working ≡ false → Does h (Refused E40) (step s Rollback)
+pub rollback_refused : (h : Held) (s : State) → StandsFor h s → is_some h.rows.working ≡ false → Does h (Refused NotInThisTransactionState) (step s Rollback)
 rollback_refused h s st e =
-    by_step h (Refused E40) (step s Rollback) (refused E40 s)
-    (rollback_step s ∙ chosen (is_none s.transaction) (refused E40 s) (Done RolledBack None, record s { transaction = None }) (closed_none h s st e)) (refuses h s E40 st)
+    by_step h (Refused NotInThisTransactionState) (step s Rollback) (refused NotInThisTransactionState s)
+    (rollback_step s ∙ chosen (is_none s.transaction) (refused NotInThisTransactionState s) (Done RolledBack None, record s { transaction = None }) (closed_none h s st e)) (refuses h s NotInThisTransactionState st)
 
 -- undone
 pub rollback_does : (h : Held) (s : State) (r : store.Held) → StandsFor h s → IsSome h.rows.working → RollbackRestores h.rows r → r.working ≡ None → r.tables ≡ h.rows.tables
@@ -324,5 +325,5 @@ pub rollback_does : (h : Held) (s : State) (r : store.Held) → StandsFor h s �
 rollback_does h s r st is_open restores is_idle places =
     let e = open_entry h s st is_open in
     by_step (record h { rows = r }) (Done RolledBack None) (step s Rollback) (Done RolledBack None, record s { transaction = None })
-    (rollback_step s ∙ passed (is_none s.transaction) (refused E40 s) (Done RolledBack None, record s { transaction = None }) (open_some h s st is_open))
+    (rollback_step s ∙ passed (is_none s.transaction) (refused NotInThisTransactionState s) (Done RolledBack None, record s { transaction = None }) (open_some h s st is_open))
     (record { replies = refl; stands = undone_law h s e.0 r st e.1 restores is_idle places })

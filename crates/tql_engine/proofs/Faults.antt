@@ -1,6 +1,6 @@
 -- Steps that the state refuses, and those that it does not.
 use Rattle.std.specs.Prelude.{◌≡◌, refl, Bool, true, false, ◌&&◌, ◌++◌, ℤ, Some, None, is_some, is_none, if◌then◌else◌}
-use Rattle.tql_spec.specs.Refusal.{Refusal, E40, E41, earlier, first, fault_if}
+use Rattle.tql_spec.specs.Refusal.{Refusal, NotInThisTransactionState, MomentNotAllowed, earlier, first, fault_if}
 use Rattle.tql_spec.specs.Definition.{TableDef}
 use Rattle.tql_spec.specs.Machine.{State, Reply, Refused, Done, CreatedTable, ClockSet, Started, Committed, RolledBack, Change, CreateTable, SetClock, Start, Commit, Rollback, Alter, step, unless, altered, with_table, with_commit, working, is_not_later, is_clock_at_end}
 
@@ -23,22 +23,22 @@ two_faults false false e f s reply new k = refl
 
 -- ---- what the machine does
 
-pub create_step : (s : State) (d : TableDef) → step s (CreateTable d) ≡ if is_some s.transaction then refused E40 s else (Done CreatedTable None, with_table d s)
-create_step s d = one_fault (is_some s.transaction) E40 s (Done CreatedTable None) (with_table d s)
+pub create_step : (s : State) (d : TableDef) → step s (CreateTable d) ≡ if is_some s.transaction then refused NotInThisTransactionState s else (Done CreatedTable None, with_table d s)
+create_step s d = one_fault (is_some s.transaction) NotInThisTransactionState s (Done CreatedTable None) (with_table d s)
 
 pub clock_step : (s : State) (m : ℤ)
-    → step s (SetClock m) ≡ if is_some s.transaction then refused E40 s else (if is_not_later m s.history then refused E41 s else (Done ClockSet None, record s { next = m }))
-clock_step s m = two_faults (is_some s.transaction) (is_not_later m s.history) E40 E41 s (Done ClockSet None) (record s { next = m }) refl
+    → step s (SetClock m) ≡ if is_some s.transaction then refused NotInThisTransactionState s else (if is_not_later m s.history then refused MomentNotAllowed s else (Done ClockSet None, record s { next = m }))
+clock_step s m = two_faults (is_some s.transaction) (is_not_later m s.history) NotInThisTransactionState MomentNotAllowed s (Done ClockSet None) (record s { next = m }) refl
 
 pub start_step : (s : State)
-    → step s Start ≡ if is_some s.transaction then refused E40 s else (if is_clock_at_end s then refused E41 s else (Done Started None, record s { transaction = Some (working s None) }))
-start_step s = two_faults (is_some s.transaction) (is_clock_at_end s) E40 E41 s (Done Started None) (record s { transaction = Some (working s None) }) refl
+    → step s Start ≡ if is_some s.transaction then refused NotInThisTransactionState s else (if is_clock_at_end s then refused MomentNotAllowed s else (Done Started None, record s { transaction = Some (working s None) }))
+start_step s = two_faults (is_some s.transaction) (is_clock_at_end s) NotInThisTransactionState MomentNotAllowed s (Done Started None) (record s { transaction = Some (working s None) }) refl
 
-pub commit_step : (s : State) → step s Commit ≡ if is_none s.transaction then refused E40 s else (Done Committed None, with_commit s s.transaction)
-commit_step s = one_fault (is_none s.transaction) E40 s (Done Committed None) (with_commit s s.transaction)
+pub commit_step : (s : State) → step s Commit ≡ if is_none s.transaction then refused NotInThisTransactionState s else (Done Committed None, with_commit s s.transaction)
+commit_step s = one_fault (is_none s.transaction) NotInThisTransactionState s (Done Committed None) (with_commit s s.transaction)
 
-pub rollback_step : (s : State) → step s Rollback ≡ if is_none s.transaction then refused E40 s else (Done RolledBack None, record s { transaction = None })
-rollback_step s = one_fault (is_none s.transaction) E40 s (Done RolledBack None) (record s { transaction = None })
+pub rollback_step : (s : State) → step s Rollback ≡ if is_none s.transaction then refused NotInThisTransactionState s else (Done RolledBack None, record s { transaction = None })
+rollback_step s = one_fault (is_none s.transaction) NotInThisTransactionState s (Done RolledBack None) (record s { transaction = None })
 
-pub alter_step : (s : State) (c : Change) → step s (Alter c) ≡ if is_none s.transaction && is_clock_at_end s then refused E41 s else altered s c
-alter_step s c = one_fault (is_none s.transaction && is_clock_at_end s) E41 s (altered s c).0 (altered s c).1
+pub alter_step : (s : State) (c : Change) → step s (Alter c) ≡ if is_none s.transaction && is_clock_at_end s then refused MomentNotAllowed s else altered s c
+alter_step s c = one_fault (is_none s.transaction && is_clock_at_end s) MomentNotAllowed s (altered s c).0 (altered s c).1

@@ -8,13 +8,13 @@ use Rattle.tql_value.specs.Refusals.{refusal_of}
 use Rattle.tql_value.specs.declared.refusal.Refusal.{Refusal}
 use Rattle.tql_value.specs.declared.refusal.Refusal.TheVariants as r
 use Rattle.tql_dml.specs.Inserts.{Inserts}
-use Rattle.tql_engine.specs.Tables.{Placed, table_of}
+use Rattle.tql_catalog.specs.declared.catalog.Table.{Table}
 use Rattle.tql_engine.specs.Stands.{Held, StandsFor}
 use Rattle.tql_engine.specs.Effects.{Refuses}
 use Rattle.tql_engine.proofs.Doing.{of_tuples, insert_refused}
 
-module _ (h : Held) (s : State) (t : ℕ) (p : Placed) (columns : List ℕ) (tuples : List Row) (st : StandsFor h s) (there : slice_get h.tables t ≡ Some p) (below : IsNone h.rows.working → h.next <ℤ high) where
-  pub insert_errs : (id : ℕ) (e : Refusal) → Inserts (table_of p) id columns tuples (Err e) → Refuses h s e (step s (Alter (of_tuples t columns tuples)))
+module _ (h : Held) (s : State) (t : ℕ) (p : Table) (columns : List ℕ) (tuples : List Row) (st : StandsFor h s) (there : slice_get h.tables t ≡ Some p) (below : IsNone h.rows.working → h.next <ℤ high) where
+  pub insert_errs : (id : ℕ) (e : Refusal) → Inserts p.definition id columns tuples (Err e) → Refuses h s e (step s (Alter (of_tuples t columns tuples)))
   insert_errs id r.OutOfMemory why = st
   insert_errs id r.StatementTooLong why = insert_refused h s t p columns tuples (refusal_of r.StatementTooLong) st there below why
   insert_errs id r.NotUtf8 why = insert_refused h s t p columns tuples (refusal_of r.NotUtf8) st there below why

@@ -20,3 +20,4 @@ pub mod SenseLaws
 pub mod Stepping
 pub mod Joining
 pub mod StateFaults
+pub mod Bytes

@@ -13,7 +13,8 @@ use Rattle.tql_result.specs.declared.reply.Reply.{Reply}
 use Rattle.tql_bind.specs.Bounds.{IsSound, bound_of, insert_of, when_of}
 use Rattle.tql_bind.specs.declared.bound.Bound.{Bound}
 use Rattle.tql_bind.specs.declared.bound.Bound.TheVariants as b
-use Rattle.tql_engine.specs.Tables.{Placed, definitions}
+use Rattle.tql_catalog.specs.Tables.{definitions_of}
+use Rattle.tql_catalog.specs.declared.catalog.Table.{Table}
 use Rattle.tql_engine.specs.Stands.{Held, StandsFor}
 use Rattle.tql_engine.specs.Effects.{DoesStep}
 use Rattle.tql_engine.proofs.Asked.{printable_law}
@@ -38,26 +39,26 @@ altered_prints s c =
     unless_prints (first (o.faults ++ constraint_faults s.definitions copy)) s (Done (verb_of c) (Some o.count)) (with_working s s.transaction (record { moment = e.moment; copy = copy })) tt
 
 -- the table at a place
-there_is : (ps : List Placed) (t : ℕ) → t < length (definitions ps) → (p : Placed) × (slice_get ps t ≡ Some p)
+there_is : (ps : List Table) (t : ℕ) → t < length (definitions_of ps) → (p : Table) × (slice_get ps t ≡ Some p)
 there_is [] t h = absurd (omega (arith, h))
 there_is (p ∷ ps) zero h = (p, refl)
 there_is (p ∷ ps) (suc t) h = there_is ps t (omega (arith, h))
 
 -- the machine's reply has one
-step_prints : (h : Held) (s : State) → StandsFor h s → (x : Bound) → IsSound (definitions h.tables) x → Prints (step s (bound_of (definitions h.tables) x))
-step_prints h s st (b.CreateTable d) k = by_effect s (bound_of (definitions h.tables) (b.CreateTable d)) tt
-step_prints h s st (b.Insert x) k = by_effect s (bound_of (definitions h.tables) (b.Insert x)) (altered_prints s (insert_of x))
-step_prints h s st (b.DeleteAll t) k = by_effect s (bound_of (definitions h.tables) (b.DeleteAll t)) (altered_prints s (machine.Modify t None change.Remove []))
+step_prints : (h : Held) (s : State) → StandsFor h s → (x : Bound) → IsSound (definitions_of h.tables) x → Prints (step s (bound_of (definitions_of h.tables) x))
+step_prints h s st (b.CreateTable d) k = by_effect s (bound_of (definitions_of h.tables) (b.CreateTable d)) tt
+step_prints h s st (b.Insert x) k = by_effect s (bound_of (definitions_of h.tables) (b.Insert x)) (altered_prints s (insert_of x))
+step_prints h s st (b.DeleteAll t) k = by_effect s (bound_of (definitions_of h.tables) (b.DeleteAll t)) (altered_prints s (machine.Modify t None change.Remove []))
 step_prints h s st (b.Ask q) k =
     let p = there_is h.tables q.table k.table in
     subst Prints (sym (asked_is h s q.table p.0 (when_of q.when) st p.1)) (printable_law h s q.table p.0 (when_of q.when) st p.1)
-step_prints h s st (b.SetClock m) k = by_effect s (bound_of (definitions h.tables) (b.SetClock m)) tt
+step_prints h s st (b.SetClock m) k = by_effect s (bound_of (definitions_of h.tables) (b.SetClock m)) tt
 step_prints h s st b.Start k = by_effect s machine.Start tt
 step_prints h s st b.Commit k = by_effect s machine.Commit tt
 step_prints h s st b.Rollback k = by_effect s machine.Rollback tt
 
 -- so has the engine's
-pub does_print : (old new : Held) (s : State) → StandsFor old s → (x : Bound) → IsSound (definitions old.tables) x → (result : Result Reply Refusal)
-    → DoesStep new s result (step s (bound_of (definitions old.tables) x)) → IfOk result (λ reply. IsPrintableReply (reply_of reply))
+pub does_print : (old new : Held) (s : State) → StandsFor old s → (x : Bound) → IsSound (definitions_of old.tables) x → (result : Result Reply Refusal)
+    → DoesStep new s result (step s (bound_of (definitions_of old.tables) x)) → IfOk result (λ reply. IsPrintableReply (reply_of reply))
 does_print old new s st x k (Ok reply) d = subst IsPrintableReply (sym d.replies) (step_prints old s st x k)
 does_print old new s st x k (Err e) d = tt

@@ -9,10 +9,9 @@ use Rattle.tql_spec.specs.Calendar.{first_moment, high}
 use Rattle.tql_spec.specs.Definition.{TableDef, table_at}
 use Rattle.tql_spec.specs.History.{Entry, FallingFrom}
 use Rattle.tql_spec.specs.Machine.{State, new_state, is_not_later}
-use Rattle.tql_engine.specs.Tables.{Placed, definitions, placed_of, table_of}
-use Rattle.tql_catalog.specs.Definitions.{def_of, definitions_of}
-use Rattle.tql_catalog.specs.Simple.{IsSimple}
-use Rattle.tql_catalog.specs.declared.table.Table.{Table}
+use Rattle.tql_catalog.specs.Tables.{definitions_of}
+use Rattle.tql_catalog.specs.declared.catalog.Table.{Table}
+use Rattle.tql_catalog.specs.Defined.{IsDefinition}
 use Rattle.tql_store.specs.Slots as store
 use Rattle.tql_store.specs.Slots.{is_versioned, has_table, table_count}
 use Rattle.tql_store.specs.Changes.{newest}
@@ -26,7 +25,7 @@ use Rattle.tql_engine.specs.Stands.{Held, StandsFor, ArePlaced, IsKept, IsDated,
 pub new_law : (r : store.Held) → Represents r (λ t. []) (λ t. []) → r.working ≡ None → table_count r ≡ 0
     → StandsFor (record { tables = []; rows = r; next = first_moment }) new_state
 new_law r stands idle count = record {
-  fits = record { definitions = refl; simple = tt; rows = tt; working = tt };
+  fits = record { definitions = refl; defined = tt; rows = tt; working = tt };
   clock = refl;
   not_before = omega (arith, ints);
   not_after = omega (arith, ints);
@@ -59,7 +58,7 @@ open_law h s f = same_test s.transaction ∙ ap is_some (sym f.opened)
 
 -- ---- the clock
 
-last_is : (tables : List Placed) (m : ℤ) (es : List Entry) (last : Option ℤ) → newest (copies_of tables es 0) ≡ last → is_not_later m es ≡ not_later_than m last
+last_is : (tables : List Table) (m : ℤ) (es : List Entry) (last : Option ℤ) → newest (copies_of tables es 0) ≡ last → is_not_later m es ≡ not_later_than m last
 last_is tables m [] last e = ap (not_later_than m) e
 last_is tables m (x ∷ older) last e = ap (not_later_than m) e
 
@@ -73,7 +72,7 @@ falls_below n m (x ∷ older) f e = (grind (arith, ints), f.1)
 pub clock_law : (h : Held) (s : State) (m : ℤ) → StandsFor h s → IsNone h.rows.working → is_not_later m s.history ≡ false → first_moment ≤ℤ m → m ≤ℤ high
     → StandsFor (record h { next = m }) (record s { next = m })
 clock_law h s m f closed later from until = record {
-  fits = record { definitions = f.fits.definitions; simple = f.fits.simple; rows = f.fits.rows; working = f.fits.working };
+  fits = record { definitions = f.fits.definitions; defined = f.fits.defined; rows = f.fits.rows; working = f.fits.working };
   clock = refl;
   not_before = from;
   not_after = until;
@@ -86,7 +85,7 @@ clock_law h s m f closed later from until = record {
   count = f.count;
 }
 
-under_next : (tables : List Placed) (n : ℤ) (es : List Entry) (last : Option ℤ) → newest (copies_of tables es 0) ≡ last → FallingFrom n es → Under last n
+under_next : (tables : List Table) (n : ℤ) (es : List Entry) (last : Option ℤ) → newest (copies_of tables es 0) ≡ last → FallingFrom n es → Under last n
 under_next tables n [] last e f = subst (λ (o : Option ℤ). Under o n) e tt
 under_next tables n (x ∷ older) last e f = subst (λ (o : Option ℤ). Under o n) e f.0
 
@@ -98,42 +97,37 @@ under_law h s f = under_next h.tables s.next s.history h.rows.last (f.stands.dat
 pub some_is : {X : Type 0} (x y : X) → Some x ≡ Some y → x ≡ y
 some_is x y e = cc
 
--- the definitions are those of the code's tables
-pub definitions_are : (tables : List Table) → definitions (map placed_of tables) ≡ definitions_of tables
-definitions_are [] = refl
-definitions_are (t ∷ tables) = ap {B = List TableDef} (λ ds. def_of t.definition ∷ ds) (definitions_are tables)
-
 -- the place of a definition is that of its table
-pub place_law : (ps : List Placed) (t : ℕ) → t < length (definitions ps) → t < length ps
-place_law ps t h = subst (λ n. t < n) (length-map ps table_of) h
+pub place_law : (ps : List Table) (t : ℕ) → t < length (definitions_of ps) → t < length ps
+place_law ps t h = subst (λ n. t < n) (length-map ps (λ (t : Table). t.definition)) h
 
-pub definition_of : (ps : List Placed) (t : ℕ) (p : Placed) → slice_get ps t ≡ Some p → table_at (definitions ps) t ≡ table_of p
+pub definition_of : (ps : List Table) (t : ℕ) (p : Table) → slice_get ps t ≡ Some p → table_at (definitions_of ps) t ≡ p.definition
 definition_of [] t p e = cc
-definition_of (q ∷ ps) zero p e = ap table_of (some_is q p e)
+definition_of (q ∷ ps) zero p e = ap (λ (t : Table). t.definition) (some_is q p e)
 definition_of (q ∷ ps) (suc t) p e = definition_of ps t p e
 
 -- the table's definition
-pub definition_law : (h : Held) (s : State) (t : ℕ) (p : Placed) → StandsFor h s → slice_get h.tables t ≡ Some p → table_at s.definitions t ≡ table_of p
+pub definition_law : (h : Held) (s : State) (t : ℕ) (p : Table) → StandsFor h s → slice_get h.tables t ≡ Some p → table_at s.definitions t ≡ p.definition
 definition_law h s t p f e = ap (λ (ds : List TableDef). table_at ds t) f.fits.definitions ∙ definition_of h.tables t p e
 
-simple_of : (ps : List Placed) (t : ℕ) (p : Placed) → AllByRecursion IsSimple (definitions ps) → slice_get ps t ≡ Some p → IsSimple (table_of p)
-simple_of [] t p a e = cc
-simple_of (q ∷ ps) zero p a e = subst (λ (x : Placed). IsSimple (table_of x)) (some_is q p e) a.0
-simple_of (q ∷ ps) (suc t) p a e = simple_of ps t p a.1 e
+defined_of : (ps : List Table) (t : ℕ) (p : Table) → AllByRecursion IsDefinition (definitions_of ps) → slice_get ps t ≡ Some p → IsDefinition p.definition
+defined_of [] t p a e = cc
+defined_of (q ∷ ps) zero p a e = subst (λ (x : Table). IsDefinition x.definition) (some_is q p e) a.0
+defined_of (q ∷ ps) (suc t) p a e = defined_of ps t p a.1 e
 
-pub simple_law : (h : Held) (s : State) (t : ℕ) (p : Placed) → StandsFor h s → slice_get h.tables t ≡ Some p → IsSimple (table_of p)
-simple_law h s t p f e = simple_of h.tables t p f.fits.simple e
+pub defined_law : (h : Held) (s : State) (t : ℕ) (p : Table) → StandsFor h s → slice_get h.tables t ≡ Some p → IsDefinition p.definition
+defined_law h s t p f e = defined_of h.tables t p f.fits.defined e
 
-kept_of : (rows : store.Held) (ps : List Placed) (t : ℕ) (p : Placed) → ArePlaced rows ps → slice_get ps t ≡ Some p → IsKept rows p
+kept_of : (rows : store.Held) (ps : List Table) (t : ℕ) (p : Table) → ArePlaced rows ps → slice_get ps t ≡ Some p → IsKept rows p
 kept_of rows [] t p a e = cc
-kept_of rows (q ∷ ps) zero p a e = subst (λ (x : Placed). IsKept rows x) (some_is q p e) a.1
+kept_of rows (q ∷ ps) zero p a e = subst (λ (x : Table). IsKept rows x) (some_is q p e) a.1
 kept_of rows (q ∷ ps) (suc t) p a e = kept_of rows ps t p a.2 e
 
-pub versioned_law : (h : Held) (s : State) (t : ℕ) (p : Placed) → StandsFor h s → slice_get h.tables t ≡ Some p → is_versioned h.rows p.id ≡ is_some p.system
+pub versioned_law : (h : Held) (s : State) (t : ℕ) (p : Table) → StandsFor h s → slice_get h.tables t ≡ Some p → is_versioned h.rows p.id ≡ is_some p.definition.system
 versioned_law h s t p f e = (kept_of h.rows h.tables t p f.placed e).versioned
 
-pub there_law : (h : Held) (s : State) (t : ℕ) (p : Placed) → StandsFor h s → slice_get h.tables t ≡ Some p → IsTrue (has_table h.rows p.id)
+pub there_law : (h : Held) (s : State) (t : ℕ) (p : Table) → StandsFor h s → slice_get h.tables t ≡ Some p → IsTrue (has_table h.rows p.id)
 there_law h s t p f e = (kept_of h.rows h.tables t p f.placed e).there
 
 pub count_law : (h : Held) (s : State) → StandsFor h s → length s.definitions ≡ table_count h.rows
-count_law h s f = ap length f.fits.definitions ∙ length-map h.tables table_of ∙ sym f.count
+count_law h s f = ap length f.fits.definitions ∙ length-map h.tables (λ (t : Table). t.definition) ∙ sym f.count

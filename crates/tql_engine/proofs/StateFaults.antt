@@ -2,7 +2,7 @@
 use Rattle.std.proofs.Common.{◌≡◌, refl, sym, ap, ◌∙◌, Bool, true, false, Option, Some, None, List, [], ◌∷◌, ◌++◌}
 use Rattle.std.specs.Prelude.{ℤ, ◌&&◌, not, int_le, is_some, is_none, if◌then◌else◌}
 use Rattle.tql_spec.specs.Calendar.{high}
-use Rattle.tql_spec.specs.Refusal.{Refusal, E40, E41, first, fault_if}
+use Rattle.tql_spec.specs.Refusal.{Refusal, NotInThisTransactionState, MomentNotAllowed, first, fault_if}
 use Rattle.tql_spec.specs.Machine.{State, is_clock_at_end}
 use Rattle.tql_engine.specs.Stands.{Held, StandsFor}
 use Rattle.tql_engine.proofs.Standing.{open_law}

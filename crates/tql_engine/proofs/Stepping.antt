@@ -1,6 +1,6 @@
 -- From the machine's step at a statement to the answer to a text.
 use Rattle.std.proofs.Common.{◌≡◌, refl, sym, subst, ℕ, List, Result, Ok, Err, inl, inr}
-use Rattle.tql_spec.specs.Refusal.{E01}
+use Rattle.tql_spec.specs.Refusal.{OutOfMemory}
 use Rattle.tql_spec.specs.Machine as machine
 use Rattle.tql_spec.specs.Machine.{State, Refused}
 use Rattle.tql_spec.specs.Script.{Piece}
@@ -33,7 +33,7 @@ statement_answered new s text t reply sense d = record {
 }
 
 -- out of memory
-pub memory_answered : (new : Held) (s : State) (p : Piece) → StandsFor new s → Answered s p (Refused E01) new
+pub memory_answered : (new : Held) (s : State) (p : Piece) → StandsFor new s → Answered s p (Refused OutOfMemory) new
 memory_answered new s p st = record { state = s; answers = inr (refl, refl); stands = st }
 
 -- a fault of the text

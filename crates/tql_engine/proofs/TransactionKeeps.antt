@@ -8,7 +8,7 @@ use Rattle.tql_spec.specs.History.{Entry, FallingFrom}
 use Rattle.tql_spec.specs.Machine.{State, working, committed}
 use Rattle.tql_store.specs.Slots as store
 use Rattle.tql_store.specs.Represents.{BeginCopies, CommitAppends, RollbackRestores}
-use Rattle.tql_engine.specs.Tables.{definitions}
+use Rattle.tql_catalog.specs.Tables.{definitions_of}
 use Rattle.tql_engine.specs.Stands.{Held, StandsFor, copies_of, working_of}
 use Rattle.tql_engine.proofs.Copies.{any_working, same_places}
 use Rattle.tql_engine.proofs.ChangeKeeps.{last_fits, begun_stands, same_count}
@@ -27,9 +27,9 @@ module _ (h : Held) (defs : List TableDef) (es : List Entry) (next : ℤ) (r : s
   begun f below begins is_open = record {
     fits = record {
       definitions = f.fits.definitions;
-      simple = f.fits.simple;
+      defined = f.fits.defined;
       rows = f.fits.rows;
-      working = last_fits (definitions h.tables) defs es f.fits.definitions f.fits.rows;
+      working = last_fits (definitions_of h.tables) defs es f.fits.definitions f.fits.rows;
     };
     clock = f.clock;
     not_before = f.not_before;
@@ -50,7 +50,7 @@ module _ (h : Held) (defs : List TableDef) (es : List Entry) (next : ℤ) (r : s
       let low : first_moment ≤ℤ e.moment = subst (λ m. first_moment ≤ℤ m) (sym same) f.not_before in
       let below : e.moment <ℤ high = subst (λ m. m <ℤ high) (sym same) f.dated.1 in
       record {
-        fits = record { definitions = f.fits.definitions; simple = f.fits.simple; rows = (f.fits.working, f.fits.rows); working = tt };
+        fits = record { definitions = f.fits.definitions; defined = f.fits.defined; rows = (f.fits.working, f.fits.rows); working = tt };
         clock = ap (λ m. m +ℤ pos 1) (sym same);
         not_before = omega (arith, ints);
         not_after = omega (arith, ints);
@@ -67,7 +67,7 @@ module _ (h : Held) (defs : List TableDef) (es : List Entry) (next : ℤ) (r : s
   -- undone
   undone : (e : Entry) → StandsFor h (within e) → RollbackRestores h.rows r → r.working ≡ None → StandsFor (record h { rows = r }) idle
   undone e f restores is_idle = record {
-    fits = record { definitions = f.fits.definitions; simple = f.fits.simple; rows = f.fits.rows; working = tt };
+    fits = record { definitions = f.fits.definitions; defined = f.fits.defined; rows = f.fits.rows; working = tt };
     clock = f.clock;
     not_before = f.not_before;
     not_after = f.not_after;

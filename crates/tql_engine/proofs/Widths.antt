@@ -9,7 +9,9 @@ use Rattle.tql_spec.specs.Datum.{Row, Datum, Moment}
 use Rattle.tql_spec.specs.Definition.{System, TableDef, Version, full, with_generated}
 use Rattle.tql_spec.specs.Creation.{has_number}
 use Rattle.tql_spec.specs.Binding.{generated_columns}
-use Rattle.tql_catalog.specs.Simple.{IsSimple, has_system, stored_width}
+use Rattle.tql_catalog.specs.Defined.{IsDefinition}
+use Rattle.tql_catalog.proofs.Definitions.{has_its_system}
+use Rattle.tql_catalog.specs.Rows.{has_system, stored_width}
 
 -- ---- the columns that are not generated
 
@@ -101,8 +103,8 @@ columns_by (Some s) n h =
     two_more _ n two
 
 -- the columns are those that are not generated, and those that are
-columns_law : (d : TableDef) → IsSimple d → stored_width d + generated_count d.system ≡ length d.columns
-columns_law d k = columns_by d.system (length d.columns) k.system
+columns_law : (d : TableDef) → IsDefinition d → stored_width d + generated_count d.system ≡ length d.columns
+columns_law d k = columns_by d.system (length d.columns) (has_its_system d k)
 
 -- ---- the rows
 
@@ -123,5 +125,5 @@ generated_width (Some s) cells start end =
     either_way (nat_lt s.start s.end) s.start s.end cells (Moment start) (Moment end) ∙ sym (two_more (length cells) (suc (suc (length cells))) refl)
 
 -- a version of the table has a cell for each column
-pub full_width : (d : TableDef) (v : Version) → IsSimple d → length v.row.cells ≡ stored_width d → length (full d v) ≡ length d.columns
+pub full_width : (d : TableDef) (v : Version) → IsDefinition d → length v.row.cells ≡ stored_width d → length (full d v) ≡ length d.columns
 full_width d v k e = generated_width d.system v.row.cells v.row.start v.end ∙ ap (λ n. n + generated_count d.system) e ∙ columns_law d k

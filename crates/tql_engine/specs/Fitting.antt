@@ -5,7 +5,8 @@ use Rattle.tql_spec.specs.Calendar.{first_moment, high}
 use Rattle.tql_spec.specs.Definition.{TableDef, Stamped}
 use Rattle.tql_spec.specs.History.{Copy, Entry}
 use Rattle.tql_spec.specs.Machine.{State}
-use Rattle.tql_catalog.specs.Simple.{IsSimple, IsRowOf}
+use Rattle.tql_catalog.specs.Defined.{IsDefinition}
+use Rattle.tql_catalog.specs.Rows.{IsRowOf}
 
 -- a row of the table, and a moment at which it began
 pub record RowFits (d : TableDef) (r : Stamped) : Type 0 where
@@ -33,9 +34,9 @@ abbrev pub WorkingFits : List TableDef → Option Entry → Type 0
 WorkingFits ds None = Unit {0}
 WorkingFits ds (Some e) = CopyFits ds e.copy
 
--- the state has these tables, each of them of columns and at most a system period, and rows that fit them
+-- the state has these tables, each of a right definition, and rows that fit them
 pub record StateFits (ds : List TableDef) (s : State) : Type 0 where
   pub definitions : s.definitions ≡ ds
-  pub simple : AllByRecursion IsSimple ds
+  pub defined : AllByRecursion IsDefinition ds
   pub rows : HistoryFits ds s.history
   pub working : WorkingFits ds s.transaction

@@ -1,4 +1,3 @@
-pub mod Tables
 pub mod Fitting
 pub mod Views
 pub mod Stands
@@ -6,3 +5,4 @@ pub mod Effects
 pub mod Committing
 pub mod Questions
 pub mod Sense
+pub mod Bytes

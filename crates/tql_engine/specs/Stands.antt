@@ -1,11 +1,13 @@
 -- What an engine holds, and the state of the machine that it stands for.
-use Rattle.std.specs.Prelude.{◌≡◌, ◌≤ℤ◌, ◌<ℤ◌, ℕ, Bool, not, List, [], ◌∷◌, map, length, nat_eq, IsTrue, ℤ, Option, Some, None, is_some, if◌then◌else◌}
+use Rattle.std.specs.Prelude.{◌≡◌, refl, ◌≤ℤ◌, ◌<ℤ◌, ℕ, Bool, not, List, [], ◌∷◌, map, length, nat_eq, IsTrue, ℤ, Option, Some, None, is_some, if◌then◌else◌}
 use Rattle.std.specs.List.{list_all}
+use Rattle.std.specs.Coded.{Coded, code_by, coded×, coded_ℤ}
 use Rattle.tql_spec.specs.Calendar.{first_moment, high}
 use Rattle.tql_spec.specs.Definition.{Stamped}
 use Rattle.tql_spec.specs.History.{Copy, Entry, FallingFrom}
 use Rattle.tql_spec.specs.Machine.{State}
-use Rattle.tql_engine.specs.Tables.{Placed, definitions}
+use Rattle.tql_catalog.specs.Tables.{definitions_of, tables_code}
+use Rattle.tql_catalog.specs.declared.catalog.Table.{Table}
 use Rattle.tql_store.specs.Slots as store
 use Rattle.tql_store.specs.Slots.{has_table, is_versioned, table_count}
 use Rattle.tql_store.specs.Represents.{Copies, Represents}
@@ -13,31 +15,37 @@ use Rattle.tql_engine.specs.Fitting.{StateFits}
 
 -- what an engine holds: its tables in the order of their creation, the store of their rows, and the moment of the next transaction
 pub record Held : Type 0 where
-  pub tables : List Placed
+  pub tables : List Table
   pub rows : store.Held
   pub next : ℤ
 
+-- how the logic stores it, from the code of what the store holds
+abbrev pub held_code : Coded store.Held → Coded Held
+held_code rows =
+    code_by (List Table × (store.Held × ℤ)) (coded× tables_code (coded× rows coded_ℤ))
+    (λ h. (h.tables, (h.rows, h.next))) (λ p. record { tables = p.0; rows = p.1.0; next = p.1.1 }) (λ _. refl)
+
 -- of a copy the rows of the table that is kept at a number; none where no table is
-abbrev pub rows_of_id : List Placed → Copy → ℕ → List Stamped
+abbrev pub rows_of_id : List Table → Copy → ℕ → List Stamped
 rows_of_id [] copy id = []
 rows_of_id (p ∷ ps) [] id = []
 rows_of_id (p ∷ ps) (rows ∷ copy) id = if nat_eq p.id id then rows else rows_of_id ps copy id
 
 -- the copies of the history, as the store numbers its tables
-abbrev pub copies_of : List Placed → List Entry → Copies
+abbrev pub copies_of : List Table → List Entry → Copies
 copies_of tables history id = map (λ (e : Entry). record { moment = e.moment; rows = rows_of_id tables e.copy id }) history
 
 -- no table is kept at this number
-abbrev pub is_free : ℕ → List Placed → Bool
-is_free id tables = list_all (λ (p : Placed). not (nat_eq p.id id)) tables
+abbrev pub is_free : ℕ → List Table → Bool
+is_free id tables = list_all (λ (p : Table). not (nat_eq p.id id)) tables
 
 -- a table is kept at its number, with its history where it has a system period
-pub record IsKept (rows : store.Held) (p : Placed) : Type 0 where
+pub record IsKept (rows : store.Held) (p : Table) : Type 0 where
   pub there : IsTrue (has_table rows p.id)
-  pub versioned : is_versioned rows p.id ≡ is_some p.system
+  pub versioned : is_versioned rows p.id ≡ is_some p.definition.system
 
 -- each table is kept, at a number of its own
-abbrev pub ArePlaced : store.Held → List Placed → Type 0
+abbrev pub ArePlaced : store.Held → List Table → Type 0
 ArePlaced rows [] = Unit {0}
 ArePlaced rows (p ∷ ps) = IsTrue (is_free p.id ps) × IsKept rows p × ArePlaced rows ps
 
@@ -47,7 +55,7 @@ AreSince m [] = Unit {0}
 AreSince m (e ∷ older) = (m ≤ℤ e.moment) × AreSince m older
 
 -- the working copy of an open transaction, as the store numbers its tables; no rows where none is open
-abbrev pub working_of : List Placed → Option Entry → ℕ → List Stamped
+abbrev pub working_of : List Table → Option Entry → ℕ → List Stamped
 working_of tables None id = []
 working_of tables (Some e) id = rows_of_id tables e.copy id
 
@@ -63,7 +71,7 @@ IsDated next (Some e) = (e.moment ≡ next) × (next <ℤ high)
 
 -- the engine stands for a state of the machine
 pub record StandsFor (h : Held) (s : State) : Type 0 where
-  pub fits : StateFits (definitions h.tables) s
+  pub fits : StateFits (definitions_of h.tables) s
   pub clock : h.next ≡ s.next
   pub not_before : first_moment ≤ℤ s.next
   pub not_after : s.next ≤ℤ high

@@ -11,8 +11,9 @@ use crate::sense::read_statement;
 use std::marker::Model;
 use tql_bind::bind::bind;
 use tql_bind::bound::Bound;
-use tql_catalog::table::Table;
+use tql_catalog::catalog::{Catalog, Table};
 use tql_memory::Memory;
+use tql_result::answer::Answer;
 use tql_result::reply::Reply;
 use tql_run::responder::Responder;
 use tql_store::store::Store;
@@ -24,7 +25,7 @@ use tql_value::refusal::Refusal;
 /// transaction, in microseconds since 1970-01-01.
 pub struct Engine {
     memory: Memory,
-    tables: Vec<Table, Memory>,
+    tables: Catalog,
     rows: Store,
     next: i64,
 }
@@ -43,15 +44,16 @@ impl Drop for Engine {
 }
 
 impl Model for Engine {
-    ghost use Rattle.std.specs.Prelude.{map};
-    ghost use Rattle.tql_engine.specs.Tables.{placed_of};
-    ghost use Rattle.tql_engine.specs.Stands.{Held, IsSound};
+    ghost use Rattle.tql_store.specs.contracts.store.Store.{the_row};
+    ghost use Rattle.tql_engine.specs.Stands.{Held, held_code, IsSound};
 
     ghost Value = { Held };
 
-    ghost view = { λ e. record { tables = map placed_of e.tables.items; rows = e.rows; next = e.next } };
+    ghost coded = { held_code the_row.coded };
 
-    ghost invariant = { λ e. IsSound (record { tables = map placed_of e.tables.items; rows = e.rows; next = e.next }) };
+    ghost view = { λ e. record { tables = e.tables; rows = e.rows; next = e.next } };
+
+    ghost invariant = { λ e. IsSound (record { tables = e.tables; rows = e.rows; next = e.next }) };
 }
 
 impl Engine {
@@ -61,7 +63,7 @@ impl Engine {
     ghost use Rattle.tql_tree.specs.Statements.{statement_of};
     ghost use Rattle.tql_run.specs.Responding.{Answered};
     ghost use Rattle.tql_bind.specs.Bounds.{IsSound, bound_of};
-    ghost use Rattle.tql_engine.specs.Tables.{definitions, placed_of};
+    ghost use Rattle.tql_catalog.specs.Tables.{definitions_of};
     ghost use Rattle.tql_result.specs.Replies.{reply_of, IsPrintableReply};
     ghost use Rattle.tql_engine.specs.Stands.{StandsFor};
     ghost use Rattle.tql_engine.specs.Effects.{DoesStep, reply_by};
@@ -73,7 +75,7 @@ impl Engine {
     {
         Engine {
             memory,
-            tables: Vec::new(memory),
+            tables: Catalog::new(memory),
             rows: Store::new(memory),
             next: FIRST_MOMENT,
         }
@@ -82,15 +84,15 @@ impl Engine {
     /// The table at this place.
     fn table_at(&self, place: usize) -> &Table
         requires { place < length self.now.tables }
-        ensures { slice_get self.now.tables place ≡ Some (placed_of result.now) }
+        ensures { slice_get self.now.tables place ≡ Some result.now }
     {
-        &self.tables[place]
+        self.tables.table(place)
     }
 
     /// Runs a statement whose names are bound. A refused statement changes nothing.
     pub(crate) fn perform(&mut self, bound: Bound) -> Result<Reply, Refusal>
-        requires { IsSound (definitions self.old.tables) bound }
-        ensures { (s : State) → StandsFor self.old s → DoesStep self.new s result (step s (bound_of (definitions self.old.tables) bound)) }
+        requires { IsSound (definitions_of self.old.tables) bound }
+        ensures { (s : State) → StandsFor self.old s → DoesStep self.new s result (step s (bound_of (definitions_of self.old.tables) bound)) }
     {
         match bound {
             Bound::CreateTable(definition) => self.create(definition),
@@ -141,21 +143,21 @@ impl Engine {
 }
 
 impl Responder for Engine {
-    ghost use Rattle.tql_spec.specs.Run.{Answers};
+    ghost use Rattle.tql_spec.specs.Run.{Replies};
     ghost use Rattle.tql_engine.specs.Stands.{StandsFor};
-    ghost use Rattle.tql_run.proofs.Faults.{answers_refuse};
+    ghost use Rattle.tql_run.proofs.Faults.{replies_refuse};
 
     ghost stands = { StandsFor };
 
-    ghost answering = { Answers };
+    ghost answering = { Replies };
 
     fn memory(&self) -> Memory {
         self.memory
     }
 
-    fn answer(&mut self, text: &[u8]) -> Reply {
-        self.step(text)
+    fn answer(&mut self, text: &[u8]) -> Answer {
+        Answer::Replied(self.step(text))
     }
 
-    ghost refuses = { answers_refuse };
+    ghost refuses = { replies_refuse };
 }

@@ -2,12 +2,13 @@
 ghost use Rattle.std.specs.Prelude.{◌≡◌, insert, map, IfOk, IfErr, OnOk, Some};
 ghost use Rattle.tql_spec.specs.Datum.{Moment};
 ghost use Rattle.tql_spec.specs.Definition.{full, with_generated};
-ghost use Rattle.tql_catalog.specs.Definitions.{def_of, system_of};
+ghost use Rattle.tql_catalog.specs.Definitions.{system_of};
 ghost use Rattle.tql_engine.specs.Views.{row_of, rows_of};
 ghost use Rattle.tql_store.specs.Views.{version_of};
 ghost use Rattle.tql_value.specs.declared.refusal.Refusal.TheVariants.{OutOfMemory};
 
-use tql_catalog::definition::{System, TableDef};
+use tql_catalog::definition::System;
+use tql_catalog::table_def::TableDef;
 use tql_memory::Memory;
 use tql_store::version::Version;
 use tql_value::refusal::Refusal;
@@ -64,11 +65,11 @@ fn full_row(
     definition: &TableDef,
     version: Version<'_>,
 ) -> Result<Vec<Value, Memory>, Refusal>
-    ensures row { IfOk result (λ row. row_of row.items ≡ full (def_of definition.now) (version_of version.entry)) }
+    ensures row { IfOk result (λ row. row_of row.items ≡ full definition.now (version_of version.entry)) }
     ensures memory { IfErr result (λ e. e ≡ OutOfMemory) }
 {
     let mut row = stored_cells(memory, version.row)?;
-    if let Some(system) = definition.system {
+    if let Some(system) = definition.system() {
         put_generated(&mut row, system, version.start, version.end)?;
     }
     Ok(row)
@@ -80,7 +81,7 @@ pub fn full_rows(
     definition: &TableDef,
     versions: &[Version<'_>],
 ) -> Result<Vec<Vec<Value, Memory>, Memory>, Refusal>
-    ensures rows { IfOk result (λ rows. rows_of rows.items ≡ map (full (def_of definition.now)) (map version_of versions.now)) }
+    ensures rows { IfOk result (λ rows. rows_of rows.items ≡ map (full definition.now) (map version_of versions.now)) }
     ensures memory { IfErr result (λ e. e ≡ OutOfMemory) }
 {
     let mut rows = Vec::with_capacity(memory, versions.len())?;

@@ -1,13 +1,22 @@
 //! A whole run of a script on an engine.
 ghost use Rattle.tql_spec.specs.Machine.{State};
-ghost use Rattle.tql_spec.specs.Run.{Answers};
+ghost use Rattle.tql_spec.specs.Run.{Replies};
 ghost use Rattle.tql_run.specs.Runs.{Runs, source_change, sink_change};
+ghost use Rattle.tql_engine.specs.Bytes.{RunsBytes};
 ghost use Rattle.tql_engine.specs.Stands.{StandsFor};
 
 use crate::engine::Engine;
+use std::mem;
+use tql_memory::Memory;
 use tql_result::sink::Sink;
+use tql_result::vec_sink::VecSink;
 use tql_run::device::Source;
+use tql_run::responder::Responder;
 use tql_run::run::{Fault, Summary};
+use tql_run::slice_source::SliceSource;
+
+/// From so many bytes on a script in memory is not taken: no memory holds it a second time.
+const TOO_MANY_BYTES: usize = 281_474_976_710_655;
 
 /// Reads a script from the source to its end, then answers its statements one after another, writes each reply to the
 /// sink, and flushes it. Where the source fails, the statements that came whole before that are answered, and the run
@@ -18,9 +27,31 @@ pub fn run<I: Source, O: Sink>(
     source: &mut I,
     sink: &mut O,
 ) -> Result<Summary, Fault>
-    ensures { (s : State) → StandsFor engine.old s → Runs Answers s (StandsFor engine.new)
+    ensures { (s : State) → StandsFor engine.old s → Runs Replies s (StandsFor engine.new)
         (source_change I.left I.failures I.ended source.old source.new)
         (sink_change O.written O.failures O.flushed sink.old sink.new) result }
 {
     tql_run::run::run(engine, source, sink)
+}
+
+/// Runs a script that is in memory, and puts its replies behind the output. Where the output finds no memory, no
+/// statement runs behind the one whose reply it did not take whole, and the run says `Write`. Where there is no memory
+/// for what a run takes at its start, or the script has 2^48 - 1 bytes or more, nothing runs, and the run says
+/// `Memory`. It never says `Read`. A refused statement does not stop the run.
+pub fn run_bytes(
+    engine: &mut Engine,
+    script: &[u8],
+    output: &mut Vec<u8, Memory>,
+) -> Result<Summary, Fault>
+    ensures { (s : State) → StandsFor engine.old s
+        → RunsBytes s (StandsFor engine.new) script.now output.old.items output.new.items result }
+{
+    if script.len() >= TOO_MANY_BYTES {
+        return Err(Fault::Memory);
+    }
+    let mut source = SliceSource::new(script);
+    let mut sink = VecSink::new(mem::replace(output, Vec::new(engine.memory())));
+    let end = run(engine, &mut source, &mut sink);
+    *output = sink.into_bytes();
+    end
 }

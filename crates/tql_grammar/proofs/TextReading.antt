@@ -5,7 +5,7 @@ use Rattle.std.specs.Str.{is_utf8}
 use Rattle.std.proofs.lemmas.Bool.Decides.{nat_tests}
 use Rattle.std.proofs.lemmas.Str.{IsUtf8-from_is_utf8, is_utf8-from_IsUtf8}
 use Rattle.tql_spec.specs.Words.{with_front}
-use Rattle.tql_spec.specs.Refusal.{E10, E11, E12, E13, E14, E15}
+use Rattle.tql_spec.specs.Refusal.{NotAStatement, NotUtf8, UnfinishedStatement, StatementTooLong, NestedTooDeep, TooManyColumnsOrTables}
 use Rattle.tql_spec.specs.Script.{Piece, without_lead}
 use Rattle.tql_spec.specs.Token.{Token, Word, QuotedName, Number, Quote, Sign, Symbol, Open, Close, Comma, Dot, PlusSign, MinusSign, Star, EqualSign, UnequalSign, LessSign, AtMostSign, MoreSign, AtLeastSign, symbol_text, Spells, AreTokens, depth}
 use Rattle.tql_spec.specs.FirstToken.{Reading, first_token}
@@ -144,13 +144,13 @@ all_kept = record { from = λ s ts p. (p, refl); to = λ s ts p q. p }
 module _ (L : Language) (keeps : Statement → Bool) (k : IsKept L keeps) (p : Piece) where
   -- of a text with these tokens, which spell a statement of the language or none
   module _ (w : IsWhole p) (ts : List Token) (a : AreTokens ts p.text) (flat : depth ts ≤ 64) where
-    none_spelled : ((s : Statement) → L s ts → ⊥) → HasSense L p (Faulty E10)
+    none_spelled : ((s : Statement) → L s ts → ⊥) → HasSense L p (Faulty NotAStatement)
     none_spelled h = (w, not_deep p.text ts a flat, λ s t. h s (subst (L s) (one_list p.text t.0 ts t.1.0 a) t.2))
 
-    spelled : (s : Statement) → L s ts → HasSense L p (if is_too_wide s then Faulty E15 else Says s)
+    spelled : (s : Statement) → L s ts → HasSense L p (if is_too_wide s then Faulty TooManyColumnsOrTables else Says s)
     spelled s h = by_width (is_too_wide s) refl
       where
-        by_width : (b : Bool) → is_too_wide s ≡ b → HasSense L p (if b then Faulty E15 else Says s)
+        by_width : (b : Bool) → is_too_wide s ≡ b → HasSense L p (if b then Faulty TooManyColumnsOrTables else Says s)
         by_width true e = (w, (s, (ts, (a, flat), h), e))
         by_width false e = (w, (ts, (a, flat), h), e)
 
@@ -178,7 +178,7 @@ module _ (L : Language) (keeps : Statement → Bool) (k : IsKept L keeps) (p : P
       a = tokens_are_read p.text ts e
 
       by_depth : (b : Bool) → nat_lt 64 (depth ts) ≡ b
-          → HasSense L p (if b then Faulty E14 else sense_of_tree (kept keeps (read_statement ts)))
+          → HasSense L p (if b then Faulty NestedTooDeep else sense_of_tree (kept keeps (read_statement ts)))
       by_depth true q = (w, (ts, a, grind (arith, nat_tests)))
       by_depth false q = tree_sense w ts a (grind (arith, nat_tests)) (read_statement ts) refl
 
@@ -187,18 +187,18 @@ module _ (L : Language) (keeps : Statement → Bool) (k : IsKept L keeps) (p : P
   sense_is_read = by_length (nat_lt 1_048_576 (length p.text)) refl
     where
       by_end : (b : Bool) → p.finished ≡ b → (length p.text ≤ 1_048_576) → IsUtf8 p.text
-          → HasSense L p (if not b then Faulty E12 else sense_of_tokens keeps (read_tokens p.text))
+          → HasSense L p (if not b then Faulty UnfinishedStatement else sense_of_tokens keeps (read_tokens p.text))
       by_end true e l u = token_sense (record { short = l; utf8 = u; finished = e }) (read_tokens p.text) refl
       by_end false e l u = (l, u, e)
 
       by_bytes : (b : Bool) → is_utf8 p.text ≡ b → (length p.text ≤ 1_048_576)
-          → HasSense L p (if not b then Faulty E11 else
-          (if not p.finished then Faulty E12 else sense_of_tokens keeps (read_tokens p.text)))
+          → HasSense L p (if not b then Faulty NotUtf8 else
+          (if not p.finished then Faulty UnfinishedStatement else sense_of_tokens keeps (read_tokens p.text)))
       by_bytes true e l = by_end p.finished refl l (IsUtf8-from_is_utf8 p.text e)
       by_bytes false e l = (l, λ u. let r = is_utf8-from_IsUtf8 p.text u in absurd (cc))
 
       by_length : (b : Bool) → nat_lt 1_048_576 (length p.text) ≡ b
-          → HasSense L p (if b then Faulty E13 else (if not (is_utf8 p.text) then Faulty E11
-          else (if not p.finished then Faulty E12 else sense_of_tokens keeps (read_tokens p.text))))
+          → HasSense L p (if b then Faulty StatementTooLong else (if not (is_utf8 p.text) then Faulty NotUtf8
+          else (if not p.finished then Faulty UnfinishedStatement else sense_of_tokens keeps (read_tokens p.text))))
       by_length true e = grind (arith, nat_tests)
       by_length false e = by_bytes (is_utf8 p.text) refl (grind (arith, nat_tests))

@@ -7,7 +7,7 @@ use Rattle.tql_spec.specs.Token.{Token, AreTokens}
 use Rattle.tql_spec.specs.Syntax.{Statement}
 use Rattle.tql_spec.specs.Grammar.{IsStatement}
 use Rattle.tql_spec.specs.Running.{does_run, Runs}
-use Rattle.tql_spec.specs.Run.{Language, Sense, HasSense, Answering, RunBy, Writes, respond_to}
+use Rattle.tql_spec.specs.Run.{Language, Sense, HasSense, RunBy, Writes, respond_to}
 use Rattle.tql_grammar.specs.ReadingTexts.{read_tokens, read_sense}
 
 -- ---- runs
@@ -48,7 +48,7 @@ abbrev pub ReadsTheSense : Type 0
 ReadsTheSense = (p : Piece) → HasSense Runs p (read_sense does_run p) × HasSense IsStatement p (read_sense every p)
 
 -- the machine's reply to a piece of a language
-abbrev pub AnswersIn : Language → Answering
+abbrev pub AnswersIn : Language → State → Piece → Reply → State → Type 0
 AnswersIn L old p reply new = (sense : Sense) × HasSense L p sense × ((reply, new) ≡ respond_to old sense)
 
 -- the law: each script has a run, and this is what it writes

@@ -2,7 +2,7 @@
 use Rattle.std.specs.Prelude.{ℕ, zero, suc, Bool, false, not, nat_lt, if◌then◌else◌, List, [], ◌∷◌, length, take, drop, Option, Some, None}
 use Rattle.std.specs.Str.{is_utf8}
 use Rattle.tql_spec.specs.Words.{with_front}
-use Rattle.tql_spec.specs.Refusal.{E10, E11, E12, E13, E14, E15}
+use Rattle.tql_spec.specs.Refusal.{NotAStatement, NotUtf8, UnfinishedStatement, StatementTooLong, NestedTooDeep, TooManyColumnsOrTables}
 use Rattle.tql_spec.specs.Script.{Piece, without_lead}
 use Rattle.tql_spec.specs.Token.{Token, depth}
 use Rattle.tql_spec.specs.FirstToken.{Reading, token_with, first_token}
@@ -40,18 +40,18 @@ kept keeps (Some s) = if keeps s then Some s else None
 
 -- what a statement says that was read: too wide, or what it is
 abbrev pub sense_of_tree : Option Statement → Sense
-sense_of_tree None = Faulty E10
-sense_of_tree (Some s) = if is_too_wide s then Faulty E15 else Says s
+sense_of_tree None = Faulty NotAStatement
+sense_of_tree (Some s) = if is_too_wide s then Faulty TooManyColumnsOrTables else Says s
 
 -- what tokens say
 abbrev pub sense_of_tokens : (Statement → Bool) → Option (List Token) → Sense
-sense_of_tokens keeps None = Faulty E10
+sense_of_tokens keeps None = Faulty NotAStatement
 sense_of_tokens keeps (Some ts) =
-    if nat_lt 64 (depth ts) then Faulty E14 else sense_of_tree (kept keeps (read_statement ts))
+    if nat_lt 64 (depth ts) then Faulty NestedTooDeep else sense_of_tree (kept keeps (read_statement ts))
 
 -- what a piece of a script says, or the first fault of its text, in the language of the statements that a test keeps
 abbrev pub read_sense : (Statement → Bool) → Piece → Sense
 read_sense keeps p =
-    if nat_lt 1_048_576 (length p.text) then Faulty E13
-    else (if not (is_utf8 p.text) then Faulty E11
-    else (if not p.finished then Faulty E12 else sense_of_tokens keeps (read_tokens p.text)))
+    if nat_lt 1_048_576 (length p.text) then Faulty StatementTooLong
+    else (if not (is_utf8 p.text) then Faulty NotUtf8
+    else (if not p.finished then Faulty UnfinishedStatement else sense_of_tokens keeps (read_tokens p.text)))

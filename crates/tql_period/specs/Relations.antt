@@ -1,11 +1,11 @@
 -- The predicates of the code, and what they say of points.
-use Rattle.std.specs.Prelude.{◌≡◌, ◌↔◌, Bool, ◌&&◌, IsTrue, ℤ}
+use Rattle.std.specs.Prelude.{◌≡◌, ◌↔◌, IsTrue, ℤ}
 use Rattle.tql_spec.specs.Truth.{Truth, True}
 use Rattle.tql_spec.specs.Datum.{Datum}
 use Rattle.tql_spec.specs.Period.{Period, Holds, rises, ends, OnSets, Overlaps, Includes, SameAs, Precedes, Succeeds, ImmediatelyPrecedes, ImmediatelySucceeds}
 use Rattle.tql_spec.specs.Period as spec
 use Rattle.tql_value.specs.declared.value.View.{View}
-use Rattle.tql_value.specs.Views.{datum_of_view, are_comparable}
+use Rattle.tql_value.specs.Views.{datum_of_view}
 use Rattle.tql_period.specs.declared.predicates.Relation.{Relation}
 use Rattle.tql_period.specs.declared.predicates.Relation.TheVariants as relation
 
@@ -22,15 +22,6 @@ plain_relation relation.ImmediatelySucceeds = ImmediatelySucceeds
 -- the two ends as data
 abbrev pub data_of : View × View → Datum × Datum
 data_of x = (datum_of_view x.0, datum_of_view x.1)
-
--- whether both ends are of the value's kind, or null
-abbrev pub are_comparable_with : Datum × Datum → Datum → Bool
-are_comparable_with x p = are_comparable x.0 p && are_comparable p x.1
-
--- whether the ends of both are of one kind, or null
-abbrev pub are_comparable_ends : Datum × Datum → Datum × Datum → Bool
-are_comparable_ends x y =
-    are_comparable x.0 y.0 && are_comparable x.0 y.1 && are_comparable y.0 x.1 && are_comparable y.1 x.1 && are_comparable x.1 y.0 && are_comparable x.1 y.1
 
 -- where the ends are those of two rising periods, the answer is true exactly where their points are so
 abbrev pub SaysOfPoints : (ℤ → Datum) → spec.Relation → Datum × Datum → Datum × Datum → Truth → Type 0

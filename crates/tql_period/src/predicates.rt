@@ -1,8 +1,8 @@
-ghost use Rattle.std.specs.Prelude.{◌≡◌, IsTrue};
+ghost use Rattle.std.specs.Prelude.{◌≡◌};
 ghost use Rattle.tql_spec.specs.Datum.{Day, Moment};
 ghost use Rattle.tql_spec.specs.Period.{predicate as predicate_of, contains_point as point_formula};
 ghost use Rattle.tql_value.specs.Views.{datum_of_view, plain_truth};
-ghost use Rattle.tql_period.specs.Relations.{plain_relation, data_of, are_comparable_ends, are_comparable_with, SaysOfPoints, SaysOfPoint};
+ghost use Rattle.tql_period.specs.Relations.{plain_relation, data_of, SaysOfPoints, SaysOfPoint};
 
 use tql_value::comparison::{Comparison, compare};
 use tql_value::truth::Truth;
@@ -30,7 +30,6 @@ pub enum Relation {
 /// A predicate between two periods, each given by its start and its end. The ends need not rise and
 /// may be NULL: the comparisons of the ends are then taken in three-valued logic (this project's choice).
 pub fn predicate(which: Relation, x: (View<'_>, View<'_>), y: (View<'_>, View<'_>)) -> Truth
-    requires { IsTrue (are_comparable_ends (data_of x) (data_of y)) }
     ensures formulas { plain_truth result
         ≡ predicate_of (plain_relation which) (data_of x.entry) (data_of y.entry) }
 
@@ -46,7 +45,6 @@ pub fn predicate(which: Relation, x: (View<'_>, View<'_>), y: (View<'_>, View<'_
 
 // The predicate by the comparisons of its ends.
 fn by_ends(which: Relation, x: (View<'_>, View<'_>), y: (View<'_>, View<'_>)) -> Truth
-    requires { IsTrue (are_comparable_ends (data_of x) (data_of y)) }
     ensures { plain_truth result
         ≡ predicate_of (plain_relation which) (data_of x.entry) (data_of y.entry) }
 {
@@ -80,7 +78,6 @@ fn by_ends(which: Relation, x: (View<'_>, View<'_>), y: (View<'_>, View<'_>)) ->
 /// CONTAINS with a point: the period is given by its start and its end. As in `predicate`, the ends
 /// need not rise, and they and the point may be NULL (this project's choice).
 pub fn contains_point(x: (View<'_>, View<'_>), point: View<'_>) -> Truth
-    requires { IsTrue (are_comparable_with (data_of x) (datum_of_view point)) }
     ensures formula { plain_truth result ≡ point_formula (data_of x.entry) (datum_of_view point.entry) }
 
     // What it says of a period and a point without NULL.

@@ -1,1 +1,1 @@
-pub mod Mixtures
+pub mod SelectEnds

@@ -1,5 +1,4 @@
-//! Reading conditions and queries.
+//! Reading queries.
 #![tactic(auto)]
 
-pub mod conditions;
 pub mod queries;

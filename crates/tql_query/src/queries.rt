@@ -1,14 +1,15 @@
 //! Reading queries.
-ghost use Rattle.std.specs.Prelude.{◌≡◌, option_map};
+ghost use Rattle.std.specs.Prelude.{◌≡◌, Bool, List, option_map};
 ghost use Rattle.tql_spec.specs.Syntax as tree;
 ghost use Rattle.tql_grammar.specs.Outcome.{Read};
 ghost use Rattle.tql_grammar.specs.ReadingExpressions.{named_at};
 ghost use Rattle.tql_grammar.specs.ReadingStatements as reading;
 ghost use Rattle.tql_phrase.specs.Parsing.{Reads};
+ghost use Rattle.tql_query.specs.SelectEnds.{ended_by, select_from};
 ghost use Rattle.tql_tree.specs.Expressions.{content_of, name_of, named_of};
-ghost use Rattle.tql_tree.specs.Statements.{span_of, ref_of, join_of, chain_of, chains_of, item_of, items_of, filter_of, nameds_of, boxed_select_of, key_name_of, order_of, orders_of, statement_of};
+ghost use Rattle.tql_tree.specs.Statements.{span_of, ref_of, joined_by, crossed_of, join_of, chain_of, item_of, items_of, filter_of, nameds_of, boxed_select_of, key_name_of, order_of, orders_of, statement_of};
 
-use crate::conditions::condition_here;
+use tql_condition::conditions::condition_here;
 use tql_lex::token::Symbol;
 use tql_memory::Memory;
 use tql_phrase::cursor::{Cursor, ParseError};
@@ -17,7 +18,8 @@ use tql_phrase::lists::{Rule, Step, behind_commas, repeated, separated};
 use tql_tree::condition::Cond;
 use tql_tree::expression::{Name, Named};
 use tql_tree::statement::{
-    Chain, Item, Items, Join, KeyName, OrderKey, Query, RefTree, Select, Span, Statement,
+    Chain, Item, Items, Join, Joined, KeyName, OrderKey, Query, RefTree, Select, Span, Statement,
+    boxed_joined, boxed_query, boxed_reference, boxed_select,
 };
 
 /// TIMESTAMP and its quoted text.
@@ -107,55 +109,60 @@ fn reference<'a>(tokens: &mut Cursor<'_, 'a>) -> Result<RefTree<'a>, ParseError>
     Ok(RefTree { table, span, alias })
 }
 
-/// What stands behind JOIN in an inner join.
+/// What stands behind JOIN in an inner or an outer join.
 #[tactic(auto, unfolding(tql_grammar::specs::ReadingStatements::joined_on_at))]
-fn inner_on<'a>(memory: Memory, tokens: &mut Cursor<'_, 'a>) -> Result<Join<'a>, ParseError>
-    ensures { Reads join_of (reading.joined_on_at tree.InnerJoin tokens.old) result tokens.new }
+fn joined_on<'a>(
+    memory: Memory,
+    tokens: &mut Cursor<'_, 'a>,
+) -> Result<Box<Joined<'a>, Memory>, ParseError>
+    ensures { (which : tree.RefTree → tree.Condition → tree.JoinTree) → Reads (joined_by which) (reading.joined_on_at which tokens.old) result tokens.new }
 {
     let reference = reference(tokens)?;
     tokens.expect_word("ON")?;
     let condition = condition_here(memory, tokens)?;
-    Ok(Join::Inner(reference, condition))
-}
-
-/// What stands behind JOIN in an outer join.
-#[tactic(auto, unfolding(tql_grammar::specs::ReadingStatements::joined_on_at))]
-fn left_on<'a>(memory: Memory, tokens: &mut Cursor<'_, 'a>) -> Result<Join<'a>, ParseError>
-    ensures { Reads join_of (reading.joined_on_at tree.LeftJoin tokens.old) result tokens.new }
-{
-    let reference = reference(tokens)?;
-    tokens.expect_word("ON")?;
-    let condition = condition_here(memory, tokens)?;
-    Ok(Join::Left(reference, condition))
+    let joined = Joined {
+        reference,
+        condition,
+    };
+    Ok(boxed_joined(memory, joined)?)
 }
 
 /// What stands behind INNER.
 #[tactic(auto, unfolding(tql_grammar::specs::ReadingStatements::inner_at))]
-fn inner<'a>(memory: Memory, tokens: &mut Cursor<'_, 'a>) -> Result<Join<'a>, ParseError>
-    ensures { Reads join_of (reading.inner_at tokens.old) result tokens.new }
+fn inner<'a>(
+    memory: Memory,
+    tokens: &mut Cursor<'_, 'a>,
+) -> Result<Box<Joined<'a>, Memory>, ParseError>
+    ensures { Reads (joined_by tree.InnerJoin) (reading.inner_at tokens.old) result tokens.new }
 {
     tokens.expect_word("JOIN")?;
-    inner_on(memory, tokens)
+    joined_on(memory, tokens)
 }
 
 /// What stands behind LEFT.
 #[tactic(auto, unfolding(tql_grammar::specs::ReadingStatements::left_at))]
-fn left<'a>(memory: Memory, tokens: &mut Cursor<'_, 'a>) -> Result<Join<'a>, ParseError>
-    ensures { Reads join_of (reading.left_at tokens.old) result tokens.new }
+fn left<'a>(
+    memory: Memory,
+    tokens: &mut Cursor<'_, 'a>,
+) -> Result<Box<Joined<'a>, Memory>, ParseError>
+    ensures { Reads (joined_by tree.LeftJoin) (reading.left_at tokens.old) result tokens.new }
 {
     tokens.eat_word("OUTER");
     tokens.expect_word("JOIN")?;
-    left_on(memory, tokens)
+    joined_on(memory, tokens)
 }
 
 /// What stands behind CROSS.
 #[tactic(auto, unfolding(tql_grammar::specs::ReadingStatements::cross_at))]
-fn cross<'a>(tokens: &mut Cursor<'_, 'a>) -> Result<Join<'a>, ParseError>
-    ensures { Reads join_of (reading.cross_at tokens.old) result tokens.new }
+fn cross<'a>(
+    memory: Memory,
+    tokens: &mut Cursor<'_, 'a>,
+) -> Result<Box<RefTree<'a>, Memory>, ParseError>
+    ensures { Reads crossed_of (reading.cross_at tokens.old) result tokens.new }
 {
     tokens.expect_word("JOIN")?;
     let reference = reference(tokens)?;
-    Ok(Join::Cross(reference))
+    Ok(boxed_reference(memory, reference)?)
 }
 
 /// A join, where one is in front.
@@ -177,20 +184,20 @@ impl<'a> Step<'a, Memory> for JoinStep {
         tokens: &mut Cursor<'_, 'a>,
     ) -> Result<Option<Join<'a>>, ParseError> {
         if tokens.eat_word("INNER") {
-            let join = inner(memory, tokens)?;
-            return Ok(Some(join));
+            let joined = inner(memory, tokens)?;
+            return Ok(Some(Join::Inner(joined)));
         }
         if tokens.eat_word("JOIN") {
-            let join = inner_on(memory, tokens)?;
-            return Ok(Some(join));
+            let joined = joined_on(memory, tokens)?;
+            return Ok(Some(Join::Inner(joined)));
         }
         if tokens.eat_word("LEFT") {
-            let join = left(memory, tokens)?;
-            return Ok(Some(join));
+            let joined = left(memory, tokens)?;
+            return Ok(Some(Join::Left(joined)));
         }
         if tokens.eat_word("CROSS") {
-            let join = cross(tokens)?;
-            return Ok(Some(join));
+            let reference = cross(memory, tokens)?;
+            return Ok(Some(Join::Cross(reference)));
         }
         Ok(None)
     }
@@ -332,20 +339,46 @@ fn group_by<'a>(
 }
 
 /// What stands behind the FROM clause of a select.
+#[derive(Drop)]
+struct SelectEnd<'a> {
+    filter: Option<Box<Cond<'a>, Memory>>,
+    grouping: Vec<Named<'a>, Memory>,
+    having: Option<Box<Cond<'a>, Memory>>,
+}
+
+/// What stands behind the FROM clause of a select.
 #[tactic(auto, unfolding(tql_grammar::specs::ReadingStatements::select_end))]
-fn select_end<'a>(
-    memory: Memory,
-    tokens: &mut Cursor<'_, 'a>,
-    is_distinct: bool,
-    items: Items<'a>,
-    first: Chain<'a>,
-    more: Vec<Chain<'a>, Memory>,
-) -> Result<Box<Select<'a>, Memory>, ParseError>
-    ensures { Reads boxed_select_of (reading.select_end is_distinct (items_of items.entry) (chain_of first.entry) (chains_of more.entry) tokens.old) result tokens.new }
+fn select_end<'a>(memory: Memory, tokens: &mut Cursor<'_, 'a>) -> Result<SelectEnd<'a>, ParseError>
+    ensures { (d : Bool) → (is : tree.Items) → (c : tree.ChainTree) → (cs : List tree.ChainTree)
+        → Reads (ended_by d is c cs) (reading.select_end d is c cs tokens.old) result tokens.new }
 {
     let filter = where_clause(memory, tokens)?;
     let grouping = group_by(memory, tokens)?;
     let having = having_clause(memory, tokens)?;
+    Ok(SelectEnd {
+        filter,
+        grouping,
+        having,
+    })
+}
+
+/// What stands behind FROM in a select.
+#[tactic(auto, unfolding(crate::specs::SelectEnds::select_from))]
+fn select_from<'a>(
+    memory: Memory,
+    tokens: &mut Cursor<'_, 'a>,
+    is_distinct: bool,
+    items: Items<'a>,
+) -> Result<Box<Select<'a>, Memory>, ParseError>
+    ensures { Reads boxed_select_of (select_from is_distinct (items_of items.entry) tokens.old) result tokens.new }
+{
+    let first = ChainRule.read(memory, tokens)?;
+    let more = behind_commas(memory, tokens, &ChainRule)?;
+    let SelectEnd {
+        filter,
+        grouping,
+        having,
+    } = select_end(memory, tokens)?;
     let select = Select {
         is_distinct,
         items,
@@ -355,11 +388,11 @@ fn select_end<'a>(
         grouping,
         having,
     };
-    Ok(Box::new(memory, select)?)
+    Ok(boxed_select(memory, select)?)
 }
 
 /// What stands behind SELECT, but ORDER BY.
-#[tactic(auto, unfolding(tql_grammar::specs::ReadingStatements::select_at))]
+#[tactic(auto, unfolding(tql_grammar::specs::ReadingStatements::select_at, crate::specs::SelectEnds::select_from))]
 pub fn select<'a>(
     memory: Memory,
     tokens: &mut Cursor<'_, 'a>,
@@ -369,9 +402,7 @@ pub fn select<'a>(
     let is_distinct = distinct(tokens);
     let items = items(memory, tokens)?;
     tokens.expect_word("FROM")?;
-    let first = ChainRule.read(memory, tokens)?;
-    let more = behind_commas(memory, tokens, &ChainRule)?;
-    select_end(memory, tokens, is_distinct, items, first, more)
+    select_from(memory, tokens, is_distinct, items)
 }
 
 /// A position by its digits, or a heading.
@@ -445,5 +476,6 @@ pub fn query<'a>(memory: Memory, tokens: &mut Cursor<'_, 'a>) -> Result<Statemen
     let select = select(memory, tokens)?;
     let ordering = order_by(memory, tokens)?;
     let query = Query { select, ordering };
-    Ok(Statement::Query(Box::new(memory, query)?))
+    let query = boxed_query(memory, query)?;
+    Ok(Statement::Query(query))
 }

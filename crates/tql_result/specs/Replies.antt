@@ -1,8 +1,9 @@
--- The reply and the table that a code value stands for, and which of them can be printed.
+-- The reply, the table and the answer that a code value stands for, and which of them can be printed.
 use Rattle.std.specs.Prelude.{List, map, string_bytes}
 use Rattle.tql_spec.specs.Datum.{Row}
 use Rattle.tql_spec.specs.Definition.{Name}
 use Rattle.tql_spec.specs.Machine as spec
+use Rattle.tql_spec.specs.Answer as run
 use Rattle.tql_value.specs.Views.{datum_of_value}
 use Rattle.tql_value.specs.Refusals.{refusal_of}
 use Rattle.tql_value.specs.declared.value.Value.{Value}
@@ -12,6 +13,8 @@ use Rattle.tql_result.specs.declared.reply.Verb.{Verb}
 use Rattle.tql_result.specs.declared.reply.Verb.TheVariants as verb
 use Rattle.tql_result.specs.declared.reply.Reply.{Reply}
 use Rattle.tql_result.specs.declared.reply.Reply.TheVariants as reply
+use Rattle.tql_result.specs.declared.answer.Answer.{Answer}
+use Rattle.tql_result.specs.declared.answer.Answer.TheVariants as answer
 
 -- the word among the definitions' words
 abbrev pub plain_verb : Verb → spec.Verb
@@ -24,7 +27,6 @@ plain_verb verb.Started = spec.Started
 plain_verb verb.Committed = spec.Committed
 plain_verb verb.RolledBack = spec.RolledBack
 plain_verb verb.ClockSet = spec.ClockSet
-plain_verb verb.Accepted = spec.Accepted
 
 -- the data of a row
 abbrev pub row_of : List Value → Row
@@ -49,3 +51,13 @@ abbrev pub IsPrintableReply : spec.Reply → Type 0
 IsPrintableReply (spec.Done v n) = Unit {0}
 IsPrintableReply (spec.Table headings rows) = ArePrintable rows
 IsPrintableReply (spec.Refused e) = Unit {0}
+
+-- the answer among the definitions' answers
+abbrev pub answer_of : Answer → run.Answer
+answer_of (answer.Replied r) = run.Replied (reply_of r)
+answer_of answer.Accepted = run.Accepted
+
+-- an answer that can be printed
+abbrev pub IsPrintableAnswer : run.Answer → Type 0
+IsPrintableAnswer (run.Replied r) = IsPrintableReply r
+IsPrintableAnswer run.Accepted = Unit {0}

@@ -1,6 +1,7 @@
-// The printed text of replies, pushed into a sink.
+// The printed text of replies and answers, pushed into a sink.
 #![tactic(auto)]
 
+pub mod answer;
 pub mod cell;
 pub mod device;
 mod heading;
@@ -13,3 +14,4 @@ pub mod reply;
 pub mod sink;
 pub mod std_sink;
 pub mod table;
+pub mod vec_sink;

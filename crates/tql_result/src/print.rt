@@ -1,6 +1,5 @@
 ghost use Rattle.std.specs.Prelude.{◌++◌, ◌↔◌, IsTrue, codes};
-ghost use Rattle.tql_spec.specs.Refusal.{wording};
-ghost use Rattle.tql_spec.specs.Text.{verb_text, count_text, line, reply_text};
+ghost use Rattle.tql_spec.specs.Text.{verb_text, count_text, line, reply_text, wording};
 ghost use Rattle.tql_value.specs.Refusals.{refusal_of};
 ghost use Rattle.tql_result.specs.Devices.{Pushes};
 ghost use Rattle.tql_result.specs.Replies.{plain_verb, reply_of, IsPrintableReply};

@@ -22,8 +22,6 @@ pub enum Verb {
     RolledBack,
     /// `AT`
     ClockSet,
-    /// `OK`: a check that found no fault.
-    Accepted,
 }
 
 /// What a statement is answered.
@@ -64,7 +62,6 @@ impl Verb {
             Verb::Committed => "COMMIT",
             Verb::RolledBack => "ROLLBACK",
             Verb::ClockSet => "AT",
-            Verb::Accepted => "OK",
         }
     }
 }

@@ -1,11 +1,12 @@
 -- The machine and the check both refuse a piece for the faults that are seen at once.
 use Rattle.std.proofs.Common.{◌≡◌, refl, sym, subst, inl, inr, ◌<◌, ◌≤◌, ℕ, List, length, IsTrue, IsFalse}
 use Rattle.tql_spec.specs.Refusal.{Refusal}
-use Rattle.tql_spec.specs.Machine.{State, Reply, Refused}
+use Rattle.tql_spec.specs.Machine.{State, Refused}
+use Rattle.tql_spec.specs.Answer.{Answer, Replied}
 use Rattle.tql_spec.specs.Script.{Piece}
 use Rattle.tql_spec.specs.Grammar.{IsStatement}
 use Rattle.tql_spec.specs.Running.{Runs}
-use Rattle.tql_spec.specs.Run.{Language, Answering, Answers, Checks, Faulty, HasSense, finished}
+use Rattle.tql_spec.specs.Run.{Language, Answering, Replies, Checks, Faulty, HasSense, finished}
 use Rattle.tql_value.specs.Refusals.{refusal_of}
 use Rattle.tql_value.specs.declared.refusal.Refusal.TheVariants.{StatementTooLong}
 use Rattle.tql_run.specs.Pieces.{HasFault, IsCutFault, RefusesFaults}
@@ -17,8 +18,8 @@ fault_sense L p e (inl (is, long)) = subst (λ (x : Refusal). HasSense L p (Faul
 fault_sense L p e (inr (short, cut, inl (is, none))) = subst (λ (x : Refusal). HasSense L p (Faulty x)) (sym is) (short, none)
 fault_sense L p e (inr (short, cut, inr (is, utf8))) = subst (λ (x : Refusal). HasSense L p (Faulty x)) (sym is) (short, utf8, cut)
 
-pub answers_refuse : RefusesFaults Answers
-answers_refuse s p e f = inl (Faulty e, fault_sense Runs p e f, refl)
+pub replies_refuse : RefusesFaults Replies
+replies_refuse s p e f = inl (Faulty e, fault_sense Runs p e f, refl)
 
 pub checks_refuse : RefusesFaults Checks
 checks_refuse s p e f = (inl (Faulty e, fault_sense IsStatement p e f, refl), refl)
@@ -26,18 +27,18 @@ checks_refuse s p e f = (inl (Faulty e, fault_sense IsStatement p e f, refl), re
 -- ---- pieces
 
 -- a piece that is a finished text
-pub text_answered : (A : Answering) (s : State) (p : Piece) (text : List ℕ) (reply : Reply) (after : Standing) → p.text ≡ text → IsTrue p.finished
-    → Answered A s (finished text) reply after → Answered A s p reply after
-text_answered A s p text reply after e f a = let whole : finished text ≡ p = λ i. record { text = (sym e) i; finished = (sym f) i } in subst (λ q. Answered A s q reply after) whole a
+pub text_answered : (A : Answering) (s : State) (p : Piece) (text : List ℕ) (answer : Answer) (after : Standing) → p.text ≡ text → IsTrue p.finished
+    → Answered A s (finished text) answer after → Answered A s p answer after
+text_answered A s p text answer after e f a = let whole : finished text ≡ p = λ i. record { text = (sym e) i; finished = (sym f) i } in subst (λ q. Answered A s q answer after) whole a
 
 -- a piece that is too long
 pub long_answered : (A : Answering) → RefusesFaults A → (s : State) (p : Piece) (after : Standing) → after s → 1_048_576 < length p.text
-    → Answered A s p (Refused (refusal_of StatementTooLong)) after
+    → Answered A s p (Replied (Refused (refusal_of StatementTooLong))) after
 long_answered A law s p after st long = record { state = s; answers = law s p (refusal_of StatementTooLong) (inl (refl, long)); stands = st }
 
 -- a piece that no `;` ends
 pub cut_answered : (A : Answering) → RefusesFaults A → (s : State) (p : Piece) (text : List ℕ) (after : Standing) (e : Refusal) → after s → p.text ≡ text → IsFalse p.finished
-    → length text ≤ 1_048_576 → IsCutFault text e → Answered A s p (Refused e) after
+    → length text ≤ 1_048_576 → IsCutFault text e → Answered A s p (Replied (Refused e)) after
 cut_answered A law s p text after e st is cut short fault = record {
   state = s;
   answers = law s p e (inr (subst (λ t. length t ≤ 1_048_576) (sym is) short, cut, subst (λ t. IsCutFault t e) (sym is) fault));

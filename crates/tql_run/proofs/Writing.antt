@@ -2,15 +2,16 @@
 use Rattle.std.proofs.Common.{◌≡◌, refl, sym, ◌∙◌, ap, subst, ℕ, zero, suc, Bool, true, false, List, [], ◌∷◌, Option, Some, None, inl, inr, arith, ◌+◌, ◌<◌, ◌≤◌, cond, append_assoc, append-nil, length-append}
 use Rattle.std.specs.Prelude.{◌++◌, length, filter, fold, count_by, if◌then◌else◌, not, IsFalse, IsTrue}
 use Rattle.std.specs.List.{list_all}
-use Rattle.tql_spec.specs.Machine.{State, Reply}
+use Rattle.tql_spec.specs.Machine.{State}
+use Rattle.tql_spec.specs.Answer.{Answer}
 use Rattle.tql_spec.specs.Script.{Piece, statements}
-use Rattle.tql_spec.specs.Text.{reply_text, replies_text}
+use Rattle.tql_spec.specs.Text.{answer_text, answers_text}
 use Rattle.tql_spec.specs.Run.{Answering, RunBy}
 use Rattle.tql_lex.specs.Stream.{Stream}
 use Rattle.tql_lex.specs.Pieces.{GivesFirst, HasNone}
 use Rattle.tql_result.specs.Devices.{Appends, AppendsBeginning, HasFailed}
-use Rattle.tql_result.specs.Replies.{reply_of}
-use Rattle.tql_result.specs.declared.reply.Reply as code
+use Rattle.tql_result.specs.Replies.{answer_of}
+use Rattle.tql_result.specs.declared.answer.Answer as code
 use Rattle.tql_run.specs.Responding.{Standing}
 use Rattle.tql_run.specs.Runs.{answered, count_of, is_refused, most_bytes}
 use Rattle.tql_run.specs.Writing.{asked, AnswersFirst, AnswersNext, WroteSoFar, WroteAll, SinkFailed}
@@ -18,25 +19,25 @@ use Rattle.tql_run.specs.declared.run.Summary.{Summary}
 
 -- ---- lists
 
-run_on : (A : Answering) (s mid new : State) (done : List Piece) (replies : List Reply) (p : Piece) (r : Reply) → RunBy A s done replies mid → A mid p r new → RunBy A s (done ++ p ∷ []) (replies ++ r ∷ []) new
+run_on : (A : Answering) (s mid new : State) (done : List Piece) (answers : List Answer) (p : Piece) (r : Answer) → RunBy A s done answers mid → A mid p r new → RunBy A s (done ++ p ∷ []) (answers ++ r ∷ []) new
 run_on A s mid new [] [] p r ran a = (new, subst (λ x. A x p r new) ran a, refl)
 run_on A s mid new [] (x ∷ xs) p r ran a = absurd ran
 run_on A s mid new (q ∷ qs) [] p r ran a = absurd ran
 run_on A s mid new (q ∷ qs) (x ∷ xs) p r ran a = (ran.0, ran.1, run_on A ran.0 mid new qs xs p r ran.2 a)
 
-texts_on : (replies : List Reply) (r : Reply) → replies_text (replies ++ r ∷ []) ≡ replies_text replies ++ reply_text r
-texts_on [] r = append-nil (reply_text r)
-texts_on (x ∷ xs) r = ap (λ l. reply_text x ++ l) (texts_on xs r) ∙ sym (append_assoc (reply_text x) (replies_text xs) (reply_text r))
+texts_on : (answers : List Answer) (r : Answer) → answers_text (answers ++ r ∷ []) ≡ answers_text answers ++ answer_text r
+texts_on [] r = append-nil (answer_text r)
+texts_on (x ∷ xs) r = ap (λ l. answer_text x ++ l) (texts_on xs r) ∙ sym (append_assoc (answer_text x) (answers_text xs) (answer_text r))
 
--- one reply counted
-abbrev counts_one : ℕ → Reply → ℕ
+-- one answer counted
+abbrev counts_one : ℕ → Answer → ℕ
 counts_one a r = a + cond (is_refused r) 1 0
 
-length_on : (replies : List Reply) (r : Reply) → length (replies ++ r ∷ []) ≡ suc (length replies)
+length_on : (answers : List Answer) (r : Answer) → length (answers ++ r ∷ []) ≡ suc (length answers)
 length_on [] r = refl
 length_on (x ∷ xs) r = ap suc (length_on xs r)
 
-fold_on : (a : ℕ) (replies : List Reply) (r : Reply) → fold counts_one a (replies ++ r ∷ []) ≡ fold counts_one a replies + cond (is_refused r) 1 0
+fold_on : (a : ℕ) (answers : List Answer) (r : Answer) → fold counts_one a (answers ++ r ∷ []) ≡ fold counts_one a answers + cond (is_refused r) 1 0
 fold_on a [] r = refl
 fold_on a (x ∷ xs) r = fold_on (counts_one a x) xs r
 
@@ -44,8 +45,8 @@ one_more : (b : Bool) (n : ℕ) → n + cond b 1 0 ≡ (if b then suc n else n)
 one_more true n = omega (arith)
 one_more false n = omega (arith)
 
-count_on : (replies : List Reply) (r : Reply) → count_by is_refused (replies ++ r ∷ []) ≡ (if is_refused r then suc (count_by is_refused replies) else count_by is_refused replies)
-count_on replies r = fold_on zero replies r ∙ one_more (is_refused r) (count_by is_refused replies)
+count_on : (answers : List Answer) (r : Answer) → count_by is_refused (answers ++ r ∷ []) ≡ (if is_refused r then suc (count_by is_refused answers) else count_by is_refused answers)
+count_on answers r = fold_on zero answers r ∙ one_more (is_refused r) (count_by is_refused answers)
 
 -- ---- devices
 
@@ -101,7 +102,7 @@ pub wrote_first : (A : Answering) (s : State) (stream : Stream) (h : Standing) (
 wrote_first A s stream h summary held writes st a b = record {
   done = [];
   parts = refl;
-  replies = [];
+  answers = [];
   state = s;
   ran = refl;
   stands = st;
@@ -110,42 +111,42 @@ wrote_first A s stream h summary held writes st a b = record {
   steady = refl;
 }
 
--- one more reply, whole
-pub wrote_more : (A : Answering) (s : State) (before now after : Stream) (h new : Standing) (summary : Summary) (reply : code.Reply) (held_old held_now held_new : Option (List ℕ)) (w0 w1 w2 : ℕ)
-    → WroteSoFar A s before now h summary held_old held_now w0 w1 → AnswersFirst A now after reply h new
-    → Appends held_now (reply_text (reply_of reply)) held_new → w2 ≡ w1 → WroteSoFar A s before after new (count_of summary (reply_of reply)) held_old held_new w0 w2
-wrote_more A s before now after h new summary reply held_old held_now held_new w0 w1 w2 t takes a e =
+-- one more answer, whole
+pub wrote_more : (A : Answering) (s : State) (before now after : Stream) (h new : Standing) (summary : Summary) (answer : code.Answer) (held_old held_now held_new : Option (List ℕ)) (w0 w1 w2 : ℕ)
+    → WroteSoFar A s before now h summary held_old held_now w0 w1 → AnswersFirst A now after answer h new
+    → Appends held_now (answer_text (answer_of answer)) held_new → w2 ≡ w1 → WroteSoFar A s before after new (count_of summary (answer_of answer)) held_old held_new w0 w2
+wrote_more A s before now after h new summary answer held_old held_now held_new w0 w1 w2 t takes a e =
     let a0 = takes.answers t.state t.stands in record {
       done = t.done ++ takes.piece ∷ [];
       parts = t.parts ∙ ap (λ xs. t.done ++ xs) (asked_first now after takes.piece takes.given) ∙ sym (append_assoc t.done (takes.piece ∷ []) (asked after));
-      replies = t.replies ++ reply_of reply ∷ [];
+      answers = t.answers ++ answer_of answer ∷ [];
       state = a0.state;
-      ran = run_on A s t.state a0.state t.done t.replies takes.piece (reply_of reply) t.ran a0.answers;
+      ran = run_on A s t.state a0.state t.done t.answers takes.piece (answer_of answer) t.ran a0.answers;
       stands = a0.stands;
-      written = subst (λ x. Appends held_old x held_new) (sym (texts_on t.replies (reply_of reply))) (appends_on held_old held_now held_new (replies_text t.replies) (reply_text (reply_of reply)) t.written a);
+      written = subst (λ x. Appends held_old x held_new) (sym (texts_on t.answers (answer_of answer))) (appends_on held_old held_now held_new (answers_text t.answers) (answer_text (answer_of answer)) t.written a);
       counts = record {
-        statements = ap suc t.counts.statements ∙ sym (length_on t.replies (reply_of reply));
-        refused = ap (λ n. if is_refused (reply_of reply) then suc n else n) t.counts.refused ∙ sym (count_on t.replies (reply_of reply));
+        statements = ap suc t.counts.statements ∙ sym (length_on t.answers (answer_of answer));
+        refused = ap (λ n. if is_refused (answer_of answer) then suc n else n) t.counts.refused ∙ sym (count_on t.answers (answer_of answer));
       };
       steady = e ∙ t.steady;
     }
 
--- the sink failed at the reply
-pub wrote_cut : (A : Answering) (s : State) (before now after : Stream) (h new : Standing) (summary : Summary) (reply : code.Reply) (held_old held_now held_new : Option (List ℕ)) (w0 w1 w2 : ℕ)
-    → WroteSoFar A s before now h summary held_old held_now w0 w1 → AnswersFirst A now after reply h new
-    → AppendsBeginning held_now (reply_text (reply_of reply)) held_new → HasFailed w1 w2 → SinkFailed A s before new held_old held_new w0 w2
-wrote_cut A s before now after h new summary reply held_old held_now held_new w0 w1 w2 t takes a f =
+-- the sink failed at the answer
+pub wrote_cut : (A : Answering) (s : State) (before now after : Stream) (h new : Standing) (summary : Summary) (answer : code.Answer) (held_old held_now held_new : Option (List ℕ)) (w0 w1 w2 : ℕ)
+    → WroteSoFar A s before now h summary held_old held_now w0 w1 → AnswersFirst A now after answer h new
+    → AppendsBeginning held_now (answer_text (answer_of answer)) held_new → HasFailed w1 w2 → SinkFailed A s before new held_old held_new w0 w2
+wrote_cut A s before now after h new summary answer held_old held_now held_new w0 w1 w2 t takes a f =
     let a0 = takes.answers t.state t.stands in record {
       done = t.done ++ takes.piece ∷ [];
       rest = asked after;
       parts = t.parts ∙ ap (λ xs. t.done ++ xs) (asked_first now after takes.piece takes.given) ∙ sym (append_assoc t.done (takes.piece ∷ []) (asked after));
-      replies = t.replies ++ reply_of reply ∷ [];
+      answers = t.answers ++ answer_of answer ∷ [];
       state = a0.state;
-      ran = run_on A s t.state a0.state t.done t.replies takes.piece (reply_of reply) t.ran a0.answers;
+      ran = run_on A s t.state a0.state t.done t.answers takes.piece (answer_of answer) t.ran a0.answers;
       stands = a0.stands;
-      text = replies_text t.replies ++ a.front;
-      reached = inl (record { earlier = t.replies; last = reply_of reply; all = refl; front = a.front; back = a.back; parts = a.parts; is = refl });
-      written = appends_on held_old held_now held_new (replies_text t.replies) a.front t.written a.appends;
+      text = answers_text t.answers ++ a.front;
+      reached = inl (record { earlier = t.answers; last = answer_of answer; all = refl; front = a.front; back = a.back; parts = a.parts; is = refl });
+      written = appends_on held_old held_now held_new (answers_text t.answers) a.front t.written a.appends;
       cause = subst (λ n. HasFailed n w2) t.steady f;
     }
 
@@ -153,9 +154,9 @@ wrote_cut A s before now after h new summary reply held_old held_now held_new w0
 pub wrote_all : (A : Answering) (s : State) (before now : Stream) (h : Standing) (summary : Summary) (held_old held_new : Option (List ℕ)) (w0 w1 : ℕ)
     → WroteSoFar A s before now h summary held_old held_new w0 w1 → HasNone now → WroteAll A s before h summary held_old held_new w0 w1
 wrote_all A s before now h summary held_old held_new w0 w1 t none = record {
-  replies = t.replies;
+  answers = t.answers;
   state = t.state;
-  ran = subst (λ xs. RunBy A s xs t.replies t.state) (sym (t.parts ∙ ap (λ xs. t.done ++ xs) (asked_none now none) ∙ append-nil t.done)) t.ran;
+  ran = subst (λ xs. RunBy A s xs t.answers t.state) (sym (t.parts ∙ ap (λ xs. t.done ++ xs) (asked_none now none) ∙ append-nil t.done)) t.ran;
   stands = t.stands;
   written = t.written;
   counts = t.counts;
@@ -166,11 +167,11 @@ wrote_all A s before now h summary held_old held_new w0 w1 t none = record {
 pub flushed : (A : Answering) (s : State) (stream : Stream) (h : Standing) (summary : Summary) (held_old held_now held_new : Option (List ℕ)) (w0 w1 w2 : ℕ)
     → WroteAll A s stream h summary held_old held_now w0 w1 → Appends held_now [] held_new → w2 ≡ w1 → WroteAll A s stream h summary held_old held_new w0 w2
 flushed A s stream h summary held_old held_now held_new w0 w1 w2 t a e = record {
-  replies = t.replies;
+  answers = t.answers;
   state = t.state;
   ran = t.ran;
   stands = t.stands;
-  written = subst (λ x. Appends held_old x held_new) (append-nil (replies_text t.replies)) (appends_on held_old held_now held_new (replies_text t.replies) [] t.written a);
+  written = subst (λ x. Appends held_old x held_new) (append-nil (answers_text t.answers)) (appends_on held_old held_now held_new (answers_text t.answers) [] t.written a);
   counts = t.counts;
   steady = e ∙ t.steady;
 }
@@ -182,13 +183,13 @@ unflushed A s stream h summary held_old held_now held_new w0 w1 w2 t a f = recor
   done = asked stream;
   rest = [];
   parts = sym (append-nil (asked stream));
-  replies = t.replies;
+  answers = t.answers;
   state = t.state;
   ran = t.ran;
   stands = t.stands;
-  text = replies_text t.replies;
+  text = answers_text t.answers;
   reached = inr (refl, refl);
-  written = subst (λ x. Appends held_old x held_new) (append-nil (replies_text t.replies)) (appends_on held_old held_now held_new (replies_text t.replies) [] t.written a);
+  written = subst (λ x. Appends held_old x held_new) (append-nil (answers_text t.answers)) (appends_on held_old held_now held_new (answers_text t.answers) [] t.written a);
   cause = subst (λ n. HasFailed n w2) t.steady f;
 }
 
@@ -202,32 +203,32 @@ takes_bytes old new p g = by_used g.used g.parts
     by_used [] e = let same = ap length (sym g.given ∙ ap statements e) in omega (arith, same)
     by_used (b ∷ bs) e = let same = ap length e ∙ ap suc (length-append bs new.left) in omega (arith, same)
 
-pub fewer_left : (A : Answering) (old new : Stream) (reply : code.Reply) (h after : Standing) → AnswersFirst A old new reply h after → length new.left < length old.left
-fewer_left A old new reply h after k = takes_bytes old new k.piece k.given
+pub fewer_left : (A : Answering) (old new : Stream) (answer : code.Answer) (h after : Standing) → AnswersFirst A old new answer h after → length new.left < length old.left
+fewer_left A old new answer h after k = takes_bytes old new k.piece k.given
 
 -- the counts stay within the bytes
-pub room_left : (A : Answering) (old new : Stream) (reply : code.Reply) (h after : Standing) (summary : Summary) → AnswersFirst A old new reply h after → summary.statements + length old.left ≤ most_bytes
-    → (count_of summary (reply_of reply)).statements + length new.left ≤ most_bytes
-room_left A old new reply h after summary k e = let less = fewer_left A old new reply h after k in omega (arith, less, e)
+pub room_left : (A : Answering) (old new : Stream) (answer : code.Answer) (h after : Standing) (summary : Summary) → AnswersFirst A old new answer h after → summary.statements + length old.left ≤ most_bytes
+    → (count_of summary (answer_of answer)).statements + length new.left ≤ most_bytes
+room_left A old new answer h after summary k e = let less = fewer_left A old new answer h after k in omega (arith, less, e)
 
-pub still_fewer : (summary : Summary) (reply : Reply) → summary.refused ≤ summary.statements → (count_of summary reply).refused ≤ (count_of summary reply).statements
-still_fewer summary reply e = by_case (is_refused reply)
+pub still_fewer : (summary : Summary) (answer : Answer) → summary.refused ≤ summary.statements → (count_of summary answer).refused ≤ (count_of summary answer).statements
+still_fewer summary answer e = by_case (is_refused answer)
   where
     by_case : (b : Bool) → (if b then suc summary.refused else summary.refused) ≤ suc summary.statements
     by_case true = omega (arith, e)
     by_case false = omega (arith, e)
 
 -- no next statement
-pub none_taken : (A : Answering) (o : Option code.Reply) (old new : Stream) (h after : Standing) → AnswersNext A o old new h after → ((x : code.Reply) → o ≡ Some x → ⊥) → HasNone old × (new ≡ old) × ((s : State) → h s → after s)
+pub none_taken : (A : Answering) (o : Option code.Answer) (old new : Stream) (h after : Standing) → AnswersNext A o old new h after → ((x : code.Answer) → o ≡ Some x → ⊥) → HasNone old × (new ≡ old) × ((s : State) → h s → after s)
 none_taken A None old new h after t n = t
 none_taken A (Some r) old new h after t n = absurd (n r refl)
 
 -- the end of the loop
-pub wrote_end : (A : Answering) (s : State) (before now after : Stream) (h k : Standing) (summary : Summary) (o : Option code.Reply) (held_old held_new : Option (List ℕ)) (w0 w1 : ℕ)
-    → AnswersNext A o now after h k → ((x : code.Reply) → o ≡ Some x → ⊥) → WroteSoFar A s before now h summary held_old held_new w0 w1 → WroteAll A s before k summary held_old held_new w0 w1
+pub wrote_end : (A : Answering) (s : State) (before now after : Stream) (h k : Standing) (summary : Summary) (o : Option code.Answer) (held_old held_new : Option (List ℕ)) (w0 w1 : ℕ)
+    → AnswersNext A o now after h k → ((x : code.Answer) → o ≡ Some x → ⊥) → WroteSoFar A s before now h summary held_old held_new w0 w1 → WroteAll A s before k summary held_old held_new w0 w1
 wrote_end A s before now after h k summary o held_old held_new w0 w1 t n wrote =
     let w = none_taken A o now after h k t n in let all = wrote_all A s before now h summary held_old held_new w0 w1 wrote w.0 in record {
-      replies = all.replies;
+      answers = all.answers;
       state = all.state;
       ran = all.ran;
       stands = w.2 all.state all.stands;
@@ -250,12 +251,12 @@ turn_first A stream h summary held writes a b e = record {
   fewer = omega (arith, a, b);
 }
 
-pub turn_more : (A : Answering) (start : Standing) (before now after : Stream) (h new : Standing) (summary counted : Summary) (reply : code.Reply) (held_old held_now held_new : Option (List ℕ)) (w0 w1 w2 : ℕ)
-    → Turn A start before now h summary held_old held_now w0 w1 → AnswersFirst A now after reply h new → counted ≡ count_of summary (reply_of reply)
-    → Appends held_now (reply_text (reply_of reply)) held_new → w2 ≡ w1 → Turn A start before after new counted held_old held_new w0 w2
-turn_more A start before now after h new summary counted reply held_old held_now held_new w0 w1 w2 t k c a e =
+pub turn_more : (A : Answering) (start : Standing) (before now after : Stream) (h new : Standing) (summary counted : Summary) (answer : code.Answer) (held_old held_now held_new : Option (List ℕ)) (w0 w1 w2 : ℕ)
+    → Turn A start before now h summary held_old held_now w0 w1 → AnswersFirst A now after answer h new → counted ≡ count_of summary (answer_of answer)
+    → Appends held_now (answer_text (answer_of answer)) held_new → w2 ≡ w1 → Turn A start before after new counted held_old held_new w0 w2
+turn_more A start before now after h new summary counted answer held_old held_now held_new w0 w1 w2 t k c a e =
     subst (λ x. Turn A start before after new x held_old held_new w0 w2) (sym c) (record {
-      wrote = λ s st. wrote_more A s before now after h new summary reply held_old held_now held_new w0 w1 w2 (t.wrote s st) k a e;
-      room = room_left A now after reply h new summary k t.room;
-      fewer = still_fewer summary (reply_of reply) t.fewer;
+      wrote = λ s st. wrote_more A s before now after h new summary answer held_old held_now held_new w0 w1 w2 (t.wrote s st) k a e;
+      room = room_left A now after answer h new summary k t.room;
+      fewer = still_fewer summary (answer_of answer) t.fewer;
     })

@@ -1,20 +1,21 @@
 -- The faults that a piece of a script has whatever its statements may be.
 use Rattle.std.specs.Prelude.{◌≡◌, ◌⊎◌, ◌≤◌, ◌<◌, ℕ, List, length, IsFalse, IsUtf8}
-use Rattle.tql_spec.specs.Refusal.{Refusal, E11, E12, E13}
+use Rattle.tql_spec.specs.Refusal.{Refusal, NotUtf8, UnfinishedStatement, StatementTooLong}
 use Rattle.tql_spec.specs.Machine.{State, Refused}
+use Rattle.tql_spec.specs.Answer.{Replied}
 use Rattle.tql_spec.specs.Script.{Piece}
 use Rattle.tql_spec.specs.Run.{Answering}
 
 -- the first fault of a text that is not too long and that no `;` ends
 abbrev pub IsCutFault : List ℕ → Refusal → Type 0
-IsCutFault text e = ((e ≡ E11) × ¬ IsUtf8 text) ⊎ ((e ≡ E12) × IsUtf8 text)
+IsCutFault text e = ((e ≡ NotUtf8) × ¬ IsUtf8 text) ⊎ ((e ≡ UnfinishedStatement) × IsUtf8 text)
 
 -- the first fault of a piece that is seen at once: too many bytes, or no `;` ends it
 abbrev pub HasFault : Piece → Refusal → Type 0
 HasFault p e =
-    ((e ≡ E13) × (1_048_576 < length p.text))
+    ((e ≡ StatementTooLong) × (1_048_576 < length p.text))
     ⊎ ((length p.text ≤ 1_048_576) × IsFalse p.finished × IsCutFault p.text e)
 
 -- the law: a piece with such a fault is refused for it, and the state stays
 abbrev pub RefusesFaults : Answering → Type 0
-RefusesFaults A = (s : State) (p : Piece) (e : Refusal) → HasFault p e → A s p (Refused e) s
+RefusesFaults A = (s : State) (p : Piece) (e : Refusal) → HasFault p e → A s p (Replied (Refused e)) s

@@ -2,9 +2,10 @@
 use Rattle.std.specs.Prelude.{◌≡◌, ◌⊎◌, ◌≤◌, ◌-◌, ◌^◌, ◌==◌, ◌&&◌, not, ℕ, suc, if◌then◌else◌, Bool, true, false}
 use Rattle.std.specs.Prelude.{List, [], ◌∷◌, ◌++◌, length, filter, count_by, Option, Some, Result, Ok, Err}
 use Rattle.std.specs.Prelude.{IsTrue, IsFalse, MatchBool}
-use Rattle.tql_spec.specs.Machine.{State, Reply, Done, Table, Refused}
+use Rattle.tql_spec.specs.Machine.{State, Done, Table, Refused}
+use Rattle.tql_spec.specs.Answer.{Answer, Replied, Accepted}
 use Rattle.tql_spec.specs.Script.{Piece, statements}
-use Rattle.tql_spec.specs.Text.{reply_text, replies_text}
+use Rattle.tql_spec.specs.Text.{answer_text, answers_text}
 use Rattle.tql_spec.specs.Run.{Answering, RunBy}
 use Rattle.tql_result.specs.Devices.{Appends, HasFailed}
 use Rattle.tql_run.specs.Responding.{Standing}
@@ -87,24 +88,25 @@ sink_change written failures flushed old new = record {
   flushed = flushed new;
 }
 
--- ---- replies
+-- ---- answers
 
--- whether a reply is a refusal
-abbrev pub is_refused : Reply → Bool
-is_refused (Refused e) = true
-is_refused (Done v n) = false
-is_refused (Table hs rows) = false
+-- whether an answer is a refusal
+abbrev pub is_refused : Answer → Bool
+is_refused (Replied (Refused e)) = true
+is_refused (Replied (Done v n)) = false
+is_refused (Replied (Table hs rows)) = false
+is_refused Accepted = false
 
--- the summary counts the replies, and the refused among them
-pub record Counts (summary : Summary) (replies : List Reply) : Type 0 where
-  pub statements : summary.statements ≡ length replies
-  pub refused : summary.refused ≡ count_by is_refused replies
+-- the summary counts the answers, and the refusals among them
+pub record Counts (summary : Summary) (answers : List Answer) : Type 0 where
+  pub statements : summary.statements ≡ length answers
+  pub refused : summary.refused ≡ count_by is_refused answers
 
--- the counts with one more reply
-abbrev pub count_of : Summary → Reply → Summary
-count_of summary reply = record {
+-- the counts with one more answer
+abbrev pub count_of : Summary → Answer → Summary
+count_of summary answer = record {
   statements = suc summary.statements;
-  refused = if is_refused reply then suc summary.refused else summary.refused;
+  refused = if is_refused answer then suc summary.refused else summary.refused;
 }
 
 -- the statements that a run answers: all of a script that was read to its end, else those that are whole in it
@@ -120,12 +122,12 @@ pub record RunsWhole (A : Answering) (s : State) (after : Standing) (source : So
   pub script : List ℕ
   pub given : Gives source.left_old script source.left_new
   pub ended : MeetsEnd source
-  pub replies : List Reply
+  pub answers : List Answer
   pub state : State
-  pub ran : RunBy A s (answered true script) replies state
+  pub ran : RunBy A s (answered true script) answers state
   pub stands : after state
-  pub written : Appends sink.held_old (replies_text replies) sink.held_new
-  pub counts : Counts summary replies
+  pub written : Appends sink.held_old (answers_text answers) sink.held_new
+  pub counts : Counts summary answers
   pub writes : sink.failures_new ≡ sink.failures_old
   pub flushed : IsTrue sink.flushed
 
@@ -136,25 +138,25 @@ pub record StopsReading (A : Answering) (s : State) (after : Standing) (source :
   pub script : List ℕ
   pub given : Gives source.left_old script source.left_new
   pub cut : MissesEnd source script
-  pub replies : List Reply
+  pub answers : List Answer
   pub state : State
-  pub ran : RunBy A s (answered false script) replies state
+  pub ran : RunBy A s (answered false script) answers state
   pub stands : after state
-  pub written : Appends sink.held_old (replies_text replies) sink.held_new
+  pub written : Appends sink.held_old (answers_text answers) sink.held_new
   pub writes : sink.failures_new ≡ sink.failures_old
   pub flushed : IsTrue sink.flushed
 
--- what was written of the replies: all but the last of them whole, and a beginning of the last
-pub record CutsLast (replies : List Reply) (text : List ℕ) : Type 0 where
-  pub earlier : List Reply
-  pub last : Reply
-  pub all : replies ≡ earlier ++ last ∷ []
+-- what was written of the answers: all but the last of them whole, and a beginning of the last
+pub record CutsLast (answers : List Answer) (text : List ℕ) : Type 0 where
+  pub earlier : List Answer
+  pub last : Answer
+  pub all : answers ≡ earlier ++ last ∷ []
   pub front : List ℕ
   pub back : List ℕ
-  pub parts : reply_text last ≡ front ++ back
-  pub is : text ≡ replies_text earlier ++ front
+  pub parts : answer_text last ≡ front ++ back
+  pub is : text ≡ answers_text earlier ++ front
 
--- the sink failed, at a reply: the statement of that reply is the last that ran; or at the flush: all of them ran.
+-- the sink failed, at an answer: the statement of that answer is the last that ran; or at the flush: all of them ran.
 -- The statements are those of the whole script where its end was met, and else those that are whole in what was read
 pub record StopsWriting (A : Answering) (s : State) (after : Standing) (source : SourceChange) (sink : SinkChange)
     : Type 0 where
@@ -164,12 +166,12 @@ pub record StopsWriting (A : Answering) (s : State) (after : Standing) (source :
   pub done : List Piece
   pub rest : List Piece
   pub parts : answered source.ended script ≡ done ++ rest
-  pub replies : List Reply
+  pub answers : List Answer
   pub state : State
-  pub ran : RunBy A s done replies state
+  pub ran : RunBy A s done answers state
   pub stands : after state
   pub text : List ℕ
-  pub reached : CutsLast replies text ⊎ ((rest ≡ []) × (text ≡ replies_text replies))
+  pub reached : CutsLast answers text ⊎ ((rest ≡ []) × (text ≡ answers_text answers))
   pub written : Appends sink.held_old text sink.held_new
   pub cause : HasFailed sink.failures_old sink.failures_new
 
@@ -179,7 +181,7 @@ pub record NothingRun (A : Answering) (s : State) (after : Standing) (sink : Sin
   pub written : Appends sink.held_old [] sink.held_new
   pub writes : sink.failures_new ≡ sink.failures_old
 
--- how a run went by its result: the manner of its replies, the state that the responder stood for, and what it
+-- how a run went by its result: the manner of its answers, the state that the responder stood for, and what it
 -- stands for after it
 abbrev pub Runs : Answering → State → Standing → SourceChange → SinkChange → Result Summary Fault → Type 0
 Runs A s after source sink (Ok summary) = RunsWhole A s after source sink summary

@@ -1,4 +1,4 @@
-// Runs of scripts: statements in, replies out, whatever answers them.
+// Runs of scripts: statements in, answers out, whatever answers them.
 #![tactic(auto)]
 
 pub mod device;
@@ -6,4 +6,5 @@ mod piece;
 pub mod responder;
 pub mod run;
 mod script;
+pub mod slice_source;
 pub mod std_source;

@@ -3,12 +3,13 @@ ghost use Rattle.tql_spec.specs.Machine.{State};
 ghost use Rattle.tql_spec.specs.Script as script;
 ghost use Rattle.tql_lex.specs.Pieces.{StandsFor};
 ghost use Rattle.tql_value.specs.Refusals.{refusal_of};
-ghost use Rattle.tql_result.specs.Replies.{reply_of, IsPrintableReply};
+ghost use Rattle.tql_result.specs.Replies.{answer_of, IsPrintableAnswer};
 ghost use Rattle.tql_run.specs.Pieces.{IsCutFault};
 ghost use Rattle.tql_run.specs.Responding.{Answered};
 
 use crate::responder::Responder;
 use tql_lex::splitter::Piece;
+use tql_result::answer::Answer;
 use tql_result::reply::Reply;
 use tql_value::refusal::Refusal;
 
@@ -23,15 +24,15 @@ fn cut_fault(text: &[u8]) -> Refusal
 }
 
 /// Answers the next piece of a script: a finished text as the responder does, and any other is refused.
-pub fn answer_piece<R: Responder>(responder: &mut R, piece: Piece<'_>) -> Reply
+pub fn answer_piece<R: Responder>(responder: &mut R, piece: Piece<'_>) -> Answer
     ensures answered { (s : State) (p : script.Piece) → R.stands responder.old s → StandsFor piece.entry p
-        → Answered R.answering s p (reply_of result) (R.stands responder.new) }
-    ensures printable { IsPrintableReply (reply_of result) }
+        → Answered R.answering s p (answer_of result) (R.stands responder.new) }
+    ensures printable { IsPrintableAnswer (answer_of result) }
 {
     match piece {
         Piece::Text(text) => responder.answer(text),
-        Piece::TooLong => Reply::Refused(Refusal::StatementTooLong),
-        Piece::NoMemory => Reply::Refused(Refusal::OutOfMemory),
-        Piece::Unfinished(text) => Reply::Refused(cut_fault(text)),
+        Piece::TooLong => Answer::Replied(Reply::Refused(Refusal::StatementTooLong)),
+        Piece::NoMemory => Answer::Replied(Reply::Refused(Refusal::OutOfMemory)),
+        Piece::Unfinished(text) => Answer::Replied(Reply::Refused(cut_fault(text))),
     }
 }

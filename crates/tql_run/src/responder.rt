@@ -1,30 +1,30 @@
 //! What answers the statements of a script.
 ghost use Rattle.tql_spec.specs.Machine.{State};
 ghost use Rattle.tql_spec.specs.Run.{Answering, finished};
-ghost use Rattle.tql_result.specs.Replies.{reply_of, IsPrintableReply};
+ghost use Rattle.tql_result.specs.Replies.{answer_of, IsPrintableAnswer};
 ghost use Rattle.tql_run.specs.Pieces.{RefusesFaults};
 ghost use Rattle.tql_run.specs.Responding.{Answered, Standing};
 
 use tql_memory::Memory;
-use tql_result::reply::Reply;
+use tql_result::answer::Answer;
 
-/// What answers the statements of a script, one after another. It may stand for states of the machine, and its replies
-/// are of one manner: they are the machine's, or say whether a statement could be answered.
+/// What answers the statements of a script, one after another. It may stand for states of the machine, and its
+/// answers are of one manner: they are the machine's replies, or tell which statements are taken.
 pub trait Responder {
     /// The states of the machine that it stands for.
     ghost stands: { Self → Standing };
 
-    /// The manner of its replies.
+    /// The manner of its answers.
     ghost answering: { Answering };
 
     /// The memory that a run over it grows in.
     fn memory(&self) -> Memory;
 
     /// Answers one finished statement by its text, without its `;`. Any bytes are taken.
-    fn answer(&mut self, text: &[u8]) -> Reply
+    fn answer(&mut self, text: &[u8]) -> Answer
         ensures answered { (s : State) → stands self.old s
-            → Answered answering s (finished text.now) (reply_of result) (stands self.new) }
-        ensures printable { IsPrintableReply (reply_of result) };
+            → Answered answering s (finished text.now) (answer_of result) (stands self.new) }
+        ensures printable { IsPrintableAnswer (answer_of result) };
 
     /// A statement that is too long, or that no `;` ends, is refused.
     ghost refuses: { RefusesFaults answering };

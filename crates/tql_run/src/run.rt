@@ -1,17 +1,17 @@
 //! A whole run of a script.
 ghost use Rattle.std.specs.Prelude.{◌≡◌, ◌≤◌, ◌<◌, length, IsTrue, OnOk};
 ghost use Rattle.tql_spec.specs.Machine.{State};
-ghost use Rattle.tql_result.specs.Replies.{reply_of};
+ghost use Rattle.tql_result.specs.Replies.{answer_of};
 ghost use Rattle.tql_run.specs.Runs.{Runs, source_change, sink_change, count_of, most_bytes};
-ghost use Rattle.tql_run.specs.Writing.{AnswersNext, WritesReplies};
+ghost use Rattle.tql_run.specs.Writing.{AnswersNext, WritesAnswers};
 
 use crate::device::Source;
 use crate::piece::answer_piece;
 use crate::responder::Responder;
 use crate::script::{End, read_script};
 use tql_lex::splitter::Splitter;
+use tql_result::answer::{Answer, write_answer};
 use tql_result::device::DeviceFault;
-use tql_result::print::write_reply;
 use tql_result::reply::Reply;
 use tql_result::sink::Sink;
 
@@ -33,15 +33,15 @@ pub enum Fault {
     Memory,
 }
 
-/// The counts with one more reply.
-fn counted(summary: Summary, reply: &Reply) -> Summary
+/// The counts with one more answer.
+fn counted(summary: Summary, answer: &Answer) -> Summary
     requires room { summary.statements < most_bytes }
     requires fewer { summary.refused ≤ summary.statements }
-    ensures { result ≡ count_of summary (reply_of reply.now) }
+    ensures { result ≡ count_of summary (answer_of answer.now) }
 {
     let statements = summary.statements + 1;
-    match reply {
-        Reply::Refused(_) => Summary {
+    match answer {
+        Answer::Replied(Reply::Refused(_)) => Summary {
             statements,
             refused: summary.refused + 1,
         },
@@ -53,7 +53,7 @@ fn counted(summary: Summary, reply: &Reply) -> Summary
 }
 
 /// Takes the next statement and answers it; None where no statement is left, and then nothing changes.
-fn answer_next<R: Responder>(responder: &mut R, splitter: &mut Splitter) -> Option<Reply>
+fn answer_next<R: Responder>(responder: &mut R, splitter: &mut Splitter) -> Option<Answer>
     ensures { AnswersNext R.answering result splitter.old splitter.new
         (R.stands responder.old) (R.stands responder.new) }
 {
@@ -63,43 +63,43 @@ fn answer_next<R: Responder>(responder: &mut R, splitter: &mut Splitter) -> Opti
     }
 }
 
-/// Answers the statements that are left, and writes their replies.
-fn write_replies<R: Responder, O: Sink>(
+/// Answers the statements that are left, and writes their answers.
+fn write_answers<R: Responder, O: Sink>(
     responder: &mut R,
     splitter: &mut Splitter,
     sink: &mut O,
 ) -> Result<Summary, DeviceFault>
     requires { length splitter.old.left ≤ most_bytes }
     ensures { (s : State) → R.stands responder.old s
-        → WritesReplies R.answering result s splitter.old (R.stands responder.new)
+        → WritesAnswers R.answering result s splitter.old (R.stands responder.new)
         (O.written sink.old) (O.written sink.new) (O.failures sink.old) (O.failures sink.new) }
 {
     let mut summary = Summary {
         statements: 0,
         refused: 0,
     };
-    while let Some(reply) = answer_next(responder, splitter) {
-        match write_reply(sink, &reply) {
-            Ok(()) => summary = counted(summary, &reply),
+    while let Some(answer) = answer_next(responder, splitter) {
+        match write_answer(sink, &answer) {
+            Ok(()) => summary = counted(summary, &answer),
             Err(fault) => return Err(fault),
         }
     }
     Ok(summary)
 }
 
-/// Answers the statements that are left, writes their replies, and passes on what the sink may have kept back.
+/// Answers the statements that are left, writes their answers, and passes on what the sink may have kept back.
 fn answer_all<R: Responder, O: Sink>(
     responder: &mut R,
     splitter: &mut Splitter,
     sink: &mut O,
 ) -> Result<Summary, DeviceFault>
     requires { length splitter.old.left ≤ most_bytes }
-    ensures replies { (s : State) → R.stands responder.old s
-        → WritesReplies R.answering result s splitter.old (R.stands responder.new)
+    ensures answers { (s : State) → R.stands responder.old s
+        → WritesAnswers R.answering result s splitter.old (R.stands responder.new)
         (O.written sink.old) (O.written sink.new) (O.failures sink.old) (O.failures sink.new) }
     ensures flushed { OnOk result (IsTrue (O.flushed sink.new)) }
 {
-    match write_replies(responder, splitter, sink) {
+    match write_answers(responder, splitter, sink) {
         Ok(summary) => match sink.flush() {
             Ok(()) => Ok(summary),
             Err(fault) => Err(fault),
@@ -108,9 +108,9 @@ fn answer_all<R: Responder, O: Sink>(
     }
 }
 
-/// Reads a script from the source to its end, then answers its statements one after another, writes each reply to the
+/// Reads a script from the source to its end, then answers its statements one after another, writes each answer to the
 /// sink, and flushes it. Where the source fails, the statements that came whole before that are answered, and the run
-/// says `Read`; where the sink fails, no statement runs behind the one whose reply it did not take, and the run says
+/// says `Read`; where the sink fails, no statement runs behind the one whose answer it did not take, and the run says
 /// `Write`. A refused statement does not stop the run.
 pub fn run<R: Responder, I: Source, O: Sink>(
     responder: &mut R,

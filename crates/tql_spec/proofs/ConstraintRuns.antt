@@ -3,7 +3,7 @@ use Rattle.std.proofs.Common.{◌≡◌, refl, ap, ◌∙◌, ℕ, Bool, true, f
 use Rattle.std.specs.Prelude.{not, remove, ℤ, Option, Some, None}
 use Rattle.std.specs.List.{AllByRecursion}
 use Rattle.std.proofs.Math.ListN.{length-set}
-use Rattle.tql_spec.specs.Refusal.{E24, E35, E36, fault_if}
+use Rattle.tql_spec.specs.Refusal.{TableIsReferenced, DuplicateKey, ReferenceNotMet, fault_if}
 use Rattle.tql_spec.specs.Definition.{Name, TableDef, place_of}
 use Rattle.tql_spec.specs.History.{Copy, Entry}
 use Rattle.tql_spec.specs.Constraint.{keys_hold, references_hold}
@@ -29,11 +29,11 @@ dropped : (defs : List TableDef) (st : Statement) → (bind defs st).faults ≡ 
 dropped defs (DropTree n) e t q = by_place (place_of n defs) refl e q
   where
     by_place : (o : Option ℕ) → place_of n defs ≡ o
-        → (or_no_table o).faults ++ fault_if (is_referenced n defs) E24 ≡ []
+        → (or_no_table o).faults ++ fault_if (is_referenced n defs) TableIsReferenced ≡ []
         → DropTable (or_no_table o).value ≡ DropTable t → IsDropped defs t
     by_place None p f v = absurd (cc)
     by_place (Some k) p f v =
-        record { name = n; there = p ∙ ap (λ i. Some i) (cc); free = no_fault (is_referenced n defs) E24 f }
+        record { name = n; there = p ∙ ap (λ i. Some i) (cc); free = no_fault (is_referenced n defs) TableIsReferenced f }
 dropped defs (CreateTree n x es versioned) e t q = absurd (cc)
 dropped defs (InsertValues n ns x ts) e t q = absurd (cc)
 dropped defs (InsertSelect n ns s) e t q = absurd (cc)
@@ -72,13 +72,13 @@ not_not false e = cc
 changed_holds : (defs : List TableDef) (copy : Copy) → length copy ≡ length defs → constraint_faults defs copy ≡ []
     → CopyHolds defs copy
 changed_holds defs copy n e =
-    let first = no_left (fault_if (not (keys_hold defs copy)) E35) (fault_if (not (references_hold defs copy)) E36) e in
-    let second = no_right (fault_if (not (keys_hold defs copy)) E35)
-    (fault_if (not (references_hold defs copy)) E36) e in
+    let first = no_left (fault_if (not (keys_hold defs copy)) DuplicateKey) (fault_if (not (references_hold defs copy)) ReferenceNotMet) e in
+    let second = no_right (fault_if (not (keys_hold defs copy)) DuplicateKey)
+    (fault_if (not (references_hold defs copy)) ReferenceNotMet) e in
     record {
       as_many = n;
-      keys = not_not (keys_hold defs copy) (no_fault (not (keys_hold defs copy)) E35 first);
-      references = not_not (references_hold defs copy) (no_fault (not (references_hold defs copy)) E36 second);
+      keys = not_not (keys_hold defs copy) (no_fault (not (keys_hold defs copy)) DuplicateKey first);
+      references = not_not (references_hold defs copy) (no_fault (not (references_hold defs copy)) ReferenceNotMet second);
     }
 
 -- ---- statements and runs

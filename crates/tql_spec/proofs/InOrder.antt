@@ -3,7 +3,7 @@ use Rattle.std.proofs.Common.{◌≡◌, refl, sym, ap, ◌∙◌, true, false, 
 use Rattle.std.specs.Prelude.{Bool, ℤ, pos, ◌+ℤ◌, ◌<ℤ◌, ◌≤ℤ◌, int_le, Option, Some, None}
 use Rattle.std.proofs.lemmas.Int.{ints}
 use Rattle.tql_spec.specs.Calendar.{high}
-use Rattle.tql_spec.specs.Refusal.{Refusal, E41, fault_if}
+use Rattle.tql_spec.specs.Refusal.{Refusal, MomentNotAllowed, fault_if}
 use Rattle.tql_spec.specs.Definition.{TableDef}
 use Rattle.tql_spec.specs.History.{Copy, Entry, FallingFrom, Falling}
 use Rattle.tql_spec.specs.Machine.{State, Bound, CreateTable, DropTable, SetClock, Start, Commit, Rollback, Alter, Ask, manner_of, state_faults, effect, is_not_later, committed, new_state}
@@ -90,10 +90,10 @@ effect_in_order defs history next None (DropTable t) e o =
     closed _ _ next (falls_in_each _ high history o.falling) (falls_in_each _ next history o.below_clock)
 effect_in_order defs history next (Some w) (DropTable t) e o = absurd (cc)
 effect_in_order defs history next None (SetClock m) e o =
-    closed defs history m o.falling (falls_later next m history o.below_clock (no_fault (is_not_later m history) E41 e))
+    closed defs history m o.falling (falls_later next m history o.below_clock (no_fault (is_not_later m history) MomentNotAllowed e))
 effect_in_order defs history next (Some w) (SetClock m) e o = absurd (cc)
 effect_in_order defs history next None Start e o =
-    opened_at defs history next _ (before_end next (no_fault (int_le high next) E41 e)) o.below_clock
+    opened_at defs history next _ (before_end next (no_fault (int_le high next) MomentNotAllowed e)) o.below_clock
 effect_in_order defs history next (Some w) Start e o = absurd (cc)
 effect_in_order defs history next None Commit e o = absurd (cc)
 effect_in_order defs history next (Some w) Commit e o = just_after defs history next w o.falling.0 o.falling.1
@@ -103,7 +103,7 @@ effect_in_order defs history next (Some w) Rollback e o =
     (falls_below w.moment high history (omega (arith, ints)) o.falling.1) o.below_clock
 effect_in_order defs history next None (Alter c) e o =
     altered_keeps IsInOrder (state defs history next None) c o
-    (λ q. just_after defs history next _ (before_end next (no_fault (int_le high next) E41 e)) o.below_clock)
+    (λ q. just_after defs history next _ (before_end next (no_fault (int_le high next) MomentNotAllowed e)) o.below_clock)
 effect_in_order defs history next (Some w) (Alter c) e o =
     altered_keeps IsInOrder (state defs history next (Some w)) c o
     (λ q. still_open defs history next w (changed_copy (state defs history next (Some w)) c) o)

@@ -3,6 +3,7 @@ mod Rows
 mod Laws
 mod Tests
 mod Predicates
+mod SafeConditions
 mod Coverage
 pub mod Bags
 pub mod Members

@@ -1,7 +1,7 @@
 -- Where a token list spells one statement at most, a piece has one sense, so that runs agree.
 use Rattle.std.proofs.Common.{◌≡◌, ◌<◌, ◌≤◌, refl, sym, ap, subst, ◌∙◌, Bool, true, false, List, [], ◌∷◌, length, inl, inr, arith}
 use Rattle.std.specs.Prelude.{◌⊎◌, IsTrue, IsFalse, IsUtf8}
-use Rattle.tql_spec.specs.Refusal.{E01, E10, E11, E12, E13, E14, E15}
+use Rattle.tql_spec.specs.Refusal.{OutOfMemory, NotAStatement, NotUtf8, UnfinishedStatement, StatementTooLong, NestedTooDeep, TooManyColumnsOrTables}
 use Rattle.tql_spec.specs.Machine.{State, Reply, Refused}
 use Rattle.tql_spec.specs.Script.{Piece}
 use Rattle.tql_spec.specs.Token.{Token, depth}
@@ -32,7 +32,7 @@ never_both false e f = cc
 module _ (L : Language) (once : IsSpeltOnce L) (p : Piece) where
   -- the faults of a piece, one behind another
   abbrev Wide : Statement → Sense → Type 0
-  Wide s a = (IsFalse (is_too_wide s) × (a ≡ Says s)) ⊎ (IsTrue (is_too_wide s) × (a ≡ Faulty E15))
+  Wide s a = (IsFalse (is_too_wide s) × (a ≡ Says s)) ⊎ (IsTrue (is_too_wide s) × (a ≡ Faulty TooManyColumnsOrTables))
 
   abbrev Spells : Sense → Type 0
   Spells a = (s : Statement) × IsTextOf L p.text s × Wide s a
@@ -41,19 +41,19 @@ module _ (L : Language) (once : IsSpeltOnce L) (p : Piece) where
   NoText = (s : Statement) → IsTextOf L p.text s → ⊥
 
   abbrev Shallow : Sense → Type 0
-  Shallow a = (NoText × (a ≡ Faulty E10)) ⊎ (¬ NoText × Spells a)
+  Shallow a = (NoText × (a ≡ Faulty NotAStatement)) ⊎ (¬ NoText × Spells a)
 
   abbrev Ended : Sense → Type 0
-  Ended a = (IsDeep p.text × (a ≡ Faulty E14)) ⊎ (¬ IsDeep p.text × Shallow a)
+  Ended a = (IsDeep p.text × (a ≡ Faulty NestedTooDeep)) ⊎ (¬ IsDeep p.text × Shallow a)
 
   abbrev Read : Sense → Type 0
-  Read a = (IsFalse p.finished × (a ≡ Faulty E12)) ⊎ (IsTrue p.finished × Ended a)
+  Read a = (IsFalse p.finished × (a ≡ Faulty UnfinishedStatement)) ⊎ (IsTrue p.finished × Ended a)
 
   abbrev Short : Sense → Type 0
-  Short a = (¬ IsUtf8 p.text × (a ≡ Faulty E11)) ⊎ (IsUtf8 p.text × Read a)
+  Short a = (¬ IsUtf8 p.text × (a ≡ Faulty NotUtf8)) ⊎ (IsUtf8 p.text × Read a)
 
   abbrev Graded : Sense → Type 0
-  Graded a = ((1_048_576 < length p.text) × (a ≡ Faulty E13)) ⊎ ((length p.text ≤ 1_048_576) × Short a)
+  Graded a = ((1_048_576 < length p.text) × (a ≡ Faulty StatementTooLong)) ⊎ ((length p.text ≤ 1_048_576) × Short a)
 
   whole : (a : Sense) → IsWhole p → Ended a → Graded a
   whole a w e = inr (w.short, inr (w.utf8, inr (w.finished, e)))
@@ -67,13 +67,13 @@ module _ (L : Language) (once : IsSpeltOnce L) (p : Piece) where
   graded : (a : Sense) → HasSense L p a → Graded a
   graded (Says s) (w, t, narrow) =
       whole (Says s) w (inr (not_deep s t, inr ((λ none. none s t), (s, t, inl (narrow, refl)))))
-  graded (Faulty E13) h = inl (h, refl)
-  graded (Faulty E11) (short, u) = inr (short, inl (u, refl))
-  graded (Faulty E12) (short, u, f) = inr (short, inr (u, inl (f, refl)))
-  graded (Faulty E14) (w, deep) = whole (Faulty E14) w (inl (deep, refl))
-  graded (Faulty E10) (w, shallow, none) = whole (Faulty E10) w (inr (shallow, inl (none, refl)))
-  graded (Faulty E15) (w, (s, t, wide)) =
-      whole (Faulty E15) w (inr (not_deep s t, inr ((λ none. none s t), (s, t, inr (wide, refl)))))
+  graded (Faulty StatementTooLong) h = inl (h, refl)
+  graded (Faulty NotUtf8) (short, u) = inr (short, inl (u, refl))
+  graded (Faulty UnfinishedStatement) (short, u, f) = inr (short, inr (u, inl (f, refl)))
+  graded (Faulty NestedTooDeep) (w, deep) = whole (Faulty NestedTooDeep) w (inl (deep, refl))
+  graded (Faulty NotAStatement) (w, shallow, none) = whole (Faulty NotAStatement) w (inr (shallow, inl (none, refl)))
+  graded (Faulty TooManyColumnsOrTables) (w, (s, t, wide)) =
+      whole (Faulty TooManyColumnsOrTables) w (inr (not_deep s t, inr ((λ none. none s t), (s, t, inr (wide, refl)))))
   graded (Faulty _) h = absurd h
 
   one_statement : (s t : Statement) → IsTextOf L p.text s → IsTextOf L p.text t → s ≡ t
@@ -90,11 +90,11 @@ module _ (L : Language) (once : IsSpeltOnce L) (p : Piece) where
 
   one_sense : (a b : Sense) → HasSense L p a → HasSense L p b → a ≡ b
   one_sense a b h k =
-      either_once (Faulty E13) Short (λ l m. omega arith)
-      (either_once (Faulty E11) Read (λ n u. n u)
-      (either_once (Faulty E12) Ended (never_both p.finished)
-      (either_once (Faulty E14) Shallow (λ d n. n d)
-      (either_once (Faulty E10) Spells (λ n m. m n) one_spelling))))
+      either_once (Faulty StatementTooLong) Short (λ l m. omega arith)
+      (either_once (Faulty NotUtf8) Read (λ n u. n u)
+      (either_once (Faulty UnfinishedStatement) Ended (never_both p.finished)
+      (either_once (Faulty NestedTooDeep) Shallow (λ d n. n d)
+      (either_once (Faulty NotAStatement) Spells (λ n m. m n) one_spelling))))
       a b (graded a h) (graded b k)
 
 -- the statements that run are spelt once where all are
@@ -107,7 +107,7 @@ senses_are_one once = (one_sense Runs (runs_once once), one_sense IsStatement on
 
 -- two answers that are not out of memory
 answers_agree : SpellsOnce → (old : State) (p : Piece) (r r' : Reply) (new new' : State) → Answers old p r new
-    → Answers old p r' new' → (r ≡ Refused E01 → ⊥) → (r' ≡ Refused E01 → ⊥)
+    → Answers old p r' new' → (r ≡ Refused OutOfMemory → ⊥) → (r' ≡ Refused OutOfMemory → ⊥)
     → ◌≡◌ {A = Reply × State} (r, new) (r', new')
 answers_agree once old p r r' new new' (inl (a, h, e)) (inl (b, k, f)) n m =
     e ∙ ap (respond_to old) ((senses_are_one once).0 p a b h k) ∙ sym f

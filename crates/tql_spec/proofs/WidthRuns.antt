@@ -6,7 +6,7 @@ use Rattle.std.proofs.Math.ListN.{get_or-append}
 use Rattle.tql_spec.specs.Words.{same_text}
 use Rattle.tql_spec.specs.Bag.{In}
 use Rattle.tql_spec.specs.Datum.{Moments, same_kind}
-use Rattle.tql_spec.specs.Refusal.{Refusal, E22, E23, fault_if}
+use Rattle.tql_spec.specs.Refusal.{Refusal, TypesDoNotFit, FormNotAllowedHere, fault_if}
 use Rattle.tql_spec.specs.Definition.{Name, TableDef, Stamped, no_table, table_at, next_place}
 use Rattle.tql_spec.specs.History.{Copy, Entry, rows_in}
 use Rattle.tql_spec.specs.Syntax.{Element, Statement, CreateTree, DropTree, InsertValues, InsertSelect, UpdateTree, DeleteTree, QueryTree, StartTree, CommitTree, RollbackTree, AtTree}
@@ -71,14 +71,14 @@ period_is_pair es p e =
     let s : Checked ℕ = column_number names p.start in
     let t : Checked ℕ = column_number names p.end in
     let kinds : List Refusal = fault_if
-    (not (same_kind (kind_in es s.value) Moments) || not (same_kind (kind_in es t.value) Moments)) E22 in
+    (not (same_kind (kind_in es s.value) Moments) || not (same_kind (kind_in es t.value) Moments)) TypesDoNotFit in
     let forms : List Refusal = fault_if
-    (same_text p.start p.end || not (has_number s.value (starts es)) || not (has_number t.value (stops es))) E23 in
+    (same_text p.start p.end || not (has_number s.value (starts es)) || not (has_number t.value (stops es))) FormNotAllowedHere in
     let second : t.faults ++ (kinds ++ (forms ++ [])) ≡ [] = no_right s.faults
     (t.faults ++ (kinds ++ (forms ++ []))) e in
     let third : kinds ++ (forms ++ []) ≡ [] = no_right t.faults (kinds ++ (forms ++ [])) second in
     let other : same_text p.start p.end ≡ false = first_false _ _ _
-    (no_fault _ E23 (no_left forms [] (no_right kinds (forms ++ []) third))) in
+    (no_fault _ FormNotAllowedHere (no_left forms [] (no_right kinds (forms ++ []) third))) in
     let a : IsAt p.start names s.value = number_found names p.start
     (no_left s.faults (t.faults ++ (kinds ++ (forms ++ []))) e) in
     let b : IsAt p.end names t.value = number_found names p.end (no_left t.faults (kinds ++ (forms ++ [])) second) in

@@ -5,7 +5,7 @@ use Rattle.tql_spec.specs.Words.{◌>>=◌, map_all}
 use Rattle.tql_spec.specs.Truth.{Truth, is_false}
 use Rattle.tql_spec.specs.Datum.{Datum, Null, Text, Row, characters, is_null}
 use Rattle.tql_spec.specs.Period.{Period, rises, share_a_point, before, inside, after, if_any}
-use Rattle.tql_spec.specs.Refusal.{Refusal, E30, E32, E33, E34, fault_if}
+use Rattle.tql_spec.specs.Refusal.{Refusal, ValueOutOfRange, NullNotAllowed, PeriodNotRising, CheckFailed, fault_if}
 use Rattle.tql_spec.specs.Expression.{Expr, Cond, eval, judge, passes}
 use Rattle.tql_spec.specs.Definition.{TableDef, Column, Application, Stamped, period_of, with_period, stamped, shown, cell}
 
@@ -25,13 +25,13 @@ is_too_long _ _ = false
 abbrev pub cell_faults : List Column → Row → List Refusal
 cell_faults [] row = []
 cell_faults (c ∷ cs) [] = []
-cell_faults (c ∷ cs) (v ∷ vs) = fault_if (is_too_long c.limit v) E30 ++ fault_if (c.required && is_null v) E32 ++ cell_faults cs vs
+cell_faults (c ∷ cs) (v ∷ vs) = fault_if (is_too_long c.limit v) ValueOutOfRange ++ fault_if (c.required && is_null v) NullNotAllowed ++ cell_faults cs vs
 
 -- an application period without null that does not rise
 abbrev pub period_faults_by : Option Application → TableDef → Row → List Refusal
 period_faults_by None d row = []
 period_faults_by (Some a) d row =
-    fault_if (not (is_null (cell row a.start)) && not (is_null (cell row a.end)) && not (rises (period_of d row))) E33
+    fault_if (not (is_null (cell row a.start)) && not (is_null (cell row a.end)) && not (rises (period_of d row))) PeriodNotRising
 
 -- the fault of a new row's application period
 abbrev pub period_faults : TableDef → Row → List Refusal
@@ -39,8 +39,8 @@ period_faults d row = period_faults_by d.application d row
 
 -- the fault of a CHECK: out of range, or false
 abbrev pub check_fault : Option Truth → List Refusal
-check_fault None = E30 ∷ []
-check_fault (Some t) = fault_if (is_false t) E34
+check_fault None = ValueOutOfRange ∷ []
+check_fault (Some t) = fault_if (is_false t) CheckFailed
 
 -- all that a new row can be refused for
 abbrev pub row_faults : TableDef → Row → List Refusal
@@ -56,7 +56,7 @@ pub record Outcome : Type 0 where
 
 -- a change with an evaluation out of range
 abbrev pub out_of_range : List Stamped → Outcome
-out_of_range rows = record { rows = rows; count = 0; faults = E30 ∷ [] }
+out_of_range rows = record { rows = rows; count = 0; faults = ValueOutOfRange ∷ [] }
 
 -- the row that has these cells in these columns, and null elsewhere
 abbrev pub filled : Row → List ℕ → List Datum → Row

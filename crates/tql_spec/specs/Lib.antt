@@ -13,6 +13,7 @@ pub mod Query
 pub mod Change
 pub mod Constraint
 pub mod Machine
+pub mod Answer
 pub mod Text
 pub mod Script
 pub mod Token

@@ -4,7 +4,7 @@ use Rattle.tql_spec.specs.Words.{listed, map_all}
 use Rattle.tql_spec.specs.Calendar.{high, first_moment}
 use Rattle.tql_spec.specs.Datum.{Row}
 use Rattle.tql_spec.specs.Period.{Period}
-use Rattle.tql_spec.specs.Refusal.{Refusal, E30, E35, E36, E40, E41, fault_if, first}
+use Rattle.tql_spec.specs.Refusal.{Refusal, ValueOutOfRange, DuplicateKey, ReferenceNotMet, NotInThisTransactionState, MomentNotAllowed, fault_if, first}
 use Rattle.tql_spec.specs.Expression.{Expr, Cond, eval}
 use Rattle.tql_spec.specs.Definition.{Name, TableDef, table_at}
 use Rattle.tql_spec.specs.History.{Copy, Entry, rows_in, versions}
@@ -42,7 +42,6 @@ pub data Verb : Type 0 where
   Committed : Verb
   RolledBack : Verb
   ClockSet : Verb
-  Accepted : Verb
 
 -- what a statement is answered: done with a count or none, a table, or a refusal
 pub data Reply : Type 0 where
@@ -118,12 +117,12 @@ is_clock_at_end s = int_le high s.next
 
 -- the faults by the transaction and the clock
 abbrev pub state_faults : State → Manner → List Refusal
-state_faults s Defines = fault_if (is_some s.transaction) E40
-state_faults s (SetsClock None) = fault_if (is_some s.transaction) E40
-state_faults s (SetsClock (Some m)) = fault_if (is_some s.transaction) E40 ++ fault_if (is_not_later m s.history) E41
-state_faults s Starts = fault_if (is_some s.transaction) E40 ++ fault_if (is_clock_at_end s) E41
-state_faults s Ends = fault_if (is_none s.transaction) E40
-state_faults s Changes = fault_if (is_none s.transaction && is_clock_at_end s) E41
+state_faults s Defines = fault_if (is_some s.transaction) NotInThisTransactionState
+state_faults s (SetsClock None) = fault_if (is_some s.transaction) NotInThisTransactionState
+state_faults s (SetsClock (Some m)) = fault_if (is_some s.transaction) NotInThisTransactionState ++ fault_if (is_not_later m s.history) MomentNotAllowed
+state_faults s Starts = fault_if (is_some s.transaction) NotInThisTransactionState ++ fault_if (is_clock_at_end s) MomentNotAllowed
+state_faults s Ends = fault_if (is_none s.transaction) NotInThisTransactionState
+state_faults s Changes = fault_if (is_none s.transaction && is_clock_at_end s) MomentNotAllowed
 state_faults s Asks = []
 
 -- ---- effects
@@ -174,7 +173,7 @@ outcome s m copy (Modify t portion work conds) = modify (table_at s.definitions 
 
 -- the faults of a whole copy
 abbrev pub constraint_faults : List TableDef → Copy → List Refusal
-constraint_faults defs copy = fault_if (not (keys_hold defs copy)) E35 ++ fault_if (not (references_hold defs copy)) E36
+constraint_faults defs copy = fault_if (not (keys_hold defs copy)) DuplicateKey ++ fault_if (not (references_hold defs copy)) ReferenceNotMet
 
 -- the reply and the state, unless a fault is present
 abbrev pub unless : Option Refusal → State → Reply → State → Reply × State
@@ -192,7 +191,7 @@ altered s c =
 
 -- a query answered: its rows in order, or out of range
 abbrev pub asked : State → Query → Option (List Row) → Reply × State
-asked s q None = (Refused E30, s)
+asked s q None = (Refused ValueOutOfRange, s)
 asked s q (Some rows) = (Table q.headings (in_order q.ordering rows), s)
 
 -- COMMIT of the open transaction

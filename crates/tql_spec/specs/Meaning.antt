@@ -2,7 +2,7 @@
 -- grammar.
 use Rattle.std.specs.Prelude.{◌≡◌, List}
 use Rattle.tql_spec.specs.Bag.{In}
-use Rattle.tql_spec.specs.Refusal.{E01}
+use Rattle.tql_spec.specs.Refusal.{OutOfMemory}
 use Rattle.tql_spec.specs.Machine.{State, Reply, Refused}
 use Rattle.tql_spec.specs.Script.{Piece}
 use Rattle.tql_spec.specs.Grammar.{IsStatement}
@@ -19,7 +19,7 @@ SensesAreOne = HasOneSense Runs × HasOneSense IsStatement
 
 -- no reply is out of memory
 abbrev pub NoneOutOfMemory : List Reply → Type 0
-NoneOutOfMemory replies = (r : Reply) → In r replies → r ≡ Refused E01 → ⊥
+NoneOutOfMemory replies = (r : Reply) → In r replies → r ≡ Refused OutOfMemory → ⊥
 
 -- the law: two runs from one state over the same pieces, neither out of memory, reply the same and end alike
 abbrev pub RunsAgree : Type 0

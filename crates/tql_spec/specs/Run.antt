@@ -1,11 +1,12 @@
--- The replies to a script: from bytes to replies, over whole runs.
-use Rattle.std.specs.Prelude.{◌≡◌, ◌⊎◌, ◌<◌, ◌≤◌, ℕ, true, IsTrue, IsFalse, IsUtf8, List, [], ◌∷◌, ◌++◌, length, None}
+-- The answers to a script: from bytes to replies, over whole runs.
+use Rattle.std.specs.Prelude.{◌≡◌, ◌⊎◌, ◌<◌, ◌≤◌, ℕ, true, IsTrue, IsFalse, IsUtf8, List, [], ◌∷◌, ◌++◌, length}
 use Rattle.std.specs.List.{AllByRecursion}
-use Rattle.tql_spec.specs.Refusal.{Refusal, E01, E10, E11, E12, E13, E14, E15, first}
+use Rattle.tql_spec.specs.Refusal.{Refusal, OutOfMemory, NotAStatement, NotUtf8, UnfinishedStatement, StatementTooLong, NestedTooDeep, TooManyColumnsOrTables, first}
 use Rattle.tql_spec.specs.Definition.{TableDef}
 use Rattle.tql_spec.specs.History.{Entry, Copy}
 use Rattle.tql_spec.specs.Constraint.{keys_hold, references_hold}
-use Rattle.tql_spec.specs.Machine.{State, Reply, Done, Refused, Accepted, effect, entries, state_faults, unless}
+use Rattle.tql_spec.specs.Machine.{State, Reply, Refused, effect, entries, state_faults, unless}
+use Rattle.tql_spec.specs.Answer.{Answer, Replied, Accepted}
 use Rattle.tql_spec.specs.Text.{replies_text}
 use Rattle.tql_spec.specs.Script.{Piece, statements}
 use Rattle.tql_spec.specs.Token.{Token, AreTokens, depth}
@@ -49,12 +50,12 @@ pub record IsWhole (p : Piece) : Type 0 where
 
 -- each fault comes only where none before it is present
 abbrev pub HasSense : Language → Piece → Sense → Type 0
-HasSense L p (Faulty E13) = 1_048_576 < length p.text
-HasSense L p (Faulty E11) = (length p.text ≤ 1_048_576) × ¬ IsUtf8 p.text
-HasSense L p (Faulty E12) = (length p.text ≤ 1_048_576) × IsUtf8 p.text × IsFalse p.finished
-HasSense L p (Faulty E14) = IsWhole p × IsDeep p.text
-HasSense L p (Faulty E10) = IsWhole p × ¬ IsDeep p.text × ((s : Statement) → IsTextOf L p.text s → ⊥)
-HasSense L p (Faulty E15) = IsWhole p × ((s : Statement) × IsTextOf L p.text s × IsTrue (is_too_wide s))
+HasSense L p (Faulty StatementTooLong) = 1_048_576 < length p.text
+HasSense L p (Faulty NotUtf8) = (length p.text ≤ 1_048_576) × ¬ IsUtf8 p.text
+HasSense L p (Faulty UnfinishedStatement) = (length p.text ≤ 1_048_576) × IsUtf8 p.text × IsFalse p.finished
+HasSense L p (Faulty NestedTooDeep) = IsWhole p × IsDeep p.text
+HasSense L p (Faulty NotAStatement) = IsWhole p × ¬ IsDeep p.text × ((s : Statement) → IsTextOf L p.text s → ⊥)
+HasSense L p (Faulty TooManyColumnsOrTables) = IsWhole p × ((s : Statement) × IsTextOf L p.text s × IsTrue (is_too_wide s))
 HasSense L p (Faulty _) = ⊥
 HasSense L p (Says s) = IsWhole p × IsTextOf L p.text s × IsFalse (is_too_wide s)
 
@@ -77,27 +78,34 @@ respond_to s (Faulty e) = (Refused e, s)
 abbrev pub Answers : State → Piece → Reply → State → Type 0
 Answers old p reply new =
     ((sense : Sense) × HasSense Runs p sense × ((reply, new) ≡ respond_to old sense))
-    ⊎ ((reply ≡ Refused E01) × (new ≡ old))
+    ⊎ ((reply ≡ Refused OutOfMemory) × (new ≡ old))
 
--- ---- checks
+-- ---- answers
 
--- the reply to what a piece says, where it is checked and not run
-abbrev pub verdict : Sense → Reply
-verdict (Says t) = Done Accepted None
-verdict (Faulty e) = Refused e
+-- how a run answers one piece
+abbrev pub Answering : Type 1
+Answering = State → Piece → Answer → State → Type 0
 
--- the reply to a piece that is checked over the whole grammar, or out of memory; the state stays as it is
-abbrev pub Checks : State → Piece → Reply → State → Type 0
-Checks old p reply new = (((sense : Sense) × HasSense IsStatement p sense × (reply ≡ verdict sense)) ⊎ (reply ≡ Refused E01)) × (new ≡ old)
+-- where it is run: by the machine's reply
+abbrev pub Replies : Answering
+Replies old p (Replied reply) new = Answers old p reply new
+Replies old p Accepted new = ⊥
+
+-- the answer to what a piece says, where it is checked and not run
+abbrev pub verdict : Sense → Answer
+verdict (Says t) = Accepted
+verdict (Faulty e) = Replied (Refused e)
+
+-- where it is checked over the whole grammar: by this verdict, or out of memory; the state stays as it is
+abbrev pub Checks : Answering
+Checks old p answer new =
+    (((sense : Sense) × HasSense IsStatement p sense × (answer ≡ verdict sense)) ⊎ (answer ≡ Replied (Refused OutOfMemory)))
+    × (new ≡ old)
 
 -- ---- runs
 
--- how one piece is answered
-abbrev pub Answering : Type 1
-Answering = State → Piece → Reply → State → Type 0
-
--- replies to pieces, one after another, each in this manner
-abbrev pub RunBy : Answering → State → List Piece → List Reply → State → Type 0
+-- what pieces are answered, one after another, each in this manner
+abbrev pub RunBy : {R : Type 0} → (State → Piece → R → State → Type 0) → State → List Piece → List R → State → Type 0
 RunBy A old [] [] new = new ≡ old
 RunBy A old (p ∷ ps) (r ∷ rs) new = (mid : State) × A old p r mid × RunBy A mid ps rs new
 RunBy A old [] (r ∷ rs) new = ⊥

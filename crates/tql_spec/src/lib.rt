@@ -3,6 +3,7 @@
 
 ghost use Rattle.tql_spec.specs.Datum.{Day, Moment};
 ghost use Rattle.tql_spec.specs.Period.{FormulasAreSets, PartsAreSets, Period, PointFormulaIsSet};
+ghost use Rattle.tql_spec.specs.Expression.{SafeConditionsAreJudged};
 ghost use Rattle.tql_spec.specs.Constraint.{KeyTestIsRight, ReferenceTestIsRight};
 ghost use Rattle.tql_spec.specs.Run.{RefusalsKeepState, RunsKeepConstraints};
 ghost use Rattle.tql_spec.specs.Token.{HasOneTokenList};
@@ -31,6 +32,11 @@ pub fn predicates_on_points()
     ensures moments { FormulasAreSets Moment }
     ensures day { PointFormulaIsSet Day }
     ensures moment { PointFormulaIsSet Moment }
+{}
+
+/// A condition in which nothing is calculated has a truth on every row.
+pub fn safe_conditions()
+    ensures { SafeConditionsAreJudged }
 {}
 
 /// A reference's test says what holds at each point.

@@ -1,4 +1,3 @@
-pub mod StatementEnds
 pub mod Nesting
 pub mod Parses
 pub mod Texts

@@ -4,8 +4,8 @@ ghost use Rattle.tql_phrase.specs.Parsing.{Reads};
 ghost use Rattle.tql_tree.specs.Statements.{statement_of};
 ghost use Rattle.tql_tree.specs.Trees.{tree_of};
 
-use crate::changes::{delete, insert, update};
-use crate::creates::{create, drop_table};
+use tql_change::changes::{delete, insert, update};
+use tql_create::creates::{create, drop_table};
 use tql_memory::Memory;
 use tql_phrase::cursor::{Cursor, ParseError};
 use tql_query::queries::{moment, query};

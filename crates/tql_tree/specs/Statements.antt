@@ -24,6 +24,7 @@ use Rattle.tql_tree.specs.declared.statement.CreateTree.{CreateTree}
 use Rattle.tql_tree.specs.declared.statement.Span.{Span}
 use Rattle.tql_tree.specs.declared.statement.Span.TheVariants as span
 use Rattle.tql_tree.specs.declared.statement.RefTree.{RefTree}
+use Rattle.tql_tree.specs.declared.statement.Joined.{Joined}
 use Rattle.tql_tree.specs.declared.statement.Join.{Join}
 use Rattle.tql_tree.specs.declared.statement.Join.TheVariants as join
 use Rattle.tql_tree.specs.declared.statement.Chain.{Chain}
@@ -113,10 +114,18 @@ span_of (span.Between s t) = tree.BetweenTree (content_of s) (content_of t)
 abbrev pub ref_of : RefTree → tree.RefTree
 ref_of r = record { table = name_of r.table; span = span_of r.span; alias = option_map name_of r.alias }
 
+-- a join of this kind, of the reference and the condition in the box
+abbrev pub joined_by : {B : Type 0} → (tree.RefTree → tree.Condition → tree.JoinTree) → Box Joined B → tree.JoinTree
+joined_by which j = which (ref_of j.value.reference) (boxed_cond_of j.value.condition)
+
+-- a cross join, of the reference in the box
+abbrev pub crossed_of : {B : Type 0} → Box RefTree B → tree.JoinTree
+crossed_of r = tree.CrossJoin (ref_of r.value)
+
 abbrev pub join_of : Join → tree.JoinTree
-join_of (join.Inner r c) = tree.InnerJoin (ref_of r) (boxed_cond_of c)
-join_of (join.Left r c) = tree.LeftJoin (ref_of r) (boxed_cond_of c)
-join_of (join.Cross r) = tree.CrossJoin (ref_of r)
+join_of (join.Inner j) = joined_by tree.InnerJoin j
+join_of (join.Left j) = joined_by tree.LeftJoin j
+join_of (join.Cross r) = crossed_of r
 
 -- the joins of a list
 abbrev pub joins_of : {B : Type 0} → Vec Join B → List tree.JoinTree

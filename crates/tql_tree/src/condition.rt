@@ -28,17 +28,36 @@ pub enum Relation {
 }
 
 /// PERIOD (..), or the system period, with the name of its table reference or without.
-#[derive(Drop)]
 pub enum MarkedIn<'a, A: Allocator> {
     FromEnds(Box<ExprIn<'a, A>, A>, Box<ExprIn<'a, A>, A>),
     SystemTime(Option<Name<'a>>),
 }
 
+impl<'a, A: Allocator> Drop for MarkedIn<'a, A> {
+    fn drop(self) {
+        match self {
+            MarkedIn::FromEnds(start, end) => {
+                drop(start);
+                drop(end);
+            }
+            MarkedIn::SystemTime(_) => {}
+        }
+    }
+}
+
 /// A period as an operand.
-#[derive(Drop)]
 pub enum OperandIn<'a, A: Allocator> {
     ByMark(MarkedIn<'a, A>),
     ByName(Named<'a>),
+}
+
+impl<'a, A: Allocator> Drop for OperandIn<'a, A> {
+    fn drop(self) {
+        match self {
+            OperandIn::ByMark(mark) => drop(mark),
+            OperandIn::ByName(_) => {}
+        }
+    }
 }
 
 /// Parts joined by OR.

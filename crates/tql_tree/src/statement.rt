@@ -1,6 +1,9 @@
 //! The trees of statements.
+ghost use Rattle.std.specs.Prelude.{◌≡◌, IfOk};
+
 use crate::condition::Cond;
 use crate::expression::{Expr, Name, Named};
+use std::alloc::AllocError;
 use tql_memory::Memory;
 
 /// A type as written; numbers by their digits.
@@ -54,11 +57,20 @@ pub struct ForeignTree<'a> {
 }
 
 /// Keys, references and checks. The name of a constraint is not kept.
-#[derive(Drop)]
 pub enum Constraint<'a> {
     Key(KeyTree<'a>),
     Foreign(ForeignTree<'a>),
     Check(Box<Cond<'a>, Memory>),
+}
+
+impl<'a> Drop for Constraint<'a> {
+    fn drop(self) {
+        match self {
+            Constraint::Key(key) => drop(key),
+            Constraint::Foreign(foreign) => drop(foreign),
+            Constraint::Check(condition) => drop(condition),
+        }
+    }
 }
 
 /// A period of CREATE; it has no name where it is SYSTEM_TIME.
@@ -70,11 +82,19 @@ pub struct PeriodTree<'a> {
 }
 
 /// An element of CREATE.
-#[derive(Drop)]
 pub enum Element<'a> {
     Column(ColumnTree<'a>),
     Period(PeriodTree<'a>),
     Constraint(Box<Constraint<'a>, Memory>),
+}
+
+impl<'a> Drop for Element<'a> {
+    fn drop(self) {
+        match self {
+            Element::Column(_) | Element::Period(_) => {}
+            Element::Constraint(constraint) => drop(constraint),
+        }
+    }
 }
 
 /// CREATE TABLE.
@@ -103,12 +123,19 @@ pub struct RefTree<'a> {
     pub alias: Option<Name<'a>>,
 }
 
+/// A table reference joined on a condition.
+#[derive(Drop)]
+pub struct Joined<'a> {
+    pub reference: RefTree<'a>,
+    pub condition: Box<Cond<'a>, Memory>,
+}
+
 /// A join.
 #[derive(Drop)]
 pub enum Join<'a> {
-    Inner(RefTree<'a>, Box<Cond<'a>, Memory>),
-    Left(RefTree<'a>, Box<Cond<'a>, Memory>),
-    Cross(RefTree<'a>),
+    Inner(Box<Joined<'a>, Memory>),
+    Left(Box<Joined<'a>, Memory>),
+    Cross(Box<RefTree<'a>, Memory>),
 }
 
 /// A chain of FROM.
@@ -126,14 +153,24 @@ pub struct Item<'a> {
 }
 
 /// A select list: `*`, or items.
-#[derive(Drop)]
 pub enum Items<'a> {
     All,
     These(Item<'a>, Vec<Item<'a>, Memory>),
 }
 
+impl<'a> Drop for Items<'a> {
+    fn drop(self) {
+        match self {
+            Items::All => {}
+            Items::These(first, more) => {
+                drop(first);
+                drop(more);
+            }
+        }
+    }
+}
+
 /// A select.
-#[derive(Drop)]
 pub struct Select<'a> {
     pub is_distinct: bool,
     pub items: Items<'a>,
@@ -142,6 +179,26 @@ pub struct Select<'a> {
     pub filter: Option<Box<Cond<'a>, Memory>>,
     pub grouping: Vec<Named<'a>, Memory>,
     pub having: Option<Box<Cond<'a>, Memory>>,
+}
+
+impl<'a> Drop for Select<'a> {
+    fn drop(self) {
+        let Select {
+            is_distinct: _,
+            items,
+            first,
+            more,
+            filter,
+            grouping,
+            having,
+        } = self;
+        drop(items);
+        drop(first);
+        drop(more);
+        drop(filter);
+        drop(grouping);
+        drop(having);
+    }
 }
 
 /// A heading, or a position by its digits.
@@ -166,24 +223,50 @@ pub struct Query<'a> {
 }
 
 /// A cell of VALUES or SET.
-#[derive(Drop)]
 pub enum Cell<'a> {
     Null,
     Value(Box<Expr<'a>, Memory>),
 }
 
+impl<'a> Drop for Cell<'a> {
+    fn drop(self) {
+        match self {
+            Cell::Null => {}
+            Cell::Value(value) => drop(value),
+        }
+    }
+}
+
 /// A tuple of VALUES.
-#[derive(Drop)]
 pub struct Tuple<'a> {
     pub first: Cell<'a>,
     pub more: Vec<Cell<'a>, Memory>,
 }
 
+impl<'a> Drop for Tuple<'a> {
+    fn drop(self) {
+        let Tuple { first, more } = self;
+        drop(first);
+        drop(more);
+    }
+}
+
 /// Where the rows of INSERT come from.
-#[derive(Drop)]
 pub enum Rows<'a> {
     Values(Tuple<'a>, Vec<Tuple<'a>, Memory>),
     Select(Box<Select<'a>, Memory>),
+}
+
+impl<'a> Drop for Rows<'a> {
+    fn drop(self) {
+        match self {
+            Rows::Values(first, more) => {
+                drop(first);
+                drop(more);
+            }
+            Rows::Select(select) => drop(select),
+        }
+    }
 }
 
 /// INSERT; no columns where it names none.
@@ -217,13 +300,27 @@ pub struct Portion<'a> {
 }
 
 /// UPDATE.
-#[derive(Drop)]
 pub struct Update<'a> {
     pub table: Name<'a>,
     pub portion: Option<Portion<'a>>,
     pub first: Assignment<'a>,
     pub more: Vec<Assignment<'a>, Memory>,
     pub filter: Option<Box<Cond<'a>, Memory>>,
+}
+
+impl<'a> Drop for Update<'a> {
+    fn drop(self) {
+        let Update {
+            table: _,
+            portion: _,
+            first,
+            more,
+            filter,
+        } = self;
+        drop(first);
+        drop(more);
+        drop(filter);
+    }
 }
 
 /// DELETE.
@@ -248,4 +345,94 @@ pub enum Statement<'a> {
     Rollback,
     /// AT, with the quoted text of its moment.
     At(&'a str),
+}
+
+/// The joined reference in a box.
+pub fn boxed_joined<'a>(
+    memory: Memory,
+    joined: Joined<'a>,
+) -> Result<Box<Joined<'a>, Memory>, AllocError>
+    ensures { IfOk result (λ b. b.value ≡ joined.entry) }
+{
+    Ok(Box::new(memory, joined)?)
+}
+
+/// The table reference in a box.
+pub fn boxed_reference<'a>(
+    memory: Memory,
+    reference: RefTree<'a>,
+) -> Result<Box<RefTree<'a>, Memory>, AllocError>
+    ensures { IfOk result (λ b. b.value ≡ reference.entry) }
+{
+    Ok(Box::new(memory, reference)?)
+}
+
+/// The select in a box.
+pub fn boxed_select<'a>(
+    memory: Memory,
+    select: Select<'a>,
+) -> Result<Box<Select<'a>, Memory>, AllocError>
+    ensures { IfOk result (λ b. b.value ≡ select.entry) }
+{
+    Ok(Box::new(memory, select)?)
+}
+
+/// The query in a box.
+pub fn boxed_query<'a>(
+    memory: Memory,
+    query: Query<'a>,
+) -> Result<Box<Query<'a>, Memory>, AllocError>
+    ensures { IfOk result (λ b. b.value ≡ query.entry) }
+{
+    Ok(Box::new(memory, query)?)
+}
+
+/// The constraint in a box.
+pub fn boxed_constraint<'a>(
+    memory: Memory,
+    constraint: Constraint<'a>,
+) -> Result<Box<Constraint<'a>, Memory>, AllocError>
+    ensures { IfOk result (λ b. b.value ≡ constraint.entry) }
+{
+    Ok(Box::new(memory, constraint)?)
+}
+
+/// The CREATE TABLE in a box.
+pub fn boxed_create<'a>(
+    memory: Memory,
+    create: CreateTree<'a>,
+) -> Result<Box<CreateTree<'a>, Memory>, AllocError>
+    ensures { IfOk result (λ b. b.value ≡ create.entry) }
+{
+    Ok(Box::new(memory, create)?)
+}
+
+/// The INSERT in a box.
+pub fn boxed_insert<'a>(
+    memory: Memory,
+    insert: Insert<'a>,
+) -> Result<Box<Insert<'a>, Memory>, AllocError>
+    ensures { IfOk result (λ b. b.value ≡ insert.entry) }
+{
+    Ok(Box::new(memory, insert)?)
+}
+
+/// The UPDATE in a box.
+pub fn boxed_update<'a>(
+    memory: Memory,
+    update: Update<'a>,
+) -> Result<Box<Update<'a>, Memory>, AllocError>
+    ensures { IfOk result (λ b. b.value ≡ update.entry) }
+{
+    Ok(Box::new(memory, update)?)
+}
+
+/// The DELETE in a box.
+pub fn boxed_delete<'a>(
+    memory: Memory,
+    delete: Delete<'a>,
+) -> Result<Box<Delete<'a>, Memory>, AllocError>
+    ensures { IfOk result (λ b. b.value ≡ delete.entry) }
+{
+    Ok(Box::new(memory, delete)?)
 }

@@ -1,21 +1,17 @@
-// Inserts into small tables: what is stored, what is refused, and which refusal comes first. And their headings.
-ghost use Rattle.std.specs.Prelude.{◌≡◌, ◌&&◌, not, nat_lt, IsTrue, All, length, option_map};
-ghost use Rattle.std.specs.List.{list_all};
-ghost use Rattle.tql_spec.specs.Binding.{is_generated as generated};
-ghost use Rattle.tql_spec.specs.Creation.{has_number};
-ghost use Rattle.tql_catalog.specs.Definitions.{def_of, system_of};
-ghost use Rattle.tql_catalog.specs.Simple.{IsTupleOf, has_system, numbers_repeat, are_assignable};
-ghost use Rattle.tql_value.specs.Points.{IsPrintable};
-ghost use Rattle.tql_value.specs.Views.{datum_of_value};
-ghost use Rattle.tql_dml.specs.Inserts.{row_of, rows_of};
+// Inserts into small tables: what is stored, what is refused, and which refusal comes first. Their headings, and tables in a catalog.
+ghost use Rattle.std.specs.Prelude.{IsTrue, All, length};
+ghost use Rattle.tql_catalog.specs.Rows.{IsTupleOf, are_assignable};
+ghost use Rattle.tql_dml.specs.Inserts.{rows_of};
 
 use crate::line::Line;
 use crate::parts::{count, rows, sides, write_row};
 use crate::stop::Stop;
 use std::alloc::AllocError;
-use tql_catalog::definition::{Column, System, TableDef};
-use tql_catalog::table::{Table, headings, place_of};
+use tql_catalog::catalog::{Catalog, Table};
+use tql_catalog::definition::{Column, System};
+use tql_catalog::table_def::TableDef;
 use tql_dml::insert::insert;
+use tql_dml::tuples::are_tuples;
 use tql_memory::Memory;
 use tql_store::store::Delta;
 use tql_value::table::TableId;
@@ -34,11 +30,11 @@ fn shape(word: &str) -> Result<(Kind, Option<u64>), Stop> {
     }
 }
 
-/// The column that a word describes: behind `!` it takes no NULL.
-fn column(memory: Memory, word: &str) -> Result<Column, Stop> {
+/// The column that a word describes, under the word and its number: behind `!` it takes no NULL.
+fn column(memory: Memory, word: &str, number: usize) -> Result<Column, Stop> {
     let (kind, limit) = shape(word.trim_end_matches('!'))?;
     Ok(Column {
-        name: String::from_str(memory, word)?,
+        name: format!(in memory; "{word}.{number}")?,
         kind,
         limit,
         is_required: word.ends_with('!'),
@@ -49,7 +45,8 @@ fn column(memory: Memory, word: &str) -> Result<Column, Stop> {
 fn columns(memory: Memory, words: &str) -> Result<Vec<Column, Memory>, Stop> {
     let mut columns = Vec::new(memory);
     for word in words.split(' ') {
-        columns.push(column(memory, word)?)?;
+        let number = columns.len();
+        columns.push(column(memory, word, number)?)?;
     }
     Ok(columns)
 }
@@ -61,20 +58,22 @@ fn system_of_words(words: &str) -> Option<System> {
     Some(System { start, end })
 }
 
+/// The definition of a table of this name.
+fn definition(memory: Memory, name: &str, words: &str) -> Result<TableDef, Stop> {
+    let columns = columns(memory, words)?;
+    let system = system_of_words(words);
+    if !TableDef::is_definable(&columns, system) {
+        return Err(Stop::Form);
+    }
+    let name = String::from_str(memory, name)?;
+    Ok(TableDef::new(memory, name, columns, system)?)
+}
+
 /// A table with the number 7.
 fn table(memory: Memory, words: &str) -> Result<Table, Stop> {
     let id = TableId::new(7).ok_or(Stop::Form)?;
-    let columns = columns(memory, words)?;
-    let name = String::from_str(memory, "T")?;
-    let system = system_of_words(words);
-    Ok(Table {
-        definition: TableDef {
-            name,
-            columns,
-            system,
-        },
-        id,
-    })
+    let definition = definition(memory, "T", words)?;
+    Ok(Table { definition, id })
 }
 
 /// Numbers with a blank between them.
@@ -88,115 +87,12 @@ fn numbers(memory: Memory, text: &str) -> Result<Vec<usize, Memory>, Stop> {
 
 // ---- what an insert asks for
 
-/// Whether the generated columns are two columns of the table.
-fn has_its_system(definition: &TableDef) -> bool
-    ensures { result ≡ has_system (option_map system_of definition.now.system) (length definition.now.columns.items) }
-{
-    match definition.system {
-        Some(system) => {
-            system.start < definition.columns.len()
-                && system.end < definition.columns.len()
-                && system.start != system.end
-        }
-        None => true,
-    }
-}
-
-/// Whether a column is generated.
-fn is_generated(definition: &TableDef, number: usize) -> bool
-    ensures { result ≡ generated (def_of definition.now) number }
-{
-    match definition.system {
-        Some(system) => number == system.start || number == system.end,
-        None => false,
-    }
-}
-
-/// Whether a column of this number is there and not generated.
-fn is_open(definition: &TableDef, number: usize) -> bool
-    ensures { result ≡ nat_lt number (length definition.now.columns.items)
-        && not (generated (def_of definition.now) number) }
-{
-    number < definition.columns.len() && !is_generated(definition, number)
-}
-
-/// Whether all these columns are there and not generated.
-fn are_open(definition: &TableDef, columns: &[usize]) -> bool
-    ensures { result ≡ list_all
-        (λ i. nat_lt i (length definition.now.columns.items) && not (generated (def_of definition.now) i))
-        columns.now }
-{
-    columns.iter().all(|number| is_open(definition, *number))
-}
-
-/// Whether a number is among others.
-fn is_among(number: usize, others: &[usize]) -> bool
-    ensures { result ≡ has_number number others.now }
-{
-    for other in others {
-        if number == *other {
-            return true;
-        }
-    }
-    false
-}
-
-/// Whether a number stands twice.
-fn repeats(numbers: &[usize]) -> bool
-    ensures { result ≡ numbers_repeat numbers.now }
-{
-    let mut left = numbers;
-    while let [first, behind @ ..] = left {
-        if is_among(*first, behind) {
-            return true;
-        }
-        left = behind;
-    }
-    false
-}
-
-/// Whether all values have texts whatever they are.
-fn are_plain(tuple: &[Value]) -> bool
-    ensures { IsTrue result → All IsPrintable (row_of tuple.now) }
-{
-    for value in tuple {
-        if !matches!(value, Value::Null | Value::Int(_) | Value::Text(_)) {
-            return false;
-        }
-    }
-    true
-}
-
-/// Whether a tuple has so many values, all of them plain.
-fn is_tuple(tuple: &[Value], width: usize) -> bool
-    ensures { IsTrue result → IsTupleOf width (row_of tuple.now) }
-{
-    tuple.len() == width && are_plain(tuple)
-}
-
-/// Whether all tuples have so many values, all of them plain.
-fn are_tuples(tuples: &[Vec<Value, Memory>], width: usize) -> bool
-    ensures { IsTrue result → All (IsTupleOf width) (rows_of tuples.now) }
-{
-    for tuple in tuples {
-        if !is_tuple(tuple, width) {
-            return false;
-        }
-    }
-    true
-}
-
 /// Whether an insert may be asked for.
 fn may_insert(table: &Table, columns: &[usize], tuples: &[Vec<Value, Memory>]) -> bool
-    ensures system { IsTrue result → IsTrue (has_system (option_map system_of table.now.definition.system)
-        (length table.now.definition.columns.items)) }
-    ensures columns { IsTrue result → IsTrue (are_assignable (def_of table.now.definition) columns.now) }
+    ensures columns { IsTrue result → IsTrue (are_assignable table.now.definition columns.now) }
     ensures tuples { IsTrue result → All (IsTupleOf (length columns.now)) (rows_of tuples.now) }
 {
-    has_its_system(&table.definition)
-        && are_open(&table.definition, columns)
-        && !repeats(columns)
-        && are_tuples(tuples, columns.len())
+    table.definition.are_assignable(columns) && are_tuples(tuples, columns.len())
 }
 
 // ---- what an insert does
@@ -257,31 +153,61 @@ fn inserted(out: &mut String, memory: Memory, input: &str, counted: bool) -> Res
 /// The headings of a table.
 fn write_headings(out: &mut String, memory: Memory, words: &str) -> Result<(), Stop> {
     let table = table(memory, words)?;
-    for heading in &headings(memory, &table.definition)? {
+    for heading in &table.definition.headings(memory)? {
         write!(out, "{heading} ")?;
     }
     Ok(())
 }
 
-/// Tables with these names.
-fn tables(memory: Memory, names: &str) -> Result<Vec<Table, Memory>, Stop> {
-    let mut tables = Vec::new(memory);
-    for name in names.split(' ').filter(|name| !name.is_empty()) {
-        let mut named = table(memory, "int")?;
-        named.definition.name.clear();
-        named.definition.name.push_str(name)?;
-        tables.push(named)?;
+// ---- a catalog
+
+/// Adds a table of this name, under the first number that is free.
+fn add(catalog: &mut Catalog, memory: Memory, name: &str) -> Result<(), Stop> {
+    for number in 0..1000u16 {
+        let id = TableId::new(number).ok_or(Stop::Form)?;
+        if catalog.is_free(id) {
+            return Ok(catalog.create(definition(memory, name, "int")?, id)?);
+        }
     }
-    Ok(tables)
+    Err(Stop::Form)
+}
+
+/// A catalog of tables with these names.
+fn catalog(memory: Memory, names: &str) -> Result<Catalog, Stop> {
+    let mut catalog = Catalog::new(memory);
+    for name in names.split(' ').filter(|name| !name.is_empty()) {
+        add(&mut catalog, memory, name)?;
+    }
+    Ok(catalog)
+}
+
+/// Writes the names and the numbers of the tables.
+fn write_tables(out: &mut String, catalog: &Catalog) -> Result<(), AllocError> {
+    for place in 0..catalog.len() {
+        let table = catalog.table(place);
+        write!(out, "{} {}; ", table.definition.name(), table.id.number())?;
+    }
+    Ok(())
 }
 
 /// The place of the table of a name.
 fn write_place(out: &mut String, memory: Memory, input: &str) -> Result<(), Stop> {
     let (name, names) = sides(input)?;
-    match place_of(&tables(memory, names)?, name) {
+    match catalog(memory, names)?.place_of(name) {
         Some(place) => write!(out, "{place}")?,
         None => out.push_str("none")?,
     }
+    Ok(())
+}
+
+/// The tables that are left where one is dropped and another is created.
+fn write_change(out: &mut String, memory: Memory, input: &str) -> Result<(), Stop> {
+    let (dropped, behind) = sides(input)?;
+    let (created, names) = sides(behind)?;
+    let mut tables = catalog(memory, names)?;
+    let _gone = tables.drop_table(dropped)?;
+    add(&mut tables, memory, created)?;
+    write_tables(out, &tables)?;
     Ok(())
 }
 
@@ -292,6 +218,7 @@ pub fn answer(memory: Memory, line: &Line<'_>, out: &mut String) -> Result<(), S
         "blocks" => inserted(out, memory, line.input, true),
         "headings" => write_headings(out, memory, line.input),
         "place" => write_place(out, memory, line.input),
+        "change" => write_change(out, memory, line.input),
         _ => Err(Stop::Form),
     }
 }

@@ -1,8 +1,4 @@
 // The predicates between periods, their parts, and coverage.
-ghost use Rattle.std.specs.Prelude.{◌≡◌};
-ghost use Rattle.tql_period.specs.Relations.{data_of, are_comparable_ends, are_comparable_with};
-ghost use Rattle.tql_value.specs.Views.{datum_of_view};
-
 use crate::line::Line;
 use crate::parts::{int, period, sides, two, view};
 use crate::stop::Stop;
@@ -33,23 +29,8 @@ fn ends(text: &str) -> Result<Ends<'_>, Stop> {
     Ok((view(start)?, view(end)?))
 }
 
-/// Whether the ends of both periods are of one kind, or NULL.
-fn are_of_one_kind(x: Ends<'_>, y: Ends<'_>) -> bool
-    ensures { result ≡ are_comparable_ends (data_of x.entry) (data_of y.entry) }
-{
-    x.0.is_comparable_with(y.0)
-        && x.0.is_comparable_with(y.1)
-        && y.0.is_comparable_with(x.1)
-        && y.1.is_comparable_with(x.1)
-        && x.1.is_comparable_with(y.0)
-        && x.1.is_comparable_with(y.1)
-}
-
 /// What each predicate says of two periods.
 fn write_relations(out: &mut String, x: Ends<'_>, y: Ends<'_>) -> Result<(), Stop> {
-    if !are_of_one_kind(x, y) {
-        return Err(Stop::Form);
-    }
     for which in RELATIONS {
         out.push(letter(predicate(which, x, y)))?;
     }
@@ -63,9 +44,6 @@ fn relations(out: &mut String, input: &str) -> Result<(), Stop> {
 
 /// Whether a period contains a point.
 fn write_contains(out: &mut String, x: Ends<'_>, point: View<'_>) -> Result<(), Stop> {
-    if !x.0.is_comparable_with(point) || !point.is_comparable_with(x.1) {
-        return Err(Stop::Form);
-    }
     out.push(letter(contains_point(x, point)))?;
     Ok(())
 }

@@ -1,12 +1,14 @@
-// The printed texts of replies.
+// The printed texts of replies and answers.
 use crate::line::Line;
 use crate::parts::{count, rows, sides, two};
 use crate::stop::Stop;
 use crate::values::refusal;
 use tql_memory::Memory;
+use tql_result::answer::{Answer, write_answer};
 use tql_result::print::{is_printable_reply, write_reply};
 use tql_result::reply::{Reply, Verb};
-use tql_result::std_sink::StdSink;
+use tql_result::vec_sink::VecSink;
+use tql_value::refusal::Refusal;
 use tql_value::value::Rows;
 
 fn verb(word: &str) -> Result<Verb, Stop> {
@@ -20,7 +22,6 @@ fn verb(word: &str) -> Result<Verb, Stop> {
         "Committed" => Ok(Verb::Committed),
         "RolledBack" => Ok(Verb::RolledBack),
         "ClockSet" => Ok(Verb::ClockSet),
-        "Accepted" => Ok(Verb::Accepted),
         _ => Err(Stop::Form),
     }
 }
@@ -52,25 +53,41 @@ fn table(memory: Memory, input: &str) -> Result<Reply, Stop> {
     Ok(Reply::Table(Rows { headings, rows }))
 }
 
+/// Why a sink into a vector failed.
+const NO_MEMORY: Stop = Stop::Refused(Refusal::OutOfMemory);
+
+/// Writes what a sink holds.
+fn write_held(out: &mut String, sink: VecSink) -> Result<(), Stop> {
+    let bytes = sink.into_bytes();
+    out.push_str(str::from_utf8(&bytes).map_err(|_| Stop::Form)?)?;
+    Ok(())
+}
+
 /// Writes the text of a reply, where it has one.
-fn write_printed(out: &mut String, reply: &Reply) -> Result<(), Stop> {
+fn write_printed(out: &mut String, memory: Memory, reply: &Reply) -> Result<(), Stop> {
     if !is_printable_reply(reply) {
         out.push_str("no text")?;
         return Ok(());
     }
-    let mut sink = StdSink::new(Vec::new(*out.allocator()));
-    write_reply(&mut sink, reply).map_err(|_| Stop::Form)?;
-    let bytes = sink.into_writer();
-    out.push_str(str::from_utf8(&bytes).map_err(|_| Stop::Form)?)?;
-    Ok(())
+    let mut sink = VecSink::new(Vec::new(memory));
+    write_reply(&mut sink, reply).map_err(|_| NO_MEMORY)?;
+    write_held(out, sink)
+}
+
+/// Writes the text of the answer that accepts a statement.
+fn write_accepted(out: &mut String, memory: Memory) -> Result<(), Stop> {
+    let mut sink = VecSink::new(Vec::new(memory));
+    write_answer(&mut sink, &Answer::Accepted).map_err(|_| NO_MEMORY)?;
+    write_held(out, sink)
 }
 
 /// Answers a line about a reply.
 pub fn answer(memory: Memory, line: &Line<'_>, out: &mut String) -> Result<(), Stop> {
     match line.command {
-        "done" => write_printed(out, &done(line.input)?),
-        "refused" => write_printed(out, &Reply::Refused(refusal(line.input)?)),
-        "rows" => write_printed(out, &table(memory, line.input)?),
+        "done" => write_printed(out, memory, &done(line.input)?),
+        "refused" => write_printed(out, memory, &Reply::Refused(refusal(line.input)?)),
+        "rows" => write_printed(out, memory, &table(memory, line.input)?),
+        "accepted" => write_accepted(out, memory),
         _ => Err(Stop::Form),
     }
 }

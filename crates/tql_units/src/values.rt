@@ -80,10 +80,6 @@ fn write_truth(out: &mut String, truth: Truth) -> Result<(), Stop> {
 
 /// What each sign says of two values, and how they are ordered.
 fn write_comparison(out: &mut String, a: View<'_>, b: View<'_>) -> Result<(), Stop> {
-    if !a.is_comparable_with(b) {
-        out.push_str("apart")?;
-        return Ok(());
-    }
     for sign in SIGNS {
         out.push(letter(compare(sign, a, b)))?;
     }

@@ -1,6 +1,6 @@
 -- The pure data that the values of the code stand for.
 use Rattle.std.specs.Prelude.{Bool, true, Option, Some, None, Result, Ok, Err}
-use Rattle.tql_spec.specs.Datum.{Datum, Null, Int, Text, Day, Moment, Ints, Texts, Days, Moments, Equals, Differs, Below, AtMost, Above, AtLeast, kind_of, same_kind}
+use Rattle.tql_spec.specs.Datum.{Datum, Null, Int, Text, Day, Moment, Ints, Texts, Days, Moments, Equals, Differs, Below, AtMost, Above, AtLeast, same_kind}
 use Rattle.tql_spec.specs.Datum as spec
 use Rattle.tql_spec.specs.Truth.{False, Unknown, True}
 use Rattle.tql_spec.specs.Truth as logic
@@ -59,10 +59,6 @@ abbrev pub kinds_meet : Option spec.Kind → Option spec.Kind → Bool
 kinds_meet (Some k) (Some l) = same_kind k l
 kinds_meet (Some k) None = true
 kinds_meet None l = true
-
--- whether two values are of one kind, or one of them is null
-abbrev pub are_comparable : Datum → Datum → Bool
-are_comparable a b = kinds_meet (kind_of a) (kind_of b)
 
 -- what an evaluation gave, none where it left 64 bits
 abbrev pub outcome : Result View Range → Option Datum

@@ -1,6 +1,6 @@
-ghost use Rattle.std.specs.Prelude.{◌≡◌, IsTrue};
+ghost use Rattle.std.specs.Prelude.{◌≡◌};
 ghost use Rattle.tql_spec.specs.Datum.{order as order_of, rank as rank_of, compare as compared, accepts as accepted};
-ghost use Rattle.tql_value.specs.Views.{datum_of_view, plain_truth, plain_comparison, are_comparable};
+ghost use Rattle.tql_value.specs.Views.{datum_of_view, plain_truth, plain_comparison};
 
 use crate::truth::Truth;
 use crate::value::View;
@@ -66,9 +66,9 @@ pub fn order(a: View<'_>, b: View<'_>) -> Ordering
     }
 }
 
-/// A comparison of two values of one kind; with NULL it is UNKNOWN.
+/// A comparison of two values; with NULL it is UNKNOWN. Values of two kinds, which never meet in a statement, compare
+/// as they are ordered.
 pub fn compare(sign: Comparison, a: View<'_>, b: View<'_>) -> Truth
-    requires { IsTrue (are_comparable (datum_of_view a) (datum_of_view b)) }
     ensures { plain_truth result
         ≡ compared (plain_comparison sign) (datum_of_view a.entry) (datum_of_view b.entry) }
 {

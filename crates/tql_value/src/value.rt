@@ -1,6 +1,6 @@
 ghost use Rattle.std.specs.Prelude.{◌≡◌, MatchResult, option_map};
 ghost use Rattle.tql_spec.specs.Datum.{kind_of, is_null as null_of};
-ghost use Rattle.tql_value.specs.Views.{datum_of_value, datum_of_view, plain_kind, are_comparable};
+ghost use Rattle.tql_value.specs.Views.{datum_of_value, datum_of_view, plain_kind};
 
 use crate::refusal::Refusal;
 use crate::text::Text;
@@ -21,9 +21,10 @@ pub enum Kind {
 }
 
 /// A value that owns its memory.
-#[derive(Drop, Debug)]
+#[derive(Default, Drop, Debug)]
 pub enum Value {
     /// No value.
+    #[default]
     Null,
     /// A whole number.
     Int(i64),
@@ -116,16 +117,6 @@ impl<'a> View<'a> {
         ensures { result ≡ null_of (datum_of_view self.entry) }
     {
         matches!(self, View::Null)
-    }
-
-    /// Whether the two values are of one kind, or one is NULL: what `compare` and `order` ask for.
-    pub fn is_comparable_with(self, other: View<'_>) -> bool
-        ensures { result ≡ are_comparable (datum_of_view self.entry) (datum_of_view other.entry) }
-    {
-        match (self.kind(), other.kind()) {
-            (Some(kind), Some(other_kind)) => kind == other_kind,
-            _ => true,
-        }
     }
 }
 

@@ -3,6 +3,7 @@ ghost use Rattle.std.specs.Prelude.{⊤};
 
 use std::io::{self, Error, ErrorKind, Read, Write};
 use tql_memory::Memory;
+use tql_result::answer::Answer;
 use tql_result::reply::{Reply, Verb};
 use tql_run::responder::Responder;
 use tql_value::refusal::Refusal;
@@ -22,12 +23,12 @@ impl Responder for Lengths {
         self.memory
     }
 
-    fn answer(&mut self, text: &[u8]) -> Reply {
-        if text == b"no".as_slice() {
+    fn answer(&mut self, text: &[u8]) -> Answer {
+        Answer::Replied(if text == b"no".as_slice() {
             Reply::Refused(Refusal::NotAStatement)
         } else {
             Reply::Done(Verb::Inserted, Some(text.len() as u64))
-        }
+        })
     }
 
     ghost refuses = { λ _ _ _ _. tt };

@@ -1,6 +1,5 @@
 // Runs of scripts over memory, and devices that fail.
 use std::io::{self, Error, ErrorKind, Read, Write};
-use std::process::Abort;
 use std::test::Fail;
 use tql_engine::engine::Engine;
 use tql_engine::run::run;
@@ -101,28 +100,4 @@ pub fn run_script(rt: &impl AllocGlobal, script: &[u8], setting: Setting) -> Res
         end,
         text: sink.into_writer().bytes,
     })
-}
-
-/// How many lines of a text begin so.
-fn lines_with(text: &str, beginning: &str) -> u64 {
-    let mut count = 0u64;
-    for line in text.lines() {
-        if line.starts_with(beginning) {
-            count = count.saturating_add(1);
-        }
-    }
-    count
-}
-
-/// Asserts what a script prints, given in one piece, and how many of its statements are refused.
-pub fn assert_prints(
-    rt: &(impl Abort + AllocGlobal),
-    script: &[u8],
-    text: &str,
-) -> Result<(), Fail> {
-    let outcome = run_script(rt, script, SOUND)?;
-    assert_eq!(rt; str::from_utf8(&outcome.text)?, text);
-    let summary = outcome.end?;
-    assert_eq!(rt; summary.refused, lines_with(text, "REFUSED "));
-    Ok(())
 }

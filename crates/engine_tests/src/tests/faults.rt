@@ -1,6 +1,9 @@
 // Devices that fail.
 use crate::tests::devices::{Outcome, SOUND, Setting, run_script};
 use std::test::Fail;
+use tql_engine::engine::Engine;
+use tql_engine::run::run_bytes;
+use tql_memory::memory;
 use tql_run::run::{Fault, Summary};
 
 /// A table, its clock, a row, a question, and what is no whole statement.
@@ -15,6 +18,15 @@ INSERT INTO";
 const WHOLE: &str = "CREATE TABLE\nAT\nINSERT 1\nX|S|E\n\
     7|2011-01-01 00:00:00|9999-12-31 23:59:59.999999\n(1 rows)\nREFUSED E12 unfinished statement\n";
 
+/// What a whole run of the script counts.
+const COUNTED: Summary = Summary {
+    statements: 5,
+    refused: 1,
+};
+
+/// More growths than the replies to the script make.
+const MOST_GROWTHS: u64 = 20;
+
 /// Devices whose reads end behind so many of thirty bytes.
 fn thirties(reads: u64) -> Setting {
     Setting {
@@ -26,16 +38,12 @@ fn thirties(reads: u64) -> Setting {
 
 #[test]
 fn tells_how_a_run_ended(rt: HostRuntime) -> Result<(), Fail> {
-    let counted = Summary {
-        statements: 5,
-        refused: 1,
-    };
     let no_flush = Setting {
         flushes: false,
         ..SOUND
     };
     for (script, setting, end, text) in [
-        (SCRIPT, SOUND, Ok(counted), WHOLE),
+        (SCRIPT, SOUND, Ok(COUNTED), WHOLE),
         (SCRIPT, thirties(0), Err(Fault::Read), ""),
         (SCRIPT, thirties(1), Err(Fault::Read), ""),
         (SCRIPT, thirties(5), Err(Fault::Read), ""),
@@ -47,7 +55,7 @@ fn tells_how_a_run_ended(rt: HostRuntime) -> Result<(), Fail> {
             Err(Fault::Read),
             "CREATE TABLE\nAT\nINSERT 1\n",
         ),
-        (SCRIPT, thirties(u64::MAX), Ok(counted), WHOLE),
+        (SCRIPT, thirties(u64::MAX), Ok(COUNTED), WHOLE),
         (SCRIPT, no_flush, Err(Fault::Write), WHOLE),
         ("", no_flush, Err(Fault::Write), ""),
     ] {
@@ -73,6 +81,25 @@ fn writes_a_beginning_where_a_write_fails(rt: HostRuntime) -> Result<(), Fail> {
         };
         assert!(rt; ends_well && last <= text.len() && WHOLE.as_bytes().starts_with(&text));
         last = text.len();
+    }
+    assert_eq!(rt; last, WHOLE.len());
+    Ok(())
+}
+
+#[test]
+fn keeps_a_beginning_where_the_output_cannot_grow(rt: HostRuntime) -> Result<(), Fail> {
+    let mut last = 0;
+    for growths in 0..MOST_GROWTHS {
+        let mut engine = Engine::new(memory(rt.alloc(), u64::MAX)?);
+        let mut output = Vec::new(memory(rt.alloc(), growths)?);
+        let end = run_bytes(&mut engine, SCRIPT.as_bytes(), &mut output);
+        let is_whole = output.len() == WHOLE.len();
+        let ends_well = match end {
+            Ok(summary) => is_whole && growths > 0 && summary == COUNTED,
+            Err(fault) => fault == Fault::Write && !is_whole,
+        };
+        assert!(rt; ends_well && last <= output.len() && WHOLE.as_bytes().starts_with(&output));
+        last = output.len();
     }
     assert_eq!(rt; last, WHOLE.len());
     Ok(())

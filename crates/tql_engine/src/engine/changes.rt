@@ -16,7 +16,7 @@ impl Engine {
     ghost use Rattle.tql_spec.specs.Machine.{State, step};
     ghost use Rattle.tql_spec.specs.Change.{Remove};
     ghost use Rattle.tql_bind.specs.Bounds.{IsSoundInsert, insert_of};
-    ghost use Rattle.tql_engine.specs.Tables.{definitions};
+    ghost use Rattle.tql_catalog.specs.Tables.{definitions_of};
     ghost use Rattle.tql_engine.specs.Stands.{StandsFor};
     ghost use Rattle.tql_engine.specs.Effects.{DoesStep};
 
@@ -29,7 +29,7 @@ impl Engine {
 
     /// Adds the rows of an insert. They begin at the clock's moment, which is that of an open transaction.
     fn add_to(&mut self, rows: Insert) -> Result<Reply, Refusal>
-        requires sound { IsSoundInsert (definitions self.old.tables) rows }
+        requires sound { IsSoundInsert (definitions_of self.old.tables) rows }
         requires below { IsNone self.old.rows.working → self.old.next <ℤ high }
         ensures { (s : State) → StandsFor self.old s → DoesStep self.new s result (step s (machine.Alter (insert_of rows))) }
     {
@@ -54,7 +54,7 @@ impl Engine {
 
     /// INSERT
     pub(super) fn insert(&mut self, rows: Insert) -> Result<Reply, Refusal>
-        requires { IsSoundInsert (definitions self.old.tables) rows }
+        requires { IsSoundInsert (definitions_of self.old.tables) rows }
         ensures { (s : State) → StandsFor self.old s → DoesStep self.new s result (step s (machine.Alter (insert_of rows))) }
     {
         if self.lacks_moment() {
@@ -89,7 +89,7 @@ impl Engine {
 
     /// DELETE of every row of the table at this place.
     pub(super) fn delete_all(&mut self, place: usize) -> Result<Reply, Refusal>
-        requires { place < length (definitions self.old.tables) }
+        requires { place < length (definitions_of self.old.tables) }
         ensures { (s : State) → StandsFor self.old s → DoesStep self.new s result (step s (machine.Alter (machine.Modify place None Remove []))) }
     {
         if self.lacks_moment() {

@@ -8,7 +8,7 @@ use tql_value::refusal::Refusal;
 
 impl Engine {
     ghost use Rattle.tql_spec.specs.Machine.{State, Starts, state_faults, is_clock_at_end};
-    ghost use Rattle.tql_spec.specs.Refusal.{E40, E41, first, fault_if};
+    ghost use Rattle.tql_spec.specs.Refusal.{NotInThisTransactionState, MomentNotAllowed, first, fault_if};
     ghost use Rattle.tql_tree.specs.Statements.{statement_of};
     ghost use Rattle.tql_value.specs.Refusals.{refusal_of};
     ghost use Rattle.tql_engine.specs.Stands.{StandsFor};
@@ -16,7 +16,8 @@ impl Engine {
 
     /// The fault of a statement that wants no transaction open.
     fn open_fault(&self) -> Option<Refusal>
-        ensures { (s : State) → StandsFor self.now s → option_map refusal_of result ≡ first (fault_if (is_some s.transaction) E40) }
+        ensures { (s : State) → StandsFor self.now s
+            → option_map refusal_of result ≡ first (fault_if (is_some s.transaction) NotInThisTransactionState) }
     {
         if self.rows.has_transaction() {
             Some(Refusal::NotInThisTransactionState)
@@ -27,7 +28,8 @@ impl Engine {
 
     /// The fault of a statement that wants one open.
     fn closed_fault(&self) -> Option<Refusal>
-        ensures { (s : State) → StandsFor self.now s → option_map refusal_of result ≡ first (fault_if (is_none s.transaction) E40) }
+        ensures { (s : State) → StandsFor self.now s
+            → option_map refusal_of result ≡ first (fault_if (is_none s.transaction) NotInThisTransactionState) }
     {
         if self.rows.has_transaction() {
             None
@@ -38,7 +40,8 @@ impl Engine {
 
     /// The fault of a change: no transaction is open, and the clock has no moment left for one.
     fn undated_fault(&self) -> Option<Refusal>
-        ensures { (s : State) → StandsFor self.now s → option_map refusal_of result ≡ first (fault_if (is_none s.transaction && is_clock_at_end s) E41) }
+        ensures { (s : State) → StandsFor self.now s → option_map refusal_of result
+            ≡ first (fault_if (is_none s.transaction && is_clock_at_end s) MomentNotAllowed) }
     {
         if !self.rows.has_transaction() && self.next >= HIGH {
             Some(Refusal::MomentNotAllowed)

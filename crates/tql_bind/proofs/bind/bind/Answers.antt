@@ -2,7 +2,7 @@ use Rattle.std.proofs.Common.{◌≡◌, sym, subst, ◌∙◌}
 use Rattle.tql_spec.specs.Binding.{bind}
 use Rattle.tql_spec.specs.Machine as machine
 use Rattle.tql_spec.specs.Names.{Checked}
-use Rattle.tql_catalog.specs.Definitions.{definitions_of}
+use Rattle.tql_catalog.specs.Tables.{definitions_of}
 use Rattle.tql_tree.specs.Statements.{create_of, statement_of}
 use Rattle.tql_tree.specs.declared.statement.CreateTree.{CreateTree}
 use Rattle.tql_tree.specs.declared.statement.Statement.{Statement}

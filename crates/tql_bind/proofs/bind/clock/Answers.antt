@@ -6,7 +6,7 @@ use Rattle.tql_spec.specs.Binding.{bind}
 use Rattle.tql_spec.specs.FirstToken.{content}
 use Rattle.tql_spec.specs.Machine.{SetClock}
 use Rattle.tql_spec.specs.Syntax.{AtTree}
-use Rattle.tql_catalog.specs.Definitions.{definitions_of}
+use Rattle.tql_catalog.specs.Tables.{definitions_of}
 use Rattle.tql_bind.specs.Bounds.{bound_of}
 use Rattle.tql_bind.proofs.Chains.{same_refusal}
 use Rattle.tql_bind.proofs.bind.clock.Goals as goal

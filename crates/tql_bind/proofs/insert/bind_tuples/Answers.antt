@@ -6,8 +6,8 @@ use Rattle.tql_spec.specs.Definition.{place_of}
 use Rattle.tql_spec.specs.Refusal.{first}
 use Rattle.tql_spec.specs.Machine.{Alter}
 use Rattle.tql_spec.specs.Binding.{insert_values}
-use Rattle.tql_catalog.specs.Definitions.{def_of, definitions_of}
-use Rattle.tql_catalog.specs.Simple.{IsTupleOf}
+use Rattle.tql_catalog.specs.Tables.{definitions_of}
+use Rattle.tql_catalog.specs.Rows.{IsTupleOf}
 use Rattle.tql_tree.specs.declared.expression.Name.{Name}
 use Rattle.tql_tree.specs.Expressions.{name_of}
 use Rattle.tql_tree.specs.Statements.{names_of, tuple_of}
@@ -35,7 +35,7 @@ returns-in-Err-clause-binds c =
     let n = name_of c.args.insert.now.table in
     let ns = names_of c.args.insert.now.columns in
     let ts = tuple_of c.args.first.now ∷ map tuple_of c.args.more.now in
-    let d = def_of c.definition_at-definition.result.now in
+    let d = c.definition_at-definition.result.now in
     let place : place_of n defs ≡ Some c.in-Some.place = search rules in
     passed_on (λ (v : Vec ℕ Handle). v.items) (λ (x : Insert). Alter (insert_of x)) (columns_checked d ns) (insert_values defs n ns ts) c.in-Err.refusal
     (columns_passed defs n c.in-Some.place ns ts c.requires place d c.definition_at-definition.ensures)
@@ -47,7 +47,7 @@ returns-in-Err-rows_for-clause-binds c =
     let n = name_of c.args.insert.now.table in
     let ns = names_of c.args.insert.now.columns in
     let ts = tuple_of c.args.first.now ∷ map tuple_of c.args.more.now in
-    let d = def_of c.definition_at-definition.result.now in
+    let d = c.definition_at-definition.result.now in
     let is = c.in-Ok.columns.items in
     let place : place_of n defs ≡ Some c.in-Some.place = search rules in
     let columns : AreColumns defs n c.in-Some.place ns ts c.requires place d is =
@@ -66,7 +66,7 @@ returns-clause-binds c =
     let n = name_of c.args.insert.now.table in
     let ns = names_of c.args.insert.now.columns in
     let ts = tuple_of c.args.first.now ∷ map tuple_of c.args.more.now in
-    let d = def_of c.definition_at-definition.result.now in
+    let d = c.definition_at-definition.result.now in
     let is = c.in-Ok.columns.items in
     let place : place_of n defs ≡ Some c.in-Some.place = search rules in
     let columns : AreColumns defs n c.in-Some.place ns ts c.requires place d is =
@@ -87,7 +87,7 @@ returns-clause-sound c =
     let n = name_of c.args.insert.now.table in
     let ns = names_of c.args.insert.now.columns in
     let ts = tuple_of c.args.first.now ∷ map tuple_of c.args.more.now in
-    let d = def_of c.definition_at-definition.result.now in
+    let d = c.definition_at-definition.result.now in
     let is = c.in-Ok.columns.items in
     let place : place_of n defs ≡ Some c.in-Some.place = search rules in
     let columns : AreColumns defs n c.in-Some.place ns ts c.requires place d is =

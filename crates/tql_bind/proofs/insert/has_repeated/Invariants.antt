@@ -1,5 +1,5 @@
 use Rattle.std.proofs.Common.{◌≡◌, length}
-use Rattle.tql_catalog.specs.Simple.{numbers_repeat}
+use Rattle.tql_catalog.specs.Rows.{numbers_repeat}
 use Rattle.tql_bind.proofs.insert.has_repeated.Given as goal
 
 abbrev pub invariant-loop-left : goal.invariant-loop-left

@@ -3,7 +3,7 @@ use Rattle.tql_spec.specs.Binding.{bind}
 use Rattle.tql_spec.specs.Machine.{Bound, Ask}
 use Rattle.tql_spec.specs.Names.{Checked}
 use Rattle.tql_spec.specs.Syntax.{Statement}
-use Rattle.tql_catalog.specs.Definitions.{definitions_of}
+use Rattle.tql_catalog.specs.Tables.{definitions_of}
 use Rattle.tql_tree.specs.Statements.{orders_of, select_of}
 use Rattle.tql_define.specs.Binds.{Binds}
 use Rattle.tql_bind.specs.Bounds.{query_of}

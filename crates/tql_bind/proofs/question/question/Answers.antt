@@ -1,15 +1,15 @@
 use Rattle.std.specs.Prelude.{Err}
-use Rattle.std.proofs.Common.{subst}
+use Rattle.std.proofs.Common.{sym, subst}
 use Rattle.tql_spec.specs.Binding.{when}
 use Rattle.tql_spec.specs.Definition.{TableDef}
 use Rattle.tql_spec.specs.Machine.{Ask}
-use Rattle.tql_catalog.specs.Definitions.{definitions_of}
+use Rattle.tql_catalog.specs.Tables.{definitions_of}
 use Rattle.tql_tree.specs.Expressions.{name_of}
 use Rattle.tql_tree.specs.Statements.{span_of}
 use Rattle.tql_define.specs.Binds.{Binds}
 use Rattle.tql_bind.specs.Bounds.{query_of, when_of}
 use Rattle.tql_bind.specs.declared.bound.Question.{Question}
-use Rattle.tql_bind.proofs.Questions.{table_refused, clause_refused, table_read}
+use Rattle.tql_bind.proofs.Questions.{table_refused, clause_refused}
 use Rattle.tql_bind.proofs.question.question.Goals as goal
 
 pub returns-in-Err-clause-binds : goal.returns-in-Err-clause-binds
@@ -23,4 +23,4 @@ returns-in-Err-bind_span-clause-binds c =
     let e = c.in-Err-bind_span.refusal in
     let span = span_of c.args.span in
     clause_refused when_of (λ (q : Question). Ask (query_of defs q)) defs (name_of c.args.name) span c.in-Ok.table e c.in-Ok.ensures.binds
-    (subst (λ (d : TableDef). Binds when_of (when d span) (Err e)) (table_read c.args.tables.now c.in-Ok.table c.index-tables-table.result c.in-Ok.ensures.within) c.in-Err-bind_span.ensures.binds)
+    (subst (λ (d : TableDef). Binds when_of (when d span) (Err e)) (sym c.table.ensures.definition) c.in-Err-bind_span.ensures.binds)

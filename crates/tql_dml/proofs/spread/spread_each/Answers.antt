@@ -1,5 +1,4 @@
 use Rattle.std.proofs.Common.{◌∙◌, ap, sym, length, arith, Vec}
-use Rattle.tql_catalog.specs.Definitions.{def_of}
 use Rattle.tql_value.specs.declared.value.Value.{Value}
 use Rattle.tql_dml.specs.Cells.{stored_cells}
 use Rattle.tql_dml.specs.Inserts.{row_of}
@@ -13,7 +12,7 @@ spread-requires-clause-width c =
 
 pub loop-tuple-preserved : goal.loop-tuple-preserved
 loop-tuple-preserved c =
-    let f = stored_cells (def_of c.args.definition.now) c.args.columns.now in
+    let f = stored_cells c.args.definition.now c.args.columns.now in
     let values = c.deref_mut.ensures.value ∙ ap (λ (x : Vec Value _). x.items) (sym c.tuple-item.is) in
     record {
       tuples = later_tuples (length c.args.columns.now) c.loop-tuple.tuple-items c.loop-tuple.tuple-index c.tuple-item.result _ (omega arith) c.tuple-item.is c.loop-tuple.invariant.tuples;

@@ -5,9 +5,9 @@ use Rattle.tql_spec.specs.Calendar.{high}
 use Rattle.tql_spec.specs.Datum.{Row}
 use Rattle.tql_spec.specs.Machine.{State}
 use Rattle.tql_store.specs.Slots.{has_table}
-use Rattle.tql_catalog.specs.Simple.{IsRowOf}
+use Rattle.tql_catalog.specs.Rows.{IsRowOf}
 use Rattle.tql_dml.specs.Inserts.{Inserts, Adds, rows_of}
-use Rattle.tql_engine.specs.Tables.{Placed, placed_of, table_of}
+use Rattle.tql_catalog.specs.declared.catalog.Table.{Table}
 use Rattle.tql_engine.specs.Committing.{ChangesRows, KeepsRows}
 use Rattle.tql_engine.specs.Stands.{Held, StandsFor}
 use Rattle.tql_engine.proofs.MomentFits.{clock_reads, clock_under, after_reads}
@@ -19,17 +19,17 @@ use Rattle.tql_engine.proofs.engine.Engine.add_to.Goals as goal
 
 pub returns-in-Err : goal.returns-in-Err
 returns-in-Err c s st =
-    let p : Placed = placed_of c.table_at.result.now in
+    let p : Table = c.table_at.result.now in
     let tuples : List Row = rows_of c.args.rows.tuples.items in
     insert_errs c.args.self.now s c.args.rows.table p c.args.rows.columns.items tuples st c.table_at.ensures c.requires.below p.id c.in-Err.refusal
-    (subst (λ is. Inserts (table_of p) p.id is tuples (Err c.in-Err.refusal)) c.deref.ensures.value c.in-Err.ensures)
+    (subst (λ is. Inserts p.definition p.id is tuples (Err c.in-Err.refusal)) c.deref.ensures.value c.in-Err.ensures)
 
 pub change_rows-requires-clause-later : goal.change_rows-requires-clause-later
 change_rows-requires-clause-later c = clock_under _ c.self.invariant.state c.self.invariant.stands
 
 pub change_rows-requires-clause-present : goal.change_rows-requires-clause-present
 change_rows-requires-clause-present c =
-    let p : Placed = placed_of c.table_at.result.now in
+    let p : Table = c.table_at.result.now in
     let there = subst (λ (h : Held). slice_get h.tables c.args.rows.table ≡ Some p) (sym c.self.view_is) c.table_at.ensures in
     subst (λ t. IsTrue (has_table c.self.inside.rows t)) (sym c.in-Ok.ensures.table) (there_law _ c.self.invariant.state c.args.rows.table p c.self.invariant.stands there)
 
@@ -37,13 +37,13 @@ pub invariant_of-self : goal.invariant_of-self
 invariant_of-self c =
     let s : State = c.self.invariant.state in
     let st = c.self.invariant.stands in
-    let p : Placed = placed_of c.table_at.result.now in
+    let p : Table = c.table_at.result.now in
     let rows : List Row = rows_of c.in-Ok.delta.added.items in
     let removed : List ℕ = c.in-Ok.delta.removed.items in
     let after = c.in-Ok-change_rows.next in
     let there = subst (λ (h : Held). slice_get h.tables c.args.rows.table ≡ Some p) (sym c.self.view_is) c.table_at.ensures in
     let below = subst (λ (h : Held). IsNone h.rows.working → h.next <ℤ high) (sym c.self.view_is) c.requires.below in
-    let fit = recursion_from_All (IsRowOf (table_of p)) rows c.in-Ok.ensures.rows in
+    let fit = recursion_from_All (IsRowOf p.definition) rows c.in-Ok.ensures.rows in
     let old = c.self.inside.rows in
     let new = c.change_rows.new.store in
     let clocked = subst (λ m. ChangesRows old.working m after c.in-Ok.delta.table removed rows old new) (clock_reads _ s st) c.in-Ok-change_rows.ensures.ok in
@@ -62,15 +62,15 @@ invariant_of-self-in-Err-change_rows c =
 pub returns-in-Ok-change_rows : goal.returns-in-Ok-change_rows
 returns-in-Ok-change_rows c s st =
     let back = subst (λ h. StandsFor h s) (sym c.self.view_is) st in
-    let p : Placed = placed_of c.table_at.result.now in
+    let p : Table = c.table_at.result.now in
     let tuples : List Row = rows_of c.args.rows.tuples.items in
     let rows : List Row = rows_of c.in-Ok.delta.added.items in
     let removed : List ℕ = c.in-Ok.delta.removed.items in
     let after = c.in-Ok-change_rows.next in
     let there = subst (λ (h : Held). slice_get h.tables c.args.rows.table ≡ Some p) (sym c.self.view_is) c.table_at.ensures in
     let below = subst (λ (h : Held). IsNone h.rows.working → h.next <ℤ high) (sym c.self.view_is) c.requires.below in
-    let adds = subst (λ is. Adds (table_of p) p.id is tuples c.in-Ok.delta) c.deref.ensures.value c.in-Ok.ensures in
-    let fit = recursion_from_All (IsRowOf (table_of p)) rows adds.rows in
+    let adds = subst (λ is. Adds p.definition p.id is tuples c.in-Ok.delta) c.deref.ensures.value c.in-Ok.ensures in
+    let fit = recursion_from_All (IsRowOf p.definition) rows adds.rows in
     let old = c.self.inside.rows in
     let new = c.change_rows.new.store in
     let clocked = subst (λ m. ChangesRows old.working m after c.in-Ok.delta.table removed rows old new) (clock_reads _ s back) c.in-Ok-change_rows.ensures.ok in

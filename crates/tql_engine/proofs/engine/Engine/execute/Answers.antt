@@ -2,12 +2,10 @@ use Rattle.std.proofs.Common.{◌≡◌, ◌∙◌, sym, ap, subst, List, None, 
 use Rattle.tql_spec.specs.Binding.{bind}
 use Rattle.tql_spec.specs.Definition.{TableDef}
 use Rattle.tql_spec.specs.Refusal.{first}
-use Rattle.tql_catalog.specs.Definitions.{definitions_of}
 use Rattle.tql_tree.specs.Statements.{statement_of}
 use Rattle.tql_bind.specs.Bounds.{IsSound, bound_of}
-use Rattle.tql_engine.specs.Tables.{definitions}
+use Rattle.tql_catalog.specs.Tables.{definitions_of}
 use Rattle.tql_engine.specs.Stands.{Held, StandsFor}
-use Rattle.tql_engine.proofs.Standing.{definitions_are}
 use Rattle.tql_engine.proofs.Printing.{does_print}
 use Rattle.tql_define.specs.Binds.{Binds}
 use Rattle.tql_engine.proofs.Joining.{bound_does, refusal_does}
@@ -15,13 +13,13 @@ use Rattle.tql_engine.proofs.engine.Engine.execute.Goals as goal
 
 pub perform-requires : goal.perform-requires
 perform-requires c =
-    let tables = ap (λ (h : Held). definitions h.tables) (sym c.self.view_is) ∙ definitions_are c.self.inside.tables.items ∙ ap definitions_of (sym c.deref.ensures.value) in
+    let tables = ap (λ (h : Held). definitions_of h.tables) (sym c.self.view_is) in
     subst (λ (ds : List TableDef). IsSound ds c.in-Ok.bound) (sym tables) c.in-Ok.ensures.sound
 
 pub returns-in-Ok-clause-answered : goal.returns-in-Ok-clause-answered
 returns-in-Ok-clause-answered c s st =
     let t = statement_of c.args.statement.now in
-    let tables = ap (λ (h : Held). definitions h.tables) (sym c.self.view_is) ∙ definitions_are c.self.inside.tables.items ∙ ap definitions_of (sym c.deref.ensures.value) in
+    let tables = ap (λ (h : Held). definitions_of h.tables) (sym c.self.view_is) in
     let same = st.fits.definitions ∙ tables in
     let none = subst (λ (ds : List TableDef). first (bind ds t).faults ≡ None) (sym same) c.in-Ok.ensures.binds.0 in
     let is = ap (λ (ds : List TableDef). (bind ds t).value) same ∙ c.in-Ok.ensures.binds.1 ∙ ap (λ (ds : List TableDef). bound_of ds c.in-Ok.bound) (sym tables) in
@@ -31,7 +29,7 @@ pub returns-in-Ok-clause-printable : goal.returns-in-Ok-clause-printable
 returns-in-Ok-clause-printable c =
     let s = c.self.invariant.state in
     let st = subst (λ (h : Held). StandsFor h s) c.self.view_is c.self.invariant.stands in
-    let tables = ap (λ (h : Held). definitions h.tables) (sym c.self.view_is) ∙ definitions_are c.self.inside.tables.items ∙ ap definitions_of (sym c.deref.ensures.value) in
+    let tables = ap (λ (h : Held). definitions_of h.tables) (sym c.self.view_is) in
     let sound = subst (λ (ds : List TableDef). IsSound ds c.in-Ok.bound) (sym tables) c.in-Ok.ensures.sound in
     does_print c.args.self.now _ s st c.in-Ok.bound sound c.perform.result (c.perform.ensures s st)
 
@@ -39,8 +37,8 @@ pub returns-in-Err : goal.returns-in-Err
 returns-in-Err c = record {
   answered = λ s st.
       let t = statement_of c.args.statement.now in
-      let tables = ap (λ (h : Held). definitions h.tables) (sym c.self.view_is) ∙ definitions_are c.self.inside.tables.items ∙ ap definitions_of (sym c.deref.ensures.value) in
-      let binds = subst (λ (ds : List TableDef). Binds (bound_of (definitions_of c.deref.result.now)) (bind ds t) (Err c.in-Err.fault)) (sym (st.fits.definitions ∙ tables)) c.in-Err.ensures.binds in
-      refusal_does (bound_of (definitions_of c.deref.result.now)) c.args.self.now s t c.in-Err.fault c.refusal_with.result st binds (c.refusal_with.ensures s st);
+      let tables = ap (λ (h : Held). definitions_of h.tables) (sym c.self.view_is) in
+      let binds = subst (λ (ds : List TableDef). Binds (bound_of (definitions_of c.self.inside.tables)) (bind ds t) (Err c.in-Err.fault)) (sym (st.fits.definitions ∙ tables)) c.in-Err.ensures.binds in
+      refusal_does (bound_of (definitions_of c.self.inside.tables)) c.args.self.now s t c.in-Err.fault c.refusal_with.result st binds (c.refusal_with.ensures s st);
   printable = tt;
 }

@@ -3,7 +3,7 @@ use Rattle.std.specs.Prelude.{IsNone, ◌<ℤ◌, slice_get}
 use Rattle.tql_spec.specs.Calendar.{high}
 use Rattle.tql_spec.specs.Machine.{State}
 use Rattle.tql_engine.specs.Committing.{ChangesRows, KeepsRows}
-use Rattle.tql_engine.specs.Tables.{Placed, placed_of}
+use Rattle.tql_catalog.specs.declared.catalog.Table.{Table}
 use Rattle.tql_engine.specs.Stands.{Held, StandsFor}
 use Rattle.tql_engine.specs.Views.{rows_of}
 use Rattle.tql_engine.proofs.MomentFits.{clock_reads, clock_under, after_reads}
@@ -14,7 +14,7 @@ use Rattle.tql_engine.proofs.engine.Engine.remove_from.Goals as goal
 
 pub current_ids-requires : goal.current_ids-requires
 current_ids-requires c =
-    let p : Placed = placed_of c.table_at.result.now in
+    let p : Table = c.table_at.result.now in
     let there = subst (λ (h : Held). slice_get h.tables c.args.place ≡ Some p) (sym c.self.view_is) c.table_at.ensures in
     there_law _ c.self.invariant.state c.args.place p c.self.invariant.stands there
 
@@ -23,7 +23,7 @@ change_rows-requires-clause-later c = clock_under _ c.self.invariant.state c.sel
 
 pub change_rows-requires-clause-present : goal.change_rows-requires-clause-present
 change_rows-requires-clause-present c =
-    let p : Placed = placed_of c.table_at.result.now in
+    let p : Table = c.table_at.result.now in
     let there = subst (λ (h : Held). slice_get h.tables c.args.place ≡ Some p) (sym c.self.view_is) c.table_at.ensures in
     there_law _ c.self.invariant.state c.args.place p c.self.invariant.stands there
 
@@ -31,7 +31,7 @@ pub invariant_of-self : goal.invariant_of-self
 invariant_of-self c =
     let s : State = c.self.invariant.state in
     let st = c.self.invariant.stands in
-    let p : Placed = placed_of c.table_at.result.now in
+    let p : Table = c.table_at.result.now in
     let removed = c.in_ok-removed.removed.items in
     let there = subst (λ (h : Held). slice_get h.tables c.args.place ≡ Some p) (sym c.self.view_is) c.table_at.ensures in
     let below = subst (λ (h : Held). IsNone h.rows.working → h.next <ℤ high) (sym c.self.view_is) c.requires.below in
@@ -53,7 +53,7 @@ invariant_of-self-in-Err c =
 pub returns-in-Ok : goal.returns-in-Ok
 returns-in-Ok c s st =
     let back = subst (λ h. StandsFor h s) (sym c.self.view_is) st in
-    let p : Placed = placed_of c.table_at.result.now in
+    let p : Table = c.table_at.result.now in
     let removed = c.in_ok-removed.removed.items in
     let there = subst (λ (h : Held). slice_get h.tables c.args.place ≡ Some p) (sym c.self.view_is) c.table_at.ensures in
     let below = subst (λ (h : Held). IsNone h.rows.working → h.next <ℤ high) (sym c.self.view_is) c.requires.below in

@@ -1,0 +1,98 @@
+-- The place at which a table is found, and what stays true of the tables.
+use Rattle.std.proofs.Common.{◌≡◌, ◌≢◌, refl, ap, sym, ◌∙◌, ℕ, zero, suc, Bool, true, false, List, [], ◌∷◌, ◌++◌, Some, None, ◌+◌, ◌<◌, ◌≤◌, length, map, arith, length-append}
+use Rattle.std.specs.Prelude.{position, if◌then◌else◌, is_some, nat_le, remove, slice_get, slice_index_or, All, Option, option_map}
+use Rattle.std.specs.List.{position_from}
+use Rattle.std.proofs.lemmas.Bool.Decides.{nat_tests}
+use Rattle.std.proofs.lemmas.Iterator.Adapters.{position_from-zero}
+use Rattle.std.proofs.lemmas.List.{length-map}
+use Rattle.std.proofs.lemmas.List.Edits.{length-remove}
+use Rattle.std.proofs.lemmas.List.Elements.{All-nil, All-cons}
+use Rattle.std.proofs.lemmas.List.Quantifiers.{all_pairs_push, all_pairs_remove}
+use Rattle.tql_spec.specs.Words.{same_text}
+use Rattle.tql_spec.specs.Refusal.{TooManyTablesOrReaders, TableUnknownOrAlreadyThere, first, fault_if}
+use Rattle.tql_spec.specs.Definition.{Name, TableDef, place_of, next_place, table_at}
+use Rattle.tql_spec.proofs.Constraints.{same_text-self}
+use Rattle.tql_value.specs.Refusals.{refusal_of}
+use Rattle.tql_value.specs.declared.refusal.Refusal.{Refusal}
+use Rattle.tql_catalog.specs.Tables.{definitions_of, IsFree, IsCatalog, creation_faults}
+use Rattle.tql_catalog.specs.declared.catalog.Table.{Table}
+
+-- whether this is the table of the name
+abbrev pub is_called : Name → Table → Bool
+is_called n t = same_text n t.definition.name
+
+next_of : {X : Type 0} (t : X → Bool) (i : ℕ) (xs : List X) → position_from t (i + 1) xs ≡ next_place (position_from t i xs)
+next_of t i [] = refl
+next_of t i (x ∷ xs) = elim (t x) as (λ b. (if b then Some (i + 1) else position_from t (i + 1 + 1) xs) ≡ next_place (if b then Some i else position_from t (i + 1) xs)) [
+  | true ↦ ap Some (omega arith)
+  | false ↦ next_of t (i + 1) xs
+]
+
+place_from : (n : Name) (tables : List Table) → position_from (is_called n) 0 tables ≡ place_of n (definitions_of tables)
+place_from n [] = refl
+place_from n (t ∷ ts) = ap (λ o. if same_text n t.definition.name then Some 0 else o) (next_of (is_called n) 0 ts ∙ ap next_place (place_from n ts))
+
+-- the place at which a table is found is that of its definition
+pub place_of-tables : (n : Name) (tables : List Table) → position (is_called n) tables ≡ place_of n (definitions_of tables)
+place_of-tables n tables = position_from-zero (is_called n) tables ∙ place_from n tables
+
+-- the definition at a place is that of its table
+pub definition_at : (tables : List Table) (i : ℕ) (t : Table) → slice_get tables i ≡ Some t → table_at (definitions_of tables) i ≡ t.definition
+definition_at [] i t e = cc
+definition_at (x ∷ tables) zero t e = ap (λ (y : Table). y.definition) (the_same x t e)
+  where
+    the_same : (x y : Table) → Some x ≡ Some y → x ≡ y
+    the_same x y e = cc
+definition_at (x ∷ tables) (suc i) t e = definition_at tables i t e
+
+-- ---- a new table
+
+no_fault : (a b : Bool) → first (fault_if a TableUnknownOrAlreadyThere ++ fault_if b TooManyTablesOrReaders) ≡ None → (a ≡ false) × (b ≡ false)
+no_fault true true h = absurd (cc)
+no_fault true false h = absurd (cc)
+no_fault false true h = absurd (cc)
+no_fault false false h = (refl, refl)
+
+not_there : (b : Bool) (o : Option ℕ) → is_some (if b then Some 0 else next_place o) ≡ false → (b ≡ false) × (is_some o ≡ false)
+not_there true o h = absurd (cc)
+not_there false None h = (refl, refl)
+not_there false (Some i) h = absurd (cc)
+
+-- where no place is found, no table has the name
+none_called : (n : Name) (tables : List Table) → is_some (place_of n (definitions_of tables)) ≡ false → All (λ (t : Table). t.definition.name ≢ n) tables
+none_called n [] h = All-nil _
+none_called n (t ∷ ts) h =
+    let both = not_there (same_text n t.definition.name) (place_of n (definitions_of ts)) h in
+    All-cons (λ (u : Table). u.definition.name ≢ n) t ts
+    (λ e. let wrong : true ≡ false = sym (same_text-self n) ∙ sym (ap (same_text n) e) ∙ both.0 in cc)
+    (none_called n ts both.1)
+
+fewer : (n : ℕ) → nat_le 1000 n ≡ false → n < 1000
+fewer n e = grind (arith, nat_tests)
+
+-- where no fault is told of a name, there is none
+pub no_fault_told : (defs : List TableDef) (n m : Name) (o : Option Refusal) → m ≡ n → o ≡ None → option_map refusal_of o ≡ first (creation_faults defs m)
+    → first (creation_faults defs n) ≡ None
+no_fault_told defs n m o e f told = ap (λ (k : Name). first (creation_faults defs k)) (sym e) ∙ sym told ∙ ap (option_map refusal_of) f
+
+-- with a table that shows no fault, under a number that is free
+pub one_more : (tables : List Table) (d : TableDef) (id : ℕ) → IsCatalog tables → first (creation_faults (definitions_of tables) d.name) ≡ None → IsFree id tables
+    → IsCatalog (tables ++ record { definition = d; id = id } ∷ [])
+one_more tables d id c f free =
+    let table : Table = record { definition = d; id = id } in
+    let none = no_fault (is_some (place_of d.name (definitions_of tables))) (nat_le 1000 (length (definitions_of tables))) f in
+    let few : length tables < 1000 = fewer (length tables) (ap (nat_le 1000) (sym (length-map tables (λ (t : Table). t.definition))) ∙ none.1) in
+    record {
+      names = all_pairs_push (λ (t u : Table). t.definition.name ≢ u.definition.name) tables table c.names (none_called d.name tables none.0);
+      ids = all_pairs_push (λ (t u : Table). t.id ≢ u.id) tables table c.ids free;
+      count = omega (arith, few, length-append tables (table ∷ []));
+    }
+
+-- ---- a table taken out
+
+pub one_less : (tables : List Table) (i : ℕ) → i < length tables → IsCatalog tables → IsCatalog (remove tables i)
+one_less tables i l c = record {
+  names = all_pairs_remove (λ (t u : Table). t.definition.name ≢ u.definition.name) tables i l c.names;
+  ids = all_pairs_remove (λ (t u : Table). t.id ≢ u.id) tables i l c.ids;
+  count = omega (arith, c.count, length-remove tables i l);
+}

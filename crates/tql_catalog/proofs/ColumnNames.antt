@@ -1,0 +1,49 @@
+-- Columns by name and by number.
+use Rattle.std.proofs.Common.{◌≡◌, refl, ap, sym, ◌∙◌, ℕ, zero, suc, Bool, true, List, [], ◌∷◌, map, ◌<◌, length, arith}
+use Rattle.std.specs.Prelude.{slice_index_or, string_bytes, ◌||◌, ◌&&◌, nat_lt}
+use Rattle.std.specs.List.{list_any}
+use Rattle.std.proofs.lemmas.Bool.Decides.{nat_tests}
+use Rattle.std.proofs.lemmas.List.{length-map}
+use Rattle.tql_spec.specs.Words.{same_text}
+use Rattle.tql_spec.specs.Datum.{Kind, Ints, Moments, same_kind}
+use Rattle.tql_spec.specs.Definition as spec
+use Rattle.tql_spec.specs.Definition.{Name}
+use Rattle.tql_spec.specs.Creation.{has_name}
+use Rattle.tql_value.specs.Views.{plain_kind}
+use Rattle.tql_catalog.specs.Columns.{names_in, kinds_in}
+use Rattle.tql_catalog.specs.Defined.{is_moment_at}
+use Rattle.tql_catalog.specs.Definitions.{column_of}
+use Rattle.tql_catalog.specs.declared.definition.Column.{Column}
+
+-- whether this is the column of the name
+abbrev pub is_called : Name → Column → Bool
+is_called n c = same_text n (string_bytes c.name)
+
+-- a column has the name where one of the names is it
+pub any_called : (n : Name) (columns : List Column) → list_any (is_called n) columns ≡ has_name n (names_in columns)
+any_called n [] = refl
+any_called n (c ∷ cs) = ap (λ (b : Bool). same_text n (string_bytes c.name) || b) (any_called n cs)
+
+-- the kind of a column that is there
+kind_at : (columns : List Column) (i : ℕ) (c : Column) → i < length columns → plain_kind (slice_index_or columns i c).kind ≡ slice_index_or (kinds_in columns) i Ints
+kind_at [] i c h = absurd (omega (arith, h))
+kind_at (x ∷ xs) zero c h = refl
+kind_at (x ∷ xs) (suc i) c h = kind_at xs i c (omega (arith, h))
+
+pub kind_there : (columns : List Column) (i : ℕ) (c : Column) → i < length columns → c ≡ slice_index_or columns i c → plain_kind c.kind ≡ slice_index_or (kinds_in columns) i Ints
+kind_there columns i c h e = ap (λ (k : Column). plain_kind k.kind) e ∙ kind_at columns i c h
+
+-- there are as many kinds as columns
+pub kind_count : (columns : List Column) → length (kinds_in columns) ≡ length columns
+kind_count columns = length-map (map column_of columns) (λ (c : spec.Column). c.kind) ∙ length-map columns column_of
+
+there : (i width count : ℕ) → i < count → width ≡ count → nat_lt i width ≡ true
+there i width count h e = grind (arith, nat_tests)
+
+-- a column that is there holds moments where its kind is theirs
+pub moment_there : (columns : List Column) (i : ℕ) (c : Column) → i < length columns → c ≡ slice_index_or columns i c
+    → same_kind (plain_kind c.kind) Moments ≡ is_moment_at (kinds_in columns) i
+moment_there columns i c h e =
+    let within : nat_lt i (length (kinds_in columns)) ≡ true = there i (length (kinds_in columns)) (length columns) h (kind_count columns) in
+    ap (λ (k : Kind). same_kind k Moments) (kind_there columns i c h e)
+    ∙ sym (ap (λ (b : Bool). b && same_kind (slice_index_or (kinds_in columns) i Ints) Moments) within)

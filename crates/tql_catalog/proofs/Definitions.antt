@@ -1,0 +1,48 @@
+-- What is true of a definition.
+use Rattle.std.specs.Prelude.{◌≡◌, refl, ℕ, Bool, true, false, not, ◌&&◌, ◌==◌, nat_lt, IsTrue, List, map, length, Option, Some, None, slice_index_or}
+use Rattle.std.proofs.Common.{ap, subst, ◌∙◌}
+use Rattle.std.proofs.lemmas.List.{length-map}
+use Rattle.tql_spec.specs.Datum.{Kind, Ints, Moments, same_kind}
+use Rattle.tql_spec.specs.Definition.{Name, Column, System, TableDef}
+use Rattle.tql_spec.specs.Creation.{kinds_of, repeats}
+use Rattle.tql_catalog.specs.Defined.{IsDefinition, plain_table, is_definable, is_system_period, is_moment_at}
+use Rattle.tql_catalog.specs.Rows.{has_system}
+
+and_left : (a b : Bool) → IsTrue (a && b) → IsTrue a
+and_left true b h = refl
+and_left false b h = h
+
+and_right : (a b : Bool) → IsTrue (a && b) → IsTrue b
+and_right true b h = h
+and_right false b h = absurd (cc)
+
+-- columns and a system period that can be those of a table are
+pub right : (n : Name) (cs : List Column) (s : Option System) → IsTrue (is_definable cs s) → IsDefinition (plain_table n cs s)
+right n cs s h =
+    let names : Bool = not (repeats (map (λ (c : Column). c.name) cs)) in
+    let period : Bool = is_system_period (map (λ (c : Column). c.kind) cs) s in
+    record {
+      columns = and_left names period h;
+      system = and_right names period h;
+      application = refl;
+      keys = refl;
+      references = refl;
+      checks = refl;
+    }
+
+within : (kinds : List Kind) (s : Option System) → IsTrue (is_system_period kinds s) → IsTrue (has_system s (length kinds))
+within kinds None h = refl
+within kinds (Some s) h =
+    three (nat_lt s.start (length kinds)) (same_kind (slice_index_or kinds s.start Ints) Moments)
+    (nat_lt s.end (length kinds)) (same_kind (slice_index_or kinds s.end Ints) Moments) (not (s.start == s.end)) h
+  where
+    three : (a b c d e : Bool) → IsTrue ((a && b) && (c && d) && e) → IsTrue (a && c && e)
+    three true true true true e h = h
+    three true true true false e h = absurd (cc)
+    three true true false d e h = absurd (cc)
+    three true false c d e h = absurd (cc)
+    three false b c d e h = absurd (cc)
+
+-- the generated columns of a table are two of its columns
+pub has_its_system : (d : TableDef) → IsDefinition d → IsTrue (has_system d.system (length d.columns))
+has_its_system d r = subst (λ n. IsTrue (has_system d.system n)) (length-map d.columns (λ (c : Column). c.kind)) (within (kinds_of d) d.system r.system)

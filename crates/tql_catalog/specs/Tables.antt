@@ -1,0 +1,51 @@
+-- The tables that are there, in the order of their creation.
+use Rattle.std.specs.Prelude.{◌≡◌, ◌≢◌, ◌≤◌, refl, ℕ, ◌++◌, List, map, length, nat_le, is_some, slice_get, remove, All, Option, Some, None, Result, Ok, Err, ⊤}
+use Rattle.std.specs.List.{AllPairs}
+use Rattle.std.specs.Coded.{Coded, code_by, coded×, coded_ℕ, coded_list}
+use Rattle.tql_spec.specs.Refusal as spec
+use Rattle.tql_spec.specs.Refusal.{TooManyTablesOrReaders, TableUnknownOrAlreadyThere, fault_if}
+use Rattle.tql_spec.specs.Definition.{Name, TableDef, place_of}
+use Rattle.tql_value.specs.Refusals.{refusal_of}
+use Rattle.tql_value.specs.declared.refusal.Refusal.{Refusal}
+use Rattle.tql_value.specs.declared.refusal.Refusal.TheVariants.{OutOfMemory}
+use Rattle.tql_catalog.specs.Codes.{table_def_code}
+use Rattle.tql_catalog.specs.declared.catalog.Table.{Table}
+
+-- how the logic stores tables
+abbrev table_code : Coded Table
+table_code = code_by (TableDef × ℕ) (coded× table_def_code coded_ℕ) (λ t. (t.definition, t.id)) (λ p. record { definition = p.0; id = p.1 }) (λ _. refl)
+
+abbrev pub tables_code : Coded (List Table)
+tables_code = coded_list table_code
+
+-- their definitions
+abbrev pub definitions_of : List Table → List TableDef
+definitions_of tables = map (λ (t : Table). t.definition) tables
+
+-- none of them is kept at this number
+abbrev pub IsFree : ℕ → List Table → Type 0
+IsFree id tables = All (λ (t : Table). t.id ≢ id) tables
+
+-- no two have one name, no two are kept at one number, and they are at most 1,000
+pub record IsCatalog (tables : List Table) : Type 0 where
+  pub names : AllPairs (λ (t u : Table). t.definition.name ≢ u.definition.name) tables
+  pub ids : AllPairs (λ (t u : Table). t.id ≢ u.id) tables
+  pub count : length tables ≤ 1000
+
+-- the faults of a new table of this name that the tables which are there show
+abbrev pub creation_faults : List TableDef → Name → List spec.Refusal
+creation_faults defs n = fault_if (is_some (place_of n defs)) TableUnknownOrAlreadyThere ++ fault_if (nat_le 1000 (length defs)) TooManyTablesOrReaders
+
+-- a fault is told; where there is none, only memory is refused
+abbrev pub Tells : {A : Type 0} → Option spec.Refusal → Result A Refusal → Type 0
+Tells None (Ok x) = ⊤
+Tells None (Err e) = e ≡ OutOfMemory
+Tells (Some fault) (Ok x) = ⊥
+Tells (Some fault) (Err e) = refusal_of e ≡ fault
+
+-- the table of the name is taken out, and the others stay in their order
+pub record TakesOut (n : Name) (old : List Table) (table : Table) (new : List Table) : Type 0 where
+  pub place : ℕ
+  pub found : place_of n (definitions_of old) ≡ Some place
+  pub taken : slice_get old place ≡ Some table
+  pub others : new ≡ remove old place

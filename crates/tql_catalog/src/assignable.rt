@@ -1,0 +1,81 @@
+//! The columns to which a user may give values, by their numbers from 0.
+ghost use Rattle.std.specs.Prelude.{◌≡◌, ◌++◌, ◌<◌, [], ◌∷◌, not, filter, length, option_map, IfOk, OnOk, true, ◌&&◌, nat_lt, false};
+ghost use Rattle.std.specs.List.{range_with_len, list_all};
+ghost use Rattle.tql_spec.specs.Creation.{has_number};
+ghost use Rattle.tql_spec.specs.Binding.{generated_columns};
+ghost use Rattle.tql_catalog.specs.Definitions.{system_of};
+ghost use Rattle.tql_catalog.specs.Rows.{numbers_repeat};
+
+use crate::definition::System;
+use std::alloc::AllocError;
+use tql_memory::Memory;
+
+/// Whether a column is generated.
+pub(crate) fn is_generated(system: Option<System>, number: usize) -> bool
+    ensures { result ≡ has_number number (generated_columns (option_map system_of system)) }
+{
+    match system {
+        Some(system) => number == system.start || number == system.end,
+        None => false,
+    }
+}
+
+/// Adds the number of a column, if the column is not generated.
+fn add_assignable(
+    numbers: &mut Vec<usize, Memory>,
+    system: Option<System>,
+    number: usize,
+) -> Result<(), AllocError>
+    ensures { OnOk result (numbers.new.items ≡ numbers.old.items
+        ++ filter (λ i. not (has_number i (generated_columns (option_map system_of system)))) (number ∷ [])) }
+{
+    if !is_generated(system, number) {
+        numbers.push(number)?;
+    }
+    Ok(())
+}
+
+/// The numbers of the columns that are not generated, of so many.
+pub(crate) fn assignable_numbers(
+    memory: Memory,
+    width: usize,
+    system: Option<System>,
+) -> Result<Vec<usize, Memory>, AllocError>
+    ensures { IfOk result (λ numbers. numbers.items
+        ≡ filter (λ i. not (has_number i (generated_columns (option_map system_of system)))) (range_with_len 0 width)) }
+{
+    let mut numbers = Vec::with_capacity(memory, width)?;
+    for number in 0..width {
+        add_assignable(&mut numbers, system, number)?;
+    }
+    Ok(numbers)
+}
+
+/// Whether a number stands twice.
+pub(crate) fn has_repeated(numbers: &[usize]) -> bool
+    ensures { result ≡ numbers_repeat numbers.now }
+{
+    let mut left = numbers;
+    while let [number, others @ ..] = left {
+        if others.contains(number) {
+            return true;
+        }
+        left = others;
+    }
+    false
+}
+
+/// Whether a column of this number is there, of so many, and not generated.
+fn is_open(width: usize, system: Option<System>, number: usize) -> bool
+    ensures { result ≡ (nat_lt number width && not (has_number number (generated_columns (option_map system_of system)))) }
+{
+    number < width && !is_generated(system, number)
+}
+
+/// Whether all of these columns are there, of so many, and not generated.
+pub(crate) fn are_open(width: usize, system: Option<System>, numbers: &[usize]) -> bool
+    ensures { result ≡ list_all
+        (λ i. nat_lt i width && not (has_number i (generated_columns (option_map system_of system)))) numbers.now }
+{
+    numbers.iter().all(|number| is_open(width, system, *number))
+}

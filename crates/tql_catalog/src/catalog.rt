@@ -1,0 +1,156 @@
+//! The tables that are there.
+ghost use Rattle.std.specs.Prelude.{◌≡◌, ◌≢◌, ◌↔◌, ◌<◌, ◌++◌, [], ◌∷◌, length, slice_get, All, IsTrue, IfOk, IfErr, OnOk, OnErr, Some, None, option_map, nat_le};
+ghost use Rattle.std.specs.Option.{ForSome};
+ghost use Rattle.tql_spec.specs.Definition as spec;
+ghost use Rattle.tql_spec.specs.Refusal.{first};
+ghost use Rattle.tql_value.specs.Refusals.{refusal_of};
+ghost use Rattle.tql_value.specs.declared.refusal.Refusal.TheVariants.{TableUnknownOrAlreadyThere};
+ghost use Rattle.tql_catalog.specs.Tables.{definitions_of, IsFree, IsCatalog, creation_faults, Tells, TakesOut};
+ghost use Rattle.tql_spec.specs.Words.{same_text};
+
+use crate::table_def::TableDef;
+use std::marker::Model;
+use tql_memory::Memory;
+use tql_value::refusal::Refusal;
+use tql_value::table::TableId;
+
+/// A table that is there.
+pub struct Table {
+    pub definition: TableDef,
+    /// The number at which the store keeps the rows.
+    pub id: TableId,
+}
+
+impl Drop for Table {
+    fn drop(self) {
+        let Table { definition, id: _ } = self;
+        drop(definition);
+    }
+}
+
+/// The tables that are there, in the order of their creation: at most 1,000, each of a name and with a number of its own. Contracts see
+/// the list of them.
+pub struct Catalog {
+    tables: Vec<Table, Memory>,
+}
+
+impl Drop for Catalog {
+    fn drop(self) {
+        let Catalog { tables } = self;
+        drop(tables);
+    }
+}
+
+impl Model for Catalog {
+    ghost use Rattle.std.specs.Prelude.{List};
+    ghost use Rattle.tql_catalog.specs.declared.catalog.Table.{Table};
+    ghost use Rattle.tql_catalog.specs.Tables.{tables_code, IsCatalog};
+
+    ghost Value = { List Table };
+
+    ghost coded = { tables_code };
+
+    ghost view = { λ c. c.tables.items };
+
+    ghost invariant = { λ c. IsCatalog c.tables.items };
+}
+
+/// Whether this is the name of the table.
+fn is_named(table: &Table, name: &str) -> bool
+    ensures { result ≡ same_text name.now table.now.definition.name }
+{
+    name == table.definition.name()
+}
+
+/// The place of the table of this name.
+fn place_in(tables: &[Table], name: &str) -> Option<usize>
+    ensures place { result ≡ spec.place_of name.now (definitions_of tables.now) }
+    ensures within { ForSome result (λ place. place < length tables.now) }
+{
+    tables.iter().position(|table| is_named(table, name))
+}
+
+impl Catalog {
+    /// A catalog without tables.
+    pub fn new(memory: Memory) -> Catalog
+        ensures { result ≡ [] }
+    {
+        Catalog {
+            tables: Vec::new(memory),
+        }
+    }
+
+    /// How many tables there are, at most 1,000.
+    pub fn len(&self) -> usize
+        ensures len { result ≡ length self.now }
+        ensures right { IsCatalog self.now }
+    {
+        self.tables.len()
+    }
+
+    /// The place of the table of this name, from 0, in the order of creation.
+    pub fn place_of(&self, name: &str) -> Option<usize>
+        ensures place { result ≡ spec.place_of name.now (definitions_of self.now) }
+        ensures within { ForSome result (λ place. place < length self.now) }
+    {
+        place_in(&self.tables, name)
+    }
+
+    /// The table at a place.
+    pub fn table(&self, place: usize) -> &Table
+        requires { place < length self.now }
+        ensures table { slice_get self.now place ≡ Some result.now }
+        ensures definition { spec.table_at (definitions_of self.now) place ≡ result.now.definition }
+    {
+        &self.tables[place]
+    }
+
+    /// Whether no table has this number.
+    pub fn is_free(&self, id: TableId) -> bool
+        ensures { IsTrue result ↔ IsFree id self.now }
+    {
+        self.tables.iter().all(|table| table.id != id)
+    }
+
+    /// The first fault that the tables which are there show of a new table of this name: one of that name is there, or 1,000 are.
+    pub fn creation_fault(&self, name: &str) -> Option<Refusal>
+        ensures { option_map refusal_of result ≡ first (creation_faults (definitions_of self.now) name.now) }
+    {
+        if self.place_of(name).is_some() {
+            Some(Refusal::TableUnknownOrAlreadyThere)
+        } else if 1000 <= self.tables.len() {
+            Some(Refusal::TooManyTablesOrReaders)
+        } else {
+            None
+        }
+    }
+
+    /// Adds a table behind the others, under a number that no other has. Refused, the first of them: a table of that name is there; 1,000
+    /// tables are there; memory. A refusal changes nothing.
+    pub fn create(&mut self, definition: TableDef, id: TableId) -> Result<(), Refusal>
+        requires { IsFree id self.old }
+        ensures created { OnOk result (self.new ≡ self.old ++ record { definition = definition; id = id } ∷ []) }
+        ensures kept { OnErr result (self.new ≡ self.old) }
+        ensures told { Tells (first (creation_faults (definitions_of self.old) definition.name)) result }
+    {
+        if let Some(fault) = self.creation_fault(definition.name()) {
+            return Err(fault);
+        }
+        self.tables.reserve(1)?;
+        self.tables.push_reserved(Table { definition, id });
+        Ok(())
+    }
+
+    /// Takes the table of this name out; the others stay in their order. Takes no memory. Refused where no table has the name, and then
+    /// nothing is changed.
+    pub fn drop_table(&mut self, name: &str) -> Result<Table, Refusal>
+        ensures taken { IfOk result (λ table. TakesOut name.now self.old table self.new) }
+        ensures kept { OnErr result (self.new ≡ self.old) }
+        ensures unknown { IfErr result (λ e. (e ≡ TableUnknownOrAlreadyThere) × (spec.place_of name.now (definitions_of self.old) ≡ None)) }
+    {
+        match place_in(&self.tables, name) {
+            Some(place) => Ok(self.tables.remove(place)),
+            None => Err(Refusal::TableUnknownOrAlreadyThere),
+        }
+    }
+}

@@ -1,0 +1,158 @@
+//! The definition of a table.
+ghost use Rattle.std.specs.Prelude.{◌≡◌, ◌++◌, map, option_map, is_some, string_bytes, IsTrue, IfOk};
+ghost use Rattle.tql_spec.specs.Binding as binding;
+ghost use Rattle.tql_spec.specs.Creation.{names_of};
+ghost use Rattle.tql_catalog.specs.Columns.{names_in};
+ghost use Rattle.tql_catalog.specs.Defined as defined;
+ghost use Rattle.tql_catalog.specs.Defined.{IsDefinition, plain_table};
+ghost use Rattle.tql_catalog.specs.Definitions.{column_of, system_of};
+ghost use Rattle.tql_catalog.specs.Rows as rows;
+
+use crate::assignable::{are_open, assignable_numbers, has_repeated, is_generated};
+use crate::definable::is_definable;
+use crate::definition::{Column, System};
+use std::alloc::AllocError;
+use std::marker::Model;
+use tql_memory::Memory;
+
+/// The definition of a table: its name, its columns, and its system period where it is system-versioned. No two columns have one name,
+/// and the generated columns are two columns of the table that hold moments.
+pub struct TableDef {
+    name: String<Memory>,
+    columns: Vec<Column, Memory>,
+    system: Option<System>,
+    assignable: Vec<usize, Memory>,
+}
+
+impl Drop for TableDef {
+    fn drop(self) {
+        let TableDef {
+            name,
+            columns,
+            system: _,
+            assignable,
+        } = self;
+        drop(name);
+        drop(columns);
+        drop(assignable);
+    }
+}
+
+impl Model for TableDef {
+    ghost use Rattle.std.specs.Prelude.{◌≡◌, map, option_map, string_bytes};
+    ghost use Rattle.tql_spec.specs.Binding.{all_assignable};
+    ghost use Rattle.tql_spec.specs.Definition as spec;
+    ghost use Rattle.tql_catalog.specs.Codes.{table_def_code};
+    ghost use Rattle.tql_catalog.specs.Defined.{IsDefinition, plain_table};
+    ghost use Rattle.tql_catalog.specs.Definitions.{column_of, system_of};
+
+    ghost Value = { spec.TableDef };
+
+    ghost coded = { table_def_code };
+
+    ghost view = { λ d. plain_table (string_bytes d.name) (map column_of d.columns.items) (option_map system_of d.system) };
+
+    ghost invariant = { λ d.
+        let table = plain_table (string_bytes d.name) (map column_of d.columns.items) (option_map system_of d.system) in
+        IsDefinition table × (d.assignable.items ≡ all_assignable table) };
+}
+
+/// The names of columns, in order.
+fn names(memory: Memory, columns: &[Column]) -> Result<Vec<String<Memory>, Memory>, AllocError>
+    ensures { IfOk result (λ names. map string_bytes names.items ≡ names_in columns.now) }
+{
+    let mut names = Vec::with_capacity(memory, columns.len())?;
+    for column in columns {
+        names.push(column.name.clone()?)?;
+    }
+    Ok(names)
+}
+
+impl TableDef {
+    /// Whether columns and a system period can be those of one table: no name stands twice, and the generated columns are two of the
+    /// columns and hold moments.
+    pub fn is_definable(columns: &[Column], system: Option<System>) -> bool
+        ensures { result ≡ defined.is_definable (map column_of columns.now) (option_map system_of system) }
+    {
+        is_definable(columns, system)
+    }
+
+    /// The definition of a table, where its columns and its system period can be those of one table.
+    pub fn new(
+        memory: Memory,
+        name: String<Memory>,
+        columns: Vec<Column, Memory>,
+        system: Option<System>,
+    ) -> Result<TableDef, AllocError>
+        requires { IsTrue (defined.is_definable (map column_of columns.items) (option_map system_of system)) }
+        ensures { IfOk result (λ d. d ≡ plain_table (string_bytes name.entry) (map column_of columns.entry.items) (option_map system_of system)) }
+    {
+        let assignable = assignable_numbers(memory, columns.len(), system)?;
+        Ok(TableDef {
+            name,
+            columns,
+            system,
+            assignable,
+        })
+    }
+
+    /// The name.
+    pub fn name(&self) -> &str
+        ensures { result.now ≡ self.now.name }
+    {
+        self.name.as_str()
+    }
+
+    /// The columns, in order.
+    pub fn columns(&self) -> &[Column]
+        ensures columns { map column_of result.now ≡ self.now.columns }
+        ensures right { IsDefinition self.now }
+    {
+        self.columns.as_slice()
+    }
+
+    /// The generated columns, by their numbers from 0; none where the table is not system-versioned.
+    pub fn system(&self) -> Option<System>
+        ensures system { option_map system_of result ≡ self.now.system }
+        ensures right { IsDefinition self.now }
+    {
+        self.system
+    }
+
+    /// Whether the table is system-versioned.
+    pub fn is_versioned(&self) -> bool
+        ensures versioned { result ≡ is_some self.now.system }
+        ensures right { IsDefinition self.now }
+    {
+        self.system.is_some()
+    }
+
+    /// Whether the column of this number, from 0, is generated.
+    pub fn is_generated(&self, number: usize) -> bool
+        ensures { result ≡ binding.is_generated self.now number }
+    {
+        is_generated(self.system, number)
+    }
+
+    /// The numbers of the columns that are not generated, from 0, in order.
+    pub fn assignable(&self) -> &[usize]
+        ensures assignable { result.now ≡ binding.all_assignable self.now }
+        ensures right { IsDefinition self.now }
+    {
+        self.assignable.as_slice()
+    }
+
+    /// Whether a user may give values to the columns of these numbers: each is there, none is generated, and none stands twice.
+    pub fn are_assignable(&self, numbers: &[usize]) -> bool
+        ensures { result ≡ rows.are_assignable self.now numbers.now }
+    {
+        are_open(self.columns.len(), self.system, numbers) && !has_repeated(numbers)
+    }
+
+    /// The names of all columns, in order.
+    pub fn headings(&self, memory: Memory) -> Result<Vec<String<Memory>, Memory>, AllocError>
+        ensures { IfOk result (λ headings. map string_bytes headings.items ≡ names_of self.now) }
+    {
+        names(memory, &self.columns)
+    }
+}

@@ -1,0 +1,4 @@
+//! Reading INSERT, UPDATE and DELETE.
+#![tactic(auto)]
+
+pub mod changes;

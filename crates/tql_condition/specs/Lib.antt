@@ -1,0 +1,3 @@
+pub mod Mixtures
+pub mod TestEnds
+pub mod TestWords

@@ -1,0 +1,5 @@
+//! Reading conditions, and names of periods.
+#![tactic(auto)]
+
+pub mod conditions;
+pub mod periods;

@@ -1,0 +1,4 @@
+//! Reading CREATE TABLE and DROP TABLE.
+#![tactic(auto)]
+
+pub mod creates;

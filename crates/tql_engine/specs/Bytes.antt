@@ -1,0 +1,42 @@
+-- What a run over bytes in memory leaves: the output, and the state that the engine stands for.
+use Rattle.std.specs.Prelude.{◌≡◌, ◌⊎◌, ℕ, List, [], ◌++◌, map, Result, Ok, Err}
+use Rattle.tql_spec.specs.Machine.{State, Reply}
+use Rattle.tql_spec.specs.Answer.{Replied}
+use Rattle.tql_spec.specs.Script.{Piece, statements}
+use Rattle.tql_spec.specs.Text.{replies_text}
+use Rattle.tql_spec.specs.Run.{Run, Writes}
+use Rattle.tql_run.specs.Responding.{Standing}
+use Rattle.tql_run.specs.Runs.{Counts, CutsLast}
+use Rattle.tql_run.specs.declared.run.Summary.{Summary}
+use Rattle.tql_run.specs.declared.run.Fault.{Fault}
+use Rattle.tql_run.specs.declared.run.Fault.TheVariants.{Read, Write, Memory}
+
+-- the whole script ran: the output is what it was, and behind it what the script writes
+pub record WritesWhole (s : State) (after : Standing) (script old new : List ℕ) (summary : Summary) : Type 0 where
+  pub state : State
+  pub stands : after state
+  pub pushed : List ℕ
+  pub writes : Writes s script pushed state
+  pub behind : new ≡ old ++ pushed
+  pub counts : Counts summary (map Replied writes.0)
+
+-- the output could not grow: the statement of the reply that it did not take is the last that ran, and a beginning of the
+-- replies stands behind what the output was
+pub record StopsWriting (s : State) (after : Standing) (script old new : List ℕ) : Type 0 where
+  pub done : List Piece
+  pub rest : List Piece
+  pub parts : statements script ≡ done ++ rest
+  pub replies : List Reply
+  pub state : State
+  pub ran : Run s done replies state
+  pub stands : after state
+  pub pushed : List ℕ
+  pub reached : CutsLast (map Replied replies) pushed ⊎ ((rest ≡ []) × (pushed ≡ replies_text replies))
+  pub behind : new ≡ old ++ pushed
+
+-- by its result; a script in memory is read to its end
+abbrev pub RunsBytes : State → Standing → (script old new : List ℕ) → Result Summary Fault → Type 0
+RunsBytes s after script old new (Ok summary) = WritesWhole s after script old new summary
+RunsBytes s after script old new (Err Write) = StopsWriting s after script old new
+RunsBytes s after script old new (Err Memory) = after s × (new ≡ old)
+RunsBytes s after script old new (Err Read) = ⊥

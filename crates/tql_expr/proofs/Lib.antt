@@ -1,0 +1,5 @@
+pub mod Inserted
+pub mod Judged
+pub mod Laws
+pub mod Nesting
+pub mod Places

@@ -1,0 +1,4 @@
+pub mod Nodes
+pub mod Trees
+pub mod Meaning
+pub mod Rows

@@ -1,0 +1,67 @@
+-- The tree that a node stands for.
+use Rattle.std.specs.Prelude.{ℕ, List, [], ◌∷◌, ◌++◌, slice_index_or}
+use Rattle.tql_spec.specs.Datum.{Datum, Null}
+use Rattle.tql_spec.specs.Datum as spec
+use Rattle.tql_spec.specs.Expression.{Expr, Cond}
+use Rattle.tql_spec.specs.Expression as tree
+use Rattle.tql_value.specs.Views.{plain_comparison}
+use Rattle.tql_period.specs.Relations.{plain_relation}
+use Rattle.tql_expr.specs.declared.node.Operation.{Operation}
+use Rattle.tql_expr.specs.declared.node.Operation.TheVariants.{Add, Subtract, Multiply}
+use Rattle.tql_expr.specs.declared.node.Function.{Function}
+use Rattle.tql_expr.specs.declared.node.Function.TheVariants.{Count, Sum, Min, Max}
+use Rattle.tql_expr.specs.declared.node.Node.{Node}
+use Rattle.tql_expr.specs.declared.node.Node.TheVariants.{Literal, Column, Negate, Binary, CountRows, Aggregate, Compare, IsNull, Related, ContainsPoint, Not, And, Or}
+
+-- the operation among the definitions' operations
+abbrev pub plain_operation : Operation → spec.Operation
+plain_operation Add = spec.Plus
+plain_operation Subtract = spec.Minus
+plain_operation Multiply = spec.Times
+
+-- the function among the definitions' functions
+abbrev pub plain_function : Function → tree.Function
+plain_function Count = tree.Count
+plain_function Sum = tree.Sum
+plain_function Min = tree.Min
+plain_function Max = tree.Max
+
+-- what a node stands for
+pub data Term : Type 0 where
+  OfExpr : Expr → Term
+  OfCond : Cond → Term
+
+-- the expression; NULL where it is none
+abbrev pub expr_of : Term → Expr
+expr_of (OfExpr e) = e
+expr_of (OfCond c) = tree.Literal Null
+
+-- the condition; NULL IS NULL where it is none
+abbrev pub cond_of : Term → Cond
+cond_of (OfExpr e) = tree.IsNull (tree.Literal Null)
+cond_of (OfCond c) = c
+
+-- the tree of a node, over the literals and the trees at the places that it names
+abbrev pub node_term : (ℕ → Datum) → (ℕ → Term) → Node → Term
+node_term lit at (Literal k) = OfExpr (tree.Literal (lit k))
+node_term lit at (Column i) = OfExpr (tree.Column i)
+node_term lit at (Negate a) = OfExpr (tree.Negate (expr_of (at a)))
+node_term lit at (Binary op a b) = OfExpr (tree.Binary (plain_operation op) (expr_of (at a)) (expr_of (at b)))
+node_term lit at CountRows = OfExpr tree.CountRows
+node_term lit at (Aggregate f a) = OfExpr (tree.Aggregate (plain_function f) (expr_of (at a)))
+node_term lit at (Compare sign a b) = OfCond (tree.Compare (plain_comparison sign) (expr_of (at a)) (expr_of (at b)))
+node_term lit at (IsNull a) = OfCond (tree.IsNull (expr_of (at a)))
+node_term lit at (Related which a b c d) = OfCond (tree.Related (plain_relation which) (expr_of (at a)) (expr_of (at b)) (expr_of (at c)) (expr_of (at d)))
+node_term lit at (ContainsPoint a b c) = OfCond (tree.ContainsPoint (expr_of (at a)) (expr_of (at b)) (expr_of (at c)))
+node_term lit at (Not c) = OfCond (tree.Not (cond_of (at c)))
+node_term lit at (And c d) = OfCond (tree.And (cond_of (at c)) (cond_of (at d)))
+node_term lit at (Or c d) = OfCond (tree.Or (cond_of (at c)) (cond_of (at d)))
+
+-- the tree at a place of a list; NULL past its end
+abbrev pub term_in : List Term → ℕ → Term
+term_in ts a = slice_index_or ts a (OfExpr (tree.Literal Null))
+
+-- the trees of nodes, each made of those before it: behind the trees so far
+abbrev pub terms_from : (ℕ → Datum) → List Term → List Node → List Term
+terms_from lit done [] = done
+terms_from lit done (n ∷ ns) = terms_from lit (done ++ node_term lit (term_in done) n ∷ []) ns

@@ -1,0 +1,32 @@
+// What expressions are evaluated on.
+ghost use Rattle.std.specs.Prelude.{◌≡◌, List, length, slice_index_or};
+ghost use Rattle.tql_spec.specs.Datum as pure;
+ghost use Rattle.tql_spec.specs.Expression as tree;
+ghost use Rattle.tql_value.specs.Views.{datum_of_view, outcome};
+ghost use Rattle.tql_expr.specs.Meaning.{HasOperand, aggregate as tree_of};
+
+use crate::terms::{Aggregate, Terms};
+use tql_value::arithmetic::Range;
+use tql_value::value::View;
+
+/// What expressions read: the values of a row by number, however they are kept, and the aggregates of its group.
+pub trait Columns {
+    /// The values, column by column.
+    ghost values: { Self → pure.Row };
+
+    /// The rows of the row's group, over which aggregates are taken; none where there is no group.
+    ghost group: { Self → List pure.Row };
+
+    /// How many columns there are.
+    fn width(&self) -> usize
+        ensures { result ≡ length (values self.now) };
+
+    /// The value of a column; NULL past the last one.
+    fn column(&self, place: usize) -> View<'_>
+        ensures { datum_of_view result ≡ slice_index_or (values self.now) place pure.Null };
+
+    /// What an aggregate of the terms gives over the rows of the group; `Range` where a number inside leaves 64 bits.
+    fn aggregate(&self, terms: &Terms, which: Aggregate) -> Result<View<'_>, Range>
+        requires { HasOperand terms.now which }
+        ensures { outcome result ≡ tree.eval (group self.now) (values self.now) (tree_of terms.now which) };
+}

@@ -1,0 +1,203 @@
+// Rows: those that own their values, and stored ones as their table shows them.
+ghost use Rattle.std.specs.Prelude.{◌≡◌, ◌<◌, ◌≤◌, [], ◌∷◌, ◌++◌, length, map, insert, slice_set, IfOk, OnOk, OnErr};
+ghost use Rattle.tql_spec.specs.Datum as pure;
+ghost use Rattle.tql_spec.specs.Definition.{with_generated, cell};
+ghost use Rattle.tql_value.specs.Views.{datum_of_value, datum_of_view};
+ghost use Rattle.tql_expr.specs.Rows.{generated, read_or};
+
+use crate::columns::Columns;
+use crate::node::Function;
+use crate::terms::{Aggregate, Terms};
+use smallvec::SmallVec;
+use std::alloc::AllocError;
+use std::cmp::Ordering;
+use std::marker::Model;
+use tql_memory::Memory;
+use tql_value::arithmetic::Range;
+use tql_value::value::{Value, View};
+
+/// A row that owns its values, column by column. Up to four values take no memory beside that of their texts.
+pub struct Row {
+    cells: SmallVec<Value, 4, Memory>,
+}
+
+impl Drop for Row {
+    fn drop(self) {
+        let Row { cells } = self;
+        drop(cells);
+    }
+}
+
+impl Model for Row {
+    ghost use Rattle.std.specs.Prelude.{map};
+    ghost use Rattle.tql_spec.specs.Datum as pure;
+    ghost use Rattle.tql_value.specs.Views.{datum_of_value};
+
+    ghost Value = { pure.Row };
+
+    ghost view = { λ r. map datum_of_value r.cells.items };
+}
+
+impl Row {
+    /// A row without columns.
+    pub fn new(memory: Memory) -> Row
+        ensures { result ≡ [] }
+    {
+        Row {
+            cells: SmallVec::new(memory),
+        }
+    }
+
+    /// A row without columns, with room for so many. Where there is no memory for them it is refused.
+    pub fn with_capacity(memory: Memory, width: usize) -> Result<Row, AllocError>
+        ensures { IfOk result (λ row. row ≡ []) }
+    {
+        let cells = SmallVec::with_capacity(memory, width)?;
+        Ok(Row { cells })
+    }
+
+    /// Adds a value behind the others, or leaves the row as it was where there is no memory.
+    pub fn push(&mut self, value: Value) -> Result<(), AllocError>
+        ensures ok { OnOk result (self.new ≡ self.old ++ datum_of_value value ∷ []) }
+        ensures err { OnErr result (self.new ≡ self.old) }
+    {
+        self.cells.reserve(1)?;
+        self.cells.push_reserved(value);
+        Ok(())
+    }
+
+    /// Puts a value into a column in place of the one that stands there.
+    pub fn set(&mut self, place: usize, value: Value)
+        requires { place < length self.old }
+        ensures { self.new ≡ slice_set self.old place (datum_of_value value) }
+    {
+        if let Some(cell) = self.cells.get_mut(place) {
+            *cell = value;
+        }
+    }
+
+    /// The values, column by column.
+    pub fn cells(&self) -> &[Value]
+        ensures { map datum_of_value result.now ≡ self.now }
+    {
+        self.cells.as_slice()
+    }
+}
+
+impl Columns for Row {
+    ghost use Rattle.std.specs.Prelude.{[]};
+
+    ghost values = { λ r. r };
+
+    ghost group = { λ r. [] };
+
+    fn width(&self) -> usize {
+        self.cells.len()
+    }
+
+    fn column(&self, place: usize) -> View<'_> {
+        match self.cells.as_slice().get(place) {
+            Some(value) => value.view(),
+            None => View::Null,
+        }
+    }
+
+    fn aggregate(&self, _terms: &Terms, which: Aggregate) -> Result<View<'_>, Range> {
+        match which {
+            Aggregate::Rows | Aggregate::Over(Function::Count, _) => Ok(View::Int(0)),
+            Aggregate::Over(..) => Ok(View::Null),
+        }
+    }
+}
+
+/// A row as it is stored, shown as its table has it: with ROW START and ROW END in their columns.
+#[derive(Clone, Copy)]
+pub struct StoredRow<'a> {
+    /// The cells that are not generated.
+    pub cells: &'a Row,
+    /// The columns of ROW START and ROW END, by number; none in a table that is not versioned.
+    pub system: Option<(usize, usize)>,
+    /// The moment at which the row began, in microseconds since 1970-01-01 00:00:00.
+    pub start: i64,
+    /// The moment at which it ended, likewise.
+    pub end: i64,
+}
+
+/// A moment that stands in a column of its own.
+#[derive(Clone, Copy)]
+struct Stamp {
+    place: usize,
+    moment: i64,
+}
+
+/// Where a column stands among the others of a row of this width to which one is added, or none where it is that one.
+/// What is added at a place behind the end stands at the end.
+fn place_among_others(added: usize, width: usize, place: usize) -> Option<usize>
+    ensures { (row : pure.Row) (v : pure.Datum) → length row ≡ width
+        → cell (insert row added v) place ≡ read_or v row result }
+{
+    match place.cmp(&added.min(width)) {
+        Ordering::Less => Some(place),
+        Ordering::Equal => None,
+        Ordering::Greater => Some(place - 1),
+    }
+}
+
+impl<'a> StoredRow<'a> {
+    /// The value of a column where two stamps are added to the cells, one after the other.
+    fn with_stamps(&self, first: Stamp, second: Stamp, place: usize) -> View<'a>
+        ensures { datum_of_view result ≡ cell (insert (insert self.now.cells.now first.place (pure.Moment first.moment))
+            second.place (pure.Moment second.moment)) place }
+    {
+        let width = self.cells.cells().len();
+        let Some(place) = place_among_others(second.place, width + 1, place) else {
+            return View::Moment(second.moment);
+        };
+        match place_among_others(first.place, width, place) {
+            None => View::Moment(first.moment),
+            Some(place) => self.cells.column(place),
+        }
+    }
+}
+
+impl Columns for StoredRow<'_> {
+    ghost use Rattle.std.specs.Prelude.{[]};
+    ghost use Rattle.tql_spec.specs.Definition.{with_generated};
+    ghost use Rattle.tql_expr.specs.Rows.{generated};
+
+    ghost values = { λ r. with_generated (generated r.system) r.cells.now r.start r.end };
+
+    ghost group = { λ r. [] };
+
+    fn width(&self) -> usize {
+        let stored = self.cells.cells().len();
+        if self.system.is_some() {
+            stored + 2
+        } else {
+            stored
+        }
+    }
+
+    fn column(&self, place: usize) -> View<'_> {
+        let Some((start, end)) = self.system else {
+            return self.cells.column(place);
+        };
+        let begins = Stamp {
+            place: start,
+            moment: self.start,
+        };
+        let ends = Stamp {
+            place: end,
+            moment: self.end,
+        };
+        if start < end {
+            self.with_stamps(begins, ends, place)
+        } else {
+            self.with_stamps(ends, begins, place)
+        }
+    }
+
+    fn aggregate(&self, terms: &Terms, which: Aggregate) -> Result<View<'_>, Range> {
+        self.cells.aggregate(terms, which)
+    }
+}

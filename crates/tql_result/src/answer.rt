@@ -1,0 +1,40 @@
+//! What a run answers to a piece of a script, and its text.
+ghost use Rattle.tql_spec.specs.Text.{answer_text};
+ghost use Rattle.tql_result.specs.Devices.{Pushes};
+ghost use Rattle.tql_result.specs.Replies.{answer_of, IsPrintableAnswer};
+
+use crate::device::DeviceFault;
+use crate::pieces::push_all;
+use crate::print::write_reply;
+use crate::reply::Reply;
+use crate::sink::Sink;
+
+/// What a run answers to a piece of a script.
+pub enum Answer {
+    /// The reply to a statement that is run, or the refusal of the piece.
+    Replied(Reply),
+    /// A statement that is checked, and has no fault.
+    Accepted,
+}
+
+impl Drop for Answer {
+    fn drop(self) {
+        match self {
+            Answer::Replied(reply) => drop(reply),
+            Answer::Accepted => {}
+        }
+    }
+}
+
+/// Pushes an answer as it is printed: a reply as `write_reply` does, or `OK`. It takes no memory. After an error a
+/// beginning of the text was pushed.
+pub fn write_answer<S: Sink>(sink: &mut S, answer: &Answer) -> Result<(), DeviceFault>
+    requires { IsPrintableAnswer (answer_of answer.now) }
+    ensures { Pushes (answer_text (answer_of answer.now)) result
+        (S.written sink.old) (S.written sink.new) (S.failures sink.old) (S.failures sink.new) }
+{
+    match answer {
+        Answer::Replied(reply) => write_reply(sink, reply),
+        Answer::Accepted => push_all(sink, b"OK\n"),
+    }
+}

@@ -1,0 +1,59 @@
+//! A source over bytes in memory.
+ghost use Rattle.std.specs.Prelude.{◌≡◌, Some, IsFalse};
+
+use crate::device::Source;
+use tql_result::device::DeviceFault;
+
+/// A source over bytes in memory. It tells what it has left, and never fails.
+#[derive(Drop)]
+pub struct SliceSource<'a> {
+    left: &'a [u8],
+    /// How many bytes a pull gives, at the most; 0 counts as 1.
+    size: usize,
+    ended: bool,
+}
+
+impl<'a> SliceSource<'a> {
+    /// A source of these bytes, as many at once as there is room for.
+    pub fn new(bytes: &'a [u8]) -> SliceSource<'a>
+        ensures left { ⟦<SliceSource<'a> as Source>⟧.left result ≡ Some bytes.now }
+        ensures failures { ⟦<SliceSource<'a> as Source>⟧.failures result ≡ 0 }
+        ensures ended { IsFalse (⟦<SliceSource<'a> as Source>⟧.ended result) }
+    {
+        SliceSource::in_pieces(bytes, usize::MAX)
+    }
+
+    /// A source of these bytes, at most `size` at once; a size of 0 counts as 1.
+    pub fn in_pieces(bytes: &'a [u8], size: usize) -> SliceSource<'a>
+        ensures left { ⟦<SliceSource<'a> as Source>⟧.left result ≡ Some bytes.now }
+        ensures failures { ⟦<SliceSource<'a> as Source>⟧.failures result ≡ 0 }
+        ensures ended { IsFalse (⟦<SliceSource<'a> as Source>⟧.ended result) }
+    {
+        SliceSource {
+            left: bytes,
+            size,
+            ended: false,
+        }
+    }
+}
+
+impl Source for SliceSource<'_> {
+    ghost left = { λ s. Some s.left.now };
+
+    ghost failures = { λ _. 0 };
+
+    ghost ended = { λ s. s.ended };
+
+    fn pull(&mut self, buffer: &mut [u8]) -> Result<usize, DeviceFault> {
+        let count = self.size.max(1).min(self.left.len()).min(buffer.len());
+        let (given, left) = self.left.split_at(count);
+        buffer[..count].copy_from_slice(given);
+        self.left = left;
+        self.ended = count == 0 && !buffer.is_empty();
+        Ok(count)
+    }
+
+    fn faults(&self) -> u64 {
+        0
+    }
+}

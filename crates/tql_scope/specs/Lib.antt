@@ -1,0 +1,6 @@
+pub mod Aggregates
+pub mod Bounds
+pub mod Chains
+pub mod Gathered
+pub mod Numbers
+pub mod Scopes

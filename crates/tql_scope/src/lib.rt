@@ -1,0 +1,16 @@
+//! Names, literals and expressions, bound to the terms of a statement. Every fault is gathered, and the first in the order of
+//! report is kept.
+#![tactic(auto)]
+
+pub mod aggregates;
+pub mod cells;
+mod chain;
+pub mod expressions;
+pub mod faults;
+pub mod kinds;
+mod literals;
+pub mod names;
+pub mod number;
+pub mod scope;
+mod signs;
+pub mod texts;

@@ -1,0 +1,86 @@
+//! Names in a scope.
+ghost use Rattle.std.specs.Prelude.{◌≡◌, ◌++◌, option_map, IfOk, string_bytes};
+ghost use Rattle.tql_spec.specs.Names as names;
+ghost use Rattle.tql_spec.specs.Words.{same_text};
+ghost use Rattle.tql_tree.specs.Expressions.{named_of};
+ghost use Rattle.tql_scope.specs.Scopes.{text_of, known_of, scope_of, things_of};
+
+use crate::scope::{Known, Thing};
+use crate::texts::meant;
+use std::alloc::AllocError;
+use tql_catalog::definition::Column;
+use tql_memory::Memory;
+use tql_tree::expression::Named;
+
+/// Whether a reference is the one that a qualifier names.
+pub fn is_meant(qualifier: Option<&str>, known: &Known<'_>) -> bool
+    ensures { result ≡ names.is_meant (option_map text_of qualifier.entry) (known_of known.now) }
+{
+    match qualifier {
+        None => true,
+        Some(name) => name == known.name,
+    }
+}
+
+/// Whether this is the name of the column.
+fn is_named(column: &Column, name: &str) -> bool
+    ensures { result ≡ same_text name.now (string_bytes column.now.name) }
+{
+    name == column.name.as_str()
+}
+
+/// Adds the columns of this name in one reference.
+fn things_in<'a>(
+    name: &str,
+    known: &Known<'a>,
+    found: &mut Vec<Thing<'a>, Memory>,
+) -> Result<(), AllocError>
+    ensures { IfOk result (λ _. things_of found.new.items ≡ things_of found.old.items ++ names.things_in name.now (known_of known.now)) }
+{
+    let columns: &'a [Column] = known.table.columns();
+    for (index, column) in columns.iter().enumerate() {
+        if is_named(column, name) {
+            found.push(Thing {
+                number: known.offset + index,
+                column,
+            })?;
+        }
+    }
+    Ok(())
+}
+
+/// What a name stands for, in every reference that its qualifier names.
+fn things_called<'a>(
+    memory: Memory,
+    scope: &[Known<'a>],
+    qualifier: Option<&str>,
+    name: &str,
+) -> Result<Vec<Thing<'a>, Memory>, AllocError>
+    ensures { IfOk result (λ v. things_of v.items ≡ names.things (scope_of scope.now) (record { qualifier = option_map text_of qualifier.entry; name = name.now })) }
+{
+    let mut found = Vec::new(memory);
+    for known in scope {
+        if is_meant(qualifier, known) {
+            things_in(name, known, &mut found)?;
+        }
+    }
+    Ok(found)
+}
+
+/// What a name stands for.
+pub fn things<'a>(
+    memory: Memory,
+    scope: &[Known<'a>],
+    named: Named<'_>,
+) -> Result<Vec<Thing<'a>, Memory>, AllocError>
+    ensures { IfOk result (λ v. things_of v.items ≡ names.things (scope_of scope.now) (named_of named.entry)) }
+{
+    let name = meant(memory, named.name)?;
+    match named.qualifier {
+        None => things_called(memory, scope, None, name.as_str()),
+        Some(qualifier) => {
+            let qualifier = meant(memory, qualifier)?;
+            things_called(memory, scope, Some(qualifier.as_str()), name.as_str())
+        }
+    }
+}

@@ -1,0 +1,30 @@
+//! Where names are sought, and what they are bound to.
+ghost use Rattle.std.specs.Prelude.{◌<◌, ◌+◌, ◌^◌, length};
+
+use tql_catalog::definition::Column;
+use tql_catalog::table_def::TableDef;
+use tql_expr::terms::ExprId;
+use tql_value::value::Kind;
+
+/// A table reference in scope: how it is known, its table, and the number of the first of its columns. A scope is a slice of these.
+#[derive(Clone, Copy)]
+pub struct Known<'a> {
+    pub name: &'a str,
+    pub table: &'a TableDef,
+    pub offset: usize,
+    ghost numbered: { offset + length table.now.columns < 2 ^ 64 },
+}
+
+/// What a name can stand for: a column, with its number.
+#[derive(Clone, Copy)]
+pub struct Thing<'a> {
+    pub number: usize,
+    pub column: &'a Column,
+}
+
+/// An expression among the terms of its statement, with its kind, which is missing where it is not known.
+#[derive(Clone, Copy)]
+pub struct Typed {
+    pub expr: ExprId,
+    pub kind: Option<Kind>,
+}
