@@ -105,6 +105,17 @@ impl Catalog {
         &self.tables[place]
     }
 
+    /// The definition of the table at a place; where none is there, what is given for it.
+    pub fn definition_or<'a>(&'a self, place: usize, nothing: &'a TableDef) -> &'a TableDef
+        requires { nothing.now ≡ spec.no_table }
+        ensures { result.now ≡ spec.table_at (definitions_of self.now) place }
+    {
+        match self.tables.get(place) {
+            Some(table) => &table.definition,
+            None => nothing,
+        }
+    }
+
     /// Whether no table has this number.
     pub fn is_free(&self, id: TableId) -> bool
         ensures { IsTrue result ↔ IsFree id self.now }

@@ -2,6 +2,7 @@
 ghost use Rattle.std.specs.Prelude.{◌≡◌, ◌++◌, map, option_map, is_some, string_bytes, IsTrue, IfOk};
 ghost use Rattle.tql_spec.specs.Binding as binding;
 ghost use Rattle.tql_spec.specs.Creation.{names_of};
+ghost use Rattle.tql_spec.specs.Definition.{no_table};
 ghost use Rattle.tql_catalog.specs.Columns.{names_in};
 ghost use Rattle.tql_catalog.specs.Defined as defined;
 ghost use Rattle.tql_catalog.specs.Defined.{IsDefinition, plain_table};
@@ -94,6 +95,18 @@ impl TableDef {
             system,
             assignable,
         })
+    }
+
+    /// What stands in the place of a table that is not there: no name, no column. Takes no memory.
+    pub fn nothing(memory: Memory) -> TableDef
+        ensures { result ≡ no_table }
+    {
+        TableDef {
+            name: String::new(memory),
+            columns: Vec::new(memory),
+            system: None,
+            assignable: Vec::new(memory),
+        }
     }
 
     /// The name.

@@ -1,8 +1,10 @@
 // Rows: those that own their values, and stored ones as their table shows them.
-ghost use Rattle.std.specs.Prelude.{◌≡◌, ◌<◌, ◌≤◌, [], ◌∷◌, ◌++◌, length, map, insert, slice_set, IfOk, OnOk, OnErr};
+ghost use Rattle.std.specs.Prelude.{◌≡◌, [], ◌∷◌, ◌++◌, length, map, insert, OnOk, OnErr};
 ghost use Rattle.tql_spec.specs.Datum as pure;
 ghost use Rattle.tql_spec.specs.Definition.{with_generated, cell};
-ghost use Rattle.tql_value.specs.Views.{datum_of_value, datum_of_view};
+ghost use Rattle.tql_spec.specs.Expression as tree;
+ghost use Rattle.tql_value.specs.Views.{datum_of_value, datum_of_view, outcome};
+ghost use Rattle.tql_expr.specs.Meaning.{HasOperand, aggregate as tree_of};
 ghost use Rattle.tql_expr.specs.Rows.{generated, read_or};
 
 use crate::columns::Columns;
@@ -15,6 +17,27 @@ use std::marker::Model;
 use tql_memory::Memory;
 use tql_value::arithmetic::Range;
 use tql_value::value::{Value, View};
+
+/// The value of a column of these cells; NULL past the last one.
+fn cell_at(cells: &[Value], place: usize) -> View<'_>
+    ensures { datum_of_view result ≡ cell (map datum_of_value cells.now) place }
+{
+    match cells.get(place) {
+        Some(value) => value.view(),
+        None => View::Null,
+    }
+}
+
+/// An aggregate over no rows.
+fn over_no_rows<'a>(terms: &Terms, which: Aggregate) -> Result<View<'a>, Range>
+    requires { HasOperand terms.now which }
+    ensures { (row : pure.Row) → outcome result ≡ tree.eval [] row (tree_of terms.now which) }
+{
+    match which {
+        Aggregate::Rows | Aggregate::Over(Function::Count, _) => Ok(View::Int(0)),
+        Aggregate::Over(..) => Ok(View::Null),
+    }
+}
 
 /// A row that owns its values, column by column. Up to four values take no memory beside that of their texts.
 pub struct Row {
@@ -48,14 +71,6 @@ impl Row {
         }
     }
 
-    /// A row without columns, with room for so many. Where there is no memory for them it is refused.
-    pub fn with_capacity(memory: Memory, width: usize) -> Result<Row, AllocError>
-        ensures { IfOk result (λ row. row ≡ []) }
-    {
-        let cells = SmallVec::with_capacity(memory, width)?;
-        Ok(Row { cells })
-    }
-
     /// Adds a value behind the others, or leaves the row as it was where there is no memory.
     pub fn push(&mut self, value: Value) -> Result<(), AllocError>
         ensures ok { OnOk result (self.new ≡ self.old ++ datum_of_value value ∷ []) }
@@ -64,23 +79,6 @@ impl Row {
         self.cells.reserve(1)?;
         self.cells.push_reserved(value);
         Ok(())
-    }
-
-    /// Puts a value into a column in place of the one that stands there.
-    pub fn set(&mut self, place: usize, value: Value)
-        requires { place < length self.old }
-        ensures { self.new ≡ slice_set self.old place (datum_of_value value) }
-    {
-        if let Some(cell) = self.cells.get_mut(place) {
-            *cell = value;
-        }
-    }
-
-    /// The values, column by column.
-    pub fn cells(&self) -> &[Value]
-        ensures { map datum_of_value result.now ≡ self.now }
-    {
-        self.cells.as_slice()
     }
 }
 
@@ -96,25 +94,19 @@ impl Columns for Row {
     }
 
     fn column(&self, place: usize) -> View<'_> {
-        match self.cells.as_slice().get(place) {
-            Some(value) => value.view(),
-            None => View::Null,
-        }
+        cell_at(self.cells.as_slice(), place)
     }
 
-    fn aggregate(&self, _terms: &Terms, which: Aggregate) -> Result<View<'_>, Range> {
-        match which {
-            Aggregate::Rows | Aggregate::Over(Function::Count, _) => Ok(View::Int(0)),
-            Aggregate::Over(..) => Ok(View::Null),
-        }
+    fn aggregate(&self, terms: &Terms, which: Aggregate) -> Result<View<'_>, Range> {
+        over_no_rows(terms, which)
     }
 }
 
 /// A row as it is stored, shown as its table has it: with ROW START and ROW END in their columns.
 #[derive(Clone, Copy)]
 pub struct StoredRow<'a> {
-    /// The cells that are not generated.
-    pub cells: &'a Row,
+    /// The cells that are not generated, as they are kept.
+    pub cells: &'a [Value],
     /// The columns of ROW START and ROW END, by number; none in a table that is not versioned.
     pub system: Option<(usize, usize)>,
     /// The moment at which the row began, in microseconds since 1970-01-01 00:00:00.
@@ -146,31 +138,32 @@ fn place_among_others(added: usize, width: usize, place: usize) -> Option<usize>
 impl<'a> StoredRow<'a> {
     /// The value of a column where two stamps are added to the cells, one after the other.
     fn with_stamps(&self, first: Stamp, second: Stamp, place: usize) -> View<'a>
-        ensures { datum_of_view result ≡ cell (insert (insert self.now.cells.now first.place (pure.Moment first.moment))
+        ensures { datum_of_view result ≡ cell (insert (insert (map datum_of_value self.now.cells.now) first.place (pure.Moment first.moment))
             second.place (pure.Moment second.moment)) place }
     {
-        let width = self.cells.cells().len();
+        let width = self.cells.len();
         let Some(place) = place_among_others(second.place, width + 1, place) else {
             return View::Moment(second.moment);
         };
         match place_among_others(first.place, width, place) {
             None => View::Moment(first.moment),
-            Some(place) => self.cells.column(place),
+            Some(place) => cell_at(self.cells, place),
         }
     }
 }
 
 impl Columns for StoredRow<'_> {
-    ghost use Rattle.std.specs.Prelude.{[]};
+    ghost use Rattle.std.specs.Prelude.{[], map};
     ghost use Rattle.tql_spec.specs.Definition.{with_generated};
+    ghost use Rattle.tql_value.specs.Views.{datum_of_value};
     ghost use Rattle.tql_expr.specs.Rows.{generated};
 
-    ghost values = { λ r. with_generated (generated r.system) r.cells.now r.start r.end };
+    ghost values = { λ r. with_generated (generated r.system) (map datum_of_value r.cells.now) r.start r.end };
 
     ghost group = { λ r. [] };
 
     fn width(&self) -> usize {
-        let stored = self.cells.cells().len();
+        let stored = self.cells.len();
         if self.system.is_some() {
             stored + 2
         } else {
@@ -180,7 +173,7 @@ impl Columns for StoredRow<'_> {
 
     fn column(&self, place: usize) -> View<'_> {
         let Some((start, end)) = self.system else {
-            return self.cells.column(place);
+            return cell_at(self.cells, place);
         };
         let begins = Stamp {
             place: start,
@@ -198,6 +191,6 @@ impl Columns for StoredRow<'_> {
     }
 
     fn aggregate(&self, terms: &Terms, which: Aggregate) -> Result<View<'_>, Range> {
-        self.cells.aggregate(terms, which)
+        over_no_rows(terms, which)
     }
 }

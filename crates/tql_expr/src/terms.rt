@@ -1,6 +1,9 @@
 // The terms of a statement: its expressions and conditions as nodes in one list.
-ghost use Rattle.std.specs.Prelude.{IsTrue, length};
+ghost use Rattle.std.specs.Prelude.{IsTrue, All, length};
+ghost use Rattle.tql_value.specs.Points.{IsPrintable};
+ghost use Rattle.tql_value.specs.Views.{datum_of_value};
 ghost use Rattle.tql_expr.specs.Nodes.{all_read_before};
+ghost use Rattle.tql_value.proofs.Printable.{texts_prop};
 
 use crate::node::{Function, Node, Operation};
 use std::alloc::AllocError;
@@ -32,11 +35,19 @@ pub enum Aggregate {
 
 /// The expressions and conditions of a statement. Each node stands behind its operands, and nothing that was added is
 /// changed later, so a place stands for one tree for good.
-#[derive(Drop)]
 pub struct Terms {
     literals: Vec<Value, Memory>,
     nodes: Vec<Node, Memory>,
     ghost ordered: { IsTrue (all_read_before (length literals.items) 0 nodes.items) },
+    ghost printable: { All (λ v. IsPrintable (datum_of_value v)) literals.items } by { texts_prop literals.items },
+}
+
+impl Drop for Terms {
+    fn drop(self) {
+        let Terms { literals, nodes } = self;
+        drop(literals);
+        drop(nodes);
+    }
 }
 
 impl Terms {
@@ -73,8 +84,9 @@ impl Terms {
         Ok(place)
     }
 
-    /// Adds a value.
+    /// Adds a value. A day or a moment is one that the calendar has.
     pub fn push_literal(&mut self, value: Value) -> Result<ExprId, AllocError>
+        requires { IsPrintable (datum_of_value value) }
         ensures { AddsExpr self.old self.new result (tree.Literal (datum_of_value value)) }
     {
         let place = self.nodes.len();

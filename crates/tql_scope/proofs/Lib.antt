@@ -5,5 +5,4 @@ pub mod ChainLaws
 pub mod Gathering
 pub mod LiteralLaws
 pub mod Loops
-pub mod NumberLemmas
 pub mod Views

@@ -10,7 +10,6 @@ pub mod faults;
 pub mod kinds;
 mod literals;
 pub mod names;
-pub mod number;
 pub mod scope;
 mod signs;
 pub mod texts;

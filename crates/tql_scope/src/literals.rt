@@ -8,6 +8,7 @@ ghost use Rattle.tql_spec.specs.Names as names;
 ghost use Rattle.tql_spec.specs.Refusal.{ValueOutOfRange};
 ghost use Rattle.tql_expr.specs.Meaning.{HasExpr, Stays};
 ghost use Rattle.tql_tree.specs.Expressions.{named_of};
+ghost use Rattle.tql_value.specs.Points.{IsPrintable};
 ghost use Rattle.tql_value.specs.Views.{plain_kind, datum_of_value};
 ghost use Rattle.tql_scope.specs.Gathered.{Gathers};
 ghost use Rattle.tql_scope.specs.Bounds.{typed_of, literal_of};
@@ -16,10 +17,10 @@ ghost use Rattle.tql_scope.specs.Scopes.{scope_of, things_of};
 
 use crate::faults::Faults;
 use crate::names::things;
-use crate::number::signed;
 use crate::scope::{Known, Thing, Typed};
 use crate::texts::unquoted;
 use std::alloc::AllocError;
+use tql_define::number::signed;
 use tql_expr::terms::Terms;
 use tql_memory::Memory;
 use tql_tree::expression::Named;
@@ -30,6 +31,7 @@ use tql_value::value::{Kind, Value};
 
 /// A literal of this kind.
 fn literal(terms: &mut Terms, value: Value, kind: Option<Kind>) -> Result<Typed, AllocError>
+    requires { IsPrintable (datum_of_value value) }
     ensures bound { IfOk result (λ t. typed_of terms.new t ≡ literal_of (datum_of_value value) (option_map plain_kind kind)) }
     ensures stays { Stays terms.old terms.new }
     ensures held { IfOk result (λ t. HasExpr terms.new t.expr) }

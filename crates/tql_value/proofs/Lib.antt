@@ -6,3 +6,4 @@ pub mod MomentNumbers
 pub mod OrderLemmas
 pub mod PointCasts
 pub mod TextLemmas
+pub mod Printable

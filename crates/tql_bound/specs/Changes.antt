@@ -1,0 +1,23 @@
+-- The machine's changes that bound ones stand for.
+use Rattle.std.specs.Prelude.{List, map, Vec, None}
+use Rattle.tql_spec.specs.Expression as tree
+use Rattle.tql_spec.specs.Machine as machine
+use Rattle.tql_spec.specs.Machine.{InsertTuples, Modify}
+use Rattle.tql_expr.specs.Meaning.{expr, cond}
+use Rattle.tql_expr.specs.declared.terms.ExprId.{ExprId}
+use Rattle.tql_expr.specs.declared.terms.Terms.{Terms}
+use Rattle.tql_bound.specs.declared.change.Insertion.{Insertion}
+use Rattle.tql_bound.specs.declared.change.Modification.{Modification}
+use Rattle.tql_bound.specs.Works.{work_of}
+
+-- the expressions of a tuple
+abbrev pub tuple_of : {A : Type 0} → Terms → Vec ExprId A → List tree.Expr
+tuple_of t ids = map (expr t) ids.items
+
+-- INSERT of tuples
+abbrev pub insertion_of : Insertion → machine.Change
+insertion_of x = InsertTuples x.table x.columns.items (map (tuple_of x.terms) x.tuples.items)
+
+-- UPDATE and DELETE, of no portion
+abbrev pub modification_of : Modification → machine.Change
+modification_of x = Modify x.table None (work_of x.terms x.work) (map (cond x.terms) x.conjuncts.items)
