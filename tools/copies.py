@@ -259,6 +259,12 @@ class Machine:
         self.tables.append(table)
         return "CREATE TABLE\n"
 
+    def drop(self, table: Table, _restrict: str) -> str:
+        self.tables.remove(table)
+        for _, copy in self.commits:
+            copy.pop(table, None)
+        return "DROP TABLE\n"
+
     def at(self, moment: "int | None") -> str:
         if moment is None or self.commits and moment <= self.commits[-1][0]:
             return f"REFUSED {E30 if moment is None else E41}\n"
@@ -270,10 +276,10 @@ class Machine:
         word, *said = statement
         if word == "odd":
             return f"REFUSED {E10}\n"
-        is_at_rest = word in ("create", "at") or "START TRANSACTION" in said
+        is_at_rest = word in ("create", "drop", "at") or "START TRANSACTION" in said
         if self.open if is_at_rest else word == "turn" and not self.open:
             return f"REFUSED {E40}\n"
-        if word in ("insert", "delete", "ask") and said[0] not in self.tables:
+        if word in ("drop", "insert", "delete", "ask") and said[0] not in self.tables:
             return f"REFUSED {E20}\n"
         return getattr(self, word)(*said)
 
@@ -396,7 +402,11 @@ class Counter:
         return ("turn", verb, ["", " WORK"][self.below(2)])
 
     def statement(self) -> tuple:
-        which = self.below(25)
+        which = self.below(27)
+        if which == 25 and self.below(2) == 0:
+            return ("drop", self.name(), ["", " RESTRICT"][self.below(2)])
+        if which > 24:
+            return created(next((it for it in (LOG, SALE, NOTE, PAY) if it not in self.machine.tables), self.table()))
         if which < 8:
             return self.insert()
         if which < 10:
@@ -427,6 +437,8 @@ def written(statement: tuple) -> str:
         return "AT " + ("TIMESTAMP '2011-02-30 00:00:00'" if said[0] is None else literal(said[0]))
     if word == "ask":
         return f"SELECT * FROM {said[0].name}{spelled(said[1])}"
+    if word == "drop":
+        return f"DROP TABLE {said[0].name}{said[1]}"
     return {"delete": lambda: f"DELETE FROM {said[0].name}", "turn": lambda: said[0] + said[1], "odd": lambda: "SELECT x FROM log WHERE"}[word]()
 
 

@@ -5,5 +5,4 @@ mod memories;
 mod runs;
 mod sinks;
 mod sources;
-mod splitters;
 mod stores;

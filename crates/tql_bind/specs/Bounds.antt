@@ -18,7 +18,7 @@ use Rattle.tql_bind.specs.declared.bound.When.TheVariants as when
 use Rattle.tql_bind.specs.declared.bound.Question.{Question}
 use Rattle.tql_bind.specs.declared.bound.Insert.{Insert}
 use Rattle.tql_bind.specs.declared.bound.Bound.{Bound}
-use Rattle.tql_bind.specs.declared.bound.Bound.TheVariants.{CreateTable, Insert as Inserts, DeleteAll, Ask, SetClock, Start, Commit, Rollback}
+use Rattle.tql_bind.specs.declared.bound.Bound.TheVariants.{CreateTable, DropTable, Insert as Inserts, DeleteAll, Ask, SetClock, Start, Commit, Rollback}
 
 -- ---- what they stand for
 
@@ -61,6 +61,7 @@ insert_of x = machine.InsertTuples x.table x.columns.items (map (map Literal) (r
 -- the statement, over these tables
 abbrev pub bound_of : List TableDef → Bound → machine.Bound
 bound_of defs (CreateTable d) = machine.CreateTable d
+bound_of defs (DropTable t) = machine.DropTable t
 bound_of defs (Inserts x) = machine.Alter (insert_of x)
 bound_of defs (DeleteAll t) = machine.Alter (machine.Modify t None Remove [])
 bound_of defs (Ask q) = machine.Ask (query_of defs q)
@@ -95,6 +96,7 @@ pub record IsSoundQuestion (defs : List TableDef) (q : Question) : Type 0 where
 -- over these tables
 abbrev pub IsSound : List TableDef → Bound → Type 0
 IsSound defs (CreateTable d) = IsSoundTable defs d
+IsSound defs (DropTable t) = t < length defs
 IsSound defs (Inserts x) = IsSoundInsert defs x
 IsSound defs (DeleteAll t) = t < length defs
 IsSound defs (Ask q) = IsSoundQuestion defs q

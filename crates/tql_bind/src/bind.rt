@@ -3,7 +3,7 @@ ghost use Rattle.std.specs.Prelude.{◌≡◌, IsTrue, IfOk};
 ghost use Rattle.tql_spec.specs.Binding.{bind};
 ghost use Rattle.tql_spec.specs.FirstToken.{content};
 ghost use Rattle.tql_spec.specs.Running.{does_run};
-ghost use Rattle.tql_spec.specs.Syntax.{AtTree};
+ghost use Rattle.tql_spec.specs.Syntax.{AtTree, DropTree};
 ghost use Rattle.tql_catalog.specs.Tables.{definitions_of};
 ghost use Rattle.tql_tree.specs.Expressions.{name_of};
 ghost use Rattle.tql_tree.specs.Statements.{create_of, delete_of, insert_of, span_of, statement_of};
@@ -14,12 +14,14 @@ ghost use Rattle.tql_bind.specs.Parts.{reference_in};
 
 use crate::bound::Bound;
 use crate::delete::bind_delete;
+use crate::drop_table::bind_drop;
 use crate::insert::bind_insert;
 use crate::moment::bind_moment;
 use crate::question::question;
 use tql_catalog::catalog::Catalog;
 use tql_define::create::new_table;
 use tql_memory::Memory;
+use tql_tree::expression::Name;
 use tql_tree::statement::{CreateTree, Delete, Insert, RefTree, Statement};
 use tql_value::refusal::Refusal;
 
@@ -32,6 +34,18 @@ fn create(memory: Memory, tables: &Catalog, create: &CreateTree<'_>) -> Result<B
 {
     match new_table(memory, tables, create) {
         Ok(definition) => Ok(Bound::CreateTable(definition)),
+        Err(refusal) => Err(refusal),
+    }
+}
+
+/// DROP TABLE with its names bound.
+#[tactic(auto, using(crate::proofs::Chains::same_refusal))]
+fn drop_table(memory: Memory, tables: &Catalog, name: Name<'_>) -> Result<Bound, Refusal>
+    ensures binds { Binds (bound_of (definitions_of tables.now)) (bind (definitions_of tables.now) (DropTree (name_of name.entry))) result }
+    ensures sound { IfOk result (IsSound (definitions_of tables.now)) }
+{
+    match bind_drop(memory, tables, name) {
+        Ok(place) => Ok(Bound::DropTable(place)),
         Err(refusal) => Err(refusal),
     }
 }
@@ -116,14 +130,13 @@ pub fn bind(memory: Memory, tables: &Catalog, statement: &Statement<'_>) -> Resu
     }
     match statement {
         Statement::Create(tree) => create(memory, tables, tree),
+        Statement::DropTable(name) => drop_table(memory, tables, *name),
         Statement::Insert(tree) => insert(memory, tables, tree),
         Statement::Delete(tree) => delete(memory, tables, tree),
         Statement::StartTransaction => Ok(Bound::Start),
         Statement::Commit => Ok(Bound::Commit),
         Statement::Rollback => Ok(Bound::Rollback),
         Statement::At(moment) => clock(memory, tables, moment),
-        Statement::Query(_) | Statement::DropTable(_) | Statement::Update(_) => {
-            Err(Refusal::NotAStatement)
-        }
+        Statement::Query(_) | Statement::Update(_) => Err(Refusal::NotAStatement),
     }
 }

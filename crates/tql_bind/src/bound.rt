@@ -37,6 +37,8 @@ pub struct Insert {
 pub enum Bound {
     /// CREATE TABLE.
     CreateTable(TableDef),
+    /// DROP TABLE of the table at this place.
+    DropTable(usize),
     /// INSERT of tuples.
     Insert(Insert),
     /// DELETE of every row of the table at this place.

@@ -4,6 +4,7 @@
 pub mod bind;
 pub mod bound;
 pub mod delete;
+pub mod drop_table;
 pub mod insert;
 pub mod literal;
 pub mod moment;

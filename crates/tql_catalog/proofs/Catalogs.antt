@@ -1,7 +1,7 @@
 -- The place at which a table is found, and what stays true of the tables.
 use Rattle.std.proofs.Common.{◌≡◌, ◌≢◌, refl, ap, sym, ◌∙◌, ℕ, zero, suc, Bool, true, false, List, [], ◌∷◌, ◌++◌, Some, None, ◌+◌, ◌<◌, ◌≤◌, length, map, arith, length-append}
-use Rattle.std.specs.Prelude.{position, if◌then◌else◌, is_some, nat_le, remove, slice_get, slice_index_or, All, Option, option_map}
-use Rattle.std.specs.List.{position_from}
+use Rattle.std.specs.Prelude.{◌||◌, position, if◌then◌else◌, is_some, nat_le, remove, slice_get, slice_index_or, All, Option, option_map}
+use Rattle.std.specs.List.{position_from, list_any}
 use Rattle.std.proofs.lemmas.Bool.Decides.{nat_tests}
 use Rattle.std.proofs.lemmas.Iterator.Adapters.{position_from-zero}
 use Rattle.std.proofs.lemmas.List.{length-map}
@@ -10,7 +10,8 @@ use Rattle.std.proofs.lemmas.List.Elements.{All-nil, All-cons}
 use Rattle.std.proofs.lemmas.List.Quantifiers.{all_pairs_push, all_pairs_remove}
 use Rattle.tql_spec.specs.Words.{same_text}
 use Rattle.tql_spec.specs.Refusal.{TooManyTablesOrReaders, TableUnknownOrAlreadyThere, first, fault_if}
-use Rattle.tql_spec.specs.Definition.{Name, TableDef, place_of, next_place, table_at}
+use Rattle.tql_spec.specs.Definition.{Name, TableDef, Reference, place_of, next_place, table_at}
+use Rattle.tql_spec.specs.Binding.{is_referenced}
 use Rattle.tql_spec.proofs.Constraints.{same_text-self}
 use Rattle.tql_value.specs.Refusals.{refusal_of}
 use Rattle.tql_value.specs.declared.refusal.Refusal.{Refusal}
@@ -44,6 +45,16 @@ definition_at (x ∷ tables) zero t e = ap (λ (y : Table). y.definition) (the_s
     the_same : (x y : Table) → Some x ≡ Some y → x ≡ y
     the_same x y e = cc
 definition_at (x ∷ tables) (suc i) t e = definition_at tables i t e
+
+-- ---- references
+
+-- whether a reference of the table names the one of this name
+abbrev pub refers : Name → Table → Bool
+refers n t = list_any (λ (f : Reference). same_text n f.parent) t.definition.references
+
+pub any_refers : (n : Name) (tables : List Table) → list_any (refers n) tables ≡ is_referenced n (definitions_of tables)
+any_refers n [] = refl
+any_refers n (t ∷ ts) = ap (λ (b : Bool). refers n t || b) (any_refers n ts)
 
 -- ---- a new table
 

@@ -42,10 +42,3 @@ Tells None (Ok x) = ⊤
 Tells None (Err e) = e ≡ OutOfMemory
 Tells (Some fault) (Ok x) = ⊥
 Tells (Some fault) (Err e) = refusal_of e ≡ fault
-
--- the table of the name is taken out, and the others stay in their order
-pub record TakesOut (n : Name) (old : List Table) (table : Table) (new : List Table) : Type 0 where
-  pub place : ℕ
-  pub found : place_of n (definitions_of old) ≡ Some place
-  pub taken : slice_get old place ≡ Some table
-  pub others : new ≡ remove old place

@@ -1,11 +1,11 @@
 //! The tables that are there.
-ghost use Rattle.std.specs.Prelude.{◌≡◌, ◌≢◌, ◌↔◌, ◌<◌, ◌++◌, [], ◌∷◌, length, slice_get, All, IsTrue, IfOk, IfErr, OnOk, OnErr, Some, None, option_map, nat_le};
+ghost use Rattle.std.specs.Prelude.{◌≡◌, ◌≢◌, ◌↔◌, ◌<◌, ◌++◌, [], ◌∷◌, length, slice_get, All, IsTrue, OnOk, OnErr, Some, option_map, remove};
 ghost use Rattle.std.specs.Option.{ForSome};
+ghost use Rattle.tql_spec.specs.Binding as binding;
 ghost use Rattle.tql_spec.specs.Definition as spec;
 ghost use Rattle.tql_spec.specs.Refusal.{first};
 ghost use Rattle.tql_value.specs.Refusals.{refusal_of};
-ghost use Rattle.tql_value.specs.declared.refusal.Refusal.TheVariants.{TableUnknownOrAlreadyThere};
-ghost use Rattle.tql_catalog.specs.Tables.{definitions_of, IsFree, IsCatalog, creation_faults, Tells, TakesOut};
+ghost use Rattle.tql_catalog.specs.Tables.{definitions_of, IsFree, IsCatalog, creation_faults, Tells};
 ghost use Rattle.tql_spec.specs.Words.{same_text};
 
 use crate::table_def::TableDef;
@@ -68,6 +68,15 @@ fn place_in(tables: &[Table], name: &str) -> Option<usize>
     ensures within { ForSome result (λ place. place < length tables.now) }
 {
     tables.iter().position(|table| is_named(table, name))
+}
+
+/// Whether a reference of some of the tables names the table of this name.
+fn are_referring(tables: &[Table], name: &str) -> bool
+    ensures { result ≡ binding.is_referenced name.now (definitions_of tables.now) }
+{
+    tables
+        .iter()
+        .any(|table| table.definition.is_referring_to(name))
 }
 
 impl Catalog {
@@ -152,16 +161,19 @@ impl Catalog {
         Ok(())
     }
 
-    /// Takes the table of this name out; the others stay in their order. Takes no memory. Refused where no table has the name, and then
-    /// nothing is changed.
-    pub fn drop_table(&mut self, name: &str) -> Result<Table, Refusal>
-        ensures taken { IfOk result (λ table. TakesOut name.now self.old table self.new) }
-        ensures kept { OnErr result (self.new ≡ self.old) }
-        ensures unknown { IfErr result (λ e. (e ≡ TableUnknownOrAlreadyThere) × (spec.place_of name.now (definitions_of self.old) ≡ None)) }
+    /// Whether a reference of some table names the table of this name.
+    pub fn is_referenced(&self, name: &str) -> bool
+        ensures { result ≡ binding.is_referenced name.now (definitions_of self.now) }
     {
-        match place_in(&self.tables, name) {
-            Some(place) => Ok(self.tables.remove(place)),
-            None => Err(Refusal::TableUnknownOrAlreadyThere),
-        }
+        are_referring(&self.tables, name)
+    }
+
+    /// Takes the table at a place out; the others stay in their order. Takes no memory.
+    pub fn remove(&mut self, place: usize) -> Table
+        requires { place < length self.old }
+        ensures taken { slice_get self.old place ≡ Some result }
+        ensures others { self.new ≡ remove self.old place }
+    {
+        self.tables.remove(place)
     }
 }

@@ -1,8 +1,10 @@
 //! The definition of a table.
 ghost use Rattle.std.specs.Prelude.{◌≡◌, ◌++◌, map, option_map, is_some, string_bytes, IsTrue, IfOk};
+ghost use Rattle.std.specs.List.{list_any};
 ghost use Rattle.tql_spec.specs.Binding as binding;
 ghost use Rattle.tql_spec.specs.Creation.{names_of};
 ghost use Rattle.tql_spec.specs.Definition.{no_table};
+ghost use Rattle.tql_spec.specs.Words.{same_text};
 ghost use Rattle.tql_catalog.specs.Columns.{names_in};
 ghost use Rattle.tql_catalog.specs.Defined as defined;
 ghost use Rattle.tql_catalog.specs.Defined.{IsDefinition, plain_table};
@@ -114,6 +116,15 @@ impl TableDef {
         ensures { result.now ≡ self.now.name }
     {
         self.name.as_str()
+    }
+
+    /// Whether a reference of this table names the table of this name. No table has references yet.
+    pub fn is_referring_to(&self, _name: &str) -> bool
+        ensures { result ≡ list_any (λ f. same_text _name.now f.parent) self.now.references }
+    {
+        // a definition that is read is known to be right, and so to have none
+        let _definition = &self.columns;
+        false
     }
 
     /// The columns, in order.

@@ -14,7 +14,7 @@ use Rattle.tql_spec.specs.Query.{in_order}
 use Rattle.tql_spec.specs.Creation.{names_of}
 use Rattle.tql_spec.specs.Change.{Outcome, Work}
 use Rattle.tql_spec.specs.Refusal.{Refusal, NotInThisTransactionState, MomentNotAllowed, first}
-use Rattle.tql_spec.specs.Machine.{State, Reply, Refused, Done, Table, CreatedTable, ClockSet, Inserted, Deleted, Started, Committed, RolledBack, Change, CreateTable, SetClock, Start, Commit, Rollback, Alter, Ask, InsertTuples, Modify, step, altered, unless, is_not_later, is_clock_at_end, entries, newest_copy, with_table, with_commit, working, asked, bag_of}
+use Rattle.tql_spec.specs.Machine.{State, Reply, Refused, Done, Table, CreatedTable, DroppedTable, ClockSet, Inserted, Deleted, Started, Committed, RolledBack, Change, CreateTable, DropTable, SetClock, Start, Commit, Rollback, Alter, Ask, InsertTuples, Modify, step, altered, unless, is_not_later, is_clock_at_end, entries, newest_copy, with_table, without_table, with_commit, working, asked, bag_of}
 use Rattle.tql_bind.specs.Bounds.{whole_table}
 use Rattle.tql_catalog.specs.Tables.{definitions_of}
 use Rattle.tql_catalog.specs.declared.catalog.Table.{Table as CatalogTable}
@@ -26,7 +26,7 @@ use Rattle.tql_engine.specs.Stands.{Held, StandsFor, copies_of, working_of, mome
 use Rattle.tql_engine.specs.Questions.{Answers}
 use Rattle.tql_engine.specs.Committing.{ChangesRows, CountsNow}
 use Rattle.tql_engine.specs.Effects.{Does, not_later_than}
-use Rattle.tql_engine.proofs.Faults.{refused, create_step, clock_step, start_step, commit_step, rollback_step, alter_step}
+use Rattle.tql_engine.proofs.Faults.{refused, create_step, drop_step, clock_step, start_step, commit_step, rollback_step, alter_step}
 use Rattle.tql_engine.proofs.Standing.{closed_law, open_law, last_law, clock_law, definition_of, definition_law}
 use Rattle.tql_engine.proofs.Copies.{chosen, passed}
 use Rattle.tql_engine.proofs.Columns.{whole_answered}
@@ -83,6 +83,18 @@ pub create_does : (h new : Held) (s : State) (d : TableDef) → StandsFor h s �
 create_does h new s d st e made =
     by_step new (Done CreatedTable None) (step s (CreateTable d)) (Done CreatedTable None, with_table d s)
     (create_step s d ∙ passed (is_some s.transaction) (refused NotInThisTransactionState s) (Done CreatedTable None, with_table d s) (open_law h s st ∙ e)) (record { replies = refl; stands = made })
+
+-- ---- DROP
+
+pub drop_refused : (h : Held) (s : State) (t : ℕ) → StandsFor h s → is_some h.rows.working ≡ true → Does h (Refused NotInThisTransactionState) (step s (DropTable t))
+drop_refused h s t st e =
+    by_step h (Refused NotInThisTransactionState) (step s (DropTable t)) (refused NotInThisTransactionState s)
+    (drop_step s t ∙ chosen (is_some s.transaction) (refused NotInThisTransactionState s) (Done DroppedTable None, without_table t s) (open_law h s st ∙ e)) (refuses h s NotInThisTransactionState st)
+
+pub drop_does : (h new : Held) (s : State) (t : ℕ) → StandsFor h s → is_some h.rows.working ≡ false → StandsFor new (without_table t s) → Does new (Done DroppedTable None) (step s (DropTable t))
+drop_does h new s t st e left =
+    by_step new (Done DroppedTable None) (step s (DropTable t)) (Done DroppedTable None, without_table t s)
+    (drop_step s t ∙ passed (is_some s.transaction) (refused NotInThisTransactionState s) (Done DroppedTable None, without_table t s) (open_law h s st ∙ e)) (record { replies = refl; stands = left })
 
 -- ---- AT
 

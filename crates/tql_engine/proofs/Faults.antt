@@ -1,8 +1,8 @@
 -- Steps that the state refuses, and those that it does not.
-use Rattle.std.specs.Prelude.{◌≡◌, refl, Bool, true, false, ◌&&◌, ◌++◌, ℤ, Some, None, is_some, is_none, if◌then◌else◌}
+use Rattle.std.specs.Prelude.{◌≡◌, refl, ℕ, Bool, true, false, ◌&&◌, ◌++◌, ℤ, Some, None, is_some, is_none, if◌then◌else◌}
 use Rattle.tql_spec.specs.Refusal.{Refusal, NotInThisTransactionState, MomentNotAllowed, earlier, first, fault_if}
 use Rattle.tql_spec.specs.Definition.{TableDef}
-use Rattle.tql_spec.specs.Machine.{State, Reply, Refused, Done, CreatedTable, ClockSet, Started, Committed, RolledBack, Change, CreateTable, SetClock, Start, Commit, Rollback, Alter, step, unless, altered, with_table, with_commit, working, is_not_later, is_clock_at_end}
+use Rattle.tql_spec.specs.Machine.{State, Reply, Refused, Done, CreatedTable, DroppedTable, ClockSet, Started, Committed, RolledBack, Change, CreateTable, DropTable, SetClock, Start, Commit, Rollback, Alter, step, unless, altered, with_table, without_table, with_commit, working, is_not_later, is_clock_at_end}
 
 -- a refusal, with the state as it was
 abbrev pub refused : Refusal → State → Reply × State
@@ -25,6 +25,9 @@ two_faults false false e f s reply new k = refl
 
 pub create_step : (s : State) (d : TableDef) → step s (CreateTable d) ≡ if is_some s.transaction then refused NotInThisTransactionState s else (Done CreatedTable None, with_table d s)
 create_step s d = one_fault (is_some s.transaction) NotInThisTransactionState s (Done CreatedTable None) (with_table d s)
+
+pub drop_step : (s : State) (t : ℕ) → step s (DropTable t) ≡ if is_some s.transaction then refused NotInThisTransactionState s else (Done DroppedTable None, without_table t s)
+drop_step s t = one_fault (is_some s.transaction) NotInThisTransactionState s (Done DroppedTable None) (without_table t s)
 
 pub clock_step : (s : State) (m : ℤ)
     → step s (SetClock m) ≡ if is_some s.transaction then refused NotInThisTransactionState s else (if is_not_later m s.history then refused MomentNotAllowed s else (Done ClockSet None, record s { next = m }))

@@ -6,6 +6,7 @@ pub mod Copies
 pub mod CreateKeeps
 pub mod Creating
 pub mod Doing
+pub mod DropKeeps
 pub mod Faults
 pub mod Inserting
 pub mod LaterLemmas

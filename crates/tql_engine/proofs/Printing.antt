@@ -47,6 +47,7 @@ there_is (p ∷ ps) (suc t) h = there_is ps t (omega (arith, h))
 -- the machine's reply has one
 step_prints : (h : Held) (s : State) → StandsFor h s → (x : Bound) → IsSound (definitions_of h.tables) x → Prints (step s (bound_of (definitions_of h.tables) x))
 step_prints h s st (b.CreateTable d) k = by_effect s (bound_of (definitions_of h.tables) (b.CreateTable d)) tt
+step_prints h s st (b.DropTable t) k = by_effect s (bound_of (definitions_of h.tables) (b.DropTable t)) tt
 step_prints h s st (b.Insert x) k = by_effect s (bound_of (definitions_of h.tables) (b.Insert x)) (altered_prints s (insert_of x))
 step_prints h s st (b.DeleteAll t) k = by_effect s (bound_of (definitions_of h.tables) (b.DeleteAll t)) (altered_prints s (machine.Modify t None change.Remove []))
 step_prints h s st (b.Ask q) k =

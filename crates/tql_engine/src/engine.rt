@@ -3,6 +3,7 @@ ghost use Rattle.std.specs.Prelude.{◌≡◌, ◌<◌, length, slice_get, IfOk,
 mod changes;
 mod clock;
 mod creation;
+mod dropping;
 mod faults;
 mod questions;
 mod transactions;
@@ -96,6 +97,7 @@ impl Engine {
     {
         match bound {
             Bound::CreateTable(definition) => self.create(definition),
+            Bound::DropTable(place) => self.drop_table(place),
             Bound::Insert(rows) => self.insert(rows),
             Bound::DeleteAll(place) => self.delete_all(place),
             Bound::Ask(question) => self.ask(question),

@@ -175,8 +175,11 @@ pub fn does_run(statement: &Statement<'_>) -> bool
         Statement::Insert(insert) => does_insert_run(insert),
         Statement::Delete(delete) => does_delete_run(delete),
         Statement::Query(query) => does_query_run(query),
-        Statement::StartTransaction | Statement::Commit | Statement::Rollback | Statement::At(_) =>
-            true,
-        Statement::DropTable(_) | Statement::Update(_) => false,
+        Statement::DropTable(_)
+        | Statement::StartTransaction
+        | Statement::Commit
+        | Statement::Rollback
+        | Statement::At(_) => true,
+        Statement::Update(_) => false,
     }
 }

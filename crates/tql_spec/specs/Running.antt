@@ -2,7 +2,7 @@
 use Rattle.std.specs.Prelude.{Bool, true, false, not, ◌&&◌, IsTrue, List, [], ◌∷◌, is_none, None}
 use Rattle.std.specs.List.{list_all}
 use Rattle.tql_spec.specs.Token.{Token}
-use Rattle.tql_spec.specs.Syntax.{Sum, Terms, NoTerm, Factors, NoFactor, Signed, Unsigned, Positive, Negative, Primary, NumberLiteral, TextLiteral, DateLiteral, TimestampLiteral, Element, ColumnElement, PeriodElement, SelectTree, CellTree, NullCell, ValueCell, Tuple, Statement, CreateTree, InsertValues, DeleteTree, QueryTree, StartTree, CommitTree, RollbackTree, AtTree}
+use Rattle.tql_spec.specs.Syntax.{Sum, Terms, NoTerm, Factors, NoFactor, Signed, Unsigned, Positive, Negative, Primary, NumberLiteral, TextLiteral, DateLiteral, TimestampLiteral, Element, ColumnElement, PeriodElement, SelectTree, CellTree, NullCell, ValueCell, Tuple, Statement, CreateTree, DropTree, InsertValues, DeleteTree, QueryTree, StartTree, CommitTree, RollbackTree, AtTree}
 use Rattle.tql_spec.specs.Grammar.{IsStatement}
 use Rattle.tql_spec.specs.Binding.{is_star, is_empty}
 
@@ -58,6 +58,7 @@ is_whole_table s =
 -- whether a statement runs
 abbrev pub does_run : Statement → Bool
 does_run (CreateTree n e es versioned) = list_all is_plain_element (e ∷ es)
+does_run (DropTree n) = true
 does_run (InsertValues n ns t ts) = list_all is_literal_tuple (t ∷ ts)
 does_run (DeleteTree n None None) = true
 does_run (QueryTree s []) = is_whole_table s

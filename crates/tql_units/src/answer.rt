@@ -1,7 +1,7 @@
 // What a line is answered, with each growth refused in turn.
 use crate::line::Line;
 use crate::stop::Stop;
-use crate::{calendar, indexes, inserts, lexer, periods, replies, values};
+use crate::{calendar, indexes, lexer, periods, replies, values};
 use std::alloc::AllocError;
 use tql_memory::{Memory, memory};
 use tql_value::refusal::Refusal;
@@ -11,7 +11,6 @@ use tql_value::refusal::Refusal;
 pub enum Subject {
     Calendar,
     Indexes,
-    Inserts,
     Lexer,
     Periods,
     Replies,
@@ -26,7 +25,6 @@ fn answer(memory: Memory, subject: Subject, line: &Line<'_>, out: &mut String) -
     match subject {
         Subject::Calendar => calendar::answer(line, out),
         Subject::Indexes => indexes::answer(memory, line, out),
-        Subject::Inserts => inserts::answer(memory, line, out),
         Subject::Lexer => lexer::answer(memory, line, out),
         Subject::Periods => periods::answer(memory, line, out),
         Subject::Replies => replies::answer(memory, line, out),

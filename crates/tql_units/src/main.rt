@@ -7,7 +7,6 @@
 mod answer;
 mod calendar;
 mod indexes;
-mod inserts;
 mod lexer;
 mod line;
 mod parts;
@@ -22,10 +21,9 @@ use std::fs::Files;
 use std::{fs, io};
 
 /// The files, and what each is about.
-const FILES: [(&str, Subject); 7] = [
+const FILES: [(&str, Subject); 6] = [
     ("calendar", Subject::Calendar),
     ("indexes", Subject::Indexes),
-    ("inserts", Subject::Inserts),
     ("lexer", Subject::Lexer),
     ("periods", Subject::Periods),
     ("replies", Subject::Replies),

@@ -233,16 +233,3 @@ fn writes_a_beginning_where_a_write_fails(rt: HostRuntime) -> Result<(), Fail> {
     assert!(rt; are_right && last == WHOLE.len());
     Ok(())
 }
-
-#[test]
-fn refuses_a_statement_that_is_too_long(rt: HostRuntime) -> Result<(), Fail> {
-    let mut script = Vec::new(rt.alloc());
-    script.resize(1_048_576, b'x')?;
-    script.extend_from_slice(b";x")?;
-    script.resize(2_097_154, b'x')?;
-    script.extend_from_slice(b";ab;")?;
-    let Outcome { end, text } = run_script(&rt, &script, SOUND)?;
-    let wanted = b"INSERT 1048576\nREFUSED E13 statement too long\nINSERT 2\n".as_slice();
-    assert!(rt; end == Ok((3, 1)) && text.as_slice() == wanted);
-    Ok(())
-}

@@ -1,0 +1,63 @@
+//! How a program of your own uses the engine: it runs a script, asks what was paid in March as the books had it on two days, and adds
+//! up the rows of each answer.
+#![tactic(auto)]
+
+use std::io;
+use tql::{Engine, Memory, Reply, Rows, View, memory, run_bytes};
+
+/// What the office entered, and when.
+const ENTERED: &[u8] = b"
+CREATE TABLE pay (employee INTEGER, cents INTEGER, s TIMESTAMP GENERATED ALWAYS AS ROW START, e TIMESTAMP GENERATED ALWAYS AS ROW END,
+  PERIOD FOR SYSTEM_TIME (s, e)) WITH SYSTEM VERSIONING;
+AT TIMESTAMP '2011-03-28 09:00:00';
+INSERT INTO pay VALUES (1, 300000), (2, 250000);
+AT TIMESTAMP '2011-04-04 09:00:00';
+INSERT INTO pay VALUES (2, 12000);
+";
+
+/// The questions: the books at the end of March, and now.
+const QUESTIONS: [&[u8]; 2] = [
+    b"SELECT * FROM pay FOR SYSTEM_TIME AS OF TIMESTAMP '2011-03-31 23:59:59'",
+    b"SELECT * FROM pay",
+];
+
+/// The sum of a column of whole numbers, by its number from 0; other values count as nothing.
+fn total(rows: &Rows, column: usize) -> i64 {
+    let mut total = 0i64;
+    for row in &rows.rows {
+        if let Some(View::Int(number)) = row.get(column).map(|value| value.view()) {
+            total = total.saturating_add(number);
+        }
+    }
+    total
+}
+
+/// Prints how many rows a question finds, and the sum of their cents.
+fn ask(rt: &impl Print, engine: &mut Engine, question: &[u8]) -> io::Result<()> {
+    match &engine.step(question) {
+        Reply::Table(rows) => println!(rt; "{} payments, {} cents", rows.rows.len(), total(rows, 1)),
+        Reply::Refused(refusal) => println!(rt; "refused: {}", refusal.text()),
+        Reply::Done(_, _) => println!(rt; "done"),
+    }
+}
+
+/// Enters the payments, and says how many statements were run.
+fn enter(rt: &impl Print, memory: Memory, engine: &mut Engine) -> io::Result<()> {
+    let mut replies = Vec::new(memory);
+    match run_bytes(engine, ENTERED, &mut replies) {
+        Ok(summary) => {
+            println!(rt; "{} statements, {} refused", summary.statements, summary.refused)
+        }
+        Err(_) => println!(rt; "out of memory"),
+    }
+}
+
+fn main(rt: HostRuntime) -> io::Result<()> {
+    let memory = memory(rt.alloc(), u64::MAX)?;
+    let mut engine = Engine::new(memory);
+    enter(&rt, memory, &mut engine)?;
+    for question in QUESTIONS {
+        ask(&rt, &mut engine, question)?;
+    }
+    Ok(())
+}
