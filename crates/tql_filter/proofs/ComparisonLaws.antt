@@ -4,7 +4,7 @@ use Rattle.std.specs.declared.alloc.AllocError.{AllocError}
 use Rattle.tql_spec.specs.Datum.{AtLeast, AtMost}
 use Rattle.tql_spec.specs.Expression.{Expr, Cond, Compare, And}
 use Rattle.tql_spec.specs.Names as names
-use Rattle.tql_spec.specs.Names.{Checked, ◌>>=◌, sound, unless, refuse_if, Known, differ, compared, negated_if, test}
+use Rattle.tql_spec.specs.Names.{Checked, ◌>>=◌, sound, unless, refuse_if, Known, differ, compared, in_list, negated_if, test}
 use Rattle.tql_spec.specs.Refusal.{Refusal, TypesDoNotFit}
 use Rattle.tql_spec.specs.Syntax as tree
 use Rattle.tql_value.specs.Views.{plain_kind}
@@ -62,3 +62,11 @@ between_is s n x low high t u v operand above below e old first second now tu ho
     let three = gone_on whole old (compared high s a (Compare AtMost)) (λ d. sound (negated_if n (And (cond u above) d))) second now (cond v below) two gh' in
     let done = ended whole old now (negated_if n (And (cond u above) (cond v below))) three in
     subst (λ (y : Cond). Gathers whole old now (negated_if n y)) (sym (is ∙ ap (λ (c : Cond). And c (cond v below)) (cond_kept uv above ha))) done
+
+-- IN is the list, or its negation
+pub in_is : (s : List Known) (n : Bool) (x e : tree.Sum) (es : List tree.Sum) (a : names.Typed) (c : Cond) (old mid now : Option Refusal)
+    → Gathers (names.expr s x) old mid a → Gathers (in_list s a e es) mid now c → Gathers (test s (tree.InTest n x e es)) old now (negated_if n c)
+in_is s n x e es a c old mid now g h =
+    let one = begun (names.expr s x) (λ y. in_list s y e es >>= λ d. sound (negated_if n d)) old mid a g in
+    let whole = test s (tree.InTest n x e es) in
+    ended whole old now (negated_if n c) (gone_on whole old (in_list s a e es) (λ d. sound (negated_if n d)) mid now c one h)

@@ -1,9 +1,11 @@
 //! The words of the trees as those of bound conditions.
 ghost use Rattle.std.specs.Prelude.{◌≡◌};
-ghost use Rattle.tql_tree.specs.Conditions.{comparison_of};
+ghost use Rattle.tql_period.specs.Relations.{plain_relation};
+ghost use Rattle.tql_tree.specs.Conditions.{comparison_of, relation_of};
 ghost use Rattle.tql_value.specs.Views.{plain_comparison};
 
-use tql_tree::condition::Comparison;
+use tql_period::predicates as period;
+use tql_tree::condition::{Comparison, Relation};
 use tql_value::comparison as value;
 
 /// The comparison.
@@ -17,5 +19,19 @@ pub(crate) fn comparison(written: Comparison) -> value::Comparison
         Comparison::AtMost => value::Comparison::LessOrEqual,
         Comparison::Above => value::Comparison::Greater,
         Comparison::AtLeast => value::Comparison::GreaterOrEqual,
+    }
+}
+
+/// The relation of two periods.
+pub(crate) fn relation(written: Relation) -> period::Relation
+    ensures { plain_relation result ≡ relation_of written }
+{
+    match written {
+        Relation::Overlaps => period::Relation::Overlaps,
+        Relation::Equals => period::Relation::Equals,
+        Relation::Precedes => period::Relation::Precedes,
+        Relation::Succeeds => period::Relation::Succeeds,
+        Relation::ImmediatelyPrecedes => period::Relation::ImmediatelyPrecedes,
+        Relation::ImmediatelySucceeds => period::Relation::ImmediatelySucceeds,
     }
 }
