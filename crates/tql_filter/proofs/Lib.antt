@@ -1,0 +1,5 @@
+pub mod ComparisonLaws
+pub mod Lists
+pub mod PeriodLaws
+pub mod SoleLaws
+pub mod Views

@@ -1,0 +1,25 @@
+-- What the ends of periods stand for.
+use Rattle.std.specs.Prelude.{List, map, option_map}
+use Rattle.tql_spec.specs.Datum.{Moments}
+use Rattle.tql_spec.specs.Names as names
+use Rattle.tql_value.specs.Views.{plain_kind}
+use Rattle.tql_catalog.specs.declared.definition.System.{System}
+use Rattle.tql_expr.specs.Meaning.{expr, HasExpr}
+use Rattle.tql_expr.specs.declared.terms.Terms.{Terms}
+use Rattle.tql_filter.specs.declared.periods.Ends.{Ends}
+
+-- the ends of a period, among these terms
+abbrev pub ends_of : Terms → Ends → names.Ends
+ends_of t x = record { start = expr t x.start; end = expr t x.end; kind = option_map plain_kind x.kind }
+
+-- both ends are there
+pub record HasEnds (t : Terms) (x : Ends) : Type 0 where
+  pub start : HasExpr t x.start
+  pub end : HasExpr t x.end
+
+-- the system period of these two columns
+abbrev pub period_at : System → names.Ends
+period_at s = names.ends_at s.start s.end Moments
+
+abbrev pub periods_of : List System → List names.Ends
+periods_of ss = map period_at ss

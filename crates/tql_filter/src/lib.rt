@@ -1,0 +1,10 @@
+//! Conditions, bound to the terms of a statement. Every fault is gathered, and the first in the order of report is kept.
+#![tactic(auto)]
+
+mod comparisons;
+pub mod conditions;
+mod membership;
+pub mod periods;
+mod relations;
+mod signs;
+mod sole_names;
