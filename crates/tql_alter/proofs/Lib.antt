@@ -1,0 +1,3 @@
+pub mod ColumnLaws
+pub mod Places
+pub mod Sequences
