@@ -1,5 +1,5 @@
 -- The columns that an INSERT without a list fills.
-use Rattle.std.specs.Prelude.{◌≡◌, refl, ℕ, ◌==◌, true, List, [], ◌∷◌, map, length, Option}
+use Rattle.std.specs.Prelude.{◌≡◌, ℕ, ◌==◌, true, List, [], ◌∷◌, map, length, Option}
 use Rattle.std.proofs.Common.{sym, arith, eqb-true}
 use Rattle.tql_spec.specs.Binding.{all_assignable, insert_columns}
 use Rattle.tql_spec.specs.Definition as spec

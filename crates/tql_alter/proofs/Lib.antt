@@ -1,3 +1,6 @@
 pub mod ColumnLaws
+pub mod Growing
+pub mod InsertLaws
 pub mod Places
 pub mod Sequences
+pub mod TupleLaws

@@ -2,4 +2,6 @@
 #![tactic(auto)]
 
 pub mod columns;
+pub mod insert;
 pub mod tables;
+pub mod tuples;

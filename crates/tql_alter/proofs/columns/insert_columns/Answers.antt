@@ -1,5 +1,4 @@
 use Rattle.std.proofs.Common.{rules, ◌≡◌, ◌∙◌, ◌==◌, true, length}
-use Rattle.tql_spec.specs.Binding.{all_assignable}
 use Rattle.tql_alter.proofs.ColumnLaws.{all_filled}
 use Rattle.tql_alter.proofs.columns.insert_columns.Goals as goal
 
