@@ -3,4 +3,5 @@ pub mod Growing
 pub mod InsertLaws
 pub mod Places
 pub mod Sequences
+pub mod SetLaws
 pub mod TupleLaws

@@ -66,6 +66,19 @@ pub fn column_number(definition: &TableDef, name: &str, faults: &mut Faults) -> 
     or_first(column_place(definition, name), faults)
 }
 
+/// The number of the column that a name means. A fault where there is none.
+pub fn named_column(
+    memory: Memory,
+    definition: &TableDef,
+    name: Name<'_>,
+    faults: &mut Faults,
+) -> Result<usize, AllocError>
+    ensures { IfOk result (λ number. Gathers (creation.column_number (names_of definition.now) (name_of name.entry)) faults.old faults.new number) }
+{
+    let name = meant(memory, name)?;
+    Ok(column_number(definition, &name, faults))
+}
+
 /// The names that are meant.
 fn meant_names(
     memory: Memory,

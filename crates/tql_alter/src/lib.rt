@@ -3,5 +3,6 @@
 
 pub mod columns;
 pub mod insert;
+pub mod sets;
 pub mod tables;
 pub mod tuples;
