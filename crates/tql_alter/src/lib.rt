@@ -6,3 +6,4 @@ pub mod insert;
 pub mod sets;
 pub mod tables;
 pub mod tuples;
+pub mod update;
