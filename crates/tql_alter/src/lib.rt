@@ -1,0 +1,9 @@
+//! INSERT, UPDATE and DELETE with their names bound. Every fault is gathered, and the first in the order of report is kept.
+#![tactic(auto)]
+
+pub mod columns;
+pub mod insert;
+pub mod sets;
+pub mod tables;
+pub mod tuples;
+pub mod update;
