@@ -1,2 +1,4 @@
 pub mod Inserts
 pub mod Cells
+pub mod Evaluated
+pub mod Alters

@@ -3,5 +3,7 @@
 
 mod faults;
 pub mod insert;
+pub mod insertion;
 mod spread;
 pub mod tuples;
+mod values;
