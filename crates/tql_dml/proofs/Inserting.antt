@@ -27,7 +27,8 @@ pub new_cells : (d : TableDef) (m : ℤ) (js : List ℕ) (tuples : List Row) →
 new_cells d m js [] = refl
 new_cells d m js (vs ∷ tuples) = ap {B = List Row} (λ rows. stored_cells d js vs ∷ rows) (new_cells d m js tuples)
 
-kept_columns : (d : TableDef) → IsDefinition d → kept d.system d.columns ≡ stored_columns d
+-- the columns that are not generated
+pub kept_columns : (d : TableDef) → IsDefinition d → kept d.system d.columns ≡ stored_columns d
 kept_columns d s = kept_law no_column d.system d.columns (has_its_system d s)
 
 -- the faults of a new row

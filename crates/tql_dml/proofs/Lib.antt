@@ -5,3 +5,5 @@ pub mod Removals
 pub mod Inserting
 pub mod Evaluations
 pub mod Altering
+pub mod Rows
+pub mod Fates

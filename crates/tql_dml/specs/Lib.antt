@@ -2,3 +2,4 @@ pub mod Inserts
 pub mod Cells
 pub mod Evaluated
 pub mod Alters
+pub mod Parts
