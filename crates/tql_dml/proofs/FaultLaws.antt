@@ -51,7 +51,8 @@ shown_by s cs cells m e false h w k =
     let o = length-insert cells s.end (Moment e) (omega arith) in
     moment_in cs (insert cells s.end (Moment e)) s.start m w.start (omega arith) ∙ moment_in (remove cs s.start) cells s.end e (omega arith) (omega arith)
 
-two_less : {X : Type 0} (s : System) (xs : List X) (b : Bool) → nat_lt s.start s.end ≡ b → Within s (length xs)
+-- two of the places are generated
+pub two_less : {X : Type 0} (s : System) (xs : List X) (b : Bool) → nat_lt s.start s.end ≡ b → Within s (length xs)
     → length (if b then remove (remove xs s.end) s.start else remove (remove xs s.start) s.end) + 2 ≡ length xs
 two_less s xs true h w =
     let l : s.start < s.end = ltb-true s.start s.end h in

@@ -66,12 +66,14 @@ pub length-row : (d : TableDef) (js : List ℕ) (vs : Row) → length (row_of d 
 length-row d js vs = length-filled (replicate (length d.columns) Null) js vs ∙ length-replicate (length d.columns) Null
 
 -- the cells of the columns that are not generated, in order
-stored_law : (d : TableDef) (js : List ℕ) (vs : Row) → IsDefinition d → stored_cells d js vs ≡ map (cell (row_of d js vs)) (all_assignable d)
-stored_law d js vs s =
-    let row = row_of d js vs in
+pub kept_cells : (d : TableDef) (row : Row) → IsDefinition d → length row ≡ length d.columns → without_generated d.system row ≡ map (cell row) (all_assignable d)
+kept_cells d row s k =
     without_is d.system row
-    ∙ subst (λ n. kept d.system row ≡ map (cell row) (filter (λ i. not (has_number i (generated_columns d.system))) (range_with_len 0 n))) (length-row d js vs)
-    (kept_law Null d.system row (subst (λ n. has_system d.system n ≡ true) (sym (length-row d js vs)) (has_its_system d s)))
+    ∙ subst (λ n. kept d.system row ≡ map (cell row) (filter (λ i. not (has_number i (generated_columns d.system))) (range_with_len 0 n))) k
+    (kept_law Null d.system row (subst (λ n. has_system d.system n ≡ true) (sym k) (has_its_system d s)))
+
+stored_law : (d : TableDef) (js : List ℕ) (vs : Row) → IsDefinition d → stored_cells d js vs ≡ map (cell (row_of d js vs)) (all_assignable d)
+stored_law d js vs s = kept_cells d (row_of d js vs) s (length-row d js vs)
 
 -- a new row whose values are given for all its columns in order
 pub usual_row : (d : TableDef) (js : List ℕ) (vs : Row) → IsDefinition d → js ≡ all_assignable d → are_assignable d js ≡ true → length vs ≡ length js → stored_cells d js vs ≡ vs

@@ -22,11 +22,13 @@ use Rattle.tql_dml.proofs.Kept.{kept, kept_law}
 use Rattle.tql_dml.proofs.FaultLaws.{plain_faults}
 use Rattle.tql_dml.proofs.Filling.{length-stored, stored_fits}
 
-new_cells : (d : TableDef) (m : ℤ) (js : List ℕ) (tuples : List Row) → map (λ (r : Stamped). r.cells) (new_rows d m js tuples) ≡ map (stored_cells d js) tuples
+-- the cells of the new rows
+pub new_cells : (d : TableDef) (m : ℤ) (js : List ℕ) (tuples : List Row) → map (λ (r : Stamped). r.cells) (new_rows d m js tuples) ≡ map (stored_cells d js) tuples
 new_cells d m js [] = refl
 new_cells d m js (vs ∷ tuples) = ap {B = List Row} (λ rows. stored_cells d js vs ∷ rows) (new_cells d m js tuples)
 
-kept_columns : (d : TableDef) → IsDefinition d → kept d.system d.columns ≡ stored_columns d
+-- the columns that are not generated
+pub kept_columns : (d : TableDef) → IsDefinition d → kept d.system d.columns ≡ stored_columns d
 kept_columns d s = kept_law no_column d.system d.columns (has_its_system d s)
 
 -- the faults of a new row
@@ -41,7 +43,7 @@ faults_are d m js [] s = refl
 faults_are d m js (vs ∷ tuples) s = λ i. one_row d m js vs s i ++ faults_are d m js tuples s i
 
 -- the first fault of the new rows, from that of what is stored
-first_of : (d : TableDef) (m : ℤ) (js : List ℕ) (tuples rows : List Row) (o : Option spec.Refusal) → IsDefinition d → rows ≡ map (stored_cells d js) tuples
+pub first_of : (d : TableDef) (m : ℤ) (js : List ℕ) (tuples rows : List Row) (o : Option spec.Refusal) → IsDefinition d → rows ≡ map (stored_cells d js) tuples
     → o ≡ first (rows_faults (stored_columns d) rows) → first (new_faults d m js tuples) ≡ o
 first_of d m js tuples rows o s e f = ap first (faults_are d m js tuples s ∙ ap (rows_faults (stored_columns d)) (sym e)) ∙ sym f
 

@@ -1,2 +1,5 @@
 pub mod Inserts
 pub mod Cells
+pub mod Evaluated
+pub mod Alters
+pub mod Parts

@@ -1,7 +1,11 @@
 // Changes of a table: what is added and taken away, with the tests of each new row.
 #![tactic(auto)]
 
+mod assignment;
 mod faults;
 pub mod insert;
+pub mod insertion;
+pub mod modification;
 mod spread;
 pub mod tuples;
+mod values;

@@ -1,9 +1,10 @@
-ghost use Rattle.std.specs.Prelude.{◌≡◌, ◌<◌, IsTrue, All, replicate, length, map, option_map, IfOk, IfErr};
+ghost use Rattle.std.specs.Prelude.{◌≡◌, IsTrue, All, replicate, remove, slice_set, length, map, option_map, IfOk, IfErr};
 ghost use Rattle.tql_spec.specs.Datum.{Null};
 ghost use Rattle.tql_spec.specs.Definition.{without_generated};
 ghost use Rattle.tql_spec.specs.Change.{filled};
 ghost use Rattle.tql_catalog.specs.Definitions.{system_of};
-ghost use Rattle.tql_catalog.specs.Rows.{IsTupleOf, has_system, are_assignable};
+ghost use Rattle.tql_catalog.specs.Rows.{IsTupleOf, are_assignable};
+ghost use Rattle.tql_value.specs.Views.{datum_of_value};
 ghost use Rattle.tql_value.specs.declared.refusal.Refusal.TheVariants.{OutOfMemory};
 ghost use Rattle.tql_dml.specs.Cells.{stored_cells};
 ghost use Rattle.tql_dml.specs.Inserts.{row_of, rows_of};
@@ -27,29 +28,45 @@ fn nulls(memory: Memory, width: usize) -> Result<Vec<Value, Memory>, Refusal>
     Ok(row)
 }
 
-/// Moves values into their columns.
+/// Puts a value into a column; past the last column nothing is put.
+pub(crate) fn put(row: &mut [Value], column: usize, value: Value)
+    ensures { row_of row.new ≡ slice_set (row_of row.old) column (datum_of_value value) }
+{
+    if column < row.len() {
+        row[column] = value;
+    }
+}
+
+/// Moves values into their columns, as many as there are of both.
 fn fill(row: &mut [Value], columns: &[usize], values: &mut [Value])
-    requires within { All (λ i. i < length row.old) columns.now }
-    requires width { length values.old ≡ length columns.now }
     ensures { row_of row.new ≡ filled (row_of row.old) columns.now (row_of values.old) }
 {
-    for place in 0..columns.len() {
-        row[columns[place]] = mem::replace(&mut values[place], Value::Null);
+    for place in 0..columns.len().min(values.len()) {
+        let value = mem::replace(&mut values[place], Value::Null);
+        put(row, columns[place], value);
+    }
+}
+
+/// Takes out the cell at a place; past the last one there is none.
+fn take_out(row: &mut Vec<Value, Memory>, place: usize)
+    ensures { row_of row.new.items ≡ remove (row_of row.old.items) place }
+{
+    if place < row.len() {
+        row.remove(place);
     }
 }
 
 /// Takes the cells of the generated columns out of a row.
-fn drop_generated(row: &mut Vec<Value, Memory>, system: Option<System>)
-    requires { IsTrue (has_system (option_map system_of system) (length row.old.items)) }
+pub(crate) fn drop_generated(row: &mut Vec<Value, Memory>, system: Option<System>)
     ensures { row_of row.new.items ≡ without_generated (option_map system_of system) (row_of row.old.items) }
 {
     if let Some(system) = system {
         if system.start < system.end {
-            row.remove(system.end);
-            row.remove(system.start);
+            take_out(row, system.end);
+            take_out(row, system.start);
         } else {
-            row.remove(system.start);
-            row.remove(system.end);
+            take_out(row, system.start);
+            take_out(row, system.end);
         }
     }
 }
@@ -61,8 +78,6 @@ fn spread(
     columns: &[usize],
     values: &mut [Value],
 ) -> Result<Vec<Value, Memory>, Refusal>
-    requires columns { IsTrue (are_assignable definition.now columns.now) }
-    requires width { length values.old ≡ length columns.now }
     ensures row { IfOk result (λ row. row_of row.items ≡ stored_cells definition.now columns.now (row_of values.old)) }
     ensures memory { IfErr result (λ e. e ≡ OutOfMemory) }
 {
@@ -73,14 +88,12 @@ fn spread(
 }
 
 /// The cells of each new row. The values are moved out.
-fn spread_each(
+pub(crate) fn spread_each(
     memory: Memory,
     definition: &TableDef,
     columns: &[usize],
     mut tuples: Vec<Vec<Value, Memory>, Memory>,
 ) -> Result<Vec<Vec<Value, Memory>, Memory>, Refusal>
-    requires columns { IsTrue (are_assignable definition.now columns.now) }
-    requires tuples { All (IsTupleOf (length columns.now)) (rows_of tuples.items) }
     ensures rows { IfOk result (λ rows. rows_of rows.items ≡ map (stored_cells definition.now columns.now) (rows_of tuples.entry.items)) }
     ensures memory { IfErr result (λ e. e ≡ OutOfMemory) }
 {

@@ -1,4 +1,4 @@
-use Rattle.std.proofs.Common.{rules, ◌∙◌, ap, map}
+use Rattle.std.proofs.Common.{rules, ap, map}
 use Rattle.tql_catalog.specs.Definitions.{column_of}
 use Rattle.tql_dml.specs.Inserts.{rows_of}
 use Rattle.tql_dml.proofs.Inserting.{adds, refused, first_read}

@@ -1,21 +1,13 @@
-use Rattle.std.proofs.Common.{◌∙◌, ap, sym, length, arith, Vec}
+use Rattle.std.proofs.Common.{◌∙◌, ap, sym, arith, Vec}
 use Rattle.tql_value.specs.declared.value.Value.{Value}
 use Rattle.tql_dml.specs.Cells.{stored_cells}
 use Rattle.tql_dml.specs.Inserts.{row_of}
-use Rattle.tql_dml.proofs.Removals.{this_width, later_tuples, one_more_row}
+use Rattle.tql_dml.proofs.Removals.{one_more_row}
 use Rattle.tql_dml.proofs.spread.spread_each.Goals as goal
-
-pub spread-requires-clause-width : goal.spread-requires-clause-width
-spread-requires-clause-width c =
-    ap length (c.deref_mut.ensures.value ∙ ap (λ (x : Vec Value _). x.items) (sym c.tuple-item.is))
-    ∙ this_width (length c.args.columns.now) c.loop-tuple.tuple-items c.loop-tuple.tuple-index c.tuple-item.result (omega arith) c.tuple-item.is c.loop-tuple.invariant.tuples
 
 pub loop-tuple-preserved : goal.loop-tuple-preserved
 loop-tuple-preserved c =
     let f = stored_cells c.args.definition.now c.args.columns.now in
     let values = c.deref_mut.ensures.value ∙ ap (λ (x : Vec Value _). x.items) (sym c.tuple-item.is) in
-    record {
-      tuples = later_tuples (length c.args.columns.now) c.loop-tuple.tuple-items c.loop-tuple.tuple-index c.tuple-item.result _ (omega arith) c.tuple-item.is c.loop-tuple.invariant.tuples;
-      rows = one_more_row f c.loop-tuple.rows.items c.loop-tuple.tuple-items c.push.new.self.items c.loop-tuple.tuple-index c.tuple-item.result _ c.in_ok-spread.field-0 _
-          (omega arith) c.tuple-item.is (c.in_ok-spread.ensures.row ∙ ap (λ vs. f (row_of vs)) values) c.in_ok-push.ensures.items c.loop-tuple.invariant.rows;
-    }
+    one_more_row f c.loop-tuple.rows.items c.loop-tuple.tuple-items c.push.new.self.items c.loop-tuple.tuple-index c.tuple-item.result _ c.in_ok-spread.field-0 _
+    (omega arith) c.tuple-item.is (c.in_ok-spread.ensures.row ∙ ap (λ vs. f (row_of vs)) values) c.in_ok-push.ensures.items c.loop-tuple.invariant

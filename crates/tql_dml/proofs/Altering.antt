@@ -1,0 +1,127 @@
+-- What the changes make, from what their parts make.
+use Rattle.std.specs.Prelude.{◌≡◌, ℕ, ℤ, List, [], map, length, Option, Some, None, Ok, Err, Result, IsErr, IsErrAnd, pos}
+use Rattle.std.proofs.Common.{sym, ap, subst, ◌∙◌}
+use Rattle.std.proofs.lemmas.List.{length-map}
+use Rattle.tql_spec.specs.Datum.{Row}
+use Rattle.tql_spec.specs.Refusal as spec
+use Rattle.tql_spec.specs.Refusal.{first}
+use Rattle.tql_spec.specs.Definition.{TableDef, Stamped}
+use Rattle.tql_spec.specs.Change.{Outcome, Fate, outcome_of}
+use Rattle.tql_spec.specs.Change as change
+use Rattle.tql_catalog.specs.Defined.{IsDefinition}
+use Rattle.tql_bound.specs.Works.{work_of}
+use Rattle.tql_bound.specs.declared.change.Insertion.{Insertion}
+use Rattle.tql_bound.specs.declared.change.Modification.{Modification}
+use Rattle.tql_store.specs.declared.store.Delta.{Delta}
+use Rattle.tql_store.specs.declared.version.Version.{Version}
+use Rattle.tql_value.specs.Refusals.{refusal_of}
+use Rattle.tql_value.specs.declared.refusal.Refusal.{Refusal}
+use Rattle.tql_value.specs.declared.refusal.Refusal.TheVariants as r
+use Rattle.tql_dml.specs.Alters.{Gives, Alters, inserted, tuples_in, rows_in, conds_in, modified, fates, coming, gone}
+use Rattle.tql_dml.specs.Cells.{stored_columns, stored_cells, rows_faults}
+use Rattle.tql_dml.specs.Evaluated.{Fails}
+use Rattle.tql_dml.specs.Inserts.{rows_of}
+use Rattle.tql_dml.specs.Parts.{Parts, parts}
+use Rattle.tql_dml.proofs.Fates.{Told, agreed, disagreed, fates_agree}
+use Rattle.tql_dml.proofs.Rows.{Fit, PartsFit, AreRows, parts_fit, stored_faults}
+use Rattle.tql_dml.proofs.Inserting.{new_cells, first_of}
+
+-- a fault is told
+pub tells : (id : ℕ) (gone : List ℕ) (new : ℤ → List Stamped) (outcome : ℤ → Outcome) (e : Refusal) → ((m : ℤ) → first (outcome m).faults ≡ Some (refusal_of e)) → Alters id gone new outcome (Err e)
+tells id gone new outcome r.OutOfMemory h = tt
+tells id gone new outcome e h = h
+
+-- ---- INSERT
+
+-- what is inserted where the tuples have these values
+valued : (d : TableDef) (x : Insertion) (tuples : List Row) (m : ℤ) → tuples_in x ≡ Some tuples → inserted d x m ≡ change.insert d m [] x.columns.items (Some tuples)
+valued d x tuples m e = ap (change.insert d m [] x.columns.items) e
+
+-- the first fault of the new rows
+insert_faults : (d : TableDef) (x : Insertion) (tuples rows : List Row) (o : Option spec.Refusal) (m : ℤ) → IsDefinition d → tuples_in x ≡ Some tuples
+    → rows ≡ map (stored_cells d x.columns.items) tuples → o ≡ first (rows_faults (stored_columns d) rows) → first (inserted d x m).faults ≡ o
+insert_faults d x tuples rows o m s v e f = ap (λ (y : Outcome). first y.faults) (valued d x tuples m v) ∙ first_of d m x.columns.items tuples rows o s e f
+
+-- rows that have a fault are refused
+pub insert_refused : (d : TableDef) (id : ℕ) (x : Insertion) (tuples rows : List Row) (e : Refusal) → IsDefinition d → tuples_in x ≡ Some tuples
+    → rows ≡ map (stored_cells d x.columns.items) tuples → Some (refusal_of e) ≡ first (rows_faults (stored_columns d) rows)
+    → Alters id [] (λ m. (inserted d x m).rows) (inserted d x) (Err e)
+insert_refused d id x tuples rows e s v is f =
+    tells id [] (λ m. (inserted d x m).rows) (inserted d x) e (λ m. insert_faults d x tuples rows (Some (refusal_of e)) m s v is f)
+
+-- rows without a fault are added
+pub insert_adds : (d : TableDef) (id : ℕ) (x : Insertion) (tuples : List Row) (delta : Delta) → IsDefinition d → tuples_in x ≡ Some tuples → delta.table ≡ id → delta.removed.items ≡ []
+    → rows_of delta.added.items ≡ map (stored_cells d x.columns.items) tuples → delta.count ≡ length delta.added.items
+    → None ≡ first (rows_faults (stored_columns d) (rows_of delta.added.items)) → Gives id [] (λ m. (inserted d x m).rows) (inserted d x) delta
+insert_adds d id x tuples delta s v table removed rows count faults =
+    let js = x.columns.items in
+    record {
+      table = table;
+      removed = removed;
+      added = λ m. ap (λ (y : Outcome). map (λ (r : Stamped). r.cells) y.rows) (valued d x tuples m v) ∙ new_cells d m js tuples ∙ sym rows;
+      count = λ m. count ∙ sym (length-map delta.added.items _) ∙ ap length rows ∙ length-map tuples (stored_cells d js) ∙ sym (length-map tuples _) ∙ sym (ap (λ (y : Outcome). y.count) (valued d x tuples m v));
+      sound = λ m. insert_faults d x tuples (rows_of delta.added.items) None m s v rows faults;
+    }
+
+-- ---- UPDATE and DELETE
+
+-- what a modification does to versions
+abbrev pub parts_of : TableDef → List Version → Modification → Option Parts
+parts_of d found x = parts d (work_of x.terms x.work) (conds_in x) found
+
+-- the fates of the versions, where all is evaluated
+told : (d : TableDef) (found : List Version) (x : Modification) (p : Parts) (m : ℤ) → parts_of d found x ≡ Some p
+    → (fs : List Fate) × ((fates d found x m ≡ Some fs) × Told fs (gone d x found) p)
+told d found x p m e = agreed (fates d found x m) (gone d x found) (parts_of d found x) p e (fates_agree d m (work_of x.terms x.work) (conds_in x) found)
+
+-- the outcome of fates
+outcome_is : (d : TableDef) (found : List Version) (x : Modification) (fs : List Fate) (m : ℤ) → fates d found x m ≡ Some fs → modified d found x m ≡ outcome_of d (rows_in found) (Some fs)
+outcome_is d found x fs m e = ap (outcome_of d (rows_in found)) e
+
+-- an evaluation is out of range, or there is no memory
+modify_ends : (d : TableDef) (id : ℕ) (found : List Version) (x : Modification) (e : Refusal) → Fails (parts_of d found x) e
+    → Alters id (gone d x found) (λ m. coming (fates d found x m)) (modified d found x) (Err e)
+modify_ends d id found x r.OutOfMemory f = tt
+modify_ends d id found x r.ValueOutOfRange f = λ m.
+    let none : fates d found x m ≡ None = disagreed (fates d found x m) (gone d x found) (parts_of d found x) f (fates_agree d m (work_of x.terms x.work) (conds_in x) found) in
+    ap (λ o. first (outcome_of d (rows_in found) o).faults) none
+modify_ends d id found x _ f = absurd f
+
+pub modify_fails : (d : TableDef) (id : ℕ) (found : List Version) (x : Modification) (e : Refusal) (result : Result Delta Refusal) → IsErr result × IsErrAnd result (λ f. f ≡ e)
+    → Fails (parts_of d found x) e → Alters id (gone d x found) (λ m. coming (fates d found x m)) (modified d found x) result
+modify_fails d id found x e (Ok delta) h f = absurd cc
+modify_fails d id found x e (Err why) h f = modify_ends d id found x why (subst (Fails (parts_of d found x)) (sym h.1) f)
+
+-- the first fault of the rows that come
+modify_faults : (d : TableDef) (found : List Version) (x : Modification) (p : Parts) (o : Option spec.Refusal) (m : ℤ) → IsDefinition d → AreRows d found → parts_of d found x ≡ Some p
+    → o ≡ first (rows_faults (stored_columns d) p.come) → first (modified d found x m).faults ≡ o
+modify_faults d found x p o m s h e f =
+    let t = told d found x p m e in
+    let fits : PartsFit d (Some p) = subst (PartsFit d) e (parts_fit d (work_of x.terms x.work) (conds_in x) found s h) in
+    let cells : map (λ (r : Stamped). r.cells) (change.new_rows t.0) ≡ p.come = t.1.1.come in
+    ap (λ (y : Outcome). first y.faults) (outcome_is d found x t.0 m t.1.0)
+    ∙ ap first (stored_faults d (change.new_rows t.0) s (subst (Fit d) (sym cells) fits))
+    ∙ ap (λ rows. first (rows_faults (stored_columns d) rows)) cells ∙ sym f
+
+-- rows that have a fault are refused
+pub modify_refused : (d : TableDef) (id : ℕ) (found : List Version) (x : Modification) (p : Parts) (e : Refusal) → IsDefinition d → AreRows d found → parts_of d found x ≡ Some p
+    → Some (refusal_of e) ≡ first (rows_faults (stored_columns d) p.come)
+    → Alters id (gone d x found) (λ m. coming (fates d found x m)) (modified d found x) (Err e)
+modify_refused d id found x p e s h v f =
+    tells id (gone d x found) (λ m. coming (fates d found x m)) (modified d found x) e (λ m. modify_faults d found x p (Some (refusal_of e)) m s h v f)
+
+-- rows without a fault come
+pub modify_gives : (d : TableDef) (id : ℕ) (found : List Version) (x : Modification) (p : Parts) (delta : Delta) → IsDefinition d → AreRows d found → parts_of d found x ≡ Some p
+    → delta.table ≡ id → delta.removed.items ≡ p.gone → rows_of delta.added.items ≡ p.come → delta.count ≡ length p.gone
+    → None ≡ first (rows_faults (stored_columns d) p.come) → Gives id (gone d x found) (λ m. coming (fates d found x m)) (modified d found x) delta
+modify_gives d id found x p delta s h v table removed rows count faults = record {
+  table = table;
+  removed = removed ∙ sym (told d found x p (pos 0) v).1.1.gone;
+  added = λ m.
+      let t = told d found x p m v in
+      ap (λ o. map (λ (r : Stamped). r.cells) (coming o)) t.1.0 ∙ t.1.1.come ∙ sym rows;
+  count = λ m.
+      let t = told d found x p m v in
+      count ∙ sym t.1.1.count ∙ sym (ap (λ (y : Outcome). y.count) (outcome_is d found x t.0 m t.1.0));
+  sound = λ m. modify_faults d found x p None m s h v faults;
+}

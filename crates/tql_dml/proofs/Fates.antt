@@ -1,0 +1,96 @@
+-- What becomes of versions, by the definitions' fates and by what goes and comes.
+use Rattle.std.specs.Prelude.{◌≡◌, refl, ℕ, suc, ◌+◌, ◌<◌, ℤ, Bool, true, false, cond, List, [], ◌∷◌, ◌++◌, map, filter, length, slice_index_or, Option, Some, None, ⊤}
+use Rattle.std.proofs.Common.{sym, ap, subst, append_assoc, ◌∙◌, drop}
+use Rattle.std.proofs.lemmas.List.{drop_more, map-append}
+use Rattle.tql_spec.specs.Words.{◌>>=◌, with_front, map_all}
+use Rattle.tql_spec.specs.Datum.{Row}
+use Rattle.tql_spec.specs.Definition.{TableDef, Stamped, stamped, without_generated, shown}
+use Rattle.tql_spec.specs.Expression.{Cond}
+use Rattle.tql_spec.specs.Change.{Work, Fate, Replaced, made_of, is_touched, fate, fate_where, new_rows, touched_count}
+use Rattle.tql_store.specs.Views.{version_of}
+use Rattle.tql_store.specs.declared.version.Version.{Version}
+use Rattle.tql_dml.specs.Alters.{is_yes, rows_in}
+use Rattle.tql_dml.specs.Parts.{Parts, before, part_where, part_of, parts}
+
+-- ---- version by version
+
+joined : (p : Parts) (d r : Option Parts) → before p (d >>= λ q. before q r) ≡ before p d >>= λ n. before n r
+joined p None r = refl
+joined p (Some q) None = refl
+joined p (Some q) (Some r) = λ i. Some (record { gone = sym (append_assoc p.gone q.gone r.gone) i; come = sym (append_assoc p.come q.come r.come) i })
+
+-- one more version
+pub one_more_version : (d : TableDef) (work : Work) (conds : List Cond) (vs : List Version) (i : ℕ) (v : Version) (p n : Parts) (all : Option Parts)
+    → i < length vs → v ≡ slice_index_or vs i v → before p (part_of d work conds v.id (shown d (version_of v).row)) ≡ Some n
+    → before p (parts d work conds (drop i vs)) ≡ all → before n (parts d work conds (drop (i + 1) vs)) ≡ all
+one_more_version d work conds vs i v p n all l is e h =
+    let rest = parts d work conds (drop (i + 1) vs) in
+    let this : drop i vs ≡ v ∷ drop (i + 1) vs = drop_more vs i v l ∙ ap {B = List Version} (λ w. w ∷ drop (i + 1) vs) (sym is) in
+    ap (λ o. o >>= λ x. before x rest) (sym e) ∙ sym (joined p (part_of d work conds v.id (shown d (version_of v).row)) rest)
+    ∙ ap (λ ws. before p (parts d work conds ws)) (sym this) ∙ h
+
+-- ---- the fates
+
+-- what goes and comes is what the fates say
+pub record Told (fs : List Fate) (ids : List ℕ) (p : Parts) : Type 0 where
+  pub come : map (λ (r : Stamped). r.cells) (new_rows fs) ≡ p.come
+  pub gone : ids ≡ p.gone
+  pub count : touched_count fs ≡ length p.gone
+
+abbrev pub Agree : Option (List Fate) → List ℕ → Option Parts → Type 0
+Agree None ids None = ⊤
+Agree (Some fs) ids (Some p) = Told fs ids p
+Agree _ _ _ = ⊥
+
+-- the ids of versions
+abbrev ids_of : List Version → List ℕ
+ids_of vs = map (λ (v : Version). v.id) vs
+
+stamped_cells : (d : TableDef) (m : ℤ) (rows : List Row) → map (λ (r : Stamped). r.cells) (map (stamped d m) rows) ≡ map (without_generated d.system) rows
+stamped_cells d m [] = refl
+stamped_cells d m (row ∷ rows) = ap {B = List Row} (λ rs. without_generated d.system row ∷ rs) (stamped_cells d m rows)
+
+touched : (d : TableDef) (m : ℤ) (made : List Row) (id : ℕ) (fs : List Fate) (ids : List ℕ) (p : Parts) → Told fs ids p
+    → Told (Replaced (map (stamped d m) made) ∷ fs) (id ∷ ids) (record { gone = (id ∷ []) ++ p.gone; come = map (without_generated d.system) made ++ p.come })
+touched d m made id fs ids p t = record {
+  come = map-append (λ (r : Stamped). r.cells) (map (stamped d m) made) (new_rows fs) ∙ (λ i. stamped_cells d m made i ++ t.come i);
+  gone = ap (λ xs. id ∷ xs) t.gone;
+  count = ap suc t.count;
+}
+
+step : (d : TableDef) (m : ℤ) (v : Version) (kept : List Version) (t : Option Bool) (made : Option (List Row)) (fs : Option (List Fate)) (q : Option Parts) → Agree fs (ids_of kept) q
+    → Agree (with_front (t >>= λ b. fate_where b (made >>= λ rs. Some (Replaced (map (stamped d m) rs)))) fs) (ids_of (cond (is_yes t) (v ∷ kept) kept))
+    ((t >>= λ b. part_where b (made >>= λ rs. Some (record { gone = v.id ∷ []; come = map (without_generated d.system) rs }))) >>= λ p. before p q)
+step d m v kept None made fs q h = tt
+step d m v kept (Some true) None fs q h = tt
+step d m v kept (Some true) (Some rs) None None h = tt
+step d m v kept (Some true) (Some rs) None (Some q) h = absurd h
+step d m v kept (Some true) (Some rs) (Some fs) None h = absurd h
+step d m v kept (Some true) (Some rs) (Some fs) (Some q) h = touched d m rs v.id fs (ids_of kept) q h
+step d m v kept (Some false) made None None h = tt
+step d m v kept (Some false) made None (Some q) h = absurd h
+step d m v kept (Some false) made (Some fs) None h = absurd h
+step d m v kept (Some false) made (Some fs) (Some q) h = record { come = h.come; gone = h.gone; count = h.count }
+
+-- the fates of versions' rows say what goes and comes
+pub fates_agree : (d : TableDef) (m : ℤ) (work : Work) (conds : List Cond) (vs : List Version)
+    → Agree (map_all (λ r. fate d m None work conds (shown d r)) (rows_in vs))
+    (ids_of (filter (λ (v : Version). is_yes (is_touched d None conds (shown d (version_of v).row))) vs)) (parts d work conds vs)
+fates_agree d m work conds [] = record { come = refl; gone = refl; count = refl }
+fates_agree d m work conds (v ∷ vs) =
+    let row : Row = shown d (version_of v).row in
+    step d m v (filter (λ (w : Version). is_yes (is_touched d None conds (shown d (version_of w).row))) vs) (is_touched d None conds row) (made_of work row)
+    (map_all (λ r. fate d m None work conds (shown d r)) (rows_in vs)) (parts d work conds vs) (fates_agree d m work conds vs)
+
+-- where all is evaluated, so are the fates
+pub agreed : (fs : Option (List Fate)) (ids : List ℕ) (q : Option Parts) (p : Parts) → q ≡ Some p → Agree fs ids q → (gs : List Fate) × ((fs ≡ Some gs) × Told gs ids p)
+agreed None ids None p e h = absurd cc
+agreed None ids (Some q) p e h = absurd h
+agreed (Some gs) ids None p e h = absurd h
+agreed (Some gs) ids (Some q) p e h = let same : q ≡ p = cc in (gs, (refl, subst (λ x. Told gs ids x) same h))
+
+-- and where it is not, neither are they
+pub disagreed : (fs : Option (List Fate)) (ids : List ℕ) (q : Option Parts) → q ≡ None → Agree fs ids q → fs ≡ None
+disagreed None ids q e h = refl
+disagreed (Some gs) ids None e h = absurd h
+disagreed (Some gs) ids (Some q) e h = absurd cc

@@ -1,0 +1,131 @@
+-- The widths of rows: as they are stored, as they are shown, and as assignments make them; and the faults of rows of their width.
+use Rattle.std.specs.Prelude.{◌≡◌, refl, ℕ, ◌+◌, ◌<◌, ◌≤◌, ◌≢◌, ℤ, Bool, true, false, nat_lt, List, [], ◌∷◌, ◌++◌, map, length, insert, slice_set, All, Option, Some, None, ⊤, if◌then◌else◌}
+use Rattle.std.specs.List.{flat_map}
+use Rattle.std.proofs.Common.{sym, ap, ◌∙◌, arith}
+use Rattle.std.proofs.lemmas.List.{length-map, length-set}
+use Rattle.std.proofs.lemmas.List.Edits.{length-insert}
+use Rattle.std.proofs.lemmas.List.Elements.{All-head, All-tail, All-append, All-push, All-nil}
+use borrow.Author.Tests.{ltb-true, ltb-false}
+use Rattle.tql_spec.specs.Words.{◌>>=◌}
+use Rattle.tql_spec.specs.Datum.{Row, Moment}
+use Rattle.tql_spec.specs.Calendar.{high}
+use Rattle.tql_spec.specs.Definition.{Column, System, TableDef, Stamped, with_generated, without_generated, shown, cell}
+use Rattle.tql_spec.specs.Expression.{Cond, eval}
+use Rattle.tql_spec.specs.Change.{Assignment, Work, Set, Remove, assigned, is_touched, row_faults, cell_faults}
+use Rattle.tql_spec.specs.Binding.{all_assignable}
+use Rattle.tql_catalog.specs.Defined.{IsDefinition}
+use Rattle.tql_catalog.specs.Rows.{has_system, stored_width}
+use Rattle.tql_catalog.proofs.Definitions.{has_its_system}
+use Rattle.tql_store.specs.Views.{version_of}
+use Rattle.tql_store.specs.declared.version.Version.{Version}
+use Rattle.tql_value.specs.Views.{datum_of_value}
+use Rattle.tql_dml.specs.Cells.{stored_columns, rows_faults}
+use Rattle.tql_dml.specs.Parts.{Parts, before, touched_part, part_where, part_of, parts}
+use Rattle.tql_dml.proofs.FaultLaws.{plain_faults, two_less}
+use Rattle.tql_dml.proofs.Filling.{kept_cells}
+use Rattle.tql_dml.proofs.Inserting.{kept_columns}
+use Rattle.tql_dml.proofs.Kept.{kept, Within, within}
+
+-- so many columns are stored
+kept_width : (d : TableDef) → IsDefinition d → length (kept d.system d.columns) ≡ stored_width d
+kept_width d s = ap length (kept_columns d s) ∙ length-map (all_assignable d) _
+
+-- ---- rows as they are shown
+
+two_inserted : (s : System) (cells : Row) (n : ℕ) (m e : ℤ) (b : Bool) → nat_lt s.start s.end ≡ b → Within s n → length cells + 2 ≡ n
+    → length (if b then insert (insert cells s.start (Moment m)) s.end (Moment e) else insert (insert cells s.end (Moment e)) s.start (Moment m)) ≡ n
+two_inserted s cells n m e true h w k =
+    let l : s.start < s.end = ltb-true s.start s.end h in
+    let i = w.end in
+    let o = length-insert cells s.start (Moment m) (omega arith) in
+    let p = length-insert (insert cells s.start (Moment m)) s.end (Moment e) (omega arith) in omega arith
+two_inserted s cells n m e false h w k =
+    let most : s.end ≤ s.start = ltb-false s.start s.end h in
+    let apart : s.start ≢ s.end = w.apart in
+    let i = w.start in
+    let o = length-insert cells s.end (Moment e) (omega arith) in
+    let p = length-insert (insert cells s.end (Moment e)) s.start (Moment m) (omega arith) in omega arith
+
+generated_width : (s : Option System) (cs : List Column) (cells : Row) (m e : ℤ) → has_system s (length cs) ≡ true → length cells ≡ length (kept s cs)
+    → length (with_generated s cells m e) ≡ length cs
+generated_width None cs cells m e h k = k
+generated_width (Some s) cs cells m e h k =
+    let w = within s (length cs) h in
+    let n = two_less s cs (nat_lt s.start s.end) refl w in
+    two_inserted s cells (length cs) m e (nat_lt s.start s.end) refl w (omega arith)
+
+-- a row as it is shown has all columns
+shown_width : (d : TableDef) (r : Stamped) → IsDefinition d → length r.cells ≡ stored_width d → length (shown d r) ≡ length d.columns
+shown_width d r s k = generated_width d.system d.columns r.cells r.start high (has_its_system d s) (k ∙ sym (kept_width d s))
+
+-- and without the generated ones it is stored
+without_width : (d : TableDef) (row : Row) → IsDefinition d → length row ≡ length d.columns → length (without_generated d.system row) ≡ stored_width d
+without_width d row s k = ap length (kept_cells d row s k) ∙ length-map (all_assignable d) (cell row)
+
+-- ---- rows that a modification makes
+
+-- the row, if there is one, has so many values
+abbrev Wide : ℕ → Option Row → Type 0
+Wide n None = ⊤
+Wide n (Some row) = length row ≡ n
+
+assigned_width : (old row : Row) (sets : List Assignment) (n : ℕ) → length row ≡ n → Wide n (assigned old row sets)
+assigned_width old row [] n h = h
+assigned_width old row (a ∷ rest) n h =
+    elim (eval [] old a.value) as (λ o. Wide n (o >>= λ v. assigned old (slice_set row a.column v) rest)) [
+      | None ↦ tt
+      | Some v ↦ assigned_width old (slice_set row a.column v) rest n (length-set row a.column v ∙ h)
+    ]
+
+-- the rows that come have the width of stored ones
+abbrev pub Fit : TableDef → List Row → Type 0
+Fit d rows = All (λ (cells : Row). length cells ≡ stored_width d) rows
+
+abbrev pub PartsFit : TableDef → Option Parts → Type 0
+PartsFit d None = ⊤
+PartsFit d (Some p) = Fit d p.come
+
+set_fits : (d : TableDef) (id : ℕ) (o : Option Row) → IsDefinition d → Wide (length d.columns) o
+    → PartsFit d (o >>= (λ new. Some (new ∷ [])) >>= λ made. Some (record { gone = id ∷ []; come = map (without_generated d.system) made }))
+set_fits d id None s h = tt
+set_fits d id (Some row) s h =
+    All-push (λ (cells : Row). length cells ≡ stored_width d) [] (without_generated d.system row) (All-nil (λ (cells : Row). length cells ≡ stored_width d)) (without_width d row s h)
+
+pub both_fit : (d : TableDef) (p q : Option Parts) → PartsFit d p → PartsFit d q → PartsFit d (p >>= λ x. before x q)
+both_fit d None q h k = tt
+both_fit d (Some x) None h k = tt
+both_fit d (Some x) (Some y) h k = All-append (λ (cells : Row). length cells ≡ stored_width d) x.come y.come h k
+
+touched_fits : (d : TableDef) (work : Work) (id : ℕ) (row : Row) → IsDefinition d → length row ≡ length d.columns → PartsFit d (touched_part d work id row)
+touched_fits d (Set sets) id row s h = set_fits d id (assigned row row sets) s (assigned_width row row sets (length d.columns) h)
+touched_fits d Remove id row s h = All-nil (λ (cells : Row). length cells ≡ stored_width d)
+
+where_fits : (d : TableDef) (t : Option Bool) (o : Option Parts) → PartsFit d o → PartsFit d (t >>= λ b. part_where b o)
+where_fits d None o h = tt
+where_fits d (Some true) o h = h
+where_fits d (Some false) o h = All-nil (λ (cells : Row). length cells ≡ stored_width d)
+
+-- versions of the table's rows
+abbrev pub AreRows : TableDef → List Version → Type 0
+AreRows d found = All (λ (v : Version). length v.row.now ≡ stored_width d) found
+
+pub parts_fit : (d : TableDef) (work : Work) (conds : List Cond) (found : List Version) → IsDefinition d → AreRows d found → PartsFit d (parts d work conds found)
+parts_fit d work conds [] s h = All-nil (λ (cells : Row). length cells ≡ stored_width d)
+parts_fit d work conds (v ∷ vs) s h =
+    let row : Row = shown d (version_of v).row in
+    let wide : length row ≡ length d.columns =
+    shown_width d (version_of v).row s (length-map v.row.now datum_of_value ∙ All-head (λ (w : Version). length w.row.now ≡ stored_width d) v vs h) in
+    both_fit d (part_of d work conds v.id row) (parts d work conds vs)
+    (where_fits d (is_touched d None conds row) (touched_part d work v.id row) (touched_fits d work v.id row s wide))
+    (parts_fit d work conds vs s (All-tail (λ (w : Version). length w.row.now ≡ stored_width d) v vs h))
+
+-- ---- their faults
+
+-- the faults of rows of their width are those of what is stored
+pub stored_faults : (d : TableDef) (rs : List Stamped) → IsDefinition d → Fit d (map (λ (r : Stamped). r.cells) rs)
+    → flat_map (λ r. row_faults d (shown d r)) rs ≡ rows_faults (stored_columns d) (map (λ (r : Stamped). r.cells) rs)
+stored_faults d [] s h = refl
+stored_faults d (r ∷ rs) s h =
+    let wide : length r.cells ≡ length (kept d.system d.columns) = All-head (λ (cells : Row). length cells ≡ stored_width d) r.cells _ h ∙ sym (kept_width d s) in
+    let here : row_faults d (shown d r) ≡ cell_faults (stored_columns d) r.cells = plain_faults d r s wide ∙ ap (λ cs. cell_faults cs r.cells) (kept_columns d s) in
+    λ i. here i ++ stored_faults d rs s (All-tail (λ (cells : Row). length cells ≡ stored_width d) r.cells _ h) i

@@ -1,0 +1,34 @@
+use Rattle.std.proofs.Common.{rules, ◌≡◌, ◌∙◌, ap, sym, map, Some, List, []}
+use Rattle.tql_spec.specs.Datum.{Row}
+use Rattle.tql_spec.specs.Expression.{eval}
+use Rattle.tql_spec.specs.Words.{map_all}
+use Rattle.tql_bound.specs.Changes.{tuple_of}
+use Rattle.tql_catalog.specs.Definitions.{column_of}
+use Rattle.tql_dml.specs.Alters.{tuples_in}
+use Rattle.tql_dml.specs.Cells.{stored_cells}
+use Rattle.tql_dml.specs.Inserts.{rows_of}
+use Rattle.tql_dml.proofs.Altering.{insert_refused, insert_adds}
+use Rattle.tql_dml.proofs.Inserting.{first_read}
+use Rattle.tql_dml.proofs.insertion.insert_tuples.Goals as goal
+
+pub returns-in-Some : goal.returns-in-Some
+returns-in-Some c =
+    let d = c.args.table.now.definition in
+    let x = c.args.insertion.now in
+    let tuples : List Row = rows_of c.in_ok-tuples.tuples.items in
+    let values : tuples_in x ≡ Some tuples = ap (λ ts. map_all (map_all (eval [] [])) (map (tuple_of x.terms) ts)) (sym c.deref.ensures.value) ∙ c.in_ok-tuples.ensures in
+    let rows : rows_of c.in_ok-added.added.items ≡ map (stored_cells d x.columns.items) tuples = c.in_ok-added.ensures.rows ∙ ap (λ js. map (stored_cells d js) tuples) c.deref-2.ensures.value in
+    insert_refused d c.args.table.now.id x tuples (rows_of c.in_ok-added.added.items) c.in-Some.refusal c.columns.ensures.right values rows
+    (first_read d (map column_of c.columns.result.now) c.assignable.result.now (rows_of c.in_ok-added.added.items) (rows_of c.deref-3.result.now) _
+    c.columns.ensures.columns c.assignable.ensures.assignable (ap rows_of c.deref-3.ensures.value) c.in-Some.ensures)
+
+pub returns-in-None : goal.returns-in-None
+returns-in-None c =
+    let d = c.args.table.now.definition in
+    let x = c.args.insertion.now in
+    let tuples : List Row = rows_of c.in_ok-tuples.tuples.items in
+    let values : tuples_in x ≡ Some tuples = ap (λ ts. map_all (map_all (eval [] [])) (map (tuple_of x.terms) ts)) (sym c.deref.ensures.value) ∙ c.in_ok-tuples.ensures in
+    let rows : rows_of c.in_ok-added.added.items ≡ map (stored_cells d x.columns.items) tuples = c.in_ok-added.ensures.rows ∙ ap (λ js. map (stored_cells d js) tuples) c.deref-2.ensures.value in
+    insert_adds d c.args.table.now.id x tuples _ c.columns.ensures.right values (search rules) c.new.ensures.items rows (search rules)
+    (first_read d (map column_of c.columns.result.now) c.assignable.result.now (rows_of c.in_ok-added.added.items) (rows_of c.deref-3.result.now) _
+    c.columns.ensures.columns c.assignable.ensures.assignable (ap rows_of c.deref-3.ensures.value) c.in-None.ensures)

@@ -1,0 +1,77 @@
+-- What INSERT, UPDATE and DELETE do to the rows of a table.
+use Rattle.std.specs.Prelude.{◌≡◌, ℕ, ℤ, Bool, false, List, [], map, filter, Option, Some, None, Result, Ok, Err, ⊤}
+use Rattle.tql_spec.specs.Words.{map_all}
+use Rattle.tql_spec.specs.Datum.{Row}
+use Rattle.tql_spec.specs.Refusal.{first}
+use Rattle.tql_spec.specs.Definition.{TableDef, Stamped, shown}
+use Rattle.tql_spec.specs.Expression.{Cond, eval}
+use Rattle.tql_spec.specs.Change.{Outcome, Fate, fate, is_touched}
+use Rattle.tql_spec.specs.Change as change
+use Rattle.tql_bound.specs.Changes.{tuple_of}
+use Rattle.tql_bound.specs.Works.{work_of}
+use Rattle.tql_bound.specs.declared.change.Insertion.{Insertion}
+use Rattle.tql_bound.specs.declared.change.Modification.{Modification}
+use Rattle.tql_expr.specs.Meaning.{cond}
+use Rattle.tql_store.specs.Views.{version_of}
+use Rattle.tql_store.specs.declared.store.Delta.{Delta}
+use Rattle.tql_store.specs.declared.version.Version.{Version}
+use Rattle.tql_value.specs.Refusals.{refusal_of}
+use Rattle.tql_value.specs.declared.refusal.Refusal.{Refusal}
+use Rattle.tql_value.specs.declared.refusal.Refusal.TheVariants.{OutOfMemory}
+use Rattle.tql_dml.specs.Inserts.{rows_of}
+
+-- what a change gives: which versions go, the rows that come, their count, and no fault, whatever the moment
+pub record Gives (id : ℕ) (gone : List ℕ) (new : ℤ → List Stamped) (outcome : ℤ → Outcome) (delta : Delta) : Type 0 where
+  pub table : delta.table ≡ id
+  pub removed : delta.removed.items ≡ gone
+  pub added : (m : ℤ) → map (λ (r : Stamped). r.cells) (new m) ≡ rows_of delta.added.items
+  pub count : (m : ℤ) → delta.count ≡ (outcome m).count
+  pub sound : (m : ℤ) → first (outcome m).faults ≡ None
+
+-- by its result: the change, memory, or the first fault of the outcome
+abbrev pub Alters : ℕ → List ℕ → (ℤ → List Stamped) → (ℤ → Outcome) → Result Delta Refusal → Type 0
+Alters id gone new outcome (Ok delta) = Gives id gone new outcome delta
+Alters id gone new outcome (Err OutOfMemory) = ⊤
+Alters id gone new outcome (Err e) = (m : ℤ) → first (outcome m).faults ≡ Some (refusal_of e)
+
+-- ---- INSERT
+
+-- the values of the tuples, none where an evaluation is out of range
+abbrev pub tuples_in : Insertion → Option (List Row)
+tuples_in x = map_all (map_all (eval [] [])) (map (tuple_of x.terms) x.tuples.items)
+
+-- what an insertion makes of no rows: what it adds to any
+abbrev pub inserted : TableDef → Insertion → ℤ → Outcome
+inserted d x m = change.insert d m [] x.columns.items (tuples_in x)
+
+-- ---- UPDATE and DELETE
+
+-- the rows of versions
+abbrev pub rows_in : List Version → List Stamped
+rows_in found = map (λ (v : Version). (version_of v).row) found
+
+-- the conditions of a modification
+abbrev pub conds_in : Modification → List Cond
+conds_in x = map (cond x.terms) x.conjuncts.items
+
+-- what a modification makes of these rows
+abbrev pub modified : TableDef → List Version → Modification → ℤ → Outcome
+modified d found x m = change.modify d m (rows_in found) None (work_of x.terms x.work) (conds_in x)
+
+-- what becomes of each of them, none where an evaluation is out of range
+abbrev pub fates : TableDef → List Version → Modification → ℤ → Option (List Fate)
+fates d found x m = map_all (λ r. fate d m None (work_of x.terms x.work) (conds_in x) (shown d r)) (rows_in found)
+
+-- the rows that come
+abbrev pub coming : Option (List Fate) → List Stamped
+coming None = []
+coming (Some fs) = change.new_rows fs
+
+-- whether an answer is there and is yes
+abbrev pub is_yes : Option Bool → Bool
+is_yes None = false
+is_yes (Some b) = b
+
+-- the versions that go: those whose row is touched
+abbrev pub gone : TableDef → Modification → List Version → List ℕ
+gone d x found = map (λ (v : Version). v.id) (filter (λ (v : Version). is_yes (is_touched d None (conds_in x) (shown d (version_of v).row))) found)

@@ -1,0 +1,70 @@
+//! The row that an UPDATE makes of another.
+ghost use Rattle.std.specs.Prelude.{◌≡◌, All, map, IfOk, IfErr};
+ghost use Rattle.tql_spec.specs.Change.{assigned};
+ghost use Rattle.tql_bound.specs.Works.{assignment_of};
+ghost use Rattle.tql_expr.specs.Meaning.{HasExpr};
+ghost use Rattle.tql_value.specs.declared.refusal.Refusal.TheVariants.{OutOfMemory};
+ghost use Rattle.tql_dml.specs.Evaluated.{Evaluated};
+ghost use Rattle.tql_dml.specs.Inserts.{row_of};
+ghost use Rattle.tql_dml.specs.Parts.{shown_by, stored_of};
+
+use crate::spread::{drop_generated, put};
+use crate::values::value_on;
+use tql_bound::change::Assignment;
+use tql_catalog::table_def::TableDef;
+use tql_expr::columns::Columns;
+use tql_expr::row::StoredRow;
+use tql_expr::terms::Terms;
+use tql_memory::Memory;
+use tql_value::refusal::Refusal;
+use tql_value::value::Value;
+
+/// The values of all columns of a row, in memory of their own.
+fn copied(memory: Memory, row: &StoredRow<'_>) -> Result<Vec<Value, Memory>, Refusal>
+    ensures row { IfOk result (λ cells. row_of cells.items ≡ shown_by row.now) }
+    ensures memory { IfErr result (λ e. e ≡ OutOfMemory) }
+{
+    let width = row.width();
+    let mut cells = Vec::with_capacity(memory, width)?;
+    for place in 0..width {
+        cells.push(row.column(place).to_value(memory)?)?;
+    }
+    Ok(cells)
+}
+
+/// Puts the values of assignments, each computed on the old row, into their columns.
+fn assign(
+    memory: Memory,
+    terms: &Terms,
+    sets: &[Assignment],
+    old: &StoredRow<'_>,
+    cells: &mut [Value],
+) -> Result<(), Refusal>
+    requires { All (λ a. HasExpr terms.now a.value) sets.now }
+    ensures { Evaluated (λ _. row_of cells.new) (assigned (shown_by old.now) (row_of cells.old) (map (assignment_of terms.now) sets.now)) result }
+{
+    for set in sets {
+        let value = value_on(memory, terms, set.value, old)?;
+        put(cells, set.column, value);
+    }
+    Ok(())
+}
+
+/// The cells of the row that assignments make of a row: its values, with each assigned column set to a value that is computed on the old
+/// row; without the generated columns.
+pub(crate) fn changed_row(
+    memory: Memory,
+    terms: &Terms,
+    definition: &TableDef,
+    sets: &[Assignment],
+    old: &StoredRow<'_>,
+) -> Result<Vec<Value, Memory>, Refusal>
+    requires { All (λ a. HasExpr terms.now a.value) sets.now }
+    ensures { Evaluated (λ cells. row_of cells.items) (stored_of definition.now
+        (assigned (shown_by old.now) (shown_by old.now) (map (assignment_of terms.now) sets.now))) result }
+{
+    let mut cells = copied(memory, old)?;
+    assign(memory, terms, sets, old, &mut cells)?;
+    drop_generated(&mut cells, definition.system());
+    Ok(cells)
+}

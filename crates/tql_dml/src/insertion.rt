@@ -1,0 +1,32 @@
+//! INSERT of tuples of expressions.
+ghost use Rattle.std.specs.Prelude.{[]};
+ghost use Rattle.tql_dml.specs.Alters.{Alters, inserted};
+
+use crate::faults::first_fault;
+use crate::spread::spread_each;
+use crate::values::tuples_of;
+use tql_bound::change::Insertion;
+use tql_catalog::catalog::Table;
+use tql_memory::Memory;
+use tql_store::store::Delta;
+use tql_value::refusal::Refusal;
+
+/// The change that adds a row for each tuple: its values in the columns that are given values, and NULL in the others. Refused, the
+/// first of them over all rows: an evaluation out of range, a text longer than its column takes, a NULL in a column that takes none;
+/// memory. Nothing is changed.
+pub fn insert_tuples(memory: Memory, table: &Table, insertion: &Insertion) -> Result<Delta, Refusal>
+    ensures { Alters table.now.id [] (λ m. (inserted table.now.definition insertion.now m).rows) (inserted table.now.definition insertion.now) result }
+{
+    let definition = &table.definition;
+    let tuples = tuples_of(memory, &insertion.terms, &insertion.tuples)?;
+    let added = spread_each(memory, definition, &insertion.columns, tuples)?;
+    match first_fault(definition.columns(), definition.assignable(), &added) {
+        Some(refusal) => Err(refusal),
+        None => Ok(Delta {
+            table: table.id,
+            removed: Vec::new(memory),
+            count: added.len() as u64,
+            added,
+        }),
+    }
+}

@@ -1,0 +1,157 @@
+//! UPDATE and DELETE.
+ghost use Rattle.std.specs.Prelude.{◌≡◌, All, length};
+ghost use Rattle.tql_spec.specs.Definition.{shown};
+ghost use Rattle.tql_bound.specs.Works.{work_of};
+ghost use Rattle.tql_catalog.specs.Rows.{stored_width};
+ghost use Rattle.tql_store.specs.Views.{version_of};
+ghost use Rattle.tql_dml.specs.Alters.{Alters, modified, fates, coming, gone, conds_in};
+ghost use Rattle.tql_dml.specs.Evaluated.{Evaluated};
+ghost use Rattle.tql_dml.specs.Parts.{shown_by, before, touched_part, part_of, parts, parts_in};
+
+use crate::assignment::changed_row;
+use crate::faults::first_fault;
+use tql_bound::change::{Modification, Work};
+use tql_catalog::catalog::Table;
+use tql_catalog::table_def::TableDef;
+use tql_expr::row::StoredRow;
+use tql_memory::Memory;
+use tql_store::store::Delta;
+use tql_store::version::{HIGH, Version};
+use tql_value::refusal::Refusal;
+use tql_value::table::TableId;
+use tql_value::value::Value;
+
+/// What a modification does so far: the versions that go, by their ids, and the rows that come, without generated columns.
+struct Changed {
+    removed: Vec<usize, Memory>,
+    added: Vec<Vec<Value, Memory>, Memory>,
+}
+
+impl Drop for Changed {
+    fn drop(self) {
+        let Changed { removed, added } = self;
+        drop(removed);
+        drop(added);
+    }
+}
+
+impl Changed {
+    /// The change of a table that this is. Each version that goes was touched, and is counted.
+    fn of_table(self, table: TableId) -> Delta
+        ensures table { result.table ≡ table }
+        ensures removed { result.removed.items ≡ self.removed.items }
+        ensures added { result.added.items ≡ self.added.items }
+        ensures count { result.count ≡ length self.removed.items }
+    {
+        let Changed { removed, added } = self;
+        Delta {
+            table,
+            count: removed.len() as u64,
+            removed,
+            added,
+        }
+    }
+}
+
+/// A current version as its table shows it.
+fn shown_row<'a>(definition: &TableDef, version: Version<'a>) -> StoredRow<'a>
+    ensures { shown_by result ≡ shown definition.now (version_of version.entry).row }
+{
+    let system = match definition.system() {
+        Some(system) => Some((system.start, system.end)),
+        None => None,
+    };
+    StoredRow {
+        cells: version.row,
+        system,
+        start: version.start,
+        end: HIGH,
+    }
+}
+
+/// Adds what becomes of a row that the modification touches: its version goes, and under UPDATE its new row comes.
+fn touch(
+    memory: Memory,
+    definition: &TableDef,
+    modification: &Modification,
+    id: usize,
+    row: &StoredRow<'_>,
+    changed: &mut Changed,
+) -> Result<(), Refusal>
+    ensures { Evaluated (λ _. parts_in changed.new) (before (parts_in changed.old)
+        (touched_part definition.now (work_of modification.now.terms modification.now.work) id (shown_by row.now))) result }
+{
+    changed.removed.push(id)?;
+    match &modification.work {
+        Work::Remove => Ok(()),
+        Work::Set(sets) => {
+            let new = changed_row(memory, &modification.terms, definition, sets, row)?;
+            changed.added.push(new)?;
+            Ok(())
+        }
+    }
+}
+
+/// Adds what becomes of a version.
+fn add_version(
+    memory: Memory,
+    definition: &TableDef,
+    modification: &Modification,
+    version: Version<'_>,
+    changed: &mut Changed,
+) -> Result<(), Refusal>
+    ensures { Evaluated (λ _. parts_in changed.new) (before (parts_in changed.old)
+        (part_of definition.now (work_of modification.now.terms modification.now.work) (conds_in modification.now) version.entry.id
+        (shown definition.now (version_of version.entry).row))) result }
+{
+    let row = shown_row(definition, version);
+    if modification.terms.passes(&modification.conjuncts, &row)? {
+        touch(memory, definition, modification, version.id, &row, changed)?;
+    }
+    Ok(())
+}
+
+/// What becomes of versions.
+fn changes(
+    memory: Memory,
+    definition: &TableDef,
+    modification: &Modification,
+    found: &[Version<'_>],
+) -> Result<Changed, Refusal>
+    ensures { Evaluated parts_in (parts definition.now (work_of modification.now.terms modification.now.work) (conds_in modification.now) found.now) result }
+{
+    let mut changed = Changed {
+        removed: Vec::new(memory),
+        added: Vec::new(memory),
+    };
+    for version in found {
+        add_version(memory, definition, modification, *version, &mut changed)?;
+    }
+    Ok(changed)
+}
+
+/// The change that UPDATE or DELETE makes of these versions, the current ones of the table: those whose row is touched go, and under
+/// UPDATE the row that each becomes comes. Refused, the first of them over all rows: an evaluation out of range, a text longer than its
+/// column takes, a NULL in a column that takes none; memory. Nothing is changed.
+pub fn modify(
+    memory: Memory,
+    table: &Table,
+    found: &[Version<'_>],
+    modification: &Modification,
+) -> Result<Delta, Refusal>
+    requires { All (λ v. length v.row.now ≡ stored_width table.now.definition) found.now }
+    ensures { Alters table.now.id (gone table.now.definition modification.now found.now)
+        (λ m. coming (fates table.now.definition found.now modification.now m))
+        (modified table.now.definition found.now modification.now) result }
+{
+    let definition = &table.definition;
+    let changed = changes(memory, definition, modification, found)?;
+    match first_fault(
+        definition.columns(),
+        definition.assignable(),
+        &changed.added,
+    ) {
+        Some(refusal) => Err(refusal),
+        None => Ok(changed.of_table(table.id)),
+    }
+}
