@@ -1,22 +1,17 @@
 -- The bound statements that those of the code stand for, and what is true of each.
-use Rattle.std.specs.Prelude.{◌≡◌, ◌<◌, ℕ, Bool, true, false, ◌||◌, IsTrue, List, [], ◌∷◌, map, length, All, None, is_some, Vec}
-use Rattle.tql_spec.specs.Datum.{Row}
+use Rattle.std.specs.Prelude.{◌≡◌, ◌<◌, ℕ, Bool, true, false, ◌||◌, IsTrue, List, [], ◌∷◌, map, length, None, is_some}
 use Rattle.tql_spec.specs.Definition.{TableDef, place_of, table_at}
-use Rattle.tql_spec.specs.Expression.{Literal}
 use Rattle.tql_spec.specs.History as history
 use Rattle.tql_spec.specs.Query.{Query}
 use Rattle.tql_spec.specs.Change.{Remove}
 use Rattle.tql_spec.specs.Creation.{names_of}
 use Rattle.tql_spec.specs.Binding.{Output, all_columns_from}
 use Rattle.tql_spec.specs.Machine as machine
-use Rattle.tql_catalog.specs.Rows.{IsTupleOf, are_assignable}
+use Rattle.tql_bound.specs.Changes.{insertion_of}
 use Rattle.tql_value.specs.Points.{IsMoment}
-use Rattle.tql_value.specs.Views.{datum_of_value}
-use Rattle.tql_value.specs.declared.value.Value.{Value}
 use Rattle.tql_bind.specs.declared.bound.When.{When}
 use Rattle.tql_bind.specs.declared.bound.When.TheVariants as when
 use Rattle.tql_bind.specs.declared.bound.Question.{Question}
-use Rattle.tql_bind.specs.declared.bound.Insert.{Insert}
 use Rattle.tql_bind.specs.declared.bound.Bound.{Bound}
 use Rattle.tql_bind.specs.declared.bound.Bound.TheVariants.{CreateTable, DropTable, Insert as Inserts, DeleteAll, Ask, SetClock, Start, Commit, Rollback}
 
@@ -46,23 +41,11 @@ whole_table d t w = record {
 abbrev pub query_of : List TableDef → Question → Query
 query_of defs q = whole_table (table_at defs q.table) q.table (when_of q.when)
 
--- the data of values
-abbrev pub row_of : List Value → Row
-row_of values = map datum_of_value values
-
--- the data of tuples
-abbrev pub rows_of : {A : Type 0} → List (Vec Value A) → List Row
-rows_of tuples = map (λ t. row_of t.items) tuples
-
--- the new rows
-abbrev pub insert_of : Insert → machine.Change
-insert_of x = machine.InsertTuples x.table x.columns.items (map (map Literal) (rows_of x.tuples.items))
-
 -- the statement, over these tables
 abbrev pub bound_of : List TableDef → Bound → machine.Bound
 bound_of defs (CreateTable d) = machine.CreateTable d
 bound_of defs (DropTable t) = machine.DropTable t
-bound_of defs (Inserts x) = machine.Alter (insert_of x)
+bound_of defs (Inserts x) = machine.Alter (insertion_of x)
 bound_of defs (DeleteAll t) = machine.Alter (machine.Modify t None Remove [])
 bound_of defs (Ask q) = machine.Ask (query_of defs q)
 bound_of defs (SetClock m) = machine.SetClock m
@@ -76,12 +59,6 @@ bound_of defs Rollback = machine.Rollback
 pub record IsSoundTable (defs : List TableDef) (d : TableDef) : Type 0 where
   pub free : place_of d.name defs ≡ None
   pub room : length defs < 1000
-
--- the table is there, its columns may be given values, and each tuple has a value for each of them
-pub record IsSoundInsert (defs : List TableDef) (x : Insert) : Type 0 where
-  pub table : x.table < length defs
-  pub columns : IsTrue (are_assignable (table_at defs x.table) x.columns.items)
-  pub tuples : All (IsTupleOf (length x.columns.items)) (rows_of x.tuples.items)
 
 -- whether the current rows are asked for
 abbrev pub is_now : When → Bool
@@ -97,7 +74,7 @@ pub record IsSoundQuestion (defs : List TableDef) (q : Question) : Type 0 where
 abbrev pub IsSound : List TableDef → Bound → Type 0
 IsSound defs (CreateTable d) = IsSoundTable defs d
 IsSound defs (DropTable t) = t < length defs
-IsSound defs (Inserts x) = IsSoundInsert defs x
+IsSound defs (Inserts x) = x.table < length defs
 IsSound defs (DeleteAll t) = t < length defs
 IsSound defs (Ask q) = IsSoundQuestion defs q
 IsSound defs (SetClock m) = IsMoment m

@@ -1,7 +1,6 @@
 //! Statements whose names are bound.
+use tql_bound::change::Insertion;
 use tql_catalog::table_def::TableDef;
-use tql_memory::Memory;
-use tql_value::value::Value;
 
 /// Which versions a question asks for, by moments in microseconds since 1970-01-01.
 #[derive(Clone, Copy)]
@@ -23,15 +22,6 @@ pub struct Question {
     pub when: When,
 }
 
-/// New rows of a table, by its place among the tables: the columns that are given values, by their numbers from 0, and the values of
-/// each row, one for each of these columns.
-#[derive(Drop)]
-pub struct Insert {
-    pub table: usize,
-    pub columns: Vec<usize, Memory>,
-    pub tuples: Vec<Vec<Value, Memory>, Memory>,
-}
-
 /// A statement whose names are bound.
 #[derive(Drop)]
 pub enum Bound {
@@ -40,7 +30,7 @@ pub enum Bound {
     /// DROP TABLE of the table at this place.
     DropTable(usize),
     /// INSERT of tuples.
-    Insert(Insert),
+    Insert(Insertion),
     /// DELETE of every row of the table at this place.
     DeleteAll(usize),
     /// SELECT.

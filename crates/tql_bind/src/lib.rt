@@ -6,7 +6,6 @@ pub mod bound;
 pub mod delete;
 pub mod drop_table;
 pub mod insert;
-pub mod literal;
 pub mod moment;
 mod names;
 pub mod question;

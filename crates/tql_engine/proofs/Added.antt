@@ -1,41 +1,46 @@
 -- What changes make of tables: rows added, or all of them removed.
-use Rattle.std.specs.Prelude.{◌≡◌, refl, ℕ, suc, Bool, true, not, List, [], ◌∷◌, ◌++◌, map, length, slice_set, ℤ, Some, None}
+use Rattle.std.specs.Prelude.{◌≡◌, refl, ℕ, suc, Bool, true, not, List, [], ◌∷◌, ◌++◌, map, length, slice_set, ℤ, Option, Some, None}
 use Rattle.std.specs.List.{list_all, AllByRecursion}
 use Rattle.std.proofs.Common.{ap, ◌∙◌, append-nil}
-use Rattle.std.proofs.lemmas.List.{length-map}
-use Rattle.tql_spec.specs.Words.{map_all, with_front}
-use Rattle.tql_spec.specs.Datum.{Datum, Row}
+use Rattle.tql_spec.specs.Words.{map_all}
+use Rattle.tql_spec.specs.Datum.{Row}
 use Rattle.tql_spec.specs.Refusal.{Refusal, DuplicateKey, ReferenceNotMet, first, fault_if}
-use Rattle.tql_spec.specs.Expression.{Literal, eval}
 use Rattle.tql_spec.specs.Definition.{TableDef, Stamped, shown, stamped, place_of}
 use Rattle.tql_spec.specs.History.{Copy}
 use Rattle.tql_spec.specs.Change as change
-use Rattle.tql_spec.specs.Change.{Outcome, Work, Fate, Replaced, after_fates, touched_count, fate, modify, insert, added_to}
+use Rattle.tql_spec.specs.Change.{Outcome, Work, Fate, Replaced, after_fates, touched_count, fate, modify, insert}
 use Rattle.tql_spec.specs.Constraint.{each_table, key_holds, keys_hold, reference_to, references_hold}
 use Rattle.tql_spec.specs.Machine.{State, Reply, Done, Change, outcome, altered, changed_table, verb_of, constraint_faults, unless}
 use Rattle.tql_catalog.specs.Defined.{IsDefinition}
-use Rattle.tql_dml.specs.Inserts.{new_rows, new_faults}
 use Rattle.tql_engine.proofs.ChangeKeeps.{working_now, with_table_rows, begun_at}
-
--- ---- literals
-
-literals_of : (values : List Datum) → map_all (eval [] []) (map Literal values) ≡ Some values
-literals_of [] = refl
-literals_of (v ∷ values) = ap (with_front (Some v)) (literals_of values)
-
-literals : (tuples : List Row) → map_all (map_all (eval [] [])) (map (map Literal) tuples) ≡ Some tuples
-literals [] = refl
-literals (values ∷ tuples) = λ i. with_front (literals_of values i) (literals tuples i)
 
 -- ---- new rows
 
-begun_so : (d : TableDef) (m : ℤ) (columns : List ℕ) (tuples : List Row) → new_rows d m columns tuples ≡ begun_at m (map (λ (r : Stamped). r.cells) (new_rows d m columns tuples))
+begun_so : (d : TableDef) (m : ℤ) (columns : List ℕ) (tuples : List Row)
+    → (let rows = map (λ values. stamped d m (change.row_of d columns values)) tuples in rows ≡ begun_at m (map (λ (r : Stamped). r.cells) rows))
 begun_so d m columns [] = refl
 begun_so d m columns (t ∷ ts) = ap {B = List Stamped} (λ rows. stamped d m (change.row_of d columns t) ∷ rows) (begun_so d m columns ts)
 
--- they are these cells, begun at the moment
-pub rows_begun : (d : TableDef) (m : ℤ) (columns : List ℕ) (tuples rows : List Row) → map (λ (r : Stamped). r.cells) (new_rows d m columns tuples) ≡ rows → new_rows d m columns tuples ≡ begun_at m rows
-rows_begun d m columns tuples rows e = begun_so d m columns tuples ∙ ap (begun_at m) e
+-- the rows that an INSERT makes of none begin at its moment
+pub rows_begun : (d : TableDef) (m : ℤ) (columns : List ℕ) (values : Option (List Row)) (rows : List Row)
+    → map (λ (r : Stamped). r.cells) (insert d m [] columns values).rows ≡ rows → (insert d m [] columns values).rows ≡ begun_at m rows
+rows_begun d m columns None rows e = ap (begun_at m) e
+rows_begun d m columns (Some tuples) rows e = begun_so d m columns tuples ∙ ap (begun_at m) e
+
+-- what it makes of other rows, where no evaluation is out of range: these and those
+pub insert_outcome : (d : TableDef) (m : ℤ) (rows : List Stamped) (columns : List ℕ) (values : Option (List Row)) → first (insert d m [] columns values).faults ≡ None
+    → insert d m rows columns values ≡ record {
+      rows = rows ++ (insert d m [] columns values).rows;
+      count = (insert d m [] columns values).count;
+      faults = (insert d m [] columns values).faults;
+    }
+insert_outcome d m rows columns None e = absurd (cc)
+insert_outcome d m rows columns (Some tuples) e = refl
+
+-- its faults are those that it makes of none
+pub insert_faults : (d : TableDef) (m : ℤ) (rows : List Stamped) (columns : List ℕ) (values : Option (List Row)) → (insert d m rows columns values).faults ≡ (insert d m [] columns values).faults
+insert_faults d m rows columns None = refl
+insert_faults d m rows columns (Some tuples) = refl
 
 -- ---- no key and no reference
 
@@ -70,16 +75,6 @@ altered_by s c o a e =
     ap (λ (x : Outcome). altered_as s c (x.faults ++ constraint_faults s.definitions (slice_set (working_now s).copy (changed_table c) x.rows)) x) e
     ∙ ap (λ (fs : List Refusal). altered_as s c (o.faults ++ fs) o) (no_constraint s.definitions a copy)
     ∙ ap (λ (fs : List Refusal). altered_as s c fs o) (append-nil o.faults)
-
--- ---- INSERT
-
-pub insert_outcome : (d : TableDef) (m : ℤ) (rows : List Stamped) (columns : List ℕ) (tuples : List Row)
-    → insert d m rows columns (map_all (map_all (eval [] [])) (map (map Literal) tuples))
-    ≡ record { rows = rows ++ new_rows d m columns tuples; count = length tuples; faults = new_faults d m columns tuples }
-insert_outcome d m rows columns tuples =
-    ap (insert d m rows columns) (literals tuples)
-    ∙ ap {B = Outcome} (λ n. record { rows = rows ++ new_rows d m columns tuples; count = n; faults = new_faults d m columns tuples })
-    (length-map tuples (λ values. stamped d m (change.row_of d columns values)))
 
 -- ---- DELETE
 

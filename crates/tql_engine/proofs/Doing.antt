@@ -7,19 +7,20 @@ use Rattle.std.proofs.lemmas.List.{length-map}
 use Rattle.tql_spec.specs.Bag.{SameBag}
 use Rattle.tql_spec.specs.Calendar.{first_moment, high}
 use Rattle.tql_spec.specs.Datum.{Row}
-use Rattle.tql_spec.specs.Expression.{Literal}
 use Rattle.tql_spec.specs.Definition.{Name, Stamped, TableDef, Version, table_at, full}
 use Rattle.tql_spec.specs.History.{Entry, TableEntry, When, rows_in, table_history, with_end, current, still}
 use Rattle.tql_spec.specs.Query.{in_order}
 use Rattle.tql_spec.specs.Creation.{names_of}
-use Rattle.tql_spec.specs.Change.{Outcome, Work}
+use Rattle.tql_spec.specs.Change.{Outcome, Work, insert}
 use Rattle.tql_spec.specs.Refusal.{Refusal, NotInThisTransactionState, MomentNotAllowed, first}
-use Rattle.tql_spec.specs.Machine.{State, Reply, Refused, Done, Table, CreatedTable, DroppedTable, ClockSet, Inserted, Deleted, Started, Committed, RolledBack, Change, CreateTable, DropTable, SetClock, Start, Commit, Rollback, Alter, Ask, InsertTuples, Modify, step, altered, unless, is_not_later, is_clock_at_end, entries, newest_copy, with_table, without_table, with_commit, working, asked, bag_of}
+use Rattle.tql_spec.specs.Machine.{State, Reply, Refused, Done, Table, CreatedTable, DroppedTable, ClockSet, Inserted, Deleted, Started, Committed, RolledBack, Change, CreateTable, DropTable, SetClock, Start, Commit, Rollback, Alter, Ask, Modify, step, altered, unless, is_not_later, is_clock_at_end, entries, newest_copy, with_table, without_table, with_commit, working, asked, bag_of}
 use Rattle.tql_bind.specs.Bounds.{whole_table}
 use Rattle.tql_catalog.specs.Tables.{definitions_of}
 use Rattle.tql_catalog.specs.declared.catalog.Table.{Table as CatalogTable}
 use Rattle.tql_catalog.specs.Defined.{IsDefinition}
-use Rattle.tql_dml.specs.Inserts.{new_rows, new_faults}
+use Rattle.tql_bound.specs.Changes.{insertion_of}
+use Rattle.tql_bound.specs.declared.change.Insertion.{Insertion}
+use Rattle.tql_dml.specs.Alters.{tuples_in, inserted}
 use Rattle.tql_store.specs.Slots as store
 use Rattle.tql_store.specs.Represents.{BeginCopies, CommitAppends, RollbackRestores, Judged}
 use Rattle.tql_engine.specs.Stands.{Held, StandsFor, copies_of, working_of, moment_of}
@@ -31,7 +32,7 @@ use Rattle.tql_engine.proofs.Standing.{closed_law, open_law, last_law, clock_law
 use Rattle.tql_engine.proofs.Copies.{chosen, passed}
 use Rattle.tql_engine.proofs.Columns.{whole_answered}
 use Rattle.tql_engine.proofs.Asked.{rows_when, asked_law, wide_law, seen_law}
-use Rattle.tql_engine.proofs.Added.{rows_begun, altered_by, insert_outcome, remove_outcome}
+use Rattle.tql_engine.proofs.Added.{rows_begun, altered_by, insert_outcome, insert_faults, remove_outcome}
 use Rattle.tql_engine.proofs.ChangeKeeps.{working_now, working_rows, with_table_rows, begun_at, AreRowsOf, change_law, only_added, all_removed, none_judged}
 use Rattle.tql_engine.proofs.TransactionKeeps.{begun_law, ended_law, undone_law}
 
@@ -168,58 +169,65 @@ change_step h s c st below =
 
 -- ---- INSERT
 
--- the statement, by its columns and its values
-abbrev pub of_tuples : ℕ → List ℕ → List Row → Change
-of_tuples t columns tuples = InsertTuples t columns (map (map Literal) tuples)
+-- what an INSERT makes of the rows that it sees
+abbrev insert_outcome_of : State → CatalogTable → Insertion → Outcome
+insert_outcome_of s p x = insert p.definition (working_now s).moment (working_rows s x.table) x.columns.items (tuples_in x)
 
--- what the machine does, by the first fault of the new rows
-insert_is : (h : Held) (s : State) (t : ℕ) (p : CatalogTable) (columns : List ℕ) (tuples : List Row) → StandsFor h s → slice_get h.tables t ≡ Some p → (IsNone h.rows.working → h.next <ℤ high)
-    → (let m = (working_now s).moment in step s (Alter (of_tuples t columns tuples))
-    ≡ unless (first (new_faults p.definition m columns tuples)) s (Done Inserted (Some (length tuples))) (with_table_rows s t (working_rows s t ++ new_rows p.definition m columns tuples)))
-insert_is h s t p columns tuples st e below =
-    let m : ℤ = (working_now s).moment in
-    let rows : List Stamped = working_rows s t in
-    change_step h s (of_tuples t columns tuples) st below
-    ∙ altered_by s (of_tuples t columns tuples) (record { rows = rows ++ new_rows p.definition m columns tuples; count = length tuples; faults = new_faults p.definition m columns tuples }) (defined_all h s st)
-    (insert_outcome (table_at s.definitions t) m rows columns tuples
-    ∙ ap {B = Outcome} (λ d. record { rows = rows ++ new_rows d m columns tuples; count = length tuples; faults = new_faults d m columns tuples }) (definition_law h s t p st e))
+-- what the machine does
+insert_is : (h : Held) (s : State) (p : CatalogTable) (x : Insertion) → StandsFor h s → slice_get h.tables x.table ≡ Some p → (IsNone h.rows.working → h.next <ℤ high)
+    → (let o = insert_outcome_of s p x in step s (Alter (insertion_of x)) ≡ unless (first o.faults) s (Done Inserted (Some o.count)) (with_table_rows s x.table o.rows))
+insert_is h s p x st e below =
+    change_step h s (insertion_of x) st below
+    ∙ altered_by s (insertion_of x) (insert_outcome_of s p x) (defined_all h s st)
+    (ap {B = Outcome} (λ d. insert d (working_now s).moment (working_rows s x.table) x.columns.items (tuples_in x)) (definition_law h s x.table p st e))
 
 -- the first fault of the new rows
-pub insert_refused : (h : Held) (s : State) (t : ℕ) (p : CatalogTable) (columns : List ℕ) (tuples : List Row) (f : Refusal) → StandsFor h s → slice_get h.tables t ≡ Some p → (IsNone h.rows.working → h.next <ℤ high)
-    → ((m : ℤ) → first (new_faults p.definition m columns tuples) ≡ Some f) → Does h (Refused f) (step s (Alter (of_tuples t columns tuples)))
-insert_refused h s t p columns tuples f st e below k =
+pub insert_refused : (h : Held) (s : State) (p : CatalogTable) (x : Insertion) (f : Refusal) → StandsFor h s → slice_get h.tables x.table ≡ Some p → (IsNone h.rows.working → h.next <ℤ high)
+    → ((m : ℤ) → first (inserted p.definition x m).faults ≡ Some f) → Does h (Refused f) (step s (Alter (insertion_of x)))
+insert_refused h s p x f st e below k =
     let m : ℤ = (working_now s).moment in
-    let new : State = with_table_rows s t (working_rows s t ++ new_rows p.definition m columns tuples) in
-    by_step h (Refused f) (step s (Alter (of_tuples t columns tuples))) (refused f s)
-    (insert_is h s t p columns tuples st e below ∙ ap (λ o. unless o s (Done Inserted (Some (length tuples))) new) (k m)) (refuses h s f st)
+    let o : Outcome = insert_outcome_of s p x in
+    by_step h (Refused f) (step s (Alter (insertion_of x))) (refused f s)
+    (insert_is h s p x st e below
+    ∙ ap (λ q. unless q s (Done Inserted (Some o.count)) (with_table_rows s x.table o.rows)) (ap first (insert_faults p.definition m (working_rows s x.table) x.columns.items (tuples_in x)) ∙ k m))
+    (refuses h s f st)
 
--- the state with the rows added
-abbrev pub inserted : State → ℕ → List Row → State
-inserted s t rows = with_table_rows s t (working_rows s t ++ begun_at (working_now s).moment rows)
+-- the state with rows added
+abbrev pub with_rows_added : State → ℕ → List Row → State
+with_rows_added s t rows = with_table_rows s t (working_rows s t ++ begun_at (working_now s).moment rows)
 
 pub rows_added : (h : Held) (s : State) (t : ℕ) (p : CatalogTable) (rows : List Row) (removed : List ℕ) (r : store.Held) (after : ℤ) → StandsFor h s → slice_get h.tables t ≡ Some p
     → (IsNone h.rows.working → h.next <ℤ high) → AreRowsOf p.definition rows → removed ≡ [] → ChangesRows h.rows.working h.next after p.id removed rows h.rows r
-    → StandsFor (record { tables = h.tables; rows = r; next = after }) (inserted s t rows)
+    → StandsFor (record { tables = h.tables; rows = r; next = after }) (with_rows_added s t rows)
 rows_added h s t p rows removed r after st e below fit none c =
     subst (λ (xs : List Stamped). StandsFor (record { tables = h.tables; rows = r; next = after }) (with_table_rows s t xs)) (only_added (working_now s).moment rows (working_rows s t))
     (change_law h s t p (λ (x : Stamped). false) [] rows r after st e below fit (none_judged p.id h.rows.slots)
     (subst (λ is. ChangesRows h.rows.working h.next after p.id is rows h.rows r) none c))
 
--- and the reply
-pub insert_does : (h : Held) (s : State) (t : ℕ) (p : CatalogTable) (columns : List ℕ) (tuples rows : List Row) (removed : List ℕ) (r : store.Held) (after : ℤ) (count : ℕ)
-    → StandsFor h s → slice_get h.tables t ≡ Some p → (IsNone h.rows.working → h.next <ℤ high) → AreRowsOf p.definition rows → removed ≡ []
-    → ChangesRows h.rows.working h.next after p.id removed rows h.rows r
-    → ((m : ℤ) → map (λ (x : Stamped). x.cells) (new_rows p.definition m columns tuples) ≡ rows) → ((m : ℤ) → first (new_faults p.definition m columns tuples) ≡ None) → count ≡ length tuples
-    → Does (record { tables = h.tables; rows = r; next = after }) (Done Inserted (Some count)) (step s (Alter (of_tuples t columns tuples)))
-insert_does h s t p columns tuples rows removed r after count st e below fit none c cells sound n =
+-- what the machine does where there is no fault
+inserted_is : (h : Held) (s : State) (p : CatalogTable) (x : Insertion) (rows : List Row) (count : ℕ) → StandsFor h s → slice_get h.tables x.table ≡ Some p → (IsNone h.rows.working → h.next <ℤ high)
+    → ((m : ℤ) → map (λ (r : Stamped). r.cells) (inserted p.definition x m).rows ≡ rows) → ((m : ℤ) → first (inserted p.definition x m).faults ≡ None) → ((m : ℤ) → count ≡ (inserted p.definition x m).count)
+    → step s (Alter (insertion_of x)) ≡ (Done Inserted (Some count), with_rows_added s x.table rows)
+inserted_is h s p x rows count st e below cells sound n =
     let m : ℤ = (working_now s).moment in
-    let new : List Stamped → State = λ xs. with_table_rows s t (working_rows s t ++ xs) in
-    let h2 : Held = record { tables = h.tables; rows = r; next = after } in
-    by_step h2 (Done Inserted (Some count)) (step s (Alter (of_tuples t columns tuples))) (Done Inserted (Some count), inserted s t rows)
-    (insert_is h s t p columns tuples st e below
-    ∙ ap (λ o. unless o s (Done Inserted (Some (length tuples))) (new (new_rows p.definition m columns tuples))) (sound m)
-    ∙ (λ i. (Done Inserted (Some (sym n i)), new (rows_begun p.definition m columns tuples rows (cells m) i))))
-    (record { replies = refl; stands = rows_added h s t p rows removed r after st e below fit none c })
+    let made : Outcome = inserted p.definition x m in
+    let new : List Stamped → State = λ xs. with_table_rows s x.table (working_rows s x.table ++ xs) in
+    insert_is h s p x st e below
+    ∙ ap (λ (o : Outcome). unless (first o.faults) s (Done Inserted (Some o.count)) (with_table_rows s x.table o.rows))
+    (insert_outcome p.definition m (working_rows s x.table) x.columns.items (tuples_in x) (sound m))
+    ∙ ap (λ q. unless q s (Done Inserted (Some made.count)) (new made.rows)) (sound m)
+    ∙ (λ i. (Done Inserted (Some (sym (n m) i)), new (rows_begun p.definition m x.columns.items (tuples_in x) rows (cells m) i)))
+
+-- and the reply
+pub insert_does : (h : Held) (s : State) (p : CatalogTable) (x : Insertion) (rows : List Row) (removed : List ℕ) (r : store.Held) (after : ℤ) (count : ℕ)
+    → StandsFor h s → slice_get h.tables x.table ≡ Some p → (IsNone h.rows.working → h.next <ℤ high) → AreRowsOf p.definition rows → removed ≡ []
+    → ChangesRows h.rows.working h.next after p.id removed rows h.rows r
+    → ((m : ℤ) → map (λ (y : Stamped). y.cells) (inserted p.definition x m).rows ≡ rows) → ((m : ℤ) → first (inserted p.definition x m).faults ≡ None) → ((m : ℤ) → count ≡ (inserted p.definition x m).count)
+    → Does (record { tables = h.tables; rows = r; next = after }) (Done Inserted (Some count)) (step s (Alter (insertion_of x)))
+insert_does h s p x rows removed r after count st e below fit none c cells sound n =
+    by_step (record { tables = h.tables; rows = r; next = after }) (Done Inserted (Some count)) (step s (Alter (insertion_of x))) (Done Inserted (Some count), with_rows_added s x.table rows)
+    (inserted_is h s p x rows count st e below cells sound n)
+    (record { replies = refl; stands = rows_added h s x.table p rows removed r after st e below fit none c })
 
 -- ---- DELETE
 

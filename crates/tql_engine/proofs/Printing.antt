@@ -10,7 +10,8 @@ use Rattle.tql_spec.specs.Machine.{State, Done, unless, effect, step, altered, o
 use Rattle.tql_value.specs.declared.refusal.Refusal.{Refusal}
 use Rattle.tql_result.specs.Replies.{IsPrintableReply, reply_of}
 use Rattle.tql_result.specs.declared.reply.Reply.{Reply}
-use Rattle.tql_bind.specs.Bounds.{IsSound, bound_of, insert_of, when_of}
+use Rattle.tql_bind.specs.Bounds.{IsSound, bound_of, when_of}
+use Rattle.tql_bound.specs.Changes.{insertion_of}
 use Rattle.tql_bind.specs.declared.bound.Bound.{Bound}
 use Rattle.tql_bind.specs.declared.bound.Bound.TheVariants as b
 use Rattle.tql_catalog.specs.Tables.{definitions_of}
@@ -48,7 +49,7 @@ there_is (p ∷ ps) (suc t) h = there_is ps t (omega (arith, h))
 step_prints : (h : Held) (s : State) → StandsFor h s → (x : Bound) → IsSound (definitions_of h.tables) x → Prints (step s (bound_of (definitions_of h.tables) x))
 step_prints h s st (b.CreateTable d) k = by_effect s (bound_of (definitions_of h.tables) (b.CreateTable d)) tt
 step_prints h s st (b.DropTable t) k = by_effect s (bound_of (definitions_of h.tables) (b.DropTable t)) tt
-step_prints h s st (b.Insert x) k = by_effect s (bound_of (definitions_of h.tables) (b.Insert x)) (altered_prints s (insert_of x))
+step_prints h s st (b.Insert x) k = by_effect s (bound_of (definitions_of h.tables) (b.Insert x)) (altered_prints s (insertion_of x))
 step_prints h s st (b.DeleteAll t) k = by_effect s (bound_of (definitions_of h.tables) (b.DeleteAll t)) (altered_prints s (machine.Modify t None change.Remove []))
 step_prints h s st (b.Ask q) k =
     let p = there_is h.tables q.table k.table in

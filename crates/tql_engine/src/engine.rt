@@ -98,7 +98,7 @@ impl Engine {
         match bound {
             Bound::CreateTable(definition) => self.create(definition),
             Bound::DropTable(place) => self.drop_table(place),
-            Bound::Insert(rows) => self.insert(rows),
+            Bound::Insert(insertion) => self.insert(&insertion),
             Bound::DeleteAll(place) => self.delete_all(place),
             Bound::Ask(question) => self.ask(question),
             Bound::SetClock(moment) => self.at(moment),

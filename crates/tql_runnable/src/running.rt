@@ -3,95 +3,11 @@ ghost use Rattle.std.specs.Prelude.{◌≡◌, map};
 ghost use Rattle.std.specs.List.{list_all};
 ghost use Rattle.tql_spec.specs.Binding as binding;
 ghost use Rattle.tql_spec.specs.Running as running;
-ghost use Rattle.tql_tree.specs.Expressions.{expr_of, primary_of, signed_of};
-ghost use Rattle.tql_tree.specs.Statements.{cell_of, create_of, delete_of, element_of, insert_of, items_of, query_of, select_of, statement_of, tuple_of};
+ghost use Rattle.tql_tree.specs.Statements.{create_of, delete_of, element_of, insert_of, items_of, query_of, select_of, statement_of};
 
-use tql_tree::expression::{Expr, Primary, Sign, Signed};
 use tql_tree::statement::{
-    Cell, CreateTree, Delete, Element, Insert, Items, Query, Rows, Select, Statement, Tuple,
+    CreateTree, Delete, Element, Insert, Items, Query, Rows, Select, Statement,
 };
-
-/// Whether a primary is a number.
-fn is_number(primary: &Primary<'_>) -> bool
-    ensures { result ≡ running.is_number (primary_of primary.now) }
-{
-    match primary {
-        Primary::Number(_) => true,
-        Primary::Text(_)
-        | Primary::Date(_)
-        | Primary::Timestamp(_)
-        | Primary::Column(_)
-        | Primary::Enclosed(_)
-        | Primary::CountStar
-        | Primary::Over(_, _) => false,
-    }
-}
-
-/// Whether a primary is a literal.
-fn is_literal(primary: &Primary<'_>) -> bool
-    ensures { result ≡ running.is_literal (primary_of primary.now) }
-{
-    match primary {
-        Primary::Number(_) | Primary::Text(_) | Primary::Date(_) | Primary::Timestamp(_) => true,
-        Primary::Column(_) | Primary::Enclosed(_) | Primary::CountStar | Primary::Over(_, _) => {
-            false
-        }
-    }
-}
-
-/// Whether a primary with its sign is a literal: only a number may have a sign.
-fn is_signed_literal(signed: &Signed<'_>) -> bool
-    ensures { result ≡ running.is_signed_literal (signed_of signed.now) }
-{
-    match signed.sign {
-        Sign::None => is_literal(&signed.primary),
-        Sign::Plus | Sign::Minus => is_number(&signed.primary),
-    }
-}
-
-/// Whether an expression is a literal.
-fn is_literal_sum(value: &Expr<'_>) -> bool
-    ensures { result ≡ running.is_literal_sum (expr_of value.now) }
-{
-    if !value.more.is_empty() {
-        return false;
-    }
-    if !value.first.more.is_empty() {
-        return false;
-    }
-    is_signed_literal(&value.first.first)
-}
-
-/// Whether a cell is a literal or NULL.
-fn is_literal_cell(cell: &Cell<'_>) -> bool
-    ensures { result ≡ running.is_literal_cell (cell_of cell.now) }
-{
-    match cell {
-        Cell::Null => true,
-        Cell::Value(value) => is_literal_sum(value),
-    }
-}
-
-/// Whether each cell is a literal or NULL.
-fn are_literal_cells(cells: &[Cell<'_>]) -> bool
-    ensures { result ≡ list_all running.is_literal_cell (map cell_of cells.now) }
-{
-    cells.iter().all(|cell| is_literal_cell(cell))
-}
-
-/// Whether each cell of a tuple is a literal or NULL.
-fn is_literal_tuple(tuple: &Tuple<'_>) -> bool
-    ensures { result ≡ running.is_literal_tuple (tuple_of tuple.now) }
-{
-    is_literal_cell(&tuple.first) && are_literal_cells(&tuple.more)
-}
-
-/// Whether each cell of each tuple is a literal or NULL.
-fn are_literal_tuples(tuples: &[Tuple<'_>]) -> bool
-    ensures { result ≡ list_all running.is_literal_tuple (map tuple_of tuples.now) }
-{
-    tuples.iter().all(|tuple| is_literal_tuple(tuple))
-}
 
 /// Whether an element of CREATE is a column or the system period.
 fn is_plain_element(element: &Element<'_>) -> bool
@@ -147,7 +63,7 @@ fn does_insert_run(insert: &Insert<'_>) -> bool
     ensures { result ≡ running.does_run (insert_of insert.now) }
 {
     match &insert.rows {
-        Rows::Values(first, more) => is_literal_tuple(first) && are_literal_tuples(more),
+        Rows::Values(_, _) => true,
         Rows::Select(_) => false,
     }
 }

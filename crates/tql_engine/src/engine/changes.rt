@@ -4,8 +4,8 @@ ghost use Rattle.tql_spec.specs.Calendar.{high};
 
 use crate::committing::{change_rows, current_ids};
 use crate::engine::Engine;
-use tql_bind::bound::Insert;
-use tql_dml::insert::insert;
+use tql_bound::change::Insertion;
+use tql_dml::insertion::insert_tuples;
 use tql_result::reply::{Reply, Verb};
 use tql_store::store::Delta;
 use tql_value::calendar::HIGH;
@@ -15,7 +15,7 @@ impl Engine {
     ghost use Rattle.tql_spec.specs.Machine as machine;
     ghost use Rattle.tql_spec.specs.Machine.{State, step};
     ghost use Rattle.tql_spec.specs.Change.{Remove};
-    ghost use Rattle.tql_bind.specs.Bounds.{IsSoundInsert, insert_of};
+    ghost use Rattle.tql_bound.specs.Changes.{insertion_of};
     ghost use Rattle.tql_catalog.specs.Tables.{definitions_of};
     ghost use Rattle.tql_engine.specs.Stands.{StandsFor};
     ghost use Rattle.tql_engine.specs.Effects.{DoesStep};
@@ -27,18 +27,13 @@ impl Engine {
         !self.rows.has_transaction() && self.next >= HIGH
     }
 
-    /// Adds the rows of an insert. They begin at the clock's moment, which is that of an open transaction.
-    fn add_to(&mut self, rows: Insert) -> Result<Reply, Refusal>
-        requires sound { IsSoundInsert (definitions_of self.old.tables) rows }
+    /// Adds the rows of an INSERT. They begin at the clock's moment, which is that of an open transaction.
+    fn add_to(&mut self, insertion: &Insertion) -> Result<Reply, Refusal>
+        requires within { insertion.now.table < length self.old.tables }
         requires below { IsNone self.old.rows.working → self.old.next <ℤ high }
-        ensures { (s : State) → StandsFor self.old s → DoesStep self.new s result (step s (machine.Alter (insert_of rows))) }
+        ensures { (s : State) → StandsFor self.old s → DoesStep self.new s result (step s (machine.Alter (insertion_of insertion.now))) }
     {
-        let Insert {
-            table,
-            columns,
-            tuples,
-        } = rows;
-        let delta = match insert(self.memory, self.table_at(table), &columns, tuples) {
+        let delta = match insert_tuples(self.memory, self.table_at(insertion.table), insertion) {
             Ok(delta) => delta,
             Err(refusal) => return Err(refusal),
         };
@@ -53,14 +48,14 @@ impl Engine {
     }
 
     /// INSERT
-    pub(super) fn insert(&mut self, rows: Insert) -> Result<Reply, Refusal>
-        requires { IsSoundInsert (definitions_of self.old.tables) rows }
-        ensures { (s : State) → StandsFor self.old s → DoesStep self.new s result (step s (machine.Alter (insert_of rows))) }
+    pub(super) fn insert(&mut self, insertion: &Insertion) -> Result<Reply, Refusal>
+        requires { insertion.now.table < length (definitions_of self.old.tables) }
+        ensures { (s : State) → StandsFor self.old s → DoesStep self.new s result (step s (machine.Alter (insertion_of insertion.now))) }
     {
         if self.lacks_moment() {
             return Err(Refusal::MomentNotAllowed);
         }
-        self.add_to(rows)
+        self.add_to(insertion)
     }
 
     /// Removes all rows of the table at this place.
