@@ -1,3 +1,4 @@
+pub mod AggregateLaws
 pub mod ComparisonLaws
 pub mod Lists
 pub mod PeriodLaws
