@@ -86,10 +86,10 @@ some_factors [] g some = absurd (some refl)
 some_factors (x ∷ xs) g some = refl
 
 -- a vector that is empty, and one that is not
-empty_items : {X Y : Type 0} (v : Vec X Y) → (vec_len v == 0) ≡ true → length v.items ≡ 0
+pub empty_items : {X Y : Type 0} (v : Vec X Y) → (vec_len v == 0) ≡ true → length v.items ≡ 0
 empty_items v h = let none : vec_len v ≡ 0 = eqb-true (vec_len v) 0 h in omega (arith, v.ok.0)
 
-some_items : {X Y : Type 0} (v : Vec X Y) → (vec_len v == 0) ≡ false → length v.items ≡ 0 → ⊥
+pub some_items : {X Y : Type 0} (v : Vec X Y) → (vec_len v == 0) ≡ false → length v.items ≡ 0 → ⊥
 some_items v h is = let some : vec_len v ≡ 0 → ⊥ = eqb-false (vec_len v) 0 h in omega (arith, v.ok.0)
 
 -- no term behind the first

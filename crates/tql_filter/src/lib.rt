@@ -5,6 +5,7 @@
 pub mod aggregates;
 mod comparisons;
 pub mod conditions;
+pub mod conjuncts;
 mod membership;
 pub mod periods;
 mod relations;
