@@ -1,4 +1,6 @@
+pub mod AggregateLaws
 pub mod ComparisonLaws
+pub mod ConjunctLaws
 pub mod Lists
 pub mod PeriodLaws
 pub mod SoleLaws

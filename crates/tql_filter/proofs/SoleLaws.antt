@@ -16,7 +16,7 @@ use Rattle.tql_scope.proofs.Views.{expr_out, term_out}
 use Rattle.tql_filter.specs.SoleNames.{name_in, sole_factor}
 
 -- one product
-alone : (p : Product) → sole_name (Terms p NoTerm) ≡ sole_factor p
+pub alone : (p : Product) → sole_name (Terms p NoTerm) ≡ sole_factor p
 alone (Factors (Unsigned (NumberLiteral ds)) NoFactor) = refl
 alone (Factors (Unsigned (TextLiteral t)) NoFactor) = refl
 alone (Factors (Unsigned (DateLiteral t)) NoFactor) = refl
@@ -39,7 +39,7 @@ alone (Factors (Negative p) NoFactor) = refl
 alone (Factors (Negative p) (TimesFactor s m)) = refl
 
 -- one with another behind it
-added : (p q : Product) (m : MoreTerms) → sole_name (Terms p (PlusTerm q m)) ≡ None
+pub added : (p q : Product) (m : MoreTerms) → sole_name (Terms p (PlusTerm q m)) ≡ None
 added (Factors (Unsigned (NumberLiteral ds)) f) q m = refl
 added (Factors (Unsigned (TextLiteral t)) f) q m = refl
 added (Factors (Unsigned (DateLiteral t)) f) q m = refl
@@ -52,7 +52,7 @@ added (Factors (Unsigned (Over g e)) f) q m = refl
 added (Factors (Positive p) f) q m = refl
 added (Factors (Negative p) f) q m = refl
 
-subtracted : (p q : Product) (m : MoreTerms) → sole_name (Terms p (MinusTerm q m)) ≡ None
+pub subtracted : (p q : Product) (m : MoreTerms) → sole_name (Terms p (MinusTerm q m)) ≡ None
 subtracted (Factors (Unsigned (NumberLiteral ds)) f) q m = refl
 subtracted (Factors (Unsigned (TextLiteral t)) f) q m = refl
 subtracted (Factors (Unsigned (DateLiteral t)) f) q m = refl
@@ -86,10 +86,10 @@ some_factors [] g some = absurd (some refl)
 some_factors (x ∷ xs) g some = refl
 
 -- a vector that is empty, and one that is not
-empty_items : {X Y : Type 0} (v : Vec X Y) → (vec_len v == 0) ≡ true → length v.items ≡ 0
+pub empty_items : {X Y : Type 0} (v : Vec X Y) → (vec_len v == 0) ≡ true → length v.items ≡ 0
 empty_items v h = let none : vec_len v ≡ 0 = eqb-true (vec_len v) 0 h in omega (arith, v.ok.0)
 
-some_items : {X Y : Type 0} (v : Vec X Y) → (vec_len v == 0) ≡ false → length v.items ≡ 0 → ⊥
+pub some_items : {X Y : Type 0} (v : Vec X Y) → (vec_len v == 0) ≡ false → length v.items ≡ 0 → ⊥
 some_items v h is = let some : vec_len v ≡ 0 → ⊥ = eqb-false (vec_len v) 0 h in omega (arith, v.ok.0)
 
 -- no term behind the first

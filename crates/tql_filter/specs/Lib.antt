@@ -1,2 +1,4 @@
+pub mod Aggregates
+pub mod Conjuncts
 pub mod Ends
 pub mod SoleNames

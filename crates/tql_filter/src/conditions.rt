@@ -92,49 +92,24 @@ fn test(
 {
     match test {
         Test::Grouped(inner) => condition(memory, scope, inner, terms, faults),
-        Test::Compared(sign, left, right) => compare(
-            memory, scope, *sign, left, right, terms, faults,
-        ),
-        Test::Null(is_negated, operand) => null_test(
-            memory,
-            scope,
-            *is_negated,
-            operand,
-            terms,
-            faults,
-        ),
-        Test::Between(is_negated, operand, low, high) => {
-            between(
-                memory,
-                scope,
-                *is_negated,
-                operand,
-                low,
-                high,
-                terms,
-                faults,
-            )
+        Test::Compared(sign, left, right) => {
+            compare(memory, scope, *sign, left, right, terms, faults)
         }
-        Test::In(is_negated, operand, first, more) => {
-            in_test(
-                memory,
-                scope,
-                *is_negated,
-                operand,
-                first,
-                more,
-                terms,
-                faults,
-            )
+        Test::Null(is_not, operand) => { null_test(memory, scope, *is_not, operand, terms, faults) }
+        Test::Between(is_not, operand, low, high) => {
+            between(memory, scope, *is_not, operand, low, high, terms, faults)
+        }
+        Test::In(is_not, operand, first, more) => {
+            in_test(memory, scope, *is_not, operand, first, more, terms, faults)
         }
         Test::Related(left, which, right) => {
             relation_test(memory, scope, left, *which, right, terms, faults)
         }
-        Test::ContainsPeriod(left, right) => contains_period(
-            memory, scope, left, right, terms, faults,
-        ),
-        Test::ContainsPoint(left, point) => contains_point(
-            memory, scope, left, point, terms, faults,
-        ),
+        Test::ContainsPeriod(left, right) => {
+            contains_period(memory, scope, left, right, terms, faults)
+        }
+        Test::ContainsPoint(left, point) => {
+            contains_point(memory, scope, left, point, terms, faults)
+        }
     }
 }

@@ -1,8 +1,11 @@
-//! Conditions, bound to the terms of a statement. Every fault is gathered, and the first in the order of report is kept.
+//! Conditions, bound to the terms of a statement. Every fault is gathered, and the first in the order of report is
+//! kept.
 #![tactic(auto)]
 
+pub mod aggregates;
 mod comparisons;
 pub mod conditions;
+pub mod conjuncts;
 mod membership;
 pub mod periods;
 mod relations;

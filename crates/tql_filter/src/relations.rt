@@ -101,7 +101,8 @@ fn contained_point(
     terms.push_contains_point((period.start, period.end), point.expr)
 }
 
-/// CONTAINS with a name: a period's, or a point's. No table has an application period yet, so a name stands for columns alone.
+/// CONTAINS with a name: a period's, or a point's. No table has an application period yet, so a name stands for columns
+/// alone.
 fn contained_named(
     memory: Memory,
     scope: &[Known<'_>],
