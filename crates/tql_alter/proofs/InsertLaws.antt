@@ -1,6 +1,6 @@
 -- INSERT of tuples, from its parts.
-use Rattle.std.specs.Prelude.{◌≡◌, refl, ℕ, List, map, Option}
-use Rattle.std.proofs.Common.{sym, ap, ◌∙◌, subst}
+use Rattle.std.specs.Prelude.{◌≡◌, ℕ, List, map, Option}
+use Rattle.std.proofs.Common.{ap, ◌∙◌, subst}
 use Rattle.tql_spec.specs.Binding.{table_number, insert_columns, kinds_for, tuple, insert_values}
 use Rattle.tql_spec.specs.Datum as datum
 use Rattle.tql_spec.specs.Definition.{Name, TableDef, table_at}
@@ -12,11 +12,8 @@ use Rattle.tql_spec.specs.Syntax.{Tuple}
 use Rattle.tql_value.specs.Views.{plain_kind}
 use Rattle.tql_value.specs.declared.value.Kind.{Kind}
 use Rattle.tql_scope.specs.Gathered.{Gathers}
-use Rattle.tql_scope.proofs.Gathering.{after_nil, bound}
-
--- a value without a fault
-pub sound_here : {B : Type 0} (x : B) (now : Option Refusal) → Gathers (sound x) now now x
-sound_here x now = record { value = refl; least = sym (after_nil now) }
+use Rattle.tql_scope.proofs.Gathering.{bound}
+use Rattle.tql_alter.proofs.Sequences.{sound_here}
 
 pub insert_bound : (defs : List TableDef) (n : Name) (ns : List Name) (ts : List Tuple) (old a b new : Option Refusal) (t : ℕ) (d : TableDef) (is asked : List ℕ) (kinds taken : List Kind) (rows : List (List Expr))
     → Gathers (table_number defs n) old a t → d ≡ table_at defs t → Gathers (insert_columns d ns) a b is

@@ -1,11 +1,15 @@
--- Elements that are bound one behind another.
-use Rattle.std.proofs.Common.{◌≡◌, ℕ, ◌+◌, ◌<◌, ◌≤◌, List, [], ◌∷◌, ◌++◌, length, map, drop, get_or, sym, subst}
+-- Parts that are bound one behind another.
+use Rattle.std.proofs.Common.{◌≡◌, ℕ, ◌+◌, ◌<◌, ◌≤◌, List, [], ◌∷◌, ◌++◌, length, map, drop, get_or, refl, sym, subst}
 use Rattle.std.specs.Prelude.{Option}
 use Rattle.std.proofs.lemmas.List.{map-id, drop_all}
-use Rattle.tql_spec.specs.Names.{Checked, check_each}
+use Rattle.tql_spec.specs.Names.{Checked, sound, check_each}
 use Rattle.tql_spec.specs.Refusal.{Refusal}
 use Rattle.tql_scope.specs.Gathered.{Gathers}
-use Rattle.tql_scope.proofs.Gathering.{EachLeads, each_item, each_ended}
+use Rattle.tql_scope.proofs.Gathering.{EachLeads, after_nil, each_item, each_ended}
+
+-- a value without a fault
+pub sound_here : {B : Type 0} (x : B) (now : Option Refusal) → Gathers (sound x) now now x
+sound_here x now = record { value = refl; least = sym (after_nil now) }
 
 -- the element that is next is checked, and what it gives is pushed as it is
 pub plain_item : {X A B : Type 0} (f : A → Checked B) (g : X → A) (all : List A) (old mid now : Option Refusal) (xs : List X) (i : ℕ) (x : X) (ys zs : List B) (y : B)

@@ -60,14 +60,14 @@ fn or_first(number: Option<usize>, faults: &mut Faults) -> usize
 }
 
 /// The number of the column of this name. A fault where there is none.
-pub fn column_number(definition: &TableDef, name: &str, faults: &mut Faults) -> usize
+pub(crate) fn column_number(definition: &TableDef, name: &str, faults: &mut Faults) -> usize
     ensures { Gathers (creation.column_number (names_of definition.now) name.now) faults.old faults.new result }
 {
     or_first(column_place(definition, name), faults)
 }
 
 /// The number of the column that a name means. A fault where there is none.
-pub fn named_column(
+pub(crate) fn named_column(
     memory: Memory,
     definition: &TableDef,
     name: Name<'_>,
@@ -200,7 +200,7 @@ pub fn insert_columns(
 }
 
 /// The kind of the column with this number.
-pub fn column_kind(definition: &TableDef, number: usize) -> Kind
+pub(crate) fn column_kind(definition: &TableDef, number: usize) -> Kind
     ensures { plain_kind result ≡ slice_index_or (kinds_of definition.now) number Ints }
 {
     match definition.columns().get(number) {

@@ -5,5 +5,5 @@ pub mod columns;
 pub mod insert;
 pub mod sets;
 pub mod tables;
-pub mod tuples;
+mod tuples;
 pub mod update;

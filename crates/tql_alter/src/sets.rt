@@ -27,6 +27,7 @@ use tql_value::refusal::Refusal;
 pub fn own_reference(definition: &TableDef) -> Known<'_>
     ensures { scope_of (result ∷ []) ≡ binding.own_scope definition.now }
 {
+    // That the numbers of the columns lie within 64 bits is told by their slice.
     let _width = definition.columns().len();
     Known {
         name: definition.name(),

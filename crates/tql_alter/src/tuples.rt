@@ -104,7 +104,7 @@ fn tuple(
 }
 
 /// Tuples for columns of these kinds: the first, and those behind it.
-pub fn tuples(
+pub(crate) fn tuples(
     memory: Memory,
     kinds: &[Kind],
     first: &Tuple<'_>,
