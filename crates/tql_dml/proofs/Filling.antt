@@ -91,7 +91,8 @@ system_fits d s n right e w = (λ i. has_system (e i) (w i)) ∙ has_its_system 
 
 -- ---- values that have texts
 
-printable_cell : (row : Row) (i : ℕ) → All IsPrintable row → IsPrintable (cell row i)
+-- a cell of a row that has texts
+pub printable_cell : (row : Row) (i : ℕ) → All IsPrintable row → IsPrintable (cell row i)
 printable_cell [] i h = tt
 printable_cell (v ∷ vs) zero h = All-head IsPrintable v vs h
 printable_cell (v ∷ vs) (suc i) h = printable_cell vs i (All-tail IsPrintable v vs h)
@@ -103,10 +104,10 @@ printable_filled row (j ∷ js) (v ∷ vs) p q =
     printable_filled (slice_set row j v) js vs (All-set IsPrintable row j v (All-head IsPrintable v vs q) p) (All-tail IsPrintable v vs q)
 
 -- what is stored is a row of the table
-pub stored_fits : (d : TableDef) (js : List ℕ) (vs : Row) → IsDefinition d → IsTupleOf (length js) vs → IsRowOf d (stored_cells d js vs)
-stored_fits d js vs s t =
+pub stored_fits : (d : TableDef) (js : List ℕ) (vs : Row) → IsDefinition d → All IsPrintable vs → IsRowOf d (stored_cells d js vs)
+stored_fits d js vs s h =
     let row = row_of d js vs in
-    let printable : All IsPrintable row = printable_filled (replicate (length d.columns) Null) js vs (All-replicate IsPrintable (length d.columns) Null tt) t.printable in
+    let printable : All IsPrintable row = printable_filled (replicate (length d.columns) Null) js vs (All-replicate IsPrintable (length d.columns) Null tt) h in
     record {
       width = length-stored d js vs s;
       printable = subst (All IsPrintable) (sym (stored_law d js vs s)) (All-map IsPrintable (cell row) (all_assignable d) (λ k i l. printable_cell row (slice_index_or (all_assignable d) k i) printable));

@@ -12,9 +12,11 @@ use Rattle.tql_bound.specs.Works.{work_of}
 use Rattle.tql_bound.specs.declared.change.Insertion.{Insertion}
 use Rattle.tql_bound.specs.declared.change.Modification.{Modification}
 use Rattle.tql_expr.specs.Meaning.{cond}
+use Rattle.tql_catalog.specs.Rows.{IsRowOf}
 use Rattle.tql_store.specs.Views.{version_of}
 use Rattle.tql_store.specs.declared.store.Delta.{Delta}
 use Rattle.tql_store.specs.declared.version.Version.{Version}
+use Rattle.tql_value.specs.Points.{IsMoment}
 use Rattle.tql_value.specs.Refusals.{refusal_of}
 use Rattle.tql_value.specs.declared.refusal.Refusal.{Refusal}
 use Rattle.tql_value.specs.declared.refusal.Refusal.TheVariants.{OutOfMemory}
@@ -75,3 +77,8 @@ is_yes (Some b) = b
 -- the versions that go: those whose row is touched
 abbrev pub gone : TableDef → Modification → List Version → List ℕ
 gone d x found = map (λ (v : Version). v.id) (filter (λ (v : Version). is_yes (is_touched d None (conds_in x) (shown d (version_of v).row))) found)
+
+-- a version of the table's rows: as many cells as are stored, each of which has a text, since a moment that has one
+pub record IsVersionOf (d : TableDef) (v : Version) : Type 0 where
+  pub cells : IsRowOf d (version_of v).row.cells
+  pub start : IsMoment v.start

@@ -1,11 +1,12 @@
 //! UPDATE and DELETE.
-ghost use Rattle.std.specs.Prelude.{◌≡◌, All, length};
+ghost use Rattle.std.specs.Prelude.{◌≡◌, All, length, IfOk};
 ghost use Rattle.tql_spec.specs.Definition.{shown};
 ghost use Rattle.tql_bound.specs.Works.{work_of};
-ghost use Rattle.tql_catalog.specs.Rows.{stored_width};
+ghost use Rattle.tql_catalog.specs.Rows.{IsRowOf, stored_width};
 ghost use Rattle.tql_store.specs.Views.{version_of};
-ghost use Rattle.tql_dml.specs.Alters.{Alters, modified, fates, coming, gone, conds_in};
+ghost use Rattle.tql_dml.specs.Alters.{Alters, modified, fates, coming, gone, conds_in, IsVersionOf};
 ghost use Rattle.tql_dml.specs.Evaluated.{Evaluated};
+ghost use Rattle.tql_dml.specs.Inserts.{rows_of};
 ghost use Rattle.tql_dml.specs.Parts.{shown_by, before, touched_part, part_of, parts, parts_in};
 
 use crate::assignment::changed_row;
@@ -132,7 +133,8 @@ fn changes(
 
 /// The change that UPDATE or DELETE makes of these versions, the current ones of the table: those whose row is touched go, and under
 /// UPDATE the row that each becomes comes. Refused, the first of them over all rows: an evaluation out of range, a text longer than its
-/// column takes, a NULL in a column that takes none; memory. Nothing is changed.
+/// column takes, a NULL in a column that takes none; memory. Nothing is changed. Where the versions
+/// are rows of the table, so are those that come.
 pub fn modify(
     memory: Memory,
     table: &Table,
@@ -140,9 +142,11 @@ pub fn modify(
     modification: &Modification,
 ) -> Result<Delta, Refusal>
     requires { All (λ v. length v.row.now ≡ stored_width table.now.definition) found.now }
-    ensures { Alters table.now.id (gone table.now.definition modification.now found.now)
+    ensures alters { Alters table.now.id (gone table.now.definition modification.now found.now)
         (λ m. coming (fates table.now.definition found.now modification.now m))
         (modified table.now.definition found.now modification.now) result }
+    ensures fits { All (IsVersionOf table.now.definition) found.now
+        → IfOk result (λ delta. All (IsRowOf table.now.definition) (rows_of delta.added.items)) }
 {
     let definition = &table.definition;
     let changed = changes(memory, definition, modification, found)?;
