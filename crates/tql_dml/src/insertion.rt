@@ -5,7 +5,7 @@ ghost use Rattle.tql_dml.specs.Alters.{Alters, inserted};
 ghost use Rattle.tql_dml.specs.Inserts.{rows_of};
 
 use crate::faults::first_fault;
-use crate::spread::spread_each;
+use crate::spread::new_rows;
 use crate::values::tuples_of;
 use tql_bound::change::Insertion;
 use tql_catalog::catalog::Table;
@@ -22,7 +22,7 @@ pub fn insert_tuples(memory: Memory, table: &Table, insertion: &Insertion) -> Re
 {
     let definition = &table.definition;
     let tuples = tuples_of(memory, &insertion.terms, &insertion.tuples)?;
-    let added = spread_each(memory, definition, &insertion.columns, tuples)?;
+    let added = new_rows(memory, definition, &insertion.columns, tuples)?;
     match first_fault(definition.columns(), definition.assignable(), &added) {
         Some(refusal) => Err(refusal),
         None => Ok(Delta {
