@@ -13,11 +13,12 @@ use tql_memory::Memory;
 use tql_store::store::Delta;
 use tql_value::refusal::Refusal;
 
-/// The change that adds a row for each tuple: its values in the columns that are given values, and NULL in the others. Refused, the
-/// first of them over all rows: an evaluation out of range, a text longer than its column takes, a NULL in a column that takes none;
-/// memory. Nothing is changed. The rows that come fit the table.
+/// The change that adds a row for each tuple: its values in the columns that are given values, and NULL in the others.
+/// Refused, the first of them over all rows: an evaluation out of range, a text longer than its column takes, a NULL in
+/// a column that takes none; memory. Nothing is changed. The rows that come fit the table.
 pub fn insert_tuples(memory: Memory, table: &Table, insertion: &Insertion) -> Result<Delta, Refusal>
-    ensures alters { Alters table.now.id [] (λ m. (inserted table.now.definition insertion.now m).rows) (inserted table.now.definition insertion.now) result }
+    ensures alters { Alters table.now.id [] (λ m. (inserted table.now.definition insertion.now m).rows)
+        (inserted table.now.definition insertion.now) result }
     ensures fits { IfOk result (λ delta. All (IsRowOf table.now.definition) (rows_of delta.added.items)) }
 {
     let definition = &table.definition;
