@@ -1,7 +1,8 @@
 -- What the changes make, from what their parts make.
-use Rattle.std.specs.Prelude.{◌≡◌, ℕ, ℤ, List, [], map, length, Option, Some, None, Ok, Err, Result, IsErr, IsErrAnd, pos}
+use Rattle.std.specs.Prelude.{◌≡◌, ℕ, ℤ, List, [], map, length, All, Option, Some, None, Ok, Err, Result, IsErr, IsErrAnd, pos}
 use Rattle.std.proofs.Common.{sym, ap, subst, ◌∙◌}
 use Rattle.std.proofs.lemmas.List.{length-map}
+use Rattle.std.proofs.lemmas.List.Elements.{All-map, All-weaker}
 use Rattle.tql_spec.specs.Datum.{Row}
 use Rattle.tql_spec.specs.Refusal as spec
 use Rattle.tql_spec.specs.Refusal.{first}
@@ -9,21 +10,25 @@ use Rattle.tql_spec.specs.Definition.{TableDef, Stamped}
 use Rattle.tql_spec.specs.Change.{Outcome, Fate, outcome_of}
 use Rattle.tql_spec.specs.Change as change
 use Rattle.tql_catalog.specs.Defined.{IsDefinition}
+use Rattle.tql_catalog.specs.Rows.{IsRowOf}
 use Rattle.tql_bound.specs.Works.{work_of}
 use Rattle.tql_bound.specs.declared.change.Insertion.{Insertion}
 use Rattle.tql_bound.specs.declared.change.Modification.{Modification}
 use Rattle.tql_store.specs.declared.store.Delta.{Delta}
 use Rattle.tql_store.specs.declared.version.Version.{Version}
+use Rattle.tql_value.specs.Points.{IsPrintable}
 use Rattle.tql_value.specs.Refusals.{refusal_of}
 use Rattle.tql_value.specs.declared.refusal.Refusal.{Refusal}
 use Rattle.tql_value.specs.declared.refusal.Refusal.TheVariants as r
-use Rattle.tql_dml.specs.Alters.{Gives, Alters, inserted, tuples_in, rows_in, conds_in, modified, fates, coming, gone}
+use Rattle.tql_dml.specs.Alters.{Gives, Alters, inserted, tuples_in, rows_in, conds_in, modified, fates, coming, gone, IsVersionOf}
 use Rattle.tql_dml.specs.Cells.{stored_columns, stored_cells, rows_faults}
 use Rattle.tql_dml.specs.Evaluated.{Fails}
 use Rattle.tql_dml.specs.Inserts.{rows_of}
 use Rattle.tql_dml.specs.Parts.{Parts, parts}
 use Rattle.tql_dml.proofs.Fates.{Told, agreed, disagreed, fates_agree}
 use Rattle.tql_dml.proofs.Rows.{Fit, PartsFit, AreRows, parts_fit, stored_faults}
+use Rattle.tql_dml.proofs.Filling.{stored_fits}
+use Rattle.tql_dml.proofs.Texts.{RowsPrint, tuples_print, coming_fit}
 use Rattle.tql_dml.proofs.Inserting.{new_cells, first_of}
 
 -- a fault is told
@@ -62,6 +67,13 @@ insert_adds d id x tuples delta s v table removed rows count faults =
       count = λ m. count ∙ sym (length-map delta.added.items _) ∙ ap length rows ∙ length-map tuples (stored_cells d js) ∙ sym (length-map tuples _) ∙ sym (ap (λ (y : Outcome). y.count) (valued d x tuples m v));
       sound = λ m. insert_faults d x tuples (rows_of delta.added.items) None m s v rows faults;
     }
+
+-- what is added fits the table
+pub insert_fits : (d : TableDef) (x : Insertion) (tuples rows : List Row) → IsDefinition d → tuples_in x ≡ Some tuples → rows ≡ map (stored_cells d x.columns.items) tuples → All (IsRowOf d) rows
+insert_fits d x tuples rows s v is =
+    let prints : RowsPrint (Some tuples) = subst RowsPrint v (tuples_print x.terms x.tuples.items) in
+    subst (All (IsRowOf d)) (sym is) (All-map (IsRowOf d) (stored_cells d x.columns.items) tuples
+    (All-weaker (All IsPrintable) (λ vs. IsRowOf d (stored_cells d x.columns.items vs)) (λ vs h. stored_fits d x.columns.items vs s h) tuples prints))
 
 -- ---- UPDATE and DELETE
 
@@ -125,3 +137,8 @@ modify_gives d id found x p delta s h v table removed rows count faults = record
       count ∙ sym t.1.1.count ∙ sym (ap (λ (y : Outcome). y.count) (outcome_is d found x t.0 m t.1.0));
   sound = λ m. modify_faults d found x p None m s h v faults;
 }
+
+-- what comes fits the table
+pub modify_fits : (d : TableDef) (found : List Version) (x : Modification) (p : Parts) (rows : List Row) → IsDefinition d → AreRows d found → parts_of d found x ≡ Some p → rows ≡ p.come
+    → All (IsVersionOf d) found → All (IsRowOf d) rows
+modify_fits d found x p rows s h v is f = subst (All (IsRowOf d)) (sym is) (coming_fit d x.terms x.work (conds_in x) found p s h v f)

@@ -1,10 +1,10 @@
 -- The cells of a new row: their number, their values, and the row whose values are given in order.
-use Rattle.std.specs.Prelude.{◌≡◌, refl, ℕ, zero, suc, ◌<◌, Bool, true, false, not, ◌&&◌, ◌||◌, ◌==◌, nat_lt, List, [], ◌∷◌, map, filter, length, replicate, slice_set, slice_index_or, All, IsTrue, Option, Some, None}
+use Rattle.std.specs.Prelude.{◌≡◌, refl, ℕ, zero, suc, ◌<◌, Bool, true, false, not, ◌&&◌, ◌||◌, ◌==◌, nat_lt, List, [], ◌∷◌, map, filter, length, replicate, slice_set, slice_index_or, All, Vec, nat_eq, IsTrue, Option, Some, None}
 use Rattle.std.specs.List.{list_all, range_with_len}
 use Rattle.std.proofs.Common.{sym, ap, subst, ◌∙◌, arith}
 use Rattle.std.proofs.lemmas.List.{length-set, length-map, length-replicate, get_or-set_same, get_or-set_other}
 use Rattle.std.proofs.lemmas.List.Elements.{All-head, All-tail, All-set, All-replicate, All-map}
-use borrow.Author.Tests.{ltb-true, eqb-false}
+use borrow.Author.Tests.{ltb-true, eqb-false, eqb-true}
 use Rattle.tql_spec.specs.Datum.{Null, Row}
 use Rattle.tql_spec.specs.Definition.{TableDef, System, without_generated, cell}
 use Rattle.tql_spec.specs.Change.{filled, row_of}
@@ -12,9 +12,13 @@ use Rattle.tql_spec.specs.Creation.{has_number}
 use Rattle.tql_spec.specs.Binding.{all_assignable, is_generated, generated_columns}
 use Rattle.tql_catalog.specs.Defined.{IsDefinition}
 use Rattle.tql_catalog.proofs.Definitions.{has_its_system}
-use Rattle.tql_catalog.specs.Rows.{IsTupleOf, IsRowOf, has_system, numbers_repeat, are_assignable}
+use Rattle.tql_catalog.specs.Rows.{IsRowOf, has_system, numbers_repeat, are_assignable}
 use Rattle.tql_value.specs.Points.{IsPrintable}
+use Rattle.tql_value.specs.Views.{datum_of_value}
+use Rattle.tql_value.specs.declared.value.Value.{Value}
 use Rattle.tql_dml.specs.Cells.{stored_cells}
+use Rattle.tql_dml.specs.Inserts as rows
+use Rattle.tql_dml.specs.Inserts.{rows_of}
 use Rattle.tql_dml.proofs.Kept.{kept, kept_law, and_left, and_right, not_is}
 
 pub length-filled : (row : Row) (js : List ℕ) (vs : Row) → length (filled row js vs) ≡ length row
@@ -91,7 +95,8 @@ system_fits d s n right e w = (λ i. has_system (e i) (w i)) ∙ has_its_system 
 
 -- ---- values that have texts
 
-printable_cell : (row : Row) (i : ℕ) → All IsPrintable row → IsPrintable (cell row i)
+-- a cell of a row that has texts
+pub printable_cell : (row : Row) (i : ℕ) → All IsPrintable row → IsPrintable (cell row i)
 printable_cell [] i h = tt
 printable_cell (v ∷ vs) zero h = All-head IsPrintable v vs h
 printable_cell (v ∷ vs) (suc i) h = printable_cell vs i (All-tail IsPrintable v vs h)
@@ -103,20 +108,20 @@ printable_filled row (j ∷ js) (v ∷ vs) p q =
     printable_filled (slice_set row j v) js vs (All-set IsPrintable row j v (All-head IsPrintable v vs q) p) (All-tail IsPrintable v vs q)
 
 -- what is stored is a row of the table
-pub stored_fits : (d : TableDef) (js : List ℕ) (vs : Row) → IsDefinition d → IsTupleOf (length js) vs → IsRowOf d (stored_cells d js vs)
-stored_fits d js vs s t =
+pub stored_fits : (d : TableDef) (js : List ℕ) (vs : Row) → IsDefinition d → All IsPrintable vs → IsRowOf d (stored_cells d js vs)
+stored_fits d js vs s h =
     let row = row_of d js vs in
-    let printable : All IsPrintable row = printable_filled (replicate (length d.columns) Null) js vs (All-replicate IsPrintable (length d.columns) Null tt) t.printable in
+    let printable : All IsPrintable row = printable_filled (replicate (length d.columns) Null) js vs (All-replicate IsPrintable (length d.columns) Null tt) h in
     record {
       width = length-stored d js vs s;
       printable = subst (All IsPrintable) (sym (stored_law d js vs s)) (All-map IsPrintable (cell row) (all_assignable d) (λ k i l. printable_cell row (slice_index_or (all_assignable d) k i) printable));
     }
 
 -- new rows whose values are given for all columns in order
-pub usual_rows : (d : TableDef) (js : List ℕ) (tuples : List Row) → IsDefinition d → js ≡ all_assignable d → are_assignable d js ≡ true → All (IsTupleOf (length js)) tuples
-    → tuples ≡ map (stored_cells d js) tuples
+pub usual_rows : {A : Type 0} (d : TableDef) (js : List ℕ) (tuples : List (Vec Value A)) → IsDefinition d → js ≡ all_assignable d → are_assignable d js ≡ true
+    → list_all (λ (t : Vec Value A). nat_eq (length t.items) (length js)) tuples ≡ true → rows_of tuples ≡ map (stored_cells d js) (rows_of tuples)
 usual_rows d js [] s e a h = refl
-usual_rows d js (vs ∷ tuples) s e a h =
-    let t : IsTupleOf (length js) vs = All-head (IsTupleOf (length js)) vs tuples h in
-    let here : vs ≡ stored_cells d js vs = sym (usual_row d js vs s e a t.width) in
-    λ i. here i ∷ usual_rows d js tuples s e a (All-tail (IsTupleOf (length js)) vs tuples h) i
+usual_rows {A} d js (t ∷ ts) s e a h =
+    let wide : length t.items ≡ length js = eqb-true (length t.items) (length js) (and_left (nat_eq (length t.items) (length js)) _ h) in
+    let here : rows.row_of t.items ≡ stored_cells d js (rows.row_of t.items) = sym (usual_row d js (rows.row_of t.items) s e a (length-map t.items datum_of_value ∙ wide)) in
+    λ i. here i ∷ usual_rows d js ts s e a (and_right (nat_eq (length t.items) (length js)) _ h) i

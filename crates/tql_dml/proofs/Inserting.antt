@@ -57,7 +57,7 @@ adds d id js tuples delta s t table removed rows count faults = record {
   added = λ m. new_cells d m js tuples ∙ sym rows;
   count = count ∙ sym (length-map delta.added.items _) ∙ ap length rows ∙ length-map tuples (stored_cells d js);
   rows = subst (All (IsRowOf d)) (sym rows) (All-map (IsRowOf d) (stored_cells d js) tuples
-      (All-weaker (IsTupleOf (length js)) (λ vs. IsRowOf d (stored_cells d js vs)) (λ vs h. stored_fits d js vs s h) tuples t));
+      (All-weaker (IsTupleOf (length js)) (λ vs. IsRowOf d (stored_cells d js vs)) (λ vs h. stored_fits d js vs s h.printable) tuples t));
   sound = λ m. first_of d m js tuples (rows_of delta.added.items) None s rows faults;
 }
 

@@ -7,3 +7,4 @@ pub mod Evaluations
 pub mod Altering
 pub mod Rows
 pub mod Fates
+pub mod Texts

@@ -5,16 +5,18 @@ use Rattle.tql_spec.specs.Datum.{Row}
 use Rattle.tql_spec.specs.Refusal.{first}
 use Rattle.tql_spec.specs.Definition.{TableDef, Stamped, shown}
 use Rattle.tql_spec.specs.Expression.{Cond, eval}
-use Rattle.tql_spec.specs.Change.{Outcome, Fate, fate, is_touched}
+use Rattle.tql_spec.specs.Change.{Outcome, Fate, Work, fate, is_touched}
 use Rattle.tql_spec.specs.Change as change
 use Rattle.tql_bound.specs.Changes.{tuple_of}
 use Rattle.tql_bound.specs.Works.{work_of}
 use Rattle.tql_bound.specs.declared.change.Insertion.{Insertion}
 use Rattle.tql_bound.specs.declared.change.Modification.{Modification}
 use Rattle.tql_expr.specs.Meaning.{cond}
+use Rattle.tql_catalog.specs.Rows.{IsRowOf}
 use Rattle.tql_store.specs.Views.{version_of}
 use Rattle.tql_store.specs.declared.store.Delta.{Delta}
 use Rattle.tql_store.specs.declared.version.Version.{Version}
+use Rattle.tql_value.specs.Points.{IsMoment}
 use Rattle.tql_value.specs.Refusals.{refusal_of}
 use Rattle.tql_value.specs.declared.refusal.Refusal.{Refusal}
 use Rattle.tql_value.specs.declared.refusal.Refusal.TheVariants.{OutOfMemory}
@@ -50,17 +52,21 @@ inserted d x m = change.insert d m [] x.columns.items (tuples_in x)
 abbrev pub rows_in : List Version → List Stamped
 rows_in found = map (λ (v : Version). (version_of v).row) found
 
+-- what a row that a modification touches becomes
+abbrev pub work_in : Modification → Work
+work_in x = work_of x.terms x.work
+
 -- the conditions of a modification
 abbrev pub conds_in : Modification → List Cond
 conds_in x = map (cond x.terms) x.conjuncts.items
 
 -- what a modification makes of these rows
 abbrev pub modified : TableDef → List Version → Modification → ℤ → Outcome
-modified d found x m = change.modify d m (rows_in found) None (work_of x.terms x.work) (conds_in x)
+modified d found x m = change.modify d m (rows_in found) None (work_in x) (conds_in x)
 
 -- what becomes of each of them, none where an evaluation is out of range
 abbrev pub fates : TableDef → List Version → Modification → ℤ → Option (List Fate)
-fates d found x m = map_all (λ r. fate d m None (work_of x.terms x.work) (conds_in x) (shown d r)) (rows_in found)
+fates d found x m = map_all (λ r. fate d m None (work_in x) (conds_in x) (shown d r)) (rows_in found)
 
 -- the rows that come
 abbrev pub coming : Option (List Fate) → List Stamped
@@ -75,3 +81,8 @@ is_yes (Some b) = b
 -- the versions that go: those whose row is touched
 abbrev pub gone : TableDef → Modification → List Version → List ℕ
 gone d x found = map (λ (v : Version). v.id) (filter (λ (v : Version). is_yes (is_touched d None (conds_in x) (shown d (version_of v).row))) found)
+
+-- a version of the table's rows: as many cells as are stored, each of which has a text, since a moment that has one
+pub record IsVersionOf (d : TableDef) (v : Version) : Type 0 where
+  pub cells : IsRowOf d (version_of v).row.cells
+  pub start : IsMoment v.start

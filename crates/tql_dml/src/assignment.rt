@@ -41,7 +41,8 @@ fn assign(
     cells: &mut [Value],
 ) -> Result<(), Refusal>
     requires { All (λ a. HasExpr terms.now a.value) sets.now }
-    ensures { Evaluated (λ _. row_of cells.new) (assigned (shown_by old.now) (row_of cells.old) (map (assignment_of terms.now) sets.now)) result }
+    ensures { Evaluated (λ _. row_of cells.new)
+        (assigned (shown_by old.now) (row_of cells.old) (map (assignment_of terms.now) sets.now)) result }
 {
     for set in sets {
         let value = value_on(memory, terms, set.value, old)?;
@@ -50,8 +51,8 @@ fn assign(
     Ok(())
 }
 
-/// The cells of the row that assignments make of a row: its values, with each assigned column set to a value that is computed on the old
-/// row; without the generated columns.
+/// The cells of the row that assignments make of a row: its values, with each assigned column set to a value that is
+/// computed on the old row; without the generated columns.
 pub(crate) fn changed_row(
     memory: Memory,
     terms: &Terms,

@@ -1,11 +1,11 @@
 //! UPDATE and DELETE.
-ghost use Rattle.std.specs.Prelude.{◌≡◌, All, length};
+ghost use Rattle.std.specs.Prelude.{◌≡◌, All, length, IfOk};
 ghost use Rattle.tql_spec.specs.Definition.{shown};
-ghost use Rattle.tql_bound.specs.Works.{work_of};
-ghost use Rattle.tql_catalog.specs.Rows.{stored_width};
+ghost use Rattle.tql_catalog.specs.Rows.{IsRowOf, stored_width};
 ghost use Rattle.tql_store.specs.Views.{version_of};
-ghost use Rattle.tql_dml.specs.Alters.{Alters, modified, fates, coming, gone, conds_in};
+ghost use Rattle.tql_dml.specs.Alters.{Alters, modified, fates, coming, gone, work_in, conds_in, IsVersionOf};
 ghost use Rattle.tql_dml.specs.Evaluated.{Evaluated};
+ghost use Rattle.tql_dml.specs.Inserts.{rows_of};
 ghost use Rattle.tql_dml.specs.Parts.{shown_by, before, touched_part, part_of, parts, parts_in};
 
 use crate::assignment::changed_row;
@@ -21,7 +21,8 @@ use tql_value::refusal::Refusal;
 use tql_value::table::TableId;
 use tql_value::value::Value;
 
-/// What a modification does so far: the versions that go, by their ids, and the rows that come, without generated columns.
+/// What a modification does so far: the versions that go, by their ids, and the rows that come, without generated
+/// columns.
 struct Changed {
     removed: Vec<usize, Memory>,
     added: Vec<Vec<Value, Memory>, Memory>,
@@ -79,7 +80,7 @@ fn touch(
     changed: &mut Changed,
 ) -> Result<(), Refusal>
     ensures { Evaluated (λ _. parts_in changed.new) (before (parts_in changed.old)
-        (touched_part definition.now (work_of modification.now.terms modification.now.work) id (shown_by row.now))) result }
+        (touched_part definition.now (work_in modification.now) id (shown_by row.now))) result }
 {
     changed.removed.push(id)?;
     match &modification.work {
@@ -101,7 +102,7 @@ fn add_version(
     changed: &mut Changed,
 ) -> Result<(), Refusal>
     ensures { Evaluated (λ _. parts_in changed.new) (before (parts_in changed.old)
-        (part_of definition.now (work_of modification.now.terms modification.now.work) (conds_in modification.now) version.entry.id
+        (part_of definition.now (work_in modification.now) (conds_in modification.now) version.entry.id
         (shown definition.now (version_of version.entry).row))) result }
 {
     let row = shown_row(definition, version);
@@ -118,7 +119,8 @@ fn changes(
     modification: &Modification,
     found: &[Version<'_>],
 ) -> Result<Changed, Refusal>
-    ensures { Evaluated parts_in (parts definition.now (work_of modification.now.terms modification.now.work) (conds_in modification.now) found.now) result }
+    ensures { Evaluated parts_in
+        (parts definition.now (work_in modification.now) (conds_in modification.now) found.now) result }
 {
     let mut changed = Changed {
         removed: Vec::new(memory),
@@ -130,9 +132,10 @@ fn changes(
     Ok(changed)
 }
 
-/// The change that UPDATE or DELETE makes of these versions, the current ones of the table: those whose row is touched go, and under
-/// UPDATE the row that each becomes comes. Refused, the first of them over all rows: an evaluation out of range, a text longer than its
-/// column takes, a NULL in a column that takes none; memory. Nothing is changed.
+/// The change that UPDATE or DELETE makes of these versions, the current ones of the table: those whose row is touched
+/// go, and under UPDATE the row that each becomes comes. Refused, the first of them over all rows: an evaluation out of
+/// range, a text longer than its column takes, a NULL in a column that takes none; memory. Nothing is changed. Where
+/// the versions are rows of the table, so are those that come.
 pub fn modify(
     memory: Memory,
     table: &Table,
@@ -140,9 +143,11 @@ pub fn modify(
     modification: &Modification,
 ) -> Result<Delta, Refusal>
     requires { All (λ v. length v.row.now ≡ stored_width table.now.definition) found.now }
-    ensures { Alters table.now.id (gone table.now.definition modification.now found.now)
+    ensures alters { Alters table.now.id (gone table.now.definition modification.now found.now)
         (λ m. coming (fates table.now.definition found.now modification.now m))
         (modified table.now.definition found.now modification.now) result }
+    ensures fits { All (IsVersionOf table.now.definition) found.now
+        → IfOk result (λ delta. All (IsRowOf table.now.definition) (rows_of delta.added.items)) }
 {
     let definition = &table.definition;
     let changed = changes(memory, definition, modification, found)?;

@@ -1,9 +1,9 @@
-ghost use Rattle.std.specs.Prelude.{◌≡◌, IsTrue, All, replicate, remove, slice_set, length, map, option_map, IfOk, IfErr};
+ghost use Rattle.std.specs.Prelude.{◌≡◌, IsTrue, nat_eq, replicate, remove, slice_set, length, map, option_map, IfOk, IfErr};
+ghost use Rattle.std.specs.List.{list_all};
 ghost use Rattle.tql_spec.specs.Datum.{Null};
 ghost use Rattle.tql_spec.specs.Definition.{without_generated};
 ghost use Rattle.tql_spec.specs.Change.{filled};
 ghost use Rattle.tql_catalog.specs.Definitions.{system_of};
-ghost use Rattle.tql_catalog.specs.Rows.{IsTupleOf, are_assignable};
 ghost use Rattle.tql_value.specs.Views.{datum_of_value};
 ghost use Rattle.tql_value.specs.declared.refusal.Refusal.TheVariants.{OutOfMemory};
 ghost use Rattle.tql_dml.specs.Cells.{stored_cells};
@@ -88,7 +88,7 @@ fn spread(
 }
 
 /// The cells of each new row. The values are moved out.
-pub(crate) fn spread_each(
+fn spread_each(
     memory: Memory,
     definition: &TableDef,
     columns: &[usize],
@@ -104,19 +104,37 @@ pub(crate) fn spread_each(
     Ok(rows)
 }
 
-/// The cells of each new row. Tuples that name all columns that are not generated, in order, are the rows.
+/// Whether each tuple has so many values.
+fn are_wide(tuples: &[Vec<Value, Memory>], width: usize) -> bool
+    ensures { result ≡ list_all (λ tuple. nat_eq (length tuple.items) width) tuples.now }
+{
+    tuples.iter().all(|tuple| tuple.len() == width)
+}
+
+/// Whether tuples give a value to each column that is not generated, in order: then they are the cells of the new rows.
+fn are_stored(definition: &TableDef, columns: &[usize], tuples: &[Vec<Value, Memory>]) -> bool
+    ensures { IsTrue result → rows_of tuples.now ≡ map (stored_cells definition.now columns.now) (rows_of tuples.now) }
+{
+    if columns != definition.assignable() {
+        return false;
+    }
+    if !definition.are_assignable(columns) {
+        return false;
+    }
+    are_wide(tuples, columns.len())
+}
+
+/// The cells of each new row. Where the tuples are these already, nothing is moved.
 pub fn new_rows(
     memory: Memory,
     definition: &TableDef,
     columns: &[usize],
     tuples: Vec<Vec<Value, Memory>, Memory>,
 ) -> Result<Vec<Vec<Value, Memory>, Memory>, Refusal>
-    requires columns { IsTrue (are_assignable definition.now columns.now) }
-    requires tuples { All (IsTupleOf (length columns.now)) (rows_of tuples.items) }
     ensures rows { IfOk result (λ rows. rows_of rows.items ≡ map (stored_cells definition.now columns.now) (rows_of tuples.entry.items)) }
     ensures memory { IfErr result (λ e. e ≡ OutOfMemory) }
 {
-    if columns == definition.assignable() {
+    if are_stored(definition, columns, &tuples) {
         return Ok(tuples);
     }
     spread_each(memory, definition, columns, tuples)

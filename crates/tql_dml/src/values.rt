@@ -23,7 +23,8 @@ pub(crate) fn value_on<C: Columns>(
     row: &C,
 ) -> Result<Value, Refusal>
     requires { HasExpr terms.now expr }
-    ensures { Evaluated datum_of_value (tree.eval (C.group row.now) (C.values row.now) (tree_of terms.now expr)) result }
+    ensures { Evaluated datum_of_value
+        (tree.eval (C.group row.now) (C.values row.now) (tree_of terms.now expr)) result }
 {
     terms.eval(expr, row)?.to_value(memory)
 }
@@ -36,7 +37,8 @@ fn values_on(
     row: &Row,
 ) -> Result<Vec<Value, Memory>, Refusal>
     requires { All (HasExpr terms.now) exprs.now }
-    ensures { Evaluated (λ values. row_of values.items) (map_all (tree.eval [] row.now) (map (tree_of terms.now) exprs.now)) result }
+    ensures { Evaluated (λ values. row_of values.items)
+        (map_all (tree.eval [] row.now) (map (tree_of terms.now) exprs.now)) result }
 {
     let mut values = Vec::with_capacity(memory, exprs.len())?;
     for expr in exprs {
@@ -53,7 +55,8 @@ fn tuples_on(
     row: &Row,
 ) -> Result<Vec<Vec<Value, Memory>, Memory>, Refusal>
     requires { All (λ tuple. All (HasExpr terms.now) tuple.items) tuples.now }
-    ensures { Evaluated (λ rows. rows_of rows.items) (map_all (map_all (tree.eval [] row.now)) (map (tuple_of terms.now) tuples.now)) result }
+    ensures { Evaluated (λ rows. rows_of rows.items)
+        (map_all (map_all (tree.eval [] row.now)) (map (tuple_of terms.now) tuples.now)) result }
 {
     let mut rows = Vec::with_capacity(memory, tuples.len())?;
     for tuple in tuples {
@@ -69,7 +72,8 @@ pub(crate) fn tuples_of(
     tuples: &[Vec<ExprId, Memory>],
 ) -> Result<Vec<Vec<Value, Memory>, Memory>, Refusal>
     requires { All (λ tuple. All (HasExpr terms.now) tuple.items) tuples.now }
-    ensures { Evaluated (λ rows. rows_of rows.items) (map_all (map_all (tree.eval [] [])) (map (tuple_of terms.now) tuples.now)) result }
+    ensures { Evaluated (λ rows. rows_of rows.items)
+        (map_all (map_all (tree.eval [] [])) (map (tuple_of terms.now) tuples.now)) result }
 {
     let row = Row::new(memory);
     tuples_on(memory, terms, tuples, &row)

@@ -7,12 +7,12 @@ use Rattle.tql_catalog.specs.Definitions.{column_of}
 use Rattle.tql_dml.specs.Alters.{tuples_in}
 use Rattle.tql_dml.specs.Cells.{stored_cells}
 use Rattle.tql_dml.specs.Inserts.{rows_of}
-use Rattle.tql_dml.proofs.Altering.{insert_refused, insert_adds}
+use Rattle.tql_dml.proofs.Altering.{insert_refused, insert_adds, insert_fits}
 use Rattle.tql_dml.proofs.Inserting.{first_read}
 use Rattle.tql_dml.proofs.insertion.insert_tuples.Goals as goal
 
-pub returns-in-Some : goal.returns-in-Some
-returns-in-Some c =
+pub returns-in-Some-clause-alters : goal.returns-in-Some-clause-alters
+returns-in-Some-clause-alters c =
     let d = c.args.table.now.definition in
     let x = c.args.insertion.now in
     let tuples : List Row = rows_of c.in_ok-tuples.tuples.items in
@@ -22,8 +22,8 @@ returns-in-Some c =
     (first_read d (map column_of c.columns.result.now) c.assignable.result.now (rows_of c.in_ok-added.added.items) (rows_of c.deref-3.result.now) _
     c.columns.ensures.columns c.assignable.ensures.assignable (ap rows_of c.deref-3.ensures.value) c.in-Some.ensures)
 
-pub returns-in-None : goal.returns-in-None
-returns-in-None c =
+pub returns-in-None-clause-alters : goal.returns-in-None-clause-alters
+returns-in-None-clause-alters c =
     let d = c.args.table.now.definition in
     let x = c.args.insertion.now in
     let tuples : List Row = rows_of c.in_ok-tuples.tuples.items in
@@ -32,3 +32,12 @@ returns-in-None c =
     insert_adds d c.args.table.now.id x tuples _ c.columns.ensures.right values (search rules) c.new.ensures.items rows (search rules)
     (first_read d (map column_of c.columns.result.now) c.assignable.result.now (rows_of c.in_ok-added.added.items) (rows_of c.deref-3.result.now) _
     c.columns.ensures.columns c.assignable.ensures.assignable (ap rows_of c.deref-3.ensures.value) c.in-None.ensures)
+
+pub returns-in-None-clause-fits : goal.returns-in-None-clause-fits
+returns-in-None-clause-fits c =
+    let d = c.args.table.now.definition in
+    let x = c.args.insertion.now in
+    let tuples : List Row = rows_of c.in_ok-tuples.tuples.items in
+    let values : tuples_in x ≡ Some tuples = ap (λ ts. map_all (map_all (eval [] [])) (map (tuple_of x.terms) ts)) (sym c.deref.ensures.value) ∙ c.in_ok-tuples.ensures in
+    let rows : rows_of c.in_ok-added.added.items ≡ map (stored_cells d x.columns.items) tuples = c.in_ok-added.ensures.rows ∙ ap (λ js. map (stored_cells d js) tuples) c.deref-2.ensures.value in
+    insert_fits d x tuples (rows_of c.in_ok-added.added.items) c.columns.ensures.right values rows

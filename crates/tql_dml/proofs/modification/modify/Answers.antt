@@ -3,27 +3,32 @@ use Rattle.tql_spec.specs.Datum.{Row}
 use Rattle.tql_catalog.specs.Definitions.{column_of}
 use Rattle.tql_dml.specs.Inserts.{rows_of}
 use Rattle.tql_dml.specs.Parts.{parts_in}
-use Rattle.tql_dml.proofs.Altering.{modify_fails, modify_refused, modify_gives}
+use Rattle.tql_dml.proofs.Altering.{modify_fails, modify_refused, modify_gives, modify_fits}
 use Rattle.tql_dml.proofs.Inserting.{first_read}
 use Rattle.tql_dml.proofs.modification.modify.Goals as goal
 
-pub returns-in_err-changed : goal.returns-in_err-changed
-returns-in_err-changed c =
+pub returns-in_err-changed-clause-alters : goal.returns-in_err-changed-clause-alters
+returns-in_err-changed-clause-alters c =
     modify_fails c.args.table.now.definition c.args.table.now.id c.args.found.now c.args.modification.now c.in_err-changed.field-0.0 c.from_residual.result c.from_residual.ensures c.in_err-changed.ensures
 
-pub returns-in-Some : goal.returns-in-Some
-returns-in-Some c =
+pub returns-in-Some-clause-alters : goal.returns-in-Some-clause-alters
+returns-in-Some-clause-alters c =
     let d = c.args.table.now.definition in
     let rows : List Row = rows_of c.in_ok-changed.changed.added.items in
     modify_refused d c.args.table.now.id c.args.found.now c.args.modification.now (parts_in c.in_ok-changed.changed) c.in-Some.refusal c.columns.ensures.right c.requires c.in_ok-changed.ensures
     (first_read d (map column_of c.columns.result.now) c.assignable.result.now rows (rows_of c.deref.result.now) _
     c.columns.ensures.columns c.assignable.ensures.assignable (ap rows_of c.deref.ensures.value) c.in-Some.ensures)
 
-pub returns-in-None : goal.returns-in-None
-returns-in-None c =
+pub returns-in-None-clause-alters : goal.returns-in-None-clause-alters
+returns-in-None-clause-alters c =
     let d = c.args.table.now.definition in
     let rows : List Row = rows_of c.in_ok-changed.changed.added.items in
     modify_gives d c.args.table.now.id c.args.found.now c.args.modification.now (parts_in c.in_ok-changed.changed) c.of_table.result c.columns.ensures.right c.requires c.in_ok-changed.ensures
     c.of_table.ensures.table c.of_table.ensures.removed (ap rows_of c.of_table.ensures.added) c.of_table.ensures.count
     (first_read d (map column_of c.columns.result.now) c.assignable.result.now rows (rows_of c.deref.result.now) _
     c.columns.ensures.columns c.assignable.ensures.assignable (ap rows_of c.deref.ensures.value) c.in-None.ensures)
+
+pub returns-in-None-clause-fits : goal.returns-in-None-clause-fits
+returns-in-None-clause-fits c =
+    modify_fits c.args.table.now.definition c.args.found.now c.args.modification.now (parts_in c.in_ok-changed.changed) (rows_of c.of_table.result.added.items)
+    c.columns.ensures.right c.requires c.in_ok-changed.ensures (ap rows_of c.of_table.ensures.added)
