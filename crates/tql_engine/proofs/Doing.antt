@@ -38,11 +38,11 @@ use Rattle.tql_engine.proofs.TransactionKeeps.{begun_law, ended_law, undone_law}
 
 -- ---- what is done, by an equal step
 
-by_step : (h : Held) (reply : Reply) (a b : Reply × State) → a ≡ b → Does h reply b → Does h reply a
+pub by_step : (h : Held) (reply : Reply) (a b : Reply × State) → a ≡ b → Does h reply b → Does h reply a
 by_step h reply a b e d = subst (Does h reply) (sym e) d
 
 -- a refusal
-abbrev refuses : (h : Held) (s : State) (e : Refusal) → StandsFor h s → Does h (Refused e) (refused e s)
+abbrev pub refuses : (h : Held) (s : State) (e : Refusal) → StandsFor h s → Does h (Refused e) (refused e s)
 refuses h s e st = record { replies = refl; stands = st }
 
 -- ---- whether a transaction is open
@@ -149,7 +149,7 @@ asked_does h s t p when found headings rows st e answers sorted heads =
 -- ---- changes
 
 -- the definition of each table of the state is right
-defined_all : (h : Held) (s : State) → StandsFor h s → AllByRecursion IsDefinition s.definitions
+pub defined_all : (h : Held) (s : State) → StandsFor h s → AllByRecursion IsDefinition s.definitions
 defined_all h s st = subst (AllByRecursion IsDefinition) (sym st.fits.definitions) st.fits.defined
 
 -- a change without a moment
@@ -163,7 +163,7 @@ no_moment : (w : Option ℤ) (n : ℤ) → (IsNone w → n <ℤ high) → (is_no
 no_moment None n k = let below = k refl in grind (arith, ints, below)
 no_moment (Some m) n k = refl
 
-change_step : (h : Held) (s : State) (c : Change) → StandsFor h s → (IsNone h.rows.working → h.next <ℤ high) → step s (Alter c) ≡ altered s c
+pub change_step : (h : Held) (s : State) (c : Change) → StandsFor h s → (IsNone h.rows.working → h.next <ℤ high) → step s (Alter c) ≡ altered s c
 change_step h s c st below =
     alter_step s c ∙ passed (is_none s.transaction && is_clock_at_end s) (refused MomentNotAllowed s) (altered s c) (lacks_law h s st ∙ no_moment h.rows.working h.next below)
 
@@ -252,7 +252,7 @@ rows_removed h s t p removed r after st e below judged c =
     (change_law h s t p (λ (x : Stamped). true) removed [] r after st e below tt judged c)
 
 -- a table without rows
-none_there : (defs : List TableDef) (t : ℕ) → rows_in (map (λ d. []) defs) t ≡ []
+pub none_there : (defs : List TableDef) (t : ℕ) → rows_in (map (λ d. []) defs) t ≡ []
 none_there [] t = refl
 none_there (d ∷ defs) zero = refl
 none_there (d ∷ defs) (suc t) = none_there defs t

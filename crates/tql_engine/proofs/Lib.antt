@@ -15,6 +15,7 @@ pub mod Printing
 pub mod Removing
 pub mod RowLemmas
 pub mod Standing
+pub mod Swapping
 pub mod TransactionKeeps
 pub mod Widths
 pub mod SenseLaws

@@ -78,8 +78,8 @@ returns-in-Ok-change_rows c s st =
     rw (after_reads _ s after p.id removed rows new back below done)
     (insert_does _ s p x rows removed new after c.in-Ok.delta.count back there below fit gives.removed done gives.added gives.sound gives.count)
 
-pub returns : goal.returns
-returns c s st =
+pub returns-in-Err-change_rows : goal.returns-in-Err-change_rows
+returns-in-Err-change_rows c s st =
     let back = subst (λ h. StandsFor h s) (sym c.self.view_is) st in
     let old = c.self.inside.rows in
     let kept = subst (λ m. KeepsRows old.working m old c.change_rows.new.store) (clock_reads _ s back) c.in-Err-change_rows.ensures.err in
