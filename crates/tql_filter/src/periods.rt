@@ -64,7 +64,6 @@ fn ends_at(start: usize, end: usize, kind: Kind, terms: &mut Terms) -> Result<En
 }
 
 /// What a name stands for is never a period, since it is a column.
-#[tactic(auto, using(tql_scope::proofs::Gathering::gathering))]
 fn no_period(terms: &mut Terms, faults: &mut Faults) -> Result<Ends, AllocError>
     ensures bound { IfOk result (λ x. (found : List Thing) → Gathers (names.one_period (things_of found)) faults.old faults.new (ends_of terms.new x)) }
     ensures stays { Stays terms.old terms.new }
