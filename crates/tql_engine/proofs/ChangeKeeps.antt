@@ -70,11 +70,11 @@ last_fits ps defs es e f = subst (λ (ds : List TableDef). CopyFits ps (newest_c
 
 -- ---- the rows that stay and those that come
 
-rows_both : (p : TableDef) (xs ys : List Stamped) → RowsFit p xs → RowsFit p ys → RowsFit p (xs ++ ys)
+pub rows_both : (p : TableDef) (xs ys : List Stamped) → RowsFit p xs → RowsFit p ys → RowsFit p (xs ++ ys)
 rows_both p [] ys f g = g
 rows_both p (x ∷ xs) ys f g = (f.0, rows_both p xs ys f.1 g)
 
-rows_left : (p : TableDef) (stays : Stamped → Bool) (xs : List Stamped) → RowsFit p xs → RowsFit p (filter stays xs)
+pub rows_left : (p : TableDef) (stays : Stamped → Bool) (xs : List Stamped) → RowsFit p xs → RowsFit p (filter stays xs)
 rows_left p stays [] f = tt
 rows_left p stays (x ∷ xs) f = chosen (stays x) (rows_left p stays xs f.1)
   where
@@ -82,11 +82,11 @@ rows_left p stays (x ∷ xs) f = chosen (stays x) (rows_left p stays xs f.1)
     chosen true g = (f.0, g)
     chosen false g = g
 
-begun_fit : (p : TableDef) (m : ℤ) (rows : List Row) → first_moment ≤ℤ m → m <ℤ high → AreRowsOf p rows → RowsFit p (begun_at m rows)
+pub begun_fit : (p : TableDef) (m : ℤ) (rows : List Row) → first_moment ≤ℤ m → m <ℤ high → AreRowsOf p rows → RowsFit p (begun_at m rows)
 begun_fit p m [] from until f = tt
 begun_fit p m (cells ∷ rows) from until f = (record { cells = f.0; not_before = from; below = until }, begun_fit p m rows from until f.1)
 
-set_fits : (ps : List Table) (t : ℕ) (p : Table) → slice_get ps t ≡ Some p → (copy : Copy) → CopyFits (definitions_of ps) copy → (rows : List Stamped) → RowsFit p.definition rows
+pub set_fits : (ps : List Table) (t : ℕ) (p : Table) → slice_get ps t ≡ Some p → (copy : Copy) → CopyFits (definitions_of ps) copy → (rows : List Stamped) → RowsFit p.definition rows
     → CopyFits (definitions_of ps) (slice_set copy t rows)
 set_fits [] t p e copy f rows k = cc
 set_fits (q ∷ ps) t p e [] f rows k = absurd f

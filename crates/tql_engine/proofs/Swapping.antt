@@ -1,9 +1,10 @@
 -- A state stands as well with the rows of a table in another order.
-use Rattle.std.proofs.Common.{◌≡◌, ◌<◌, cond, refl, ap, sym, subst, ◌∙◌, arith, ℕ, Bool, true, false, List, [], ◌∷◌, map, length, Option, Some, None}
-use Rattle.std.specs.Prelude.{ℤ, pos, ◌+ℤ◌, ◌⊎◌, inl, inr, nat_eq, slice_get, slice_set, if◌then◌else◌}
+use Rattle.std.proofs.Common.{◌≡◌, ◌<◌, cond, refl, ap, sym, subst, ◌∙◌, arith, ℕ, Bool, true, false, List, [], ◌∷◌, map, length, Option, Some, None, inl, inr}
+use Rattle.std.specs.Prelude.{ℤ, pos, ◌+ℤ◌, ◌⊎◌, nat_eq, slice_get, slice_set, if◌then◌else◌}
 use Rattle.std.specs.List.{AllByRecursion}
 use Rattle.std.proofs.lemmas.List.{length-map}
 use Rattle.tql_spec.specs.Bag.{SameBag, In}
+use Rattle.tql_spec.specs.Calendar.{high}
 use Rattle.tql_spec.proofs.Bags.{same-refl, same-sym, same-trans}
 use Rattle.tql_spec.proofs.Members.{by_bool}
 use Rattle.tql_spec.proofs.MemberLists.{times_some, there_if}
@@ -58,7 +59,14 @@ told_same horizon rows ends until m xs ys older b k = (k.0, (either_same rows en
 
 stands_same : (horizon : Option ℤ) (versions : List Version) (m : ℤ) (xs ys : List Stamped) (older : List TableEntry) → SameBag xs ys
     → StandFor horizon versions (record { moment = m; rows = xs } ∷ older) → StandFor horizon versions (record { moment = m; rows = ys } ∷ older)
-stands_same horizon versions m xs ys older b f = record f { told = told_same horizon f.rows f.ends _ m xs ys older b f.told }
+stands_same horizon versions m xs ys older b f = record {
+  rows = f.rows;
+  ends = f.ends;
+  top = f.top;
+  made = f.made;
+  proper = f.proper;
+  told = told_same horizon f.rows f.ends high m xs ys older b f.told;
+}
 
 -- in the newest copies, with no transaction open
 pub copies_same : (r : store.Held) (m : ℤ) (xs ys : Working) (older : Copies) (working : Working) → r.working ≡ None → ((t : ℕ) → SameBag (xs t) (ys t))
@@ -108,17 +116,34 @@ module _ (h : Held) (t : ℕ) (p : Table) (there : slice_get h.tables t ≡ Some
       CopyFits (definitions_of h.tables) (working_now s).copy → StandsFor h (with_table_rows s t xs) → StandsFor h (with_table_rows s t ys))
   swapped_by defs es next None fits f =
       let copy : Copy = newest_copy defs es in
-      record f {
-        fits = record f.fits { rows = (set_fits h.tables t p there copy fits ys ok, f.fits.rows.1) };
+      record {
+        fits = record { definitions = f.fits.definitions; defined = f.fits.defined; rows = (set_fits h.tables t p there copy fits ys ok, f.fits.rows.1); working = f.fits.working };
+        clock = f.clock;
+        not_before = f.not_before;
+        not_after = f.not_after;
+        falls = f.falls;
+        since = f.since;
+        opened = f.opened;
+        dated = f.dated;
         stands = copies_same h.rows next (rows_of_id h.tables (slice_set copy t xs)) (rows_of_id h.tables (slice_set copy t ys)) (copies_of h.tables es) (working_of h.tables None) f.opened
             (rows_same h.rows h.tables t p f.placed there copy fits xs ys b) f.stands;
+        placed = f.placed;
+        count = f.count;
       }
-  swapped_by defs es next (Some e) fits f =
-      record f {
-        fits = record f.fits { working = set_fits h.tables t p there e.copy fits ys ok };
-        stands = working_same h.rows e.moment (rows_of_id h.tables (slice_set e.copy t xs)) (rows_of_id h.tables (slice_set e.copy t ys)) (copies_of h.tables es) f.opened
-            (rows_same h.rows h.tables t p f.placed there e.copy fits xs ys b) f.stands;
-      }
+  swapped_by defs es next (Some e) fits f = record {
+      fits = record { definitions = f.fits.definitions; defined = f.fits.defined; rows = f.fits.rows; working = set_fits h.tables t p there e.copy fits ys ok };
+      clock = f.clock;
+      not_before = f.not_before;
+      not_after = f.not_after;
+      falls = f.falls;
+      since = f.since;
+      opened = f.opened;
+      dated = f.dated;
+      stands = working_same h.rows e.moment (rows_of_id h.tables (slice_set e.copy t xs)) (rows_of_id h.tables (slice_set e.copy t ys)) (copies_of h.tables es) f.opened
+          (rows_same h.rows h.tables t p f.placed there e.copy fits xs ys b) f.stands;
+      placed = f.placed;
+      count = f.count;
+    }
 
   -- the law
   pub swapped : (s : State) → CopyFits (definitions_of h.tables) (working_now s).copy → StandsFor h (with_table_rows s t xs) → StandsFor h (with_table_rows s t ys)
