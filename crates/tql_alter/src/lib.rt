@@ -2,6 +2,7 @@
 #![tactic(auto)]
 
 pub mod columns;
+pub mod delete;
 pub mod insert;
 pub mod sets;
 pub mod tables;

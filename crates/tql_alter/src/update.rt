@@ -1,20 +1,24 @@
-//! UPDATE before its WHERE.
-ghost use Rattle.std.specs.Prelude.{◌∷◌, All, IfOk};
+//! UPDATE.
+ghost use Rattle.std.specs.Prelude.{◌∷◌, All, IfOk, None};
+ghost use Rattle.tql_spec.specs.Binding as binding;
+ghost use Rattle.tql_spec.specs.Machine.{Alter};
+ghost use Rattle.tql_bound.specs.Changes.{modification_of};
 ghost use Rattle.tql_catalog.specs.Tables.{definitions_of};
 ghost use Rattle.tql_expr.specs.Meaning.{Stays};
 ghost use Rattle.tql_tree.specs.Expressions.{name_of};
-ghost use Rattle.tql_tree.specs.Statements.{assignment_of, assignments_of};
+ghost use Rattle.tql_tree.specs.Statements.{assignment_of, assignments_of, filter_of};
 ghost use Rattle.tql_scope.specs.Gathered.{Gathers};
 ghost use Rattle.tql_alter.specs.Cells.{HasAssigned};
 ghost use Rattle.tql_alter.specs.Heads as heads;
 
-use crate::sets::{assignments, set_columns};
+use crate::sets::{assignments, own_reference, set_columns};
 use crate::tables::table_number;
 use std::alloc::AllocError;
-use tql_bound::change::Assignment;
+use tql_bound::change::{Assignment, Modification, Work};
 use tql_catalog::catalog::Catalog;
 use tql_catalog::table_def::TableDef;
 use tql_expr::terms::Terms;
+use tql_filter::conjuncts::plain_filter;
 use tql_memory::Memory;
 use tql_scope::faults::Faults;
 use tql_tree::statement::Update;
@@ -54,4 +58,29 @@ pub fn update_head(
         faults,
     )?;
     Ok(Head { table, sets })
+}
+
+/// An UPDATE of no portion. Faults: those of `update_head`; a name of WHERE is unknown or ambiguous; its kinds do not fit; an aggregate
+/// stands in it; a literal is out of range.
+pub fn update_rows(
+    memory: Memory,
+    catalog: &Catalog,
+    update: &Update<'_>,
+    faults: &mut Faults,
+) -> Result<Modification, AllocError>
+    ensures { IfOk result (λ x. Gathers
+        (binding.update (definitions_of catalog.now) (name_of update.now.table) None (assignment_of update.now.first ∷ assignments_of update.now.more)
+        (filter_of update.now.filter)) faults.old faults.new (Alter (modification_of x))) }
+{
+    let mut terms = Terms::new(memory);
+    let Head { table, sets } = update_head(memory, catalog, update, &mut terms, faults)?;
+    let nothing = TableDef::nothing(memory);
+    let scope = [own_reference(catalog.definition_or(table, &nothing))];
+    let conjuncts = plain_filter(memory, &scope, &update.filter, &mut terms, faults)?;
+    Ok(Modification {
+        terms,
+        table,
+        work: Work::Set(sets),
+        conjuncts,
+    })
 }

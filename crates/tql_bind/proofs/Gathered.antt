@@ -5,12 +5,13 @@ use Rattle.tql_spec.specs.Refusal as spec
 use Rattle.tql_spec.specs.Refusal.{first}
 use Rattle.tql_spec.specs.Words.{same_text}
 use Rattle.tql_spec.specs.Definition.{Name, TableDef, place_of, next_place}
-use Rattle.tql_spec.specs.Binding.{or_no_table, insert_values}
+use Rattle.tql_spec.specs.Binding.{or_no_table, table_number, insert_values, update, delete}
 use Rattle.tql_spec.specs.Machine.{Bound, Alter, changed_table}
 use Rattle.tql_spec.specs.Names.{Checked}
-use Rattle.tql_spec.specs.Syntax.{Tuple}
-use Rattle.tql_bound.specs.Changes.{insertion_of}
+use Rattle.tql_spec.specs.Syntax.{Tuple, SetTree, Condition}
+use Rattle.tql_bound.specs.Changes.{insertion_of, modification_of}
 use Rattle.tql_bound.specs.declared.change.Insertion.{Insertion}
+use Rattle.tql_bound.specs.declared.change.Modification.{Modification}
 use Rattle.tql_scope.specs.Gathered.{Gathers}
 use Rattle.tql_scope.proofs.Gathering.{first_is}
 use Rattle.tql_value.specs.Refusals.{refusal_of}
@@ -58,8 +59,19 @@ abbrev table_of : Bound → ℕ
 table_of (Alter c) = changed_table c
 table_of _ = 0
 
--- the table of an INSERT without a fault is there
+-- what begins with the number of a table
+within_of : (defs : List TableDef) (n : Name) (t : ℕ) (rest : List spec.Refusal) → (table_number defs n).value ≡ t → first ((table_number defs n).faults ++ rest) ≡ None → t < length defs
+within_of defs n t rest is none = subst (λ (i : ℕ). i < length defs) is (by_place defs (place_of n defs) (place_within n defs) rest none)
+
+-- the table of a change without a fault is there
 pub insert_within : (defs : List TableDef) (n : Name) (ns : List Name) (ts : List Tuple) (x : Insertion) → first (insert_values defs n ns ts).faults ≡ None
     → (insert_values defs n ns ts).value ≡ Alter (insertion_of x) → x.table < length defs
-insert_within defs n ns ts x none is =
-    subst (λ (t : ℕ). t < length defs) (ap table_of is) (by_place defs (place_of n defs) (place_within n defs) _ none)
+insert_within defs n ns ts x none is = within_of defs n x.table _ (ap table_of is) none
+
+pub update_within : (defs : List TableDef) (n : Name) (sets : List SetTree) (c : Option Condition) (x : Modification) → first (update defs n None sets c).faults ≡ None
+    → (update defs n None sets c).value ≡ Alter (modification_of x) → x.table < length defs
+update_within defs n sets c x none is = within_of defs n x.table _ (ap table_of is) none
+
+pub delete_within : (defs : List TableDef) (n : Name) (c : Option Condition) (x : Modification) → first (delete defs n None c).faults ≡ None
+    → (delete defs n None c).value ≡ Alter (modification_of x) → x.table < length defs
+delete_within defs n c x none is = within_of defs n x.table _ (ap table_of is) none

@@ -1,15 +1,18 @@
 -- Which statements run.
 use Rattle.std.specs.Prelude.{◌≡◌, refl, Bool, true, false, not, ◌&&◌, IsTrue, List, [], ◌∷◌, Option, Some, None, is_none}
 use Rattle.tql_spec.specs.Definition.{Name}
-use Rattle.tql_spec.specs.Syntax.{Condition, PortionTree, RefTree, JoinTree, ChainTree, Items, AllColumns, TheseItems, Named, SelectTree, OrderTree, DeleteTree, QueryTree}
+use Rattle.tql_spec.specs.Syntax.{Condition, PortionTree, RefTree, JoinTree, ChainTree, Items, AllColumns, TheseItems, Named, SetTree, SelectTree, OrderTree, UpdateTree, DeleteTree, QueryTree}
 use Rattle.tql_spec.specs.Running.{is_whole_table, does_run}
 use Rattle.tql_spec.specs.Binding.{is_star, is_empty}
 use Rattle.tql_bind.proofs.Questions.{of_reference}
 
--- a DELETE that runs is one of every row
-pub delete_runs : (n : Name) (p : Option PortionTree) (f : Option Condition) → IsTrue (does_run (DeleteTree n p f)) → DeleteTree n p f ≡ DeleteTree n None None
-delete_runs n None None e = refl
-delete_runs n None (Some c) e = absurd (cc)
+-- a change that runs has no portion
+pub update_runs : (n : Name) (p : Option PortionTree) (s : SetTree) (ss : List SetTree) (f : Option Condition) → IsTrue (does_run (UpdateTree n p s ss f)) → p ≡ None
+update_runs n None s ss f e = refl
+update_runs n (Some p) s ss f e = absurd (cc)
+
+pub delete_runs : (n : Name) (p : Option PortionTree) (f : Option Condition) → IsTrue (does_run (DeleteTree n p f)) → p ≡ None
+delete_runs n None f e = refl
 delete_runs n (Some p) f e = absurd (cc)
 
 -- a query that runs is one of all columns of one table

@@ -3,17 +3,16 @@ use Rattle.std.specs.Prelude.{◌≡◌, ◌<◌, ℕ, Bool, true, false, ◌||�
 use Rattle.tql_spec.specs.Definition.{TableDef, place_of, table_at}
 use Rattle.tql_spec.specs.History as history
 use Rattle.tql_spec.specs.Query.{Query}
-use Rattle.tql_spec.specs.Change.{Remove}
 use Rattle.tql_spec.specs.Creation.{names_of}
 use Rattle.tql_spec.specs.Binding.{Output, all_columns_from}
 use Rattle.tql_spec.specs.Machine as machine
-use Rattle.tql_bound.specs.Changes.{insertion_of}
+use Rattle.tql_bound.specs.Changes.{insertion_of, modification_of}
 use Rattle.tql_value.specs.Points.{IsMoment}
 use Rattle.tql_bind.specs.declared.bound.When.{When}
 use Rattle.tql_bind.specs.declared.bound.When.TheVariants as when
 use Rattle.tql_bind.specs.declared.bound.Question.{Question}
 use Rattle.tql_bind.specs.declared.bound.Bound.{Bound}
-use Rattle.tql_bind.specs.declared.bound.Bound.TheVariants.{CreateTable, DropTable, Insert as Inserts, DeleteAll, Ask, SetClock, Start, Commit, Rollback}
+use Rattle.tql_bind.specs.declared.bound.Bound.TheVariants.{CreateTable, DropTable, Insert as Inserts, Modify, Ask, SetClock, Start, Commit, Rollback}
 
 -- ---- what they stand for
 
@@ -46,7 +45,7 @@ abbrev pub bound_of : List TableDef → Bound → machine.Bound
 bound_of defs (CreateTable d) = machine.CreateTable d
 bound_of defs (DropTable t) = machine.DropTable t
 bound_of defs (Inserts x) = machine.Alter (insertion_of x)
-bound_of defs (DeleteAll t) = machine.Alter (machine.Modify t None Remove [])
+bound_of defs (Modify x) = machine.Alter (modification_of x)
 bound_of defs (Ask q) = machine.Ask (query_of defs q)
 bound_of defs (SetClock m) = machine.SetClock m
 bound_of defs Start = machine.Start
@@ -75,7 +74,7 @@ abbrev pub IsSound : List TableDef → Bound → Type 0
 IsSound defs (CreateTable d) = IsSoundTable defs d
 IsSound defs (DropTable t) = t < length defs
 IsSound defs (Inserts x) = x.table < length defs
-IsSound defs (DeleteAll t) = t < length defs
+IsSound defs (Modify x) = x.table < length defs
 IsSound defs (Ask q) = IsSoundQuestion defs q
 IsSound defs (SetClock m) = IsMoment m
 IsSound defs Start = Unit {0}

@@ -6,23 +6,23 @@ ghost use Rattle.tql_spec.specs.Running.{does_run};
 ghost use Rattle.tql_spec.specs.Syntax.{AtTree, DropTree};
 ghost use Rattle.tql_catalog.specs.Tables.{definitions_of};
 ghost use Rattle.tql_tree.specs.Expressions.{name_of};
-ghost use Rattle.tql_tree.specs.Statements.{create_of, delete_of, insert_of, span_of, statement_of};
+ghost use Rattle.tql_tree.specs.Statements.{create_of, delete_of, insert_of, span_of, statement_of, update_of};
 ghost use Rattle.tql_define.specs.Binds.{Binds};
 ghost use Rattle.tql_bind.specs.Bounds.{IsSound, bound_of};
 ghost use Rattle.tql_bind.specs.Clauses.{asked};
 ghost use Rattle.tql_bind.specs.Parts.{reference_in};
 
 use crate::bound::Bound;
-use crate::delete::bind_delete;
 use crate::drop_table::bind_drop;
 use crate::insert::bind_insert;
+use crate::modify::{bind_delete, bind_update};
 use crate::moment::bind_moment;
 use crate::question::question;
 use tql_catalog::catalog::Catalog;
 use tql_define::create::new_table;
 use tql_memory::Memory;
 use tql_tree::expression::Name;
-use tql_tree::statement::{CreateTree, Delete, Insert, RefTree, Statement};
+use tql_tree::statement::{CreateTree, Delete, Insert, RefTree, Statement, Update};
 use tql_value::refusal::Refusal;
 
 /// CREATE TABLE with its names bound.
@@ -63,6 +63,19 @@ fn insert(memory: Memory, tables: &Catalog, insert: &Insert<'_>) -> Result<Bound
     }
 }
 
+/// UPDATE with its names bound.
+#[tactic(auto, using(crate::proofs::Chains::same_refusal))]
+fn update(memory: Memory, tables: &Catalog, update: &Update<'_>) -> Result<Bound, Refusal>
+    requires { IsTrue (does_run (update_of update.now)) }
+    ensures binds { Binds (bound_of (definitions_of tables.now)) (bind (definitions_of tables.now) (update_of update.now)) result }
+    ensures sound { IfOk result (IsSound (definitions_of tables.now)) }
+{
+    match bind_update(memory, tables, update) {
+        Ok(modification) => Ok(Bound::Modify(modification)),
+        Err(refusal) => Err(refusal),
+    }
+}
+
 /// DELETE with its names bound.
 #[tactic(auto, using(crate::proofs::Chains::same_refusal))]
 fn delete(memory: Memory, tables: &Catalog, delete: &Delete<'_>) -> Result<Bound, Refusal>
@@ -71,7 +84,7 @@ fn delete(memory: Memory, tables: &Catalog, delete: &Delete<'_>) -> Result<Bound
     ensures sound { IfOk result (IsSound (definitions_of tables.now)) }
 {
     match bind_delete(memory, tables, delete) {
-        Ok(table) => Ok(Bound::DeleteAll(table)),
+        Ok(modification) => Ok(Bound::Modify(modification)),
         Err(refusal) => Err(refusal),
     }
 }
@@ -132,11 +145,12 @@ pub fn bind(memory: Memory, tables: &Catalog, statement: &Statement<'_>) -> Resu
         Statement::Create(tree) => create(memory, tables, tree),
         Statement::DropTable(name) => drop_table(memory, tables, *name),
         Statement::Insert(tree) => insert(memory, tables, tree),
+        Statement::Update(tree) => update(memory, tables, tree),
         Statement::Delete(tree) => delete(memory, tables, tree),
         Statement::StartTransaction => Ok(Bound::Start),
         Statement::Commit => Ok(Bound::Commit),
         Statement::Rollback => Ok(Bound::Rollback),
         Statement::At(moment) => clock(memory, tables, moment),
-        Statement::Query(_) | Statement::Update(_) => Err(Refusal::NotAStatement),
+        Statement::Query(_) => Err(Refusal::NotAStatement),
     }
 }

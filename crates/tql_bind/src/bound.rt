@@ -1,5 +1,5 @@
 //! Statements whose names are bound.
-use tql_bound::change::Insertion;
+use tql_bound::change::{Insertion, Modification};
 use tql_catalog::table_def::TableDef;
 
 /// Which versions a question asks for, by moments in microseconds since 1970-01-01.
@@ -31,8 +31,8 @@ pub enum Bound {
     DropTable(usize),
     /// INSERT of tuples.
     Insert(Insertion),
-    /// DELETE of every row of the table at this place.
-    DeleteAll(usize),
+    /// UPDATE and DELETE.
+    Modify(Modification),
     /// SELECT.
     Ask(Question),
     /// AT, with the moment in microseconds since 1970-01-01.

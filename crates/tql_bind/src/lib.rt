@@ -3,9 +3,9 @@
 
 pub mod bind;
 pub mod bound;
-pub mod delete;
 pub mod drop_table;
 pub mod insert;
+pub mod modify;
 pub mod moment;
 mod names;
 pub mod question;

@@ -1,4 +1,4 @@
--- What changes make of tables: rows added, or all of them removed.
+-- What changes make of tables.
 use Rattle.std.specs.Prelude.{◌≡◌, refl, ℕ, suc, Bool, true, not, List, [], ◌∷◌, ◌++◌, map, length, slice_set, ℤ, Option, Some, None}
 use Rattle.std.specs.List.{list_all, AllByRecursion}
 use Rattle.std.proofs.Common.{ap, ◌∙◌, append-nil}
@@ -75,28 +75,3 @@ altered_by s c o a e =
     ap (λ (x : Outcome). altered_as s c (x.faults ++ constraint_faults s.definitions (slice_set (working_now s).copy (changed_table c) x.rows)) x) e
     ∙ ap (λ (fs : List Refusal). altered_as s c (o.faults ++ fs) o) (no_constraint s.definitions a copy)
     ∙ ap (λ (fs : List Refusal). altered_as s c fs o) (append-nil o.faults)
-
--- ---- DELETE
-
--- each row is touched, and nothing replaces it
-abbrev all_gone : List Stamped → List Fate
-all_gone rows = map (λ (r : Stamped). Replaced []) rows
-
-fates_are : (d : TableDef) (m : ℤ) (rows : List Stamped) → map_all (λ r. fate d m None Work.Remove [] (shown d r)) rows ≡ Some (all_gone rows)
-fates_are d m [] = refl
-fates_are d m (r ∷ rows) = rw (fates_are d m rows)
-
-none_left : (rows : List Stamped) → after_fates rows (all_gone rows) ≡ []
-none_left [] = refl
-none_left (r ∷ rows) = none_left rows
-
-none_new : (rows : List Stamped) → change.new_rows (all_gone rows) ≡ []
-none_new [] = refl
-none_new (r ∷ rows) = none_new rows
-
-all_counted : (rows : List Stamped) → touched_count (all_gone rows) ≡ length rows
-all_counted [] = refl
-all_counted (r ∷ rows) = ap suc (all_counted rows)
-
-pub remove_outcome : (d : TableDef) (m : ℤ) (rows : List Stamped) → modify d m rows None Work.Remove [] ≡ record { rows = []; count = length rows; faults = [] }
-remove_outcome d m rows = rw (fates_are d m rows, none_left rows, none_new rows, all_counted rows) refl

@@ -25,14 +25,14 @@ use Rattle.tql_store.specs.Slots as store
 use Rattle.tql_store.specs.Represents.{BeginCopies, CommitAppends, RollbackRestores, Judged}
 use Rattle.tql_engine.specs.Stands.{Held, StandsFor, copies_of, working_of, moment_of}
 use Rattle.tql_engine.specs.Questions.{Answers}
-use Rattle.tql_engine.specs.Committing.{ChangesRows, CountsNow}
+use Rattle.tql_engine.specs.Committing.{ChangesRows}
 use Rattle.tql_engine.specs.Effects.{Does, not_later_than}
 use Rattle.tql_engine.proofs.Faults.{refused, create_step, drop_step, clock_step, start_step, commit_step, rollback_step, alter_step}
 use Rattle.tql_engine.proofs.Standing.{closed_law, open_law, last_law, clock_law, definition_of, definition_law}
 use Rattle.tql_engine.proofs.Copies.{chosen, passed}
 use Rattle.tql_engine.proofs.Columns.{whole_answered}
 use Rattle.tql_engine.proofs.Asked.{rows_when, asked_law, wide_law, seen_law}
-use Rattle.tql_engine.proofs.Added.{rows_begun, altered_by, insert_outcome, insert_faults, remove_outcome}
+use Rattle.tql_engine.proofs.Added.{rows_begun, altered_by, insert_outcome, insert_faults}
 use Rattle.tql_engine.proofs.ChangeKeeps.{working_now, working_rows, with_table_rows, begun_at, AreRowsOf, change_law, only_added, all_removed, none_judged}
 use Rattle.tql_engine.proofs.TransactionKeeps.{begun_law, ended_law, undone_law}
 
@@ -229,59 +229,13 @@ insert_does h s p x rows removed r after count st e below fit none c cells sound
     (inserted_is h s p x rows count st e below cells sound n)
     (record { replies = refl; stands = rows_added h s x.table p rows removed r after st e below fit none c })
 
--- ---- DELETE
-
--- the statement
-abbrev pub of_all : ℕ → Change
-of_all t = Modify t None Work.Remove []
-
--- what the machine does
-remove_is : (h : Held) (s : State) (t : ℕ) → StandsFor h s → (IsNone h.rows.working → h.next <ℤ high)
-    → step s (Alter (of_all t)) ≡ (Done Deleted (Some (length (working_rows s t))), with_table_rows s t [])
-remove_is h s t st below =
-    change_step h s (of_all t) st below
-    ∙ altered_by s (of_all t) (record { rows = []; count = length (working_rows s t); faults = [] }) (defined_all h s st)
-    (remove_outcome (table_at s.definitions t) (working_now s).moment (working_rows s t))
-
--- the state with no row
-pub rows_removed : (h : Held) (s : State) (t : ℕ) (p : CatalogTable) (removed : List ℕ) (r : store.Held) (after : ℤ) → StandsFor h s → slice_get h.tables t ≡ Some p
-    → (IsNone h.rows.working → h.next <ℤ high) → Judged p.id (λ (x : Stamped). true) removed h.rows.slots → ChangesRows h.rows.working h.next after p.id removed [] h.rows r
-    → StandsFor (record { tables = h.tables; rows = r; next = after }) (with_table_rows s t [])
-rows_removed h s t p removed r after st e below judged c =
-    subst (λ (xs : List Stamped). StandsFor (record { tables = h.tables; rows = r; next = after }) (with_table_rows s t xs)) (all_removed (working_now s).moment (working_rows s t))
-    (change_law h s t p (λ (x : Stamped). true) removed [] r after st e below tt judged c)
+-- ---- the newest copy
 
 -- a table without rows
 pub none_there : (defs : List TableDef) (t : ℕ) → rows_in (map (λ d. []) defs) t ≡ []
 none_there [] t = refl
 none_there (d ∷ defs) zero = refl
 none_there (d ∷ defs) (suc t) = none_there defs t
-
-newest_rows : (defs : List TableDef) (t : ℕ) (es : List Entry) → length (current (table_history t es)) ≡ length (rows_in (newest_copy defs es) t)
-newest_rows defs t [] = ap length (sym (none_there defs t))
-newest_rows defs t (e ∷ older) = length-map (rows_in e.copy t) (with_end still)
-
-current_by : (defs : List TableDef) (es : List Entry) (next : ℤ) (t : ℕ) (o : Option Entry)
-    → (let s : State = record { definitions = defs; history = es; next = next; transaction = o } in length (current (table_history t (entries s))) ≡ length (working_rows s t))
-current_by defs es next t None = newest_rows defs t es
-current_by defs es next t (Some e) = length-map (rows_in e.copy t) (with_end still)
-
--- as many rows now as a change sees
-current_rows : (s : State) (t : ℕ) → length (current (table_history t (entries s))) ≡ length (working_rows s t)
-current_rows s t = current_by s.definitions s.history s.next t s.transaction
-
--- and the reply
-pub remove_does : (h : Held) (s : State) (t : ℕ) (p : CatalogTable) (removed : List ℕ) (r : store.Held) (after : ℤ) → StandsFor h s → slice_get h.tables t ≡ Some p
-    → (IsNone h.rows.working → h.next <ℤ high) → Judged p.id (λ (x : Stamped). true) removed h.rows.slots → CountsNow h.rows p.id (length removed)
-    → ChangesRows h.rows.working h.next after p.id removed [] h.rows r
-    → Does (record { tables = h.tables; rows = r; next = after }) (Done Deleted (Some (length removed))) (step s (Alter (of_all t)))
-remove_does h s t p removed r after st e below judged counts c =
-    let count : length removed ≡ length (working_rows s t) =
-    counts (copies_of h.tables s.history) (working_of h.tables s.transaction) st.stands
-    ∙ ap (λ (es : List TableEntry). length (current es)) (seen_law h s t p st e) ∙ current_rows s t in
-    by_step (record { tables = h.tables; rows = r; next = after }) (Done Deleted (Some (length removed))) (step s (Alter (of_all t)))
-    (Done Deleted (Some (length (working_rows s t))), with_table_rows s t []) (remove_is h s t st below)
-    (record { replies = λ i. Done Deleted (Some (count i)); stands = rows_removed h s t p removed r after st e below judged c })
 
 -- ---- transactions
 

@@ -10,9 +10,10 @@ pub mod DropKeeps
 pub mod Faults
 pub mod Inserting
 pub mod LaterLemmas
+pub mod Modified
+pub mod Modifying
 pub mod MomentFits
 pub mod Printing
-pub mod Removing
 pub mod RowLemmas
 pub mod Standing
 pub mod Swapping

@@ -1,9 +1,8 @@
 -- What a change does to the store: in the open transaction, or in one of its own.
-use Rattle.std.specs.Prelude.{◌≡◌, ◌+ℤ◌, ℕ, ℤ, pos, List, length, Option, Some, None}
+use Rattle.std.specs.Prelude.{◌≡◌, ◌+ℤ◌, ℕ, ℤ, pos, List, Option, Some, None}
 use Rattle.tql_spec.specs.Datum.{Row}
-use Rattle.tql_spec.specs.History.{current}
 use Rattle.tql_store.specs.Slots.{Held}
-use Rattle.tql_store.specs.Represents.{Copies, Working, Represents, BeginCopies, ChangeReplaces, CommitAppends, RollbackRestores, seen_by}
+use Rattle.tql_store.specs.Represents.{BeginCopies, ChangeReplaces, CommitAppends, RollbackRestores}
 
 -- begun at the moment, changed, and committed
 pub record CommitsRows (m : ℤ) (t : ℕ) (removed : List ℕ) (rows : List Row) (old new : Held) : Type 0 where
@@ -42,7 +41,3 @@ ChangesRows (Some m) clock next t removed rows old new = ReplacesRows m t remove
 abbrev pub KeepsRows : Option ℤ → ℤ → Held → Held → Type 0
 KeepsRows None clock old new = Undoes clock old new
 KeepsRows (Some m) clock old new = new ≡ old
-
--- how many rows a table has now
-abbrev pub CountsNow : Held → ℕ → ℕ → Type 0
-CountsNow h t count = (copies : Copies) (working : Working) → Represents h copies working → count ≡ length (current (seen_by h.working copies working t))

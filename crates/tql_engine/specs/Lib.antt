@@ -6,3 +6,4 @@ pub mod Committing
 pub mod Questions
 pub mod Sense
 pub mod Bytes
+pub mod Modifying

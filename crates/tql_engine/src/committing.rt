@@ -1,18 +1,14 @@
 //! Changes of the store, in the open transaction or in one of their own.
-ghost use Rattle.std.specs.Prelude.{◌≡◌, ◌<◌, ◌<ℤ◌, All, length, map, IsNone, IsTrue, IfOk, OnOk, OnErr, IfErr, true};
+ghost use Rattle.std.specs.Prelude.{◌≡◌, ◌<◌, ◌<ℤ◌, All, length, map, IsNone, IsTrue, IfOk, OnOk, OnErr, IfErr};
 ghost use Rattle.tql_spec.specs.Calendar.{high};
 ghost use Rattle.tql_store.specs.Slots.{has_table};
 ghost use Rattle.tql_store.specs.Stands.{Under};
-ghost use Rattle.tql_store.specs.Represents.{Judged};
 ghost use Rattle.tql_value.specs.Views.{datum_of_value};
 ghost use Rattle.tql_value.specs.declared.refusal.Refusal.TheVariants.{OutOfMemory};
-ghost use Rattle.tql_engine.specs.Committing.{CommitsRows, Undoes, ChangesRows, KeepsRows, CountsNow};
+ghost use Rattle.tql_engine.specs.Committing.{CommitsRows, Undoes, ChangesRows, KeepsRows};
 
-use tql_memory::Memory;
 use tql_store::store::{Delta, Store};
-use tql_store::version::Version;
 use tql_value::refusal::Refusal;
-use tql_value::table::TableId;
 
 /// Makes a change in a transaction of the moment, or leaves the store as it was.
 fn commit_rows(store: &mut Store, moment: i64, delta: Delta) -> Result<(), Refusal>
@@ -59,33 +55,4 @@ pub fn change_rows(store: &mut Store, clock: i64, delta: Delta) -> Result<i64, R
         Ok(()) => Ok(clock + 1),
         Err(refusal) => Err(refusal),
     }
-}
-
-/// The ids of the versions.
-fn ids_of(memory: Memory, versions: &[Version<'_>]) -> Result<Vec<usize, Memory>, Refusal>
-    ensures ids { IfOk result (λ ids. ids.items ≡ map (λ v. v.id) versions.now) }
-    ensures memory { IfErr result (λ e. e ≡ OutOfMemory) }
-{
-    let mut ids = Vec::with_capacity(memory, versions.len())?;
-    for version in versions {
-        ids.push(version.id)?;
-    }
-    Ok(ids)
-}
-
-/// The ids of all rows that a table has now.
-pub fn current_ids(
-    memory: Memory,
-    store: &Store,
-    table: TableId,
-) -> Result<Vec<usize, Memory>, Refusal>
-    requires { IsTrue (has_table store.now table) }
-    ensures judged { IfOk result (λ ids. Judged table (λ row. true) ids.items store.now.slots) }
-    ensures within { IfOk result (λ ids. All (λ i. i < length store.now.slots) ids.items) }
-    ensures count { IfOk result (λ ids. CountsNow store.now table (length ids.items)) }
-    ensures memory { IfErr result (λ e. e ≡ OutOfMemory) }
-{
-    let found = store.current(table)?;
-    let ids = ids_of(memory, &found)?;
-    Ok(ids)
 }

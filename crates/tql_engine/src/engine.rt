@@ -99,7 +99,7 @@ impl Engine {
             Bound::CreateTable(definition) => self.create(definition),
             Bound::DropTable(place) => self.drop_table(place),
             Bound::Insert(insertion) => self.insert(&insertion),
-            Bound::DeleteAll(place) => self.delete_all(place),
+            Bound::Modify(modification) => self.modify(&modification),
             Bound::Ask(question) => self.ask(question),
             Bound::SetClock(moment) => self.at(moment),
             Bound::Start => self.start(),

@@ -3,10 +3,10 @@ ghost use Rattle.std.specs.Prelude.{◌≡◌, map};
 ghost use Rattle.std.specs.List.{list_all};
 ghost use Rattle.tql_spec.specs.Binding as binding;
 ghost use Rattle.tql_spec.specs.Running as running;
-ghost use Rattle.tql_tree.specs.Statements.{create_of, delete_of, element_of, insert_of, items_of, query_of, select_of, statement_of};
+ghost use Rattle.tql_tree.specs.Statements.{create_of, delete_of, element_of, insert_of, items_of, query_of, select_of, statement_of, update_of};
 
 use tql_tree::statement::{
-    CreateTree, Delete, Element, Insert, Items, Query, Rows, Select, Statement,
+    CreateTree, Delete, Element, Insert, Items, Query, Rows, Select, Statement, Update,
 };
 
 /// Whether an element of CREATE is a column or the system period.
@@ -68,11 +68,18 @@ fn does_insert_run(insert: &Insert<'_>) -> bool
     }
 }
 
+/// Whether UPDATE runs.
+fn does_update_run(update: &Update<'_>) -> bool
+    ensures { result ≡ running.does_run (update_of update.now) }
+{
+    update.portion.is_none()
+}
+
 /// Whether DELETE runs.
 fn does_delete_run(delete: &Delete<'_>) -> bool
     ensures { result ≡ running.does_run (delete_of delete.now) }
 {
-    delete.portion.is_none() && delete.filter.is_none()
+    delete.portion.is_none()
 }
 
 /// Whether a query runs.
@@ -89,6 +96,7 @@ pub fn does_run(statement: &Statement<'_>) -> bool
     match statement {
         Statement::Create(create) => does_create_run(create),
         Statement::Insert(insert) => does_insert_run(insert),
+        Statement::Update(update) => does_update_run(update),
         Statement::Delete(delete) => does_delete_run(delete),
         Statement::Query(query) => does_query_run(query),
         Statement::DropTable(_)
@@ -96,6 +104,6 @@ pub fn does_run(statement: &Statement<'_>) -> bool
         | Statement::Commit
         | Statement::Rollback
         | Statement::At(_) => true,
-        Statement::Update(_) => false,
+
     }
 }

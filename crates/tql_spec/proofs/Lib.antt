@@ -24,3 +24,5 @@ mod AtPoints
 pub mod Orders
 pub mod TokenLaws
 pub mod FirstFaults
+mod FaultBags
+mod ChangeBags

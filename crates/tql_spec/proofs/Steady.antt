@@ -67,15 +67,15 @@ abbrev Begins : ℤ → (Stamped → Option Fate) → Type 0
 Begins m f = (r : Stamped) (new : List Stamped) → f r ≡ Some (Replaced new) → BeginAt m new
 
 -- the first of all fates
-record FrontIs {A : Type 0} (o : Option A) (rest : Option (List A)) (all : List A) : Type 0 where
-  head : A
-  tail : List A
-  one : o ≡ Some head
-  more : rest ≡ Some tail
-  whole : all ≡ head ∷ tail
+pub record FrontIs {A : Type 0} (o : Option A) (rest : Option (List A)) (all : List A) : Type 0 where
+  pub head : A
+  pub tail : List A
+  pub one : o ≡ Some head
+  pub more : rest ≡ Some tail
+  pub whole : all ≡ head ∷ tail
 
 -- the fates of a first row and of the others
-front_is : {A : Type 0} (o : Option A) (rest : Option (List A)) (all : List A) → with_front o rest ≡ Some all
+pub front_is : {A : Type 0} (o : Option A) (rest : Option (List A)) (all : List A) → with_front o rest ≡ Some all
     → FrontIs o rest all
 front_is None rest all e = absurd (cc)
 front_is (Some x) None all e = absurd (cc)

@@ -11,6 +11,7 @@ pub mod History
 pub mod Spans
 pub mod Query
 pub mod Change
+pub mod ChangeLaws
 pub mod Constraint
 pub mod Machine
 pub mod Answer

@@ -2,7 +2,7 @@
 use Rattle.std.specs.Prelude.{Bool, true, false, not, ◌&&◌, IsTrue, List, [], ◌∷◌, is_none, None}
 use Rattle.std.specs.List.{list_all}
 use Rattle.tql_spec.specs.Token.{Token}
-use Rattle.tql_spec.specs.Syntax.{Element, ColumnElement, PeriodElement, SelectTree, Statement, CreateTree, DropTree, InsertValues, DeleteTree, QueryTree, StartTree, CommitTree, RollbackTree, AtTree}
+use Rattle.tql_spec.specs.Syntax.{Element, ColumnElement, PeriodElement, SelectTree, Statement, CreateTree, DropTree, InsertValues, UpdateTree, DeleteTree, QueryTree, StartTree, CommitTree, RollbackTree, AtTree}
 use Rattle.tql_spec.specs.Grammar.{IsStatement}
 use Rattle.tql_spec.specs.Binding.{is_star, is_empty}
 
@@ -25,7 +25,8 @@ abbrev pub does_run : Statement → Bool
 does_run (CreateTree n e es versioned) = list_all is_plain_element (e ∷ es)
 does_run (DropTree n) = true
 does_run (InsertValues n ns t ts) = true
-does_run (DeleteTree n None None) = true
+does_run (UpdateTree n None s ss c) = true
+does_run (DeleteTree n None c) = true
 does_run (QueryTree s []) = is_whole_table s
 does_run StartTree = true
 does_run CommitTree = true

@@ -3,6 +3,7 @@
 
 ghost use Rattle.tql_spec.specs.Datum.{Day, Moment};
 ghost use Rattle.tql_spec.specs.Period.{FormulasAreSets, PartsAreSets, Period, PointFormulaIsSet};
+ghost use Rattle.tql_spec.specs.ChangeLaws.{ChangesKeepNoOrder, ChangesByParts};
 ghost use Rattle.tql_spec.specs.Expression.{SafeConditionsAreJudged};
 ghost use Rattle.tql_spec.specs.Constraint.{KeyTestIsRight, ReferenceTestIsRight};
 ghost use Rattle.tql_spec.specs.Run.{RefusalsKeepState, RunsKeepConstraints};
@@ -83,4 +84,15 @@ pub fn constraints_in_runs()
     ensures right { CopyTestsAreRight }
     ensures points { RunsKeepPoints }
     ensures reached { ReachedHoldAtPoints }
+{}
+
+/// An UPDATE or a DELETE does the same whatever the order in which the rows are kept: the same bag of rows, the same count and
+/// the same fault.
+pub fn changes_keep_no_order()
+    ensures { ChangesKeepNoOrder }
+{}
+
+/// Where nothing that an UPDATE or a DELETE evaluates is out of range, the rows after it are those that it leaves and the new ones.
+pub fn changes_by_parts()
+    ensures { ChangesByParts }
 {}

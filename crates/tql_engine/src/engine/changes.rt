@@ -1,21 +1,37 @@
-//! INSERT and DELETE, each in the open transaction, or in one of its own at the clock's moment.
-ghost use Rattle.std.specs.Prelude.{◌≡◌, ◌<◌, ◌<ℤ◌, ◌&&◌, int_le, is_none, IsNone, length, None, []};
+//! INSERT, UPDATE and DELETE, each in the open transaction, or in one of its own at the clock's moment.
+ghost use Rattle.std.specs.Prelude.{◌≡◌, ◌<◌, ◌<ℤ◌, ◌&&◌, int_le, is_none, IsNone, length, slice_get, Some};
 ghost use Rattle.tql_spec.specs.Calendar.{high};
+ghost use Rattle.tql_spec.specs.Machine as machine;
+ghost use Rattle.tql_bound.specs.Works.{work_of};
+ghost use Rattle.tql_expr.specs.declared.terms.Terms.{Terms};
+ghost use Rattle.tql_result.specs.Replies.{plain_verb};
 
-use crate::committing::{change_rows, current_ids};
+use crate::committing::change_rows;
 use crate::engine::Engine;
-use tql_bound::change::Insertion;
+use tql_bound::change::{Insertion, Modification, Work};
 use tql_dml::insertion::insert_tuples;
+use tql_dml::modification::modify;
 use tql_result::reply::{Reply, Verb};
 use tql_store::store::Delta;
 use tql_value::calendar::HIGH;
 use tql_value::refusal::Refusal;
 
+/// The word that a change is answered with.
+fn verb_of(work: &Work) -> Verb
+    ensures { (t : Terms) → plain_verb result ≡ machine.verb_of_work (work_of t work.now) }
+{
+    match work {
+        Work::Set(_) => Verb::Updated,
+        Work::Remove => Verb::Deleted,
+    }
+}
+
 impl Engine {
     ghost use Rattle.tql_spec.specs.Machine as machine;
     ghost use Rattle.tql_spec.specs.Machine.{State, step};
-    ghost use Rattle.tql_spec.specs.Change.{Remove};
-    ghost use Rattle.tql_bound.specs.Changes.{insertion_of};
+    ghost use Rattle.tql_bound.specs.Changes.{insertion_of, modification_of};
+    ghost use Rattle.tql_catalog.specs.declared.catalog.Table.{Table};
+    ghost use Rattle.tql_engine.specs.Modifying.{Makes};
     ghost use Rattle.tql_catalog.specs.Tables.{definitions_of};
     ghost use Rattle.tql_engine.specs.Stands.{StandsFor};
     ghost use Rattle.tql_engine.specs.Effects.{DoesStep};
@@ -58,38 +74,44 @@ impl Engine {
         self.add_to(insertion)
     }
 
-    /// Removes all rows of the table at this place.
-    fn remove_from(&mut self, place: usize) -> Result<Reply, Refusal>
-        requires within { place < length self.old.tables }
-        requires below { IsNone self.old.rows.working → self.old.next <ℤ high }
-        ensures { (s : State) → StandsFor self.old s → DoesStep self.new s result (step s (machine.Alter (machine.Modify place None Remove []))) }
+    /// What the current versions of the table make of an UPDATE or DELETE.
+    fn delta_of(&self, modification: &Modification) -> Result<Delta, Refusal>
+        requires { modification.now.table < length self.now.tables }
+        ensures { (p : Table) → slice_get self.now.tables modification.now.table ≡ Some p → Makes self.now.rows p modification.now result }
     {
-        let table = self.table_at(place).id;
-        let removed = current_ids(self.memory, &self.rows, table)?;
-        let count = removed.len() as u64;
-        let delta = Delta {
-            table,
-            removed,
-            added: Vec::new(self.memory),
-            count,
+        let table = self.table_at(modification.table);
+        let found = self.rows.current(table.id)?;
+        modify(self.memory, table, &found, modification)
+    }
+
+    /// Makes the change of an UPDATE or DELETE.
+    fn change_by(&mut self, modification: &Modification) -> Result<Reply, Refusal>
+        requires within { modification.now.table < length self.old.tables }
+        requires below { IsNone self.old.rows.working → self.old.next <ℤ high }
+        ensures { (s : State) → StandsFor self.old s → DoesStep self.new s result (step s (machine.Alter (modification_of modification.now))) }
+    {
+        let delta = match self.delta_of(modification) {
+            Ok(delta) => delta,
+            Err(refusal) => return Err(refusal),
         };
+        let count = delta.count;
         match change_rows(&mut self.rows, self.next, delta) {
             Ok(next) => {
                 self.next = next;
-                Ok(Reply::Done(Verb::Deleted, Some(count)))
+                Ok(Reply::Done(verb_of(&modification.work), Some(count)))
             }
             Err(refusal) => Err(refusal),
         }
     }
 
-    /// DELETE of every row of the table at this place.
-    pub(super) fn delete_all(&mut self, place: usize) -> Result<Reply, Refusal>
-        requires { place < length (definitions_of self.old.tables) }
-        ensures { (s : State) → StandsFor self.old s → DoesStep self.new s result (step s (machine.Alter (machine.Modify place None Remove []))) }
+    /// UPDATE and DELETE
+    pub(super) fn modify(&mut self, modification: &Modification) -> Result<Reply, Refusal>
+        requires { modification.now.table < length (definitions_of self.old.tables) }
+        ensures { (s : State) → StandsFor self.old s → DoesStep self.new s result (step s (machine.Alter (modification_of modification.now))) }
     {
         if self.lacks_moment() {
             return Err(Refusal::MomentNotAllowed);
         }
-        self.remove_from(place)
+        self.change_by(modification)
     }
 }

@@ -1,38 +1,12 @@
--- Tuples of expressions and INSERT of a query do not run yet (E10), also of nine references; a check takes them but for `1 + NULL` (E10) and the nine (E15). By hand from docs/LANGUAGE.md.
+-- INSERT of a query does not run yet (E10), also of nine references; `1 + NULL` is no statement; a check takes them but for `1 + NULL` (E10) and the nine (E15). By hand from docs/LANGUAGE.md.
 CREATE TABLE t ("a b" VARCHAR(4), d DATE NOT NULL, s TIMESTAMP GENERATED ALWAYS AS ROW START,
   e TIMESTAMP GENERATED ALWAYS AS ROW END NOT NULL, m TIMESTAMP(0), n BIGINT, PERIOD FOR SYSTEM_TIME (s, e)) WITH SYSTEM VERSIONING;
 CREATE TABLE u (k INTEGER, v VARCHAR(65535));
-INSERT INTO u VALUES (1 + 1, 'a');
-INSERT INTO u VALUES (1 * 1, 'a');
-INSERT INTO u VALUES ((1), 'a');
-INSERT INTO u VALUES (-(1), 'a');
-INSERT INTO u VALUES (1, -'a');
-INSERT INTO u VALUES (1, ('a'));
-INSERT INTO t (d) VALUES (+DATE '2011-04-01');
-INSERT INTO t (d) VALUES (DATE '2011-04-01' - DATE '2011-04-01');
-INSERT INTO u VALUES (k, 'a');
-INSERT INTO u VALUES (u.k, 'a');
-INSERT INTO u VALUES (COUNT(*), 'a');
-INSERT INTO u VALUES (SUM(1), 'a');
-INSERT INTO w (w, w) VALUES (1 - 9223372036854775808);
 INSERT INTO u VALUES (1, 'a'), (NULL, 'a'), (1 + NULL, 'a');
 INSERT INTO u SELECT * FROM u;
 INSERT INTO u (k) SELECT k FROM w;
 INSERT INTO u SELECT * FROM u, u a, u b, u c, u d, u e, u f, u g, u h;
 START TRANSACTION;
-INSERT INTO u VALUES (1 + 1, 'a');
-INSERT INTO u VALUES (1 * 1, 'a');
-INSERT INTO u VALUES ((1), 'a');
-INSERT INTO u VALUES (-(1), 'a');
-INSERT INTO u VALUES (1, -'a');
-INSERT INTO u VALUES (1, ('a'));
-INSERT INTO t (d) VALUES (+DATE '2011-04-01');
-INSERT INTO t (d) VALUES (DATE '2011-04-01' - DATE '2011-04-01');
-INSERT INTO u VALUES (k, 'a');
-INSERT INTO u VALUES (u.k, 'a');
-INSERT INTO u VALUES (COUNT(*), 'a');
-INSERT INTO u VALUES (SUM(1), 'a');
-INSERT INTO w (w, w) VALUES (1 - 9223372036854775808);
 INSERT INTO u VALUES (1, 'a'), (NULL, 'a'), (1 + NULL, 'a');
 INSERT INTO u SELECT * FROM u;
 INSERT INTO u (k) SELECT k FROM w;

@@ -1,0 +1,19 @@
+use Rattle.std.proofs.Common.{sym, subst, Option}
+use Rattle.std.specs.Prelude.{option_map}
+use Rattle.tql_spec.specs.Binding as binding
+use Rattle.tql_spec.specs.Machine.{Alter}
+use Rattle.tql_spec.specs.Syntax.{PortionTree}
+use Rattle.tql_bound.specs.Changes.{modification_of}
+use Rattle.tql_bound.specs.declared.change.Modification.{Modification}
+use Rattle.tql_catalog.specs.Tables.{definitions_of}
+use Rattle.tql_tree.specs.Expressions.{name_of}
+use Rattle.tql_tree.specs.Statements as tree
+use Rattle.tql_define.specs.Binds.{Binds}
+use Rattle.tql_bind.proofs.RunningTrees.{delete_runs}
+use Rattle.tql_bind.proofs.modify.bind_delete.Goals as goal
+
+pub returns-clause-binds : goal.returns-clause-binds
+returns-clause-binds c =
+    let d = c.args.delete.now in
+    subst (λ (p : Option PortionTree). Binds (λ (x : Modification). Alter (modification_of x)) (binding.delete (definitions_of c.args.tables.now) (name_of d.table) p (tree.filter_of d.filter)) c.bind_whole_delete.result)
+    (sym (delete_runs (name_of d.table) (option_map tree.portion_of d.portion) (tree.filter_of d.filter) c.requires)) c.bind_whole_delete.ensures.binds

@@ -1,0 +1,17 @@
+-- The first fault of the table of refusals, whatever was met first. By hand from docs/LANGUAGE.md.
+CREATE TABLE t (x INTEGER);
+INSERT INTO t VALUES (1), (2);
+INSERT INTO nosuch VALUES (nocol, 'a' + 1);
+INSERT INTO t VALUES (nocol, 'a' + 1);
+INSERT INTO t VALUES ('a' + 9223372036854775808);
+INSERT INTO t VALUES (COUNT(*) + 9223372036854775808);
+UPDATE t SET x = 9223372036854775808 WHERE 1 = 2;
+UPDATE t SET x = 1, x = 2;
+DELETE FROM t WHERE DATE '2011-02-30' = 1;
+DELETE FROM t WHERE DATE '2011-02-30' = DATE '2011-02-28';
+DELETE FROM t WHERE COUNT(*) = 1;
+UPDATE t SET y = 1;
+UPDATE t SET x = 'a';
+DELETE FROM t WHERE u.x = 1;
+DELETE FROM t WHERE t.x = 3;
+SELECT * FROM t;

@@ -1,0 +1,30 @@
+-- What a modification gives, from the versions that its table has now.
+use Rattle.std.specs.Prelude.{List, map, All, Result, Ok, Err, IfOk, ⊤}
+use Rattle.tql_bound.specs.declared.change.Modification.{Modification}
+use Rattle.tql_catalog.specs.Rows.{IsRowOf}
+use Rattle.tql_catalog.specs.declared.catalog.Table.{Table}
+use Rattle.tql_dml.specs.Alters.{Alters, gone, fates, coming, modified, IsVersionOf}
+use Rattle.tql_dml.specs.Inserts.{rows_of}
+use Rattle.tql_store.specs.Represents.{AnswersNow}
+use Rattle.tql_store.specs.Slots.{Held}
+use Rattle.tql_store.specs.Stands.{is_current}
+use Rattle.tql_store.specs.Views.{version_of, Names, NamesOnce}
+use Rattle.tql_store.specs.declared.store.Delta.{Delta}
+use Rattle.tql_store.specs.declared.version.Version.{Version}
+use Rattle.tql_value.specs.declared.refusal.Refusal.{Refusal}
+use Rattle.tql_value.specs.declared.refusal.Refusal.TheVariants.{OutOfMemory}
+
+-- the change, or its fault, by the versions that the store answered
+pub record Made (h : Held) (p : Table) (x : Modification) (result : Result Delta Refusal) : Type 0 where
+  pub found : List Version
+  pub names : All (Names p.id h.slots) found
+  pub once : NamesOnce p.id is_current h.slots found
+  pub answers : AnswersNow h p.id (map version_of found)
+  pub alters : Alters p.id (gone p.definition x found) (λ m. coming (fates p.definition found x m)) (modified p.definition found x) result
+  pub fits : All (IsVersionOf p.definition) found → IfOk result (λ delta. All (IsRowOf p.definition) (rows_of delta.added.items))
+
+-- by its result; memory may have run out
+abbrev pub Makes : Held → Table → Modification → Result Delta Refusal → Type 0
+Makes h p x (Ok delta) = Made h p x (Ok delta)
+Makes h p x (Err OutOfMemory) = ⊤
+Makes h p x (Err e) = Made h p x (Err e)
