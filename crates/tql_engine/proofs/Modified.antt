@@ -10,8 +10,7 @@ use Rattle.tql_spec.specs.Refusal.{first}
 use Rattle.tql_spec.specs.Definition.{Stamped, TableDef, shown, stamped}
 use Rattle.tql_spec.specs.Expression.{Cond}
 use Rattle.tql_spec.specs.Change.{Outcome, Fate, Untouched, Replaced, Work, fate, fate_where, made_of, pieces, is_touched, after_fates, new_rows, outcome_of, modify}
-use Rattle.tql_spec.specs.ChangeLaws.{goes, SameOutcome}
-use Rattle.tql_spec.proofs.ChangeBags.{no_order, by_parts}
+use Rattle.tql_spec.specs.ChangeLaws.{goes, SameOutcome, ChangesKeepNoOrder, ChangesByParts}
 use Rattle.tql_store.specs.Changes.{rows_after}
 use Rattle.tql_dml.specs.Alters.{is_yes, coming}
 use Rattle.tql_engine.proofs.ChangeKeeps.{begun_at}
@@ -27,14 +26,15 @@ front {A} (Some y) (Some ys) zs e = (y, ys, refl, refl, same (y ∷ ys) zs e)
     same : (us vs : List A) → Some us ≡ Some vs → vs ≡ us
     same us vs e = cc
 
-module _ (d : TableDef) (m : ℤ) (work : Work) (conds : List Cond) where
+-- whether a row is touched
+abbrev pub touches : TableDef → List Cond → Stamped → Bool
+touches d conds r = is_yes (is_touched d None conds (shown d r))
+
+-- the laws of changes, as tql_spec states them
+module _ (no_order : ChangesKeepNoOrder) (by_parts : ChangesByParts) (d : TableDef) (m : ℤ) (work : Work) (conds : List Cond) where
   -- what becomes of a row
   abbrev fate_of : Stamped → Option Fate
   fate_of r = fate d m None work conds (shown d r)
-
-  -- whether it is touched
-  abbrev pub touches : Stamped → Bool
-  touches r = is_yes (is_touched d None conds (shown d r))
 
   -- ---- a row that goes is one that is touched
 
@@ -52,11 +52,11 @@ module _ (d : TableDef) (m : ℤ) (work : Work) (conds : List Cond) where
   stay_by a b r xs ys e f = λ i. cond (not (e i)) (r ∷ f i) (f i)
 
   -- so the same rows stay
-  same_stay : (rows : List Stamped) (fs : List Fate) → map_all fate_of rows ≡ Some fs → filter (λ r. not (goes (fate_of r))) rows ≡ filter (λ r. not (touches r)) rows
+  same_stay : (rows : List Stamped) (fs : List Fate) → map_all fate_of rows ≡ Some fs → filter (λ r. not (goes (fate_of r))) rows ≡ filter (λ r. not (touches d conds r)) rows
   same_stay [] fs e = refl
   same_stay (r ∷ rows) fs e =
       let k = front (fate_of r) (map_all fate_of rows) fs e in
-      stay_by (goes (fate_of r)) (touches r) r _ _ (goes_by (shown d r) (is_touched d None conds (shown d r)) (made_of work (shown d r)) k.0 k.2) (same_stay rows k.1 k.3)
+      stay_by (goes (fate_of r)) (touches d conds r) r _ _ (goes_by (shown d r) (is_touched d None conds (shown d r)) (made_of work (shown d r)) k.0 k.2) (same_stay rows k.1 k.3)
 
   -- ---- new rows begin at the moment
 
@@ -118,7 +118,7 @@ module _ (d : TableDef) (m : ℤ) (work : Work) (conds : List Cond) where
 
   -- the rows that stay, and those that come, begun at the moment
   made_after : (rows : List Stamped) (fs : List Fate) (added : List Row) → map_all fate_of rows ≡ Some fs → map (λ (r : Stamped). r.cells) (new_rows fs) ≡ added
-      → SameBag (after_fates rows fs) (rows_after m touches added rows)
+      → SameBag (after_fates rows fs) (rows_after m (touches d conds) added rows)
   made_after rows fs added e cells =
       let parts = by_parts d m rows None work conds fs e in
       subst (SameBag (after_fates rows fs))
@@ -128,13 +128,13 @@ module _ (d : TableDef) (m : ℤ) (work : Work) (conds : List Cond) where
   -- what it makes of any rows that are the same bag as those that were read
   pub rows_made : (read rows : List Stamped) (added : List Row) → SameBag read rows → first (modify d m read None work conds).faults ≡ None
       → map (λ (r : Stamped). r.cells) (coming (map_all fate_of read)) ≡ added
-      → SameBag (rows_after m touches added rows) (modify d m rows None work conds).rows
+      → SameBag (rows_after m (touches d conds) added rows) (modify d m rows None work conds).rows
   rows_made read rows added b sound cells =
       let k = fates_there read (map_all fate_of read) refl sound in
       let same : SameOutcome (modify d m read None work conds) (modify d m rows None work conds) = no_order d m read rows None work conds b in
       let made : (modify d m read None work conds).rows ≡ after_fates read k.0 = outcome_rows (map_all fate_of read) k.0 k.1 in
       let come : map (λ (r : Stamped). r.cells) (new_rows k.0) ≡ added = ap (λ o. map (λ (r : Stamped). r.cells) (coming o)) (sym k.1) ∙ cells in
-      same-trans (same-append (same-filter (λ r. not (touches r)) (same-sym b)) (same-refl (begun_at m added)))
+      same-trans (same-append (same-filter (λ r. not (touches d conds r)) (same-sym b)) (same-refl (begun_at m added)))
       (same-trans (same-sym (made_after read k.0 added k.1 come)) (subst (λ xs. SameBag xs (modify d m rows None work conds).rows) made same.rows))
     where
       outcome_rows : (o : Option (List Fate)) (fs : List Fate) → o ≡ Some fs → (outcome_of d read o).rows ≡ after_fates read fs

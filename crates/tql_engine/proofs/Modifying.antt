@@ -12,8 +12,7 @@ use Rattle.tql_spec.specs.Definition.{Stamped, TableDef, Version, shown}
 use Rattle.tql_spec.specs.History.{Entry, TableEntry, current, still, completed, table_history, rows_in}
 use Rattle.tql_spec.specs.Change as change
 use Rattle.tql_spec.specs.Change.{Outcome, modify}
-use Rattle.tql_spec.specs.ChangeLaws.{SameOutcome}
-use Rattle.tql_spec.proofs.ChangeBags.{no_order}
+use Rattle.tql_spec.specs.ChangeLaws.{SameOutcome, ChangesKeepNoOrder, ChangesByParts}
 use Rattle.tql_spec.specs.Refusal as spec
 use Rattle.tql_spec.specs.Refusal.{first}
 use Rattle.tql_spec.specs.Machine.{State, Reply, Done, Refused, Alter, step, unless, entries, newest_copy, verb_of_work}
@@ -118,7 +117,7 @@ read_fit h s t p found st e answers =
 
 -- ---- what the machine does
 
-module _ (h : Held) (s : State) (p : Table) (x : Modification) (st : StandsFor h s) (there : slice_get h.tables x.table ≡ Some p) (below : IsNone h.rows.working → h.next <ℤ high) where
+module _ (no_order : ChangesKeepNoOrder) (by_parts : ChangesByParts) (h : Held) (s : State) (p : Table) (x : Modification) (st : StandsFor h s) (there : slice_get h.tables x.table ≡ Some p) (below : IsNone h.rows.working → h.next <ℤ high) where
   -- the moment, and the rows that the change sees
   abbrev moment : ℤ
   moment = (working_now s).moment
@@ -148,15 +147,15 @@ module _ (h : Held) (s : State) (p : Table) (x : Modification) (st : StandsFor h
         (modify_is ∙ ap (λ q. unless q s (Done (verb_of_work work) (Some outcome.count)) (with_table_rows s x.table outcome.rows)) (sym same.fault ∙ k moment)) (refuses h s f st)
 
     -- the state after it
-    pub rows_modified : (added : List Row) (removed : List ℕ) (r : store.Held) (after : ℤ) → AreRowsOf p.definition added → Judged p.id (touches p.definition moment work (conds_in x)) removed h.rows.slots
+    pub rows_modified : (added : List Row) (removed : List ℕ) (r : store.Held) (after : ℤ) → AreRowsOf p.definition added → Judged p.id (touches p.definition (conds_in x)) removed h.rows.slots
         → ChangesRows h.rows.working h.next after p.id removed added h.rows r
         → ((m : ℤ) → map (λ (y : Stamped). y.cells) (coming (fates p.definition found x m)) ≡ added) → ((m : ℤ) → first (modified p.definition found x m).faults ≡ None)
         → StandsFor (record { tables = h.tables; rows = r; next = after }) (with_table_rows s x.table outcome.rows)
     rows_modified added removed r after fit judged c cells sound =
-        let gone : Stamped → Bool = touches p.definition moment work (conds_in x) in
+        let gone : Stamped → Bool = touches p.definition (conds_in x) in
         let old : RowsFit p.definition rows = rows_fit h.tables x.table p there (working_now s).copy (copy_fits h s st) in
         let bag : SameBag (rows_after moment gone added rows) outcome.rows =
-        rows_made p.definition moment work (conds_in x) (dml.rows_in found) rows added (same_rows h s x.table p found st there answers) (sound moment) (cells moment) in
+        rows_made no_order by_parts p.definition moment work (conds_in x) (dml.rows_in found) rows added (same_rows h s x.table p found st there answers) (sound moment) (cells moment) in
         let changed : StandsFor (record { tables = h.tables; rows = r; next = after }) (with_table_rows s x.table (rows_after moment gone added rows)) =
         change_law h s x.table p gone removed added r after st there below fit judged c in
         let news : RowsFit p.definition (rows_after moment gone added rows) =
@@ -168,7 +167,7 @@ module _ (h : Held) (s : State) (p : Table) (x : Modification) (st : StandsFor h
         dated = moment_dated h s st below
 
     -- and the reply
-    pub modify_does : (added : List Row) (removed : List ℕ) (r : store.Held) (after : ℤ) (count : ℕ) → AreRowsOf p.definition added → Judged p.id (touches p.definition moment work (conds_in x)) removed h.rows.slots
+    pub modify_does : (added : List Row) (removed : List ℕ) (r : store.Held) (after : ℤ) (count : ℕ) → AreRowsOf p.definition added → Judged p.id (touches p.definition (conds_in x)) removed h.rows.slots
         → ChangesRows h.rows.working h.next after p.id removed added h.rows r
         → ((m : ℤ) → map (λ (y : Stamped). y.cells) (coming (fates p.definition found x m)) ≡ added) → ((m : ℤ) → first (modified p.definition found x m).faults ≡ None)
         → ((m : ℤ) → count ≡ (modified p.definition found x m).count)
@@ -225,9 +224,9 @@ table_there (q ∷ ps) (ℕ.suc t) l = table_there ps t (omega (arith, l))
 -- the ids of the versions that go
 pub gone_within : (h : store.Held) (p : Table) (x : Modification) (delta : Delta) → Made h p x (Ok delta) → All (λ i. i < length h.slots) delta.removed.items
 gone_within h p x delta k =
-    subst (All (λ i. i < length h.slots)) (sym k.alters.removed) (ids-within p.id (λ y. dml.is_yes (change.is_touched p.definition None (conds_in x) (shown p.definition y))) h.slots k.found k.names)
+    subst (All (λ i. i < length h.slots)) (sym k.alters.removed) (ids-within p.id (touches p.definition (conds_in x)) h.slots k.found k.names)
 
-pub gone_judged : (h : store.Held) (p : Table) (x : Modification) (m : ℤ) (delta : Delta) → Made h p x (Ok delta) → Judged p.id (touches p.definition m (work_of x.terms x.work) (conds_in x)) delta.removed.items h.slots
-gone_judged h p x m delta k =
-    subst (λ is. Judged p.id (touches p.definition m (work_of x.terms x.work) (conds_in x)) is h.slots) (sym k.alters.removed)
-    (judged p.id (touches p.definition m (work_of x.terms x.work) (conds_in x)) h.slots k.found k.names k.once)
+pub gone_judged : (h : store.Held) (p : Table) (x : Modification) (delta : Delta) → Made h p x (Ok delta) → Judged p.id (touches p.definition (conds_in x)) delta.removed.items h.slots
+gone_judged h p x delta k =
+    subst (λ is. Judged p.id (touches p.definition (conds_in x)) is h.slots) (sym k.alters.removed)
+    (judged p.id (touches p.definition (conds_in x)) h.slots k.found k.names k.once)

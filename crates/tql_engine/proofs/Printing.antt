@@ -11,7 +11,7 @@ use Rattle.tql_value.specs.declared.refusal.Refusal.{Refusal}
 use Rattle.tql_result.specs.Replies.{IsPrintableReply, reply_of}
 use Rattle.tql_result.specs.declared.reply.Reply.{Reply}
 use Rattle.tql_bind.specs.Bounds.{IsSound, bound_of, when_of}
-use Rattle.tql_bound.specs.Changes.{insertion_of}
+use Rattle.tql_bound.specs.Changes.{insertion_of, modification_of}
 use Rattle.tql_bind.specs.declared.bound.Bound.{Bound}
 use Rattle.tql_bind.specs.declared.bound.Bound.TheVariants as b
 use Rattle.tql_catalog.specs.Tables.{definitions_of}
@@ -50,7 +50,7 @@ step_prints : (h : Held) (s : State) → StandsFor h s → (x : Bound) → IsSou
 step_prints h s st (b.CreateTable d) k = by_effect s (bound_of (definitions_of h.tables) (b.CreateTable d)) tt
 step_prints h s st (b.DropTable t) k = by_effect s (bound_of (definitions_of h.tables) (b.DropTable t)) tt
 step_prints h s st (b.Insert x) k = by_effect s (bound_of (definitions_of h.tables) (b.Insert x)) (altered_prints s (insertion_of x))
-step_prints h s st (b.DeleteAll t) k = by_effect s (bound_of (definitions_of h.tables) (b.DeleteAll t)) (altered_prints s (machine.Modify t None change.Remove []))
+step_prints h s st (b.Modify x) k = by_effect s (bound_of (definitions_of h.tables) (b.Modify x)) (altered_prints s (modification_of x))
 step_prints h s st (b.Ask q) k =
     let p = there_is h.tables q.table k.table in
     subst Prints (sym (asked_is h s q.table p.0 (when_of q.when) st p.1)) (printable_law h s q.table p.0 (when_of q.when) st p.1)

@@ -12,6 +12,7 @@ use tql_bound::change::{Insertion, Modification, Work};
 use tql_dml::insertion::insert_tuples;
 use tql_dml::modification::modify;
 use tql_result::reply::{Reply, Verb};
+use tql_spec::{changes_by_parts, changes_keep_no_order};
 use tql_store::store::Delta;
 use tql_value::calendar::HIGH;
 use tql_value::refusal::Refusal;
@@ -90,6 +91,8 @@ impl Engine {
         requires below { IsNone self.old.rows.working → self.old.next <ℤ high }
         ensures { (s : State) → StandsFor self.old s → DoesStep self.new s result (step s (machine.Alter (modification_of modification.now))) }
     {
+        changes_keep_no_order();
+        changes_by_parts();
         let delta = match self.delta_of(modification) {
             Ok(delta) => delta,
             Err(refusal) => return Err(refusal),

@@ -25,7 +25,7 @@ pub returns-in-Err : goal.returns-in-Err
 returns-in-Err c s st =
     let x : Modification = c.args.modification.now in
     let t = table_there c.args.self.now.tables x.table c.requires.within in
-    modify_errs c.args.self.now s t.0 x st t.1 c.requires.below c.in-Err.refusal (c.in-Err.ensures t.0 t.1)
+    modify_errs c.changes_keep_no_order.ensures c.changes_by_parts.ensures c.args.self.now s t.0 x st t.1 c.requires.below c.in-Err.refusal (c.in-Err.ensures t.0 t.1)
 
 pub change_rows-requires-clause-later : goal.change_rows-requires-clause-later
 change_rows-requires-clause-later c = clock_under _ c.self.invariant.state c.self.invariant.stands
@@ -66,7 +66,7 @@ invariant_of-self c =
     rw (after_reads _ s after p.id removed rows new st below done)
     (record {
       state = with_table_rows s x.table (modify p.definition m (working_rows s x.table) None (work_of x.terms x.work) (conds_in x)).rows;
-      stands = rows_modified _ s p x st there below made.found made.answers rows removed new after fit (gone_judged old p x m c.in-Ok.delta made) done made.alters.added made.alters.sound;
+      stands = rows_modified c.changes_keep_no_order.ensures c.changes_by_parts.ensures _ s p x st there below made.found made.answers rows removed new after fit (gone_judged old p x c.in-Ok.delta made) done made.alters.added made.alters.sound;
     })
 
 pub invariant_of-self-in-Err-change_rows : goal.invariant_of-self-in-Err-change_rows
@@ -92,11 +92,10 @@ returns-in-Ok-change_rows c s st =
     let fit = recursion_from_All (IsRowOf p.definition) rows (made.fits (read_fit _ s x.table p made.found back there made.answers)) in
     let old = c.self.inside.rows in
     let new = c.change_rows.new.store in
-    let m = (working_now s).moment in
     let clocked = subst (λ n. ChangesRows old.working n after c.in-Ok.delta.table removed rows old new) (clock_reads _ s back) c.in-Ok-change_rows.ensures.ok in
     let done = subst (λ i. ChangesRows old.working c.self.inside.next after i removed rows old new) made.alters.table clocked in
     rw (after_reads _ s after p.id removed rows new back below done, c.verb_of.ensures x.terms)
-    (modify_does _ s p x back there below made.found made.answers rows removed new after c.in-Ok.delta.count fit (gone_judged old p x m c.in-Ok.delta made) done made.alters.added made.alters.sound made.alters.count)
+    (modify_does c.changes_keep_no_order.ensures c.changes_by_parts.ensures _ s p x back there below made.found made.answers rows removed new after c.in-Ok.delta.count fit (gone_judged old p x c.in-Ok.delta made) done made.alters.added made.alters.sound made.alters.count)
 
 pub returns-in-Err-change_rows : goal.returns-in-Err-change_rows
 returns-in-Err-change_rows c s st =
