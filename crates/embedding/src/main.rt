@@ -35,7 +35,11 @@ fn total(rows: &Rows, column: usize) -> i64 {
 /// Prints how many rows a question finds, and the sum of their cents.
 fn ask(rt: &impl Print, engine: &mut Engine, question: &[u8]) -> io::Result<()> {
     match &engine.step(question) {
-        Reply::Table(rows) => println!(rt; "{} payments, {} cents", rows.rows.len(), total(rows, 1)),
+        Reply::Table(rows) => println!(rt;
+            "{} payments, {} cents",
+            rows.rows.len(),
+            total(rows, 1)
+        ),
         Reply::Refused(refusal) => println!(rt; "refused: {}", refusal.text()),
         Reply::Done(_, _) => println!(rt; "done"),
     }
@@ -46,7 +50,10 @@ fn enter(rt: &impl Print, memory: Memory, engine: &mut Engine) -> io::Result<()>
     let mut replies = Vec::new(memory);
     match run_bytes(engine, ENTERED, &mut replies) {
         Ok(summary) => {
-            println!(rt; "{} statements, {} refused", summary.statements, summary.refused)
+            println!(rt;
+                "{} statements, {} refused",
+                summary.statements, summary.refused
+            )
         }
         Err(_) => println!(rt; "out of memory"),
     }

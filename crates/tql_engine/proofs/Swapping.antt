@@ -131,19 +131,19 @@ module _ (h : Held) (t : ℕ) (p : Table) (there : slice_get h.tables t ≡ Some
         count = f.count;
       }
   swapped_by defs es next (Some e) fits f = record {
-      fits = record { definitions = f.fits.definitions; defined = f.fits.defined; rows = f.fits.rows; working = set_fits h.tables t p there e.copy fits ys ok };
-      clock = f.clock;
-      not_before = f.not_before;
-      not_after = f.not_after;
-      falls = f.falls;
-      since = f.since;
-      opened = f.opened;
-      dated = f.dated;
-      stands = working_same h.rows e.moment (rows_of_id h.tables (slice_set e.copy t xs)) (rows_of_id h.tables (slice_set e.copy t ys)) (copies_of h.tables es) f.opened
-          (rows_same h.rows h.tables t p f.placed there e.copy fits xs ys b) f.stands;
-      placed = f.placed;
-      count = f.count;
-    }
+    fits = record { definitions = f.fits.definitions; defined = f.fits.defined; rows = f.fits.rows; working = set_fits h.tables t p there e.copy fits ys ok };
+    clock = f.clock;
+    not_before = f.not_before;
+    not_after = f.not_after;
+    falls = f.falls;
+    since = f.since;
+    opened = f.opened;
+    dated = f.dated;
+    stands = working_same h.rows e.moment (rows_of_id h.tables (slice_set e.copy t xs)) (rows_of_id h.tables (slice_set e.copy t ys)) (copies_of h.tables es) f.opened
+        (rows_same h.rows h.tables t p f.placed there e.copy fits xs ys b) f.stands;
+    placed = f.placed;
+    count = f.count;
+  }
 
   -- the law
   pub swapped : (s : State) → CopyFits (definitions_of h.tables) (working_now s).copy → StandsFor h (with_table_rows s t xs) → StandsFor h (with_table_rows s t ys)

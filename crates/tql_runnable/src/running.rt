@@ -104,6 +104,5 @@ pub fn does_run(statement: &Statement<'_>) -> bool
         | Statement::Commit
         | Statement::Rollback
         | Statement::At(_) => true,
-
     }
 }
