@@ -13,7 +13,7 @@ mod status;
 use crate::options::CommandLine;
 use crate::status::{exit_status, line_status};
 use clap::Error;
-use std::io::{self, BufWriter, ErrorKind, IsTerminal, Read};
+use std::io::{self, BufWriter, ErrorKind, Read};
 use std::process::ExitCode;
 use std::{env, fs};
 use tql_check::check::check_script;
@@ -98,22 +98,6 @@ fn end_opening(rt: &impl Eprint, path: &str, error: &io::Error) -> u8 {
     }
 }
 
-/// Tells whoever sits at a terminal that a script is awaited, and what ends it.
-fn invite(rt: &impl Eprint, input: &impl IsTerminal) {
-    if input.is_terminal() {
-        let _ = eprintln!(rt;
-            "tql: reading a script from the terminal: a semicolon ends a statement, Ctrl-D the script"
-        );
-    }
-}
-
-/// Runs or checks the script on the standard input, and answers the exit status.
-fn run_input(rt: &HostRuntime, check: bool) -> u8 {
-    let input = rt.reader();
-    invite(rt, &input);
-    end_run(rt, STANDARD_INPUT, &answer_script(rt, check, input))
-}
-
 /// Runs or checks the script that the options name, and answers the exit status.
 fn run_options(rt: &HostRuntime, options: &CommandLine<'_>) -> u8 {
     match options.script {
@@ -121,7 +105,11 @@ fn run_options(rt: &HostRuntime, options: &CommandLine<'_>) -> u8 {
             Ok(file) => end_run(rt, path, &answer_script(rt, options.check, file)),
             Err(error) => end_opening(rt, path, &error),
         },
-        None => run_input(rt, options.check),
+        None => end_run(
+            rt,
+            STANDARD_INPUT,
+            &answer_script(rt, options.check, rt.reader()),
+        ),
     }
 }
 
