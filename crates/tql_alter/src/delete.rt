@@ -9,7 +9,6 @@ ghost use Rattle.tql_tree.specs.Statements.{filter_of};
 ghost use Rattle.tql_scope.specs.Gathered.{Gathers};
 
 use crate::sets::own_reference;
-use crate::tables::table_number;
 use std::alloc::AllocError;
 use tql_bound::change::{Modification, Work};
 use tql_catalog::catalog::Catalog;
@@ -18,6 +17,7 @@ use tql_expr::terms::Terms;
 use tql_filter::conjuncts::plain_filter;
 use tql_memory::Memory;
 use tql_scope::faults::Faults;
+use tql_scope::tables::table_number;
 use tql_tree::statement::Delete;
 
 /// A DELETE of no portion. Faults: no table has the name; a name of WHERE is unknown or ambiguous; its kinds do not fit; an aggregate stands

@@ -9,7 +9,6 @@ ghost use Rattle.tql_tree.specs.Statements.{tuple_of};
 ghost use Rattle.tql_scope.specs.Gathered.{Gathers};
 
 use crate::columns::{insert_columns, kinds_for};
-use crate::tables::table_number;
 use crate::tuples::tuples;
 use std::alloc::AllocError;
 use tql_bound::change::Insertion;
@@ -18,6 +17,7 @@ use tql_catalog::table_def::TableDef;
 use tql_expr::terms::Terms;
 use tql_memory::Memory;
 use tql_scope::faults::Faults;
+use tql_scope::tables::table_number;
 use tql_tree::expression::Name;
 use tql_tree::statement::Tuple;
 

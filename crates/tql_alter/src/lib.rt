@@ -5,6 +5,5 @@ pub mod columns;
 pub mod delete;
 pub mod insert;
 pub mod sets;
-pub mod tables;
 mod tuples;
 pub mod update;

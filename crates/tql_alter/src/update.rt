@@ -12,7 +12,6 @@ ghost use Rattle.tql_alter.specs.Cells.{HasAssigned};
 ghost use Rattle.tql_alter.specs.Heads as heads;
 
 use crate::sets::{assignments, own_reference, set_columns};
-use crate::tables::table_number;
 use std::alloc::AllocError;
 use tql_bound::change::{Assignment, Modification, Work};
 use tql_catalog::catalog::Catalog;
@@ -21,6 +20,7 @@ use tql_expr::terms::Terms;
 use tql_filter::conjuncts::plain_filter;
 use tql_memory::Memory;
 use tql_scope::faults::Faults;
+use tql_scope::tables::table_number;
 use tql_tree::statement::Update;
 
 /// What an UPDATE says before its WHERE: its table, by the place among the tables, and its assignments.

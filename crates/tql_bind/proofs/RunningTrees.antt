@@ -3,7 +3,8 @@ use Rattle.std.specs.Prelude.{◌≡◌, refl, Bool, true, false, not, ◌&&◌,
 use Rattle.tql_spec.specs.Definition.{Name}
 use Rattle.tql_spec.specs.Syntax.{Condition, PortionTree, RefTree, JoinTree, ChainTree, Items, AllColumns, TheseItems, Named, SetTree, SelectTree, OrderTree, UpdateTree, DeleteTree, QueryTree}
 use Rattle.tql_spec.specs.Running.{is_whole_table, does_run}
-use Rattle.tql_spec.specs.Binding.{is_star, is_empty}
+use Rattle.tql_spec.specs.Binding.{is_star}
+use Rattle.tql_spec.specs.Words.{is_empty}
 use Rattle.tql_bind.proofs.Questions.{of_reference}
 
 -- a change that runs has no portion

@@ -2,3 +2,4 @@
 #![tactic(auto)]
 
 pub mod change;
+pub mod selection;

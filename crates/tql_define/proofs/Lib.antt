@@ -1,4 +1,3 @@
-pub mod NumberLemmas
 pub mod Drafts
 pub mod FirstFault
 pub mod Creations

@@ -1,3 +1,2 @@
 pub mod Binds
-pub mod Numbers
 pub mod NewTables

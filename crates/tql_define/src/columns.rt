@@ -12,7 +12,7 @@ ghost use Rattle.tql_value.specs.Views.{plain_kind};
 ghost use Rattle.tql_define.specs.NewTables.{column_of, names_in, starts_in, stops_in, kind_in};
 
 use crate::draft::NewColumn;
-use crate::number::unsigned;
+use tql_scope::number::unsigned;
 use tql_tree::statement::{Generated, TypeName};
 use tql_value::value::Kind;
 

@@ -4,4 +4,3 @@
 mod columns;
 pub mod create;
 mod draft;
-pub mod number;

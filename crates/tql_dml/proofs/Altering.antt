@@ -23,12 +23,13 @@ use Rattle.tql_value.specs.declared.refusal.Refusal.TheVariants as r
 use Rattle.tql_dml.specs.Alters.{Gives, Alters, inserted, tuples_in, rows_in, conds_in, modified, fates, coming, gone, IsVersionOf}
 use Rattle.tql_dml.specs.Cells.{stored_columns, stored_cells, rows_faults}
 use Rattle.tql_dml.specs.Evaluated.{Fails}
-use Rattle.tql_dml.specs.Inserts.{rows_of}
+use Rattle.tql_value.specs.Views.{rows_of}
 use Rattle.tql_dml.specs.Parts.{Parts, parts}
 use Rattle.tql_dml.proofs.Fates.{Told, agreed, disagreed, fates_agree}
 use Rattle.tql_dml.proofs.Rows.{Fit, PartsFit, AreRows, parts_fit, stored_faults}
 use Rattle.tql_dml.proofs.Filling.{stored_fits}
-use Rattle.tql_dml.proofs.Texts.{RowsPrint, tuples_print, coming_fit}
+use Rattle.tql_expr.proofs.Printing.{RowsPrint}
+use Rattle.tql_dml.proofs.Texts.{tuples_print, coming_fit}
 use Rattle.tql_dml.proofs.Inserting.{new_cells, first_of}
 
 -- a fault is told

@@ -14,10 +14,9 @@ use Rattle.tql_spec.specs.Change.{is_too_long, cell_faults, row_faults, period_f
 use Rattle.tql_catalog.specs.Defined.{IsDefinition}
 use Rattle.tql_catalog.proofs.Definitions.{has_its_system}
 use Rattle.tql_catalog.specs.Rows.{has_system}
-use Rattle.tql_value.specs.Views.{datum_of_value}
+use Rattle.tql_value.specs.Views.{datum_of_value, row_of, rows_of}
 use Rattle.tql_value.specs.declared.value.Value.{Value}
 use Rattle.tql_dml.specs.Cells.{no_column, columns_at, has_long_text, lacks_a_value, rows_faults}
-use Rattle.tql_dml.specs.Inserts.{row_of, rows_of}
 use Rattle.tql_dml.proofs.Kept.{kept, Within, within}
 
 -- ---- the generated cells have no fault

@@ -7,18 +7,17 @@ use Rattle.std.proofs.lemmas.List.Elements.{All-head, All-tail, All-set, All-rep
 use borrow.Author.Tests.{ltb-true, eqb-false, eqb-true}
 use Rattle.tql_spec.specs.Datum.{Null, Row}
 use Rattle.tql_spec.specs.Definition.{TableDef, System, without_generated, cell}
-use Rattle.tql_spec.specs.Change.{filled, row_of}
+use Rattle.tql_spec.specs.Change.{filled, new_row}
 use Rattle.tql_spec.specs.Creation.{has_number}
 use Rattle.tql_spec.specs.Binding.{all_assignable, is_generated, generated_columns}
 use Rattle.tql_catalog.specs.Defined.{IsDefinition}
 use Rattle.tql_catalog.proofs.Definitions.{has_its_system}
 use Rattle.tql_catalog.specs.Rows.{IsRowOf, has_system, numbers_repeat, are_assignable}
 use Rattle.tql_value.specs.Points.{IsPrintable}
-use Rattle.tql_value.specs.Views.{datum_of_value}
+use Rattle.tql_expr.proofs.Printing.{printable_cell}
+use Rattle.tql_value.specs.Views.{datum_of_value, rows_of}
 use Rattle.tql_value.specs.declared.value.Value.{Value}
 use Rattle.tql_dml.specs.Cells.{stored_cells}
-use Rattle.tql_dml.specs.Inserts as rows
-use Rattle.tql_dml.specs.Inserts.{rows_of}
 use Rattle.tql_dml.proofs.Kept.{kept, kept_law, and_left, and_right, not_is}
 
 pub length-filled : (row : Row) (js : List ℕ) (vs : Row) → length (filled row js vs) ≡ length row
@@ -66,7 +65,7 @@ without_is : (s : Option System) (row : Row) → without_generated s row ≡ kep
 without_is None row = refl
 without_is (Some s) row = refl
 
-pub length-row : (d : TableDef) (js : List ℕ) (vs : Row) → length (row_of d js vs) ≡ length d.columns
+pub length-row : (d : TableDef) (js : List ℕ) (vs : Row) → length (new_row d js vs) ≡ length d.columns
 length-row d js vs = length-filled (replicate (length d.columns) Null) js vs ∙ length-replicate (length d.columns) Null
 
 -- the cells of the columns that are not generated, in order
@@ -76,30 +75,24 @@ kept_cells d row s k =
     ∙ subst (λ n. kept d.system row ≡ map (cell row) (filter (λ i. not (has_number i (generated_columns d.system))) (range_with_len 0 n))) k
     (kept_law Null d.system row (subst (λ n. has_system d.system n ≡ true) (sym k) (has_its_system d s)))
 
-stored_law : (d : TableDef) (js : List ℕ) (vs : Row) → IsDefinition d → stored_cells d js vs ≡ map (cell (row_of d js vs)) (all_assignable d)
-stored_law d js vs s = kept_cells d (row_of d js vs) s (length-row d js vs)
+stored_law : (d : TableDef) (js : List ℕ) (vs : Row) → IsDefinition d → stored_cells d js vs ≡ map (cell (new_row d js vs)) (all_assignable d)
+stored_law d js vs s = kept_cells d (new_row d js vs) s (length-row d js vs)
 
 -- a new row whose values are given for all its columns in order
 pub usual_row : (d : TableDef) (js : List ℕ) (vs : Row) → IsDefinition d → js ≡ all_assignable d → are_assignable d js ≡ true → length vs ≡ length js → stored_cells d js vs ≡ vs
 usual_row d js vs s e a k =
-    stored_law d js vs s ∙ ap (map (cell (row_of d js vs))) (sym e)
+    stored_law d js vs s ∙ ap (map (cell (new_row d js vs))) (sym e)
     ∙ filled_cells d (replicate (length d.columns) Null) js vs (length-replicate (length d.columns) Null) k
     (and_left (list_all (is_open d) js) _ a) (not_is (numbers_repeat js) (and_right (list_all (is_open d) js) _ a))
 
 pub length-stored : (d : TableDef) (js : List ℕ) (vs : Row) → IsDefinition d → length (stored_cells d js vs) ≡ length (all_assignable d)
-length-stored d js vs s = ap length (stored_law d js vs s) ∙ length-map (all_assignable d) (cell (row_of d js vs))
+length-stored d js vs s = ap length (stored_law d js vs s) ∙ length-map (all_assignable d) (cell (new_row d js vs))
 
 -- the generated columns are two of a row of all columns
 pub system_fits : (d : TableDef) (s : Option System) (n : ℕ) → IsDefinition d → s ≡ d.system → n ≡ length d.columns → IsTrue (has_system s n)
 system_fits d s n right e w = (λ i. has_system (e i) (w i)) ∙ has_its_system d right
 
 -- ---- values that have texts
-
--- a cell of a row that has texts
-pub printable_cell : (row : Row) (i : ℕ) → All IsPrintable row → IsPrintable (cell row i)
-printable_cell [] i h = tt
-printable_cell (v ∷ vs) zero h = All-head IsPrintable v vs h
-printable_cell (v ∷ vs) (suc i) h = printable_cell vs i (All-tail IsPrintable v vs h)
 
 printable_filled : (row : Row) (js : List ℕ) (vs : Row) → All IsPrintable row → All IsPrintable vs → All IsPrintable (filled row js vs)
 printable_filled row [] vs p q = p
@@ -110,7 +103,7 @@ printable_filled row (j ∷ js) (v ∷ vs) p q =
 -- what is stored is a row of the table
 pub stored_fits : (d : TableDef) (js : List ℕ) (vs : Row) → IsDefinition d → All IsPrintable vs → IsRowOf d (stored_cells d js vs)
 stored_fits d js vs s h =
-    let row = row_of d js vs in
+    let row = new_row d js vs in
     let printable : All IsPrintable row = printable_filled (replicate (length d.columns) Null) js vs (All-replicate IsPrintable (length d.columns) Null tt) h in
     record {
       width = length-stored d js vs s;
@@ -123,5 +116,5 @@ pub usual_rows : {A : Type 0} (d : TableDef) (js : List ℕ) (tuples : List (Vec
 usual_rows d js [] s e a h = refl
 usual_rows {A} d js (t ∷ ts) s e a h =
     let wide : length t.items ≡ length js = eqb-true (length t.items) (length js) (and_left (nat_eq (length t.items) (length js)) _ h) in
-    let here : rows.row_of t.items ≡ stored_cells d js (rows.row_of t.items) = sym (usual_row d js (rows.row_of t.items) s e a (length-map t.items datum_of_value ∙ wide)) in
+    let here : row_of t.items ≡ stored_cells d js (row_of t.items) = sym (usual_row d js (row_of t.items) s e a (length-map t.items datum_of_value ∙ wide)) in
     λ i. here i ∷ usual_rows d js ts s e a (and_right (nat_eq (length t.items) (length js)) _ h) i

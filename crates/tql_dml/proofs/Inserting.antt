@@ -7,7 +7,7 @@ use Rattle.tql_spec.specs.Datum.{Row}
 use Rattle.tql_spec.specs.Refusal as spec
 use Rattle.tql_spec.specs.Refusal.{first}
 use Rattle.tql_spec.specs.Definition.{TableDef, Column, Stamped, stamped, shown}
-use Rattle.tql_spec.specs.Change.{row_faults, row_of, cell_faults}
+use Rattle.tql_spec.specs.Change.{row_faults, new_row, cell_faults}
 use Rattle.tql_spec.specs.Binding.{all_assignable}
 use Rattle.tql_catalog.specs.Defined.{IsDefinition}
 use Rattle.tql_catalog.proofs.Definitions.{has_its_system}
@@ -17,10 +17,18 @@ use Rattle.tql_value.specs.Refusals.{refusal_of}
 use Rattle.tql_value.specs.declared.refusal.Refusal.{Refusal}
 use Rattle.tql_value.specs.declared.refusal.Refusal.TheVariants as r
 use Rattle.tql_dml.specs.Cells.{no_column, columns_at, stored_columns, stored_cells, rows_faults}
-use Rattle.tql_dml.specs.Inserts.{rows_of, new_rows, new_faults, Adds, Inserts}
+use Rattle.tql_value.specs.Views.{rows_of}
 use Rattle.tql_dml.proofs.Kept.{kept, kept_law}
 use Rattle.tql_dml.proofs.FaultLaws.{plain_faults}
 use Rattle.tql_dml.proofs.Filling.{length-stored, stored_fits}
+
+-- the new rows of a moment: these values in these columns, and null in the others
+abbrev pub new_rows : TableDef → ℤ → List ℕ → List Row → List Stamped
+new_rows d m columns tuples = map (λ values. stamped d m (new_row d columns values)) tuples
+
+-- all that they can be refused for
+abbrev pub new_faults : TableDef → ℤ → List ℕ → List Row → List spec.Refusal
+new_faults d m columns tuples = flat_map (λ r. row_faults d (shown d r)) (new_rows d m columns tuples)
 
 -- the cells of the new rows
 pub new_cells : (d : TableDef) (m : ℤ) (js : List ℕ) (tuples : List Row) → map (λ (r : Stamped). r.cells) (new_rows d m js tuples) ≡ map (stored_cells d js) tuples
@@ -33,10 +41,10 @@ kept_columns d s = kept_law no_column d.system d.columns (has_its_system d s)
 
 -- the faults of a new row
 one_row : (d : TableDef) (m : ℤ) (js : List ℕ) (vs : Row) → IsDefinition d
-    → row_faults d (shown d (stamped d m (row_of d js vs))) ≡ cell_faults (stored_columns d) (stored_cells d js vs)
+    → row_faults d (shown d (stamped d m (new_row d js vs))) ≡ cell_faults (stored_columns d) (stored_cells d js vs)
 one_row d m js vs s =
     let wide : length (stored_cells d js vs) ≡ length (kept d.system d.columns) = length-stored d js vs s ∙ sym (length-map (all_assignable d) _) ∙ ap length (sym (kept_columns d s)) in
-    plain_faults d (stamped d m (row_of d js vs)) s wide ∙ ap (λ cs. cell_faults cs (stored_cells d js vs)) (kept_columns d s)
+    plain_faults d (stamped d m (new_row d js vs)) s wide ∙ ap (λ cs. cell_faults cs (stored_cells d js vs)) (kept_columns d s)
 
 faults_are : (d : TableDef) (m : ℤ) (js : List ℕ) (tuples : List Row) → IsDefinition d → new_faults d m js tuples ≡ rows_faults (stored_columns d) (map (stored_cells d js) tuples)
 faults_are d m js [] s = refl
@@ -46,26 +54,6 @@ faults_are d m js (vs ∷ tuples) s = λ i. one_row d m js vs s i ++ faults_are 
 pub first_of : (d : TableDef) (m : ℤ) (js : List ℕ) (tuples rows : List Row) (o : Option spec.Refusal) → IsDefinition d → rows ≡ map (stored_cells d js) tuples
     → o ≡ first (rows_faults (stored_columns d) rows) → first (new_faults d m js tuples) ≡ o
 first_of d m js tuples rows o s e f = ap first (faults_are d m js tuples s ∙ ap (rows_faults (stored_columns d)) (sym e)) ∙ sym f
-
--- rows without a fault are added
-pub adds : (d : TableDef) (id : ℕ) (js : List ℕ) (tuples : List Row) (delta : Delta) → IsDefinition d → All (IsTupleOf (length js)) tuples → delta.table ≡ id → delta.removed.items ≡ []
-    → rows_of delta.added.items ≡ map (stored_cells d js) tuples → delta.count ≡ length delta.added.items → None ≡ first (rows_faults (stored_columns d) (rows_of delta.added.items))
-    → Adds d id js tuples delta
-adds d id js tuples delta s t table removed rows count faults = record {
-  table = table;
-  removed = removed;
-  added = λ m. new_cells d m js tuples ∙ sym rows;
-  count = count ∙ sym (length-map delta.added.items _) ∙ ap length rows ∙ length-map tuples (stored_cells d js);
-  rows = subst (All (IsRowOf d)) (sym rows) (All-map (IsRowOf d) (stored_cells d js) tuples
-      (All-weaker (IsTupleOf (length js)) (λ vs. IsRowOf d (stored_cells d js vs)) (λ vs h. stored_fits d js vs s h.printable) tuples t));
-  sound = λ m. first_of d m js tuples (rows_of delta.added.items) None s rows faults;
-}
-
--- a fault is told
-pub refused : (d : TableDef) (id : ℕ) (js : List ℕ) (tuples rows : List Row) (e : Refusal) → IsDefinition d → rows ≡ map (stored_cells d js) tuples
-    → Some (refusal_of e) ≡ first (rows_faults (stored_columns d) rows) → Inserts d id js tuples (Err e)
-refused d id js tuples rows r.OutOfMemory s e f = tt
-refused d id js tuples rows why s e f = λ m. first_of d m js tuples rows (Some (refusal_of why)) s e f
 
 -- the columns and rows that are read are those that are stored
 pub first_read : (d : TableDef) (cs : List Column) (is : List ℕ) (rows read : List Row) (o : Option spec.Refusal) → cs ≡ d.columns → is ≡ all_assignable d → read ≡ rows

@@ -8,9 +8,8 @@ use Rattle.tql_spec.specs.Definition.{without_generated}
 use Rattle.tql_spec.specs.Change.{filled}
 use Rattle.tql_catalog.specs.Definitions.{system_of}
 use Rattle.tql_catalog.specs.declared.definition.System.{System}
-use Rattle.tql_value.specs.Views.{datum_of_value}
+use Rattle.tql_value.specs.Views.{datum_of_value, row_of, rows_of}
 use Rattle.tql_value.specs.declared.value.Value.{Value}
-use Rattle.tql_dml.specs.Inserts.{row_of, rows_of}
 
 -- a value taken out
 pub row_remove : (values : List Value) (i : ℕ) → row_of (remove values i) ≡ remove (row_of values) i

@@ -20,7 +20,7 @@ use Rattle.tql_value.specs.Points.{IsMoment}
 use Rattle.tql_value.specs.Refusals.{refusal_of}
 use Rattle.tql_value.specs.declared.refusal.Refusal.{Refusal}
 use Rattle.tql_value.specs.declared.refusal.Refusal.TheVariants.{OutOfMemory}
-use Rattle.tql_dml.specs.Inserts.{rows_of}
+use Rattle.tql_value.specs.Views.{rows_of}
 
 -- what a change gives: which versions go, the rows that come, their count, and no fault, whatever the moment
 pub record Gives (id : ℕ) (gone : List ℕ) (new : ℤ → List Stamped) (outcome : ℤ → Outcome) (delta : Delta) : Type 0 where

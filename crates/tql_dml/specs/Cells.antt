@@ -4,7 +4,7 @@ use Rattle.std.specs.List.{flat_map}
 use Rattle.tql_spec.specs.Datum.{Row, Ints, is_null}
 use Rattle.tql_spec.specs.Refusal.{Refusal}
 use Rattle.tql_spec.specs.Definition.{TableDef, Column, without_generated}
-use Rattle.tql_spec.specs.Change.{is_too_long, cell_faults, row_of}
+use Rattle.tql_spec.specs.Change.{is_too_long, cell_faults, new_row}
 use Rattle.tql_spec.specs.Binding.{all_assignable}
 
 -- the column that is read where none is there: it takes every value
@@ -21,7 +21,7 @@ stored_columns d = columns_at d.columns (all_assignable d)
 
 -- the cells of the new row that has these values in these columns
 abbrev pub stored_cells : TableDef → List ℕ → Row → Row
-stored_cells d columns values = without_generated d.system (row_of d columns values)
+stored_cells d columns values = without_generated d.system (new_row d columns values)
 
 -- whether some text is longer than its column takes
 abbrev pub has_long_text : List Column → Row → Bool

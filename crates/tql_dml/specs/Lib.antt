@@ -1,4 +1,3 @@
-pub mod Inserts
 pub mod Cells
 pub mod Evaluated
 pub mod Alters

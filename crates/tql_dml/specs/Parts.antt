@@ -9,8 +9,7 @@ use Rattle.tql_expr.specs.Rows.{generated}
 use Rattle.tql_expr.specs.declared.row.StoredRow.{StoredRow}
 use Rattle.tql_store.specs.Views.{version_of}
 use Rattle.tql_store.specs.declared.version.Version.{Version}
-use Rattle.tql_value.specs.Views.{datum_of_value}
-use Rattle.tql_dml.specs.Inserts.{rows_of}
+use Rattle.tql_value.specs.Views.{datum_of_value, rows_of}
 use Rattle.tql_dml.specs.declared.modification.Changed.{Changed}
 
 -- the row that a stored one shows

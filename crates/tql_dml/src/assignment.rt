@@ -5,7 +5,7 @@ ghost use Rattle.tql_bound.specs.Works.{assignment_of};
 ghost use Rattle.tql_expr.specs.Meaning.{HasExpr};
 ghost use Rattle.tql_value.specs.declared.refusal.Refusal.TheVariants.{OutOfMemory};
 ghost use Rattle.tql_dml.specs.Evaluated.{Evaluated};
-ghost use Rattle.tql_dml.specs.Inserts.{row_of};
+ghost use Rattle.tql_value.specs.Views.{row_of};
 ghost use Rattle.tql_dml.specs.Parts.{shown_by, stored_of};
 
 use crate::spread::{drop_generated, put};

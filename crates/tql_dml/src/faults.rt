@@ -5,9 +5,8 @@ ghost use Rattle.tql_spec.specs.Refusal.{first};
 ghost use Rattle.tql_spec.specs.Change.{is_too_long as too_long};
 ghost use Rattle.tql_catalog.specs.Definitions.{column_of};
 ghost use Rattle.tql_value.specs.Refusals.{refusal_of};
-ghost use Rattle.tql_value.specs.Views.{datum_of_value};
+ghost use Rattle.tql_value.specs.Views.{datum_of_value, row_of, rows_of};
 ghost use Rattle.tql_dml.specs.Cells.{no_column, columns_at, rows_faults, has_long_text as long_in, lacks_a_value as lacking_in};
-ghost use Rattle.tql_dml.specs.Inserts.{row_of, rows_of};
 
 use tql_catalog::definition::Column;
 use tql_memory::Memory;

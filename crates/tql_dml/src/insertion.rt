@@ -2,7 +2,7 @@
 ghost use Rattle.std.specs.Prelude.{[], All, IfOk};
 ghost use Rattle.tql_catalog.specs.Rows.{IsRowOf};
 ghost use Rattle.tql_dml.specs.Alters.{Alters, inserted};
-ghost use Rattle.tql_dml.specs.Inserts.{rows_of};
+ghost use Rattle.tql_value.specs.Views.{rows_of};
 
 use crate::faults::first_fault;
 use crate::spread::new_rows;

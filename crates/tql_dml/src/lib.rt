@@ -3,9 +3,7 @@
 
 mod assignment;
 mod faults;
-pub mod insert;
 pub mod insertion;
 pub mod modification;
 mod spread;
-pub mod tuples;
 mod values;

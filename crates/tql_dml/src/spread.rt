@@ -4,10 +4,9 @@ ghost use Rattle.tql_spec.specs.Datum.{Null};
 ghost use Rattle.tql_spec.specs.Definition.{without_generated};
 ghost use Rattle.tql_spec.specs.Change.{filled};
 ghost use Rattle.tql_catalog.specs.Definitions.{system_of};
-ghost use Rattle.tql_value.specs.Views.{datum_of_value};
+ghost use Rattle.tql_value.specs.Views.{datum_of_value, row_of, rows_of};
 ghost use Rattle.tql_value.specs.declared.refusal.Refusal.TheVariants.{OutOfMemory};
 ghost use Rattle.tql_dml.specs.Cells.{stored_cells};
-ghost use Rattle.tql_dml.specs.Inserts.{row_of, rows_of};
 
 use std::mem;
 use tql_catalog::definition::System;

@@ -4,9 +4,8 @@ ghost use Rattle.tql_spec.specs.Expression as tree;
 ghost use Rattle.tql_spec.specs.Words.{map_all};
 ghost use Rattle.tql_bound.specs.Changes.{tuple_of};
 ghost use Rattle.tql_expr.specs.Meaning.{expr as tree_of, HasExpr};
-ghost use Rattle.tql_value.specs.Views.{datum_of_value};
+ghost use Rattle.tql_value.specs.Views.{datum_of_value, row_of, rows_of};
 ghost use Rattle.tql_dml.specs.Evaluated.{Evaluated};
-ghost use Rattle.tql_dml.specs.Inserts.{row_of, rows_of};
 
 use tql_expr::columns::Columns;
 use tql_expr::row::Row;

@@ -10,16 +10,16 @@ use Rattle.tql_spec.specs.History.{Copy}
 use Rattle.tql_spec.specs.Change as change
 use Rattle.tql_spec.specs.Change.{Outcome, Work, Fate, Replaced, after_fates, touched_count, fate, modify, insert}
 use Rattle.tql_spec.specs.Constraint.{each_table, key_holds, keys_hold, reference_to, references_hold}
-use Rattle.tql_spec.specs.Machine.{State, Reply, Done, Change, outcome, altered, changed_table, verb_of, constraint_faults, unless}
+use Rattle.tql_spec.specs.Machine.{State, Reply, Done, Change, outcome, altered, changed_table, verb_of, constraint_faults, unless_refused}
 use Rattle.tql_catalog.specs.Defined.{IsDefinition}
 use Rattle.tql_engine.proofs.ChangeKeeps.{working_now, with_table_rows, begun_at}
 
 -- ---- new rows
 
 begun_so : (d : TableDef) (m : ℤ) (columns : List ℕ) (tuples : List Row)
-    → (let rows = map (λ values. stamped d m (change.row_of d columns values)) tuples in rows ≡ begun_at m (map (λ (r : Stamped). r.cells) rows))
+    → (let rows = map (λ values. stamped d m (change.new_row d columns values)) tuples in rows ≡ begun_at m (map (λ (r : Stamped). r.cells) rows))
 begun_so d m columns [] = refl
-begun_so d m columns (t ∷ ts) = ap {B = List Stamped} (λ rows. stamped d m (change.row_of d columns t) ∷ rows) (begun_so d m columns ts)
+begun_so d m columns (t ∷ ts) = ap {B = List Stamped} (λ rows. stamped d m (change.new_row d columns t) ∷ rows) (begun_so d m columns ts)
 
 -- the rows that an INSERT makes of none begin at its moment
 pub rows_begun : (d : TableDef) (m : ℤ) (columns : List ℕ) (values : Option (List Row)) (rows : List Row)
@@ -66,10 +66,10 @@ no_constraint ds a copy = λ i. fault_if (not (no_key ds a copy i)) DuplicateKey
 
 -- what the machine answers to a change, where its table becomes this
 abbrev altered_as : State → Change → List Refusal → Outcome → Reply × State
-altered_as s c faults o = unless (first faults) s (Done (verb_of c) (Some o.count)) (with_table_rows s (changed_table c) o.rows)
+altered_as s c faults o = unless_refused (first faults) s (Done (verb_of c) (Some o.count)) (with_table_rows s (changed_table c) o.rows)
 
 pub altered_by : (s : State) (c : Change) (o : Outcome) → AllByRecursion IsDefinition s.definitions → outcome s (working_now s).moment (working_now s).copy c ≡ o
-    → altered s c ≡ unless (first o.faults) s (Done (verb_of c) (Some o.count)) (with_table_rows s (changed_table c) o.rows)
+    → altered s c ≡ unless_refused (first o.faults) s (Done (verb_of c) (Some o.count)) (with_table_rows s (changed_table c) o.rows)
 altered_by s c o a e =
     let copy : Copy = slice_set (working_now s).copy (changed_table c) o.rows in
     ap (λ (x : Outcome). altered_as s c (x.faults ++ constraint_faults s.definitions (slice_set (working_now s).copy (changed_table c) x.rows)) x) e

@@ -23,7 +23,7 @@ use Rattle.tql_store.specs.Represents.{seen_by}
 use Rattle.tql_value.specs.Points.{IsPrintable, ArePrintable, IsMoment}
 use Rattle.tql_engine.specs.Fitting.{RowsFit, CopyFits, HistoryFits, WorkingFits}
 use Rattle.tql_engine.specs.Questions.{Answers}
-use Rattle.tql_engine.specs.Stands.{Held, StandsFor, AreSince, IsDated, copies_of, moment_of, working_of}
+use Rattle.tql_engine.specs.Stands.{Held, StandsFor, AreSince, IsDated, copies_of, open_moment, working_of}
 use Rattle.tql_engine.proofs.Standing.{some_is, definition_law, defined_law}
 use Rattle.tql_engine.proofs.Copies.{history_found}
 use Rattle.tql_engine.proofs.Columns.{Wide}
@@ -174,7 +174,7 @@ wide_law h s t p when f e =
     (all_wide p.definition (defined_law h s t p f e) (versions_found s t when) (versions_fit h s t p when f e))
 
 -- the copies that the store answers from are those that the machine does
-seen_copies : (tables : List Table) (es : List Entry) (o : Option Entry) (id : ℕ) → seen_by (moment_of o) (copies_of tables es) (working_of tables o) id ≡ copies_of tables (listed o ++ es) id
+seen_copies : (tables : List Table) (es : List Entry) (o : Option Entry) (id : ℕ) → seen_by (open_moment o) (copies_of tables es) (working_of tables o) id ≡ copies_of tables (listed o ++ es) id
 seen_copies tables es None id = refl
 seen_copies tables es (Some e) id = refl
 

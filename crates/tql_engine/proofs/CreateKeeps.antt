@@ -17,7 +17,7 @@ use Rattle.tql_catalog.specs.Tables.{definitions_of}
 use Rattle.tql_catalog.specs.declared.catalog.Table.{Table}
 use Rattle.tql_catalog.specs.Defined.{IsDefinition}
 use Rattle.tql_engine.specs.Fitting.{CopyFits, HistoryFits, WorkingFits}
-use Rattle.tql_engine.specs.Stands.{Held, StandsFor, ArePlaced, IsKept, AreSince, is_free, copies_of, moment_of, working_of}
+use Rattle.tql_engine.specs.Stands.{Held, StandsFor, ArePlaced, IsKept, AreSince, is_free, copies_of, open_moment, working_of}
 use Rattle.tql_engine.proofs.Standing.{closed_law}
 use Rattle.tql_engine.proofs.Copies.{turned, rows_more, fits_length, same_copies, any_working}
 
@@ -115,7 +115,7 @@ pub create_law : (h : Held) (s : State) (q : Table) (r : store.Held) → StandsF
     → StandsFor (record { tables = h.tables ++ q ∷ []; rows = r; next = h.next }) (with_table q.definition s)
 create_law h s q r f closed right a keeps =
     let none : s.transaction ≡ None = closed_law h s f closed in
-    let idle : r.working ≡ None = ap (λ (x : store.Held). x.working) a.rest ∙ f.opened ∙ ap moment_of none in
+    let idle : r.working ≡ None = ap (λ (x : store.Held). x.working) a.rest ∙ f.opened ∙ ap open_moment none in
     let d : TableDef = q.definition in
     let more : definitions_of (h.tables ++ q ∷ []) ≡ definitions_of h.tables ++ d ∷ [] = map-append (λ (t : Table). t.definition) h.tables (q ∷ []) in
     record {

@@ -13,7 +13,7 @@ use Rattle.tql_spec.specs.Query.{in_order}
 use Rattle.tql_spec.specs.Creation.{names_of}
 use Rattle.tql_spec.specs.Change.{Outcome, Work, insert}
 use Rattle.tql_spec.specs.Refusal.{Refusal, NotInThisTransactionState, MomentNotAllowed, first}
-use Rattle.tql_spec.specs.Machine.{State, Reply, Refused, Done, Table, CreatedTable, DroppedTable, ClockSet, Inserted, Deleted, Started, Committed, RolledBack, Change, CreateTable, DropTable, SetClock, Start, Commit, Rollback, Alter, Ask, Modify, step, altered, unless, is_not_later, is_clock_at_end, entries, newest_copy, with_table, without_table, with_commit, working, asked, bag_of}
+use Rattle.tql_spec.specs.Machine.{State, Reply, Refused, Done, Table, CreatedTable, DroppedTable, ClockSet, Inserted, Deleted, Started, Committed, RolledBack, Change, CreateTable, DropTable, SetClock, Start, Commit, Rollback, Alter, Ask, Modify, step, altered, unless_refused, is_not_later, is_clock_at_end, entries, newest_copy, with_table, without_table, with_commit, working, asked, bag_of}
 use Rattle.tql_bind.specs.Bounds.{whole_table}
 use Rattle.tql_catalog.specs.Tables.{definitions_of}
 use Rattle.tql_catalog.specs.declared.catalog.Table.{Table as CatalogTable}
@@ -23,7 +23,7 @@ use Rattle.tql_bound.specs.declared.change.Insertion.{Insertion}
 use Rattle.tql_dml.specs.Alters.{tuples_in, inserted}
 use Rattle.tql_store.specs.Slots as store
 use Rattle.tql_store.specs.Represents.{BeginCopies, CommitAppends, RollbackRestores, Judged}
-use Rattle.tql_engine.specs.Stands.{Held, StandsFor, copies_of, working_of, moment_of}
+use Rattle.tql_engine.specs.Stands.{Held, StandsFor, copies_of, working_of, open_moment}
 use Rattle.tql_engine.specs.Questions.{Answers}
 use Rattle.tql_engine.specs.Committing.{ChangesRows}
 use Rattle.tql_engine.specs.Effects.{Does, not_later_than}
@@ -59,7 +59,7 @@ open_entry h s st k = some_entry s.transaction (open_law h s st ∙ k)
 pub idle_law : (h : Held) (s : State) → StandsFor h s → is_none s.transaction ≡ is_none h.rows.working
 idle_law h s st = same_test s.transaction ∙ ap is_none (sym st.opened)
   where
-    same_test : (o : Option Entry) → is_none o ≡ is_none (moment_of o)
+    same_test : (o : Option Entry) → is_none o ≡ is_none (open_moment o)
     same_test None = refl
     same_test (Some e) = refl
 
@@ -175,7 +175,7 @@ insert_outcome_of s p x = insert p.definition (working_now s).moment (working_ro
 
 -- what the machine does
 insert_is : (h : Held) (s : State) (p : CatalogTable) (x : Insertion) → StandsFor h s → slice_get h.tables x.table ≡ Some p → (IsNone h.rows.working → h.next <ℤ high)
-    → (let o = insert_outcome_of s p x in step s (Alter (insertion_of x)) ≡ unless (first o.faults) s (Done Inserted (Some o.count)) (with_table_rows s x.table o.rows))
+    → (let o = insert_outcome_of s p x in step s (Alter (insertion_of x)) ≡ unless_refused (first o.faults) s (Done Inserted (Some o.count)) (with_table_rows s x.table o.rows))
 insert_is h s p x st e below =
     change_step h s (insertion_of x) st below
     ∙ altered_by s (insertion_of x) (insert_outcome_of s p x) (defined_all h s st)
@@ -189,7 +189,7 @@ insert_refused h s p x f st e below k =
     let o : Outcome = insert_outcome_of s p x in
     by_step h (Refused f) (step s (Alter (insertion_of x))) (refused f s)
     (insert_is h s p x st e below
-    ∙ ap (λ q. unless q s (Done Inserted (Some o.count)) (with_table_rows s x.table o.rows)) (ap first (insert_faults p.definition m (working_rows s x.table) x.columns.items (tuples_in x)) ∙ k m))
+    ∙ ap (λ q. unless_refused q s (Done Inserted (Some o.count)) (with_table_rows s x.table o.rows)) (ap first (insert_faults p.definition m (working_rows s x.table) x.columns.items (tuples_in x)) ∙ k m))
     (refuses h s f st)
 
 -- the state with rows added
@@ -213,9 +213,9 @@ inserted_is h s p x rows count st e below cells sound n =
     let made : Outcome = inserted p.definition x m in
     let new : List Stamped → State = λ xs. with_table_rows s x.table (working_rows s x.table ++ xs) in
     insert_is h s p x st e below
-    ∙ ap (λ (o : Outcome). unless (first o.faults) s (Done Inserted (Some o.count)) (with_table_rows s x.table o.rows))
+    ∙ ap (λ (o : Outcome). unless_refused (first o.faults) s (Done Inserted (Some o.count)) (with_table_rows s x.table o.rows))
     (insert_outcome p.definition m (working_rows s x.table) x.columns.items (tuples_in x) (sound m))
-    ∙ ap (λ q. unless q s (Done Inserted (Some made.count)) (new made.rows)) (sound m)
+    ∙ ap (λ q. unless_refused q s (Done Inserted (Some made.count)) (new made.rows)) (sound m)
     ∙ (λ i. (Done Inserted (Some (sym (n m) i)), new (rows_begun p.definition m x.columns.items (tuples_in x) rows (cells m) i)))
 
 -- and the reply

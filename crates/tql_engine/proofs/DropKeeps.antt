@@ -18,7 +18,7 @@ use Rattle.tql_catalog.specs.Tables.{definitions_of}
 use Rattle.tql_catalog.specs.declared.catalog.Table.{Table}
 use Rattle.tql_catalog.specs.Defined.{IsDefinition}
 use Rattle.tql_engine.specs.Fitting.{CopyFits, HistoryFits, WorkingFits}
-use Rattle.tql_engine.specs.Stands.{Held, StandsFor, ArePlaced, IsKept, AreSince, is_free, rows_of_id, copies_of, moment_of, working_of}
+use Rattle.tql_engine.specs.Stands.{Held, StandsFor, ArePlaced, IsKept, AreSince, is_free, rows_of_id, copies_of, open_moment, working_of}
 use Rattle.tql_engine.proofs.Standing.{closed_law, some_is}
 use Rattle.tql_engine.proofs.Copies.{chosen, passed, turned, apart, not_true, fits_length, same_copies, any_working}
 
@@ -176,7 +176,7 @@ drop_law h s t p tables r f closed there left places count slots copies =
       stands = same_copies r (copies_without p.id (copies_of h.tables s.history)) (copies_of (remove h.tables t) (entries_less t s.history)) (working_of (remove h.tables t) s.transaction)
           (copies_less h.rows h.tables t p f.placed there s.history f.fits.rows)
           (any_working r (copies_without p.id (copies_of h.tables s.history)) (working_of h.tables s.transaction) (working_of (remove h.tables t) s.transaction)
-          (same_working ∙ f.opened ∙ ap moment_of none)
+          (same_working ∙ f.opened ∙ ap open_moment none)
           (copies (copies_of h.tables s.history) (working_of h.tables s.transaction) f.stands));
       placed = placed_less h.rows r p places h.tables t f.placed there;
       count = fewer (table_count r) (table_count h.rows) (length h.tables) (length (remove h.tables t)) count f.count (length-remove h.tables t (within h.tables t p there));

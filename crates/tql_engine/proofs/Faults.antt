@@ -2,20 +2,20 @@
 use Rattle.std.specs.Prelude.{◌≡◌, refl, ℕ, Bool, true, false, ◌&&◌, ◌++◌, ℤ, Some, None, is_some, is_none, if◌then◌else◌}
 use Rattle.tql_spec.specs.Refusal.{Refusal, NotInThisTransactionState, MomentNotAllowed, earlier, first, fault_if}
 use Rattle.tql_spec.specs.Definition.{TableDef}
-use Rattle.tql_spec.specs.Machine.{State, Reply, Refused, Done, CreatedTable, DroppedTable, ClockSet, Started, Committed, RolledBack, Change, CreateTable, DropTable, SetClock, Start, Commit, Rollback, Alter, step, unless, altered, with_table, without_table, with_commit, working, is_not_later, is_clock_at_end}
+use Rattle.tql_spec.specs.Machine.{State, Reply, Refused, Done, CreatedTable, DroppedTable, ClockSet, Started, Committed, RolledBack, Change, CreateTable, DropTable, SetClock, Start, Commit, Rollback, Alter, step, unless_refused, altered, with_table, without_table, with_commit, working, is_not_later, is_clock_at_end}
 
 -- a refusal, with the state as it was
 abbrev pub refused : Refusal → State → Reply × State
 refused e s = (Refused e, s)
 
 -- the reply by one fault
-one_fault : (a : Bool) (e : Refusal) (s : State) (reply : Reply) (new : State) → unless (first (fault_if a e)) s reply new ≡ if a then refused e s else (reply, new)
+one_fault : (a : Bool) (e : Refusal) (s : State) (reply : Reply) (new : State) → unless_refused (first (fault_if a e)) s reply new ≡ if a then refused e s else (reply, new)
 one_fault true e s reply new = refl
 one_fault false e s reply new = refl
 
 -- the reply by two faults, of which the first comes before the second
 two_faults : (a b : Bool) (e f : Refusal) (s : State) (reply : Reply) (new : State) → earlier e (Some f) ≡ e
-    → unless (first (fault_if a e ++ fault_if b f)) s reply new ≡ if a then refused e s else (if b then refused f s else (reply, new))
+    → unless_refused (first (fault_if a e ++ fault_if b f)) s reply new ≡ if a then refused e s else (if b then refused f s else (reply, new))
 two_faults true true e f s reply new k = rw k
 two_faults true false e f s reply new k = refl
 two_faults false true e f s reply new k = refl

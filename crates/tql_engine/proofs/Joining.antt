@@ -7,7 +7,7 @@ use Rattle.tql_spec.specs.Refusal.{earlier, first}
 use Rattle.tql_spec.specs.Definition.{TableDef}
 use Rattle.tql_spec.specs.Names.{Checked}
 use Rattle.tql_spec.specs.Machine as machine
-use Rattle.tql_spec.specs.Machine.{State, Refused, Manner, SetsClock, state_faults, effect, step, unless}
+use Rattle.tql_spec.specs.Machine.{State, Refused, Manner, SetsClock, state_faults, effect, step, unless_refused}
 use Rattle.tql_spec.specs.Syntax.{Statement, CreateTree, DropTree, InsertValues, InsertSelect, UpdateTree, DeleteTree, QueryTree, StartTree, CommitTree, RollbackTree, AtTree}
 use Rattle.tql_spec.specs.Binding.{bind, manner, or_bad_moment}
 use Rattle.tql_spec.specs.Run.{respond, statement_faults}
@@ -61,7 +61,7 @@ pub fault_does : (h : Held) (s : State) (t : Statement) (e : spec.Refusal) → S
 fault_does h s t e st k =
     let r : machine.Reply × State = effect s (bind s.definitions t).value in
     let f : spec.Refusal = first_fault (first (state_faults s (manner_refused t))) e in
-    let is : respond s t ≡ (Refused f, s) = ap (λ (o : Option spec.Refusal). unless o s r.0 r.1) (first_is s t e k) in
+    let is : respond s t ≡ (Refused f, s) = ap (λ (o : Option spec.Refusal). unless_refused o s r.0 r.1) (first_is s t e k) in
     subst (Does h (Refused f)) (sym is) (record { replies = refl; stands = st })
 
 -- ---- by the refusal of the code

@@ -15,7 +15,7 @@ use Rattle.tql_spec.specs.Change.{Outcome, modify}
 use Rattle.tql_spec.specs.ChangeLaws.{SameOutcome, ChangesKeepNoOrder, ChangesByParts}
 use Rattle.tql_spec.specs.Refusal as spec
 use Rattle.tql_spec.specs.Refusal.{first}
-use Rattle.tql_spec.specs.Machine.{State, Reply, Done, Refused, Alter, step, unless, entries, newest_copy, verb_of_work}
+use Rattle.tql_spec.specs.Machine.{State, Reply, Done, Refused, Alter, step, unless_refused, entries, newest_copy, verb_of_work}
 use Rattle.tql_bound.specs.Changes.{modification_of}
 use Rattle.tql_bound.specs.Works.{work_of}
 use Rattle.tql_bound.specs.declared.change.Modification.{Modification}
@@ -24,7 +24,6 @@ use Rattle.tql_catalog.specs.Rows.{IsRowOf, stored_width}
 use Rattle.tql_catalog.specs.declared.catalog.Table.{Table}
 use Rattle.tql_dml.specs.Alters.{Alters, Gives, gone, fates, coming, modified, conds_in, IsVersionOf}
 use Rattle.tql_dml.specs.Alters as dml
-use Rattle.tql_dml.specs.Inserts as inserts
 use Rattle.tql_store.specs.Slots as store
 use Rattle.tql_store.specs.Changes.{rows_after}
 use Rattle.tql_store.specs.Represents.{AnswersNow, Judged}
@@ -131,7 +130,7 @@ module _ (no_order : ChangesKeepNoOrder) (by_parts : ChangesByParts) (h : Held) 
   abbrev outcome : Outcome
   outcome = modify p.definition moment rows None work (conds_in x)
 
-  modify_is : step s (Alter (modification_of x)) ≡ unless (first outcome.faults) s (Done (verb_of_work work) (Some outcome.count)) (with_table_rows s x.table outcome.rows)
+  modify_is : step s (Alter (modification_of x)) ≡ unless_refused (first outcome.faults) s (Done (verb_of_work work) (Some outcome.count)) (with_table_rows s x.table outcome.rows)
   modify_is =
       change_step h s (modification_of x) st below
       ∙ altered_by s (modification_of x) outcome (defined_all h s st) (ap {B = Outcome} (λ d. modify d moment rows None work (conds_in x)) (definition_law h s x.table p st there))
@@ -144,7 +143,7 @@ module _ (no_order : ChangesKeepNoOrder) (by_parts : ChangesByParts) (h : Held) 
     pub modify_refused : (f : spec.Refusal) → ((m : ℤ) → first (modified p.definition found x m).faults ≡ Some f) → Does h (Refused f) (step s (Alter (modification_of x)))
     modify_refused f k =
         by_step h (Refused f) (step s (Alter (modification_of x))) (refused f s)
-        (modify_is ∙ ap (λ q. unless q s (Done (verb_of_work work) (Some outcome.count)) (with_table_rows s x.table outcome.rows)) (sym same.fault ∙ k moment)) (refuses h s f st)
+        (modify_is ∙ ap (λ q. unless_refused q s (Done (verb_of_work work) (Some outcome.count)) (with_table_rows s x.table outcome.rows)) (sym same.fault ∙ k moment)) (refuses h s f st)
 
     -- the state after it
     pub rows_modified : (added : List Row) (removed : List ℕ) (r : store.Held) (after : ℤ) → AreRowsOf p.definition added → Judged p.id (touches p.definition (conds_in x)) removed h.rows.slots
@@ -176,7 +175,7 @@ module _ (no_order : ChangesKeepNoOrder) (by_parts : ChangesByParts) (h : Held) 
         by_step (record { tables = h.tables; rows = r; next = after }) (Done (verb_of_work work) (Some count)) (step s (Alter (modification_of x)))
         (Done (verb_of_work work) (Some count), with_table_rows s x.table outcome.rows)
         (modify_is
-        ∙ ap (λ q. unless q s (Done (verb_of_work work) (Some outcome.count)) (with_table_rows s x.table outcome.rows)) (sym same.fault ∙ sound moment)
+        ∙ ap (λ q. unless_refused q s (Done (verb_of_work work) (Some outcome.count)) (with_table_rows s x.table outcome.rows)) (sym same.fault ∙ sound moment)
         ∙ (λ i. (Done (verb_of_work work) (Some (sym (n moment ∙ same.count) i)), with_table_rows s x.table outcome.rows)))
         (record { replies = refl; stands = rows_modified added removed r after fit judged c cells sound })
 

@@ -6,7 +6,7 @@ use Rattle.tql_spec.specs.Refusal as faults
 use Rattle.tql_spec.specs.Refusal.{first}
 use Rattle.tql_spec.specs.Change as change
 use Rattle.tql_spec.specs.Machine as machine
-use Rattle.tql_spec.specs.Machine.{State, Done, unless, effect, step, altered, outcome, changed_table, verb_of, working, with_working, constraint_faults, state_faults, manner_of}
+use Rattle.tql_spec.specs.Machine.{State, Done, unless_refused, effect, step, altered, outcome, changed_table, verb_of, working, with_working, constraint_faults, state_faults, manner_of}
 use Rattle.tql_value.specs.declared.refusal.Refusal.{Refusal}
 use Rattle.tql_result.specs.Replies.{IsPrintableReply, reply_of}
 use Rattle.tql_result.specs.declared.reply.Reply.{Reply}
@@ -25,7 +25,7 @@ use Rattle.tql_engine.proofs.Doing.{asked_is}
 abbrev Prints : machine.Reply × State → Type 0
 Prints r = IsPrintableReply r.0
 
-unless_prints : (o : Option faults.Refusal) (s : State) (reply : machine.Reply) (new : State) → IsPrintableReply reply → Prints (unless o s reply new)
+unless_prints : (o : Option faults.Refusal) (s : State) (reply : machine.Reply) (new : State) → IsPrintableReply reply → Prints (unless_refused o s reply new)
 unless_prints None s reply new k = k
 unless_prints (Some e) s reply new k = tt
 

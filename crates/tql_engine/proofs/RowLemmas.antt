@@ -3,8 +3,7 @@ use Rattle.std.proofs.Common.{◌≡◌, ℕ, zero, suc, ◌≤◌, List, [], �
 use Rattle.std.specs.Prelude.{insert}
 use Rattle.tql_spec.specs.Datum.{Row}
 use Rattle.tql_value.specs.declared.value.Value.{Value}
-use Rattle.tql_value.specs.Views.{datum_of_value}
-use Rattle.tql_engine.specs.Views.{row_of}
+use Rattle.tql_value.specs.Views.{datum_of_value, row_of}
 
 -- at a place
 pub row_inserted : (xs : List Value) (i : ℕ) (v : Value) → row_of (insert xs i v) ≡ insert (row_of xs) i (datum_of_value v)

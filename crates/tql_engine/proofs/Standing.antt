@@ -18,7 +18,7 @@ use Rattle.tql_store.specs.Changes.{newest}
 use Rattle.tql_store.specs.Represents.{Represents}
 use Rattle.tql_store.specs.Stands.{Under}
 use Rattle.tql_engine.specs.Effects.{not_later_than}
-use Rattle.tql_engine.specs.Stands.{Held, StandsFor, ArePlaced, IsKept, IsDated, copies_of, moment_of}
+use Rattle.tql_engine.specs.Stands.{Held, StandsFor, ArePlaced, IsKept, IsDated, copies_of, open_moment}
 
 -- ---- a new engine
 
@@ -41,7 +41,7 @@ new_law r stands idle count = record {
 -- ---- transactions
 
 -- where the store has none open, the machine has none
-closed_is : (o : Option Entry) (w : Option ℤ) → w ≡ moment_of o → IsNone w → o ≡ None
+closed_is : (o : Option Entry) (w : Option ℤ) → w ≡ open_moment o → IsNone w → o ≡ None
 closed_is None w e c = refl
 closed_is (Some x) w e c = absurd (let f : true ≡ false = ap is_some (sym e) ∙ c in cc)
 
@@ -52,7 +52,7 @@ closed_law h s f c = closed_is s.transaction h.rows.working f.opened c
 pub open_law : (h : Held) (s : State) → StandsFor h s → is_some s.transaction ≡ is_some h.rows.working
 open_law h s f = same_test s.transaction ∙ ap is_some (sym f.opened)
   where
-    same_test : (o : Option Entry) → is_some o ≡ is_some (moment_of o)
+    same_test : (o : Option Entry) → is_some o ≡ is_some (open_moment o)
     same_test None = refl
     same_test (Some e) = refl
 

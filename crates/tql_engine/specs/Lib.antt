@@ -1,5 +1,4 @@
 pub mod Fitting
-pub mod Views
 pub mod Stands
 pub mod Effects
 pub mod Committing

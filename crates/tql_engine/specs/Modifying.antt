@@ -4,7 +4,7 @@ use Rattle.tql_bound.specs.declared.change.Modification.{Modification}
 use Rattle.tql_catalog.specs.Rows.{IsRowOf}
 use Rattle.tql_catalog.specs.declared.catalog.Table.{Table}
 use Rattle.tql_dml.specs.Alters.{Alters, gone, fates, coming, modified, IsVersionOf}
-use Rattle.tql_dml.specs.Inserts.{rows_of}
+use Rattle.tql_value.specs.Views.{rows_of}
 use Rattle.tql_store.specs.Represents.{AnswersNow}
 use Rattle.tql_store.specs.Slots.{Held}
 use Rattle.tql_store.specs.Stands.{is_current}

@@ -60,9 +60,9 @@ working_of tables None id = []
 working_of tables (Some e) id = rows_of_id tables e.copy id
 
 -- the moment of an open transaction
-abbrev pub moment_of : Option Entry → Option ℤ
-moment_of None = None
-moment_of (Some e) = Some e.moment
+abbrev pub open_moment : Option Entry → Option ℤ
+open_moment None = None
+open_moment (Some e) = Some e.moment
 
 -- an open transaction has the clock's moment, which is below the highest
 abbrev pub IsDated : ℤ → Option Entry → Type 0
@@ -77,7 +77,7 @@ pub record StandsFor (h : Held) (s : State) : Type 0 where
   pub not_after : s.next ≤ℤ high
   pub falls : FallingFrom s.next s.history
   pub since : AreSince first_moment s.history
-  pub opened : h.rows.working ≡ moment_of s.transaction
+  pub opened : h.rows.working ≡ open_moment s.transaction
   pub dated : IsDated s.next s.transaction
   pub stands : Represents h.rows (copies_of h.tables s.history) (working_of h.tables s.transaction)
   pub placed : ArePlaced h.rows h.tables

@@ -2,7 +2,7 @@ ghost use Rattle.std.specs.Prelude.{◌≡◌, map, List, [], IfOk};
 ghost use Rattle.tql_spec.specs.Bag.{SameBag};
 ghost use Rattle.tql_spec.specs.Datum.{Row};
 ghost use Rattle.tql_spec.specs.Query.{by_columns, in_order};
-ghost use Rattle.tql_engine.specs.Views.{row_of, rows_of};
+ghost use Rattle.tql_value.specs.Views.{row_of, rows_of};
 
 use std::cmp::Ordering;
 use tql_memory::Memory;

@@ -3,7 +3,7 @@ ghost use Rattle.std.specs.Prelude.{◌≡◌, insert, map, IfOk, IfErr, OnOk, S
 ghost use Rattle.tql_spec.specs.Datum.{Moment};
 ghost use Rattle.tql_spec.specs.Definition.{full, with_generated};
 ghost use Rattle.tql_catalog.specs.Definitions.{system_of};
-ghost use Rattle.tql_engine.specs.Views.{row_of, rows_of};
+ghost use Rattle.tql_value.specs.Views.{row_of, rows_of};
 ghost use Rattle.tql_store.specs.Views.{version_of};
 ghost use Rattle.tql_value.specs.declared.refusal.Refusal.TheVariants.{OutOfMemory};
 

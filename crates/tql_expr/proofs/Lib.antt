@@ -3,3 +3,4 @@ pub mod Judged
 pub mod Laws
 pub mod Nesting
 pub mod Places
+pub mod Printing

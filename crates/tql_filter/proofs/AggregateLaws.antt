@@ -17,9 +17,9 @@ use Rattle.tql_tree.specs.declared.condition.ConjIn.{ConjIn}
 use Rattle.tql_tree.specs.declared.condition.FactorIn.{FactorIn}
 use Rattle.tql_tree.specs.declared.condition.TestIn.TheViews.{out-CondIn, out-ConjIn}
 use Rattle.tql_filter.proofs.Views.{cond_out, conj_out}
-use Rattle.tql_scope.specs.Aggregates.{in_sum, in_product, in_signed, in_primary}
+use Rattle.tql_spec.specs.Aggregates.{in_sum, in_product, in_signed, in_primary}
 use Rattle.tql_scope.proofs.AggregateLaws.{sum_as_written}
-use Rattle.tql_filter.specs.Aggregates.{in_marked, in_operand, in_condition, in_conjs, in_conj, in_tests, in_factor, in_test, in_filter}
+use Rattle.tql_spec.specs.Aggregates.{in_marked, in_operand, in_condition, in_conjs, in_conj, in_tests, in_factor, in_test, in_filter}
 use Rattle.tql_filter.specs.SoleNames.{name_at, name_in, sole_factor}
 use Rattle.tql_filter.proofs.SoleLaws.{alone, added, subtracted}
 

@@ -20,7 +20,7 @@ use Rattle.tql_expr.specs.declared.terms.Terms.{Terms}
 use Rattle.tql_expr.specs.declared.terms.CondId.{CondId}
 use Rattle.tql_scope.specs.Gathered.{Gathers}
 use Rattle.tql_scope.proofs.Gathering.{bound, after_nil, unless_asked}
-use Rattle.tql_filter.specs.Aggregates.{in_condition, in_filter}
+use Rattle.tql_spec.specs.Aggregates.{in_condition, in_filter}
 use Rattle.tql_filter.specs.Conjuncts.{members, as_one}
 use Rattle.tql_filter.proofs.AggregateLaws.{has_one, conjuncts_as_written, filter_as_written}
 use Rattle.tql_filter.proofs.Lists.{ConjLeads, conds_done}

@@ -1,4 +1,3 @@
-pub mod Aggregates
 pub mod Conjuncts
 pub mod Ends
 pub mod SoleNames

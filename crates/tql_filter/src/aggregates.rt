@@ -4,8 +4,8 @@ ghost use Rattle.std.specs.List.{list_any};
 ghost use Rattle.tql_tree.specs.Conditions.{marked_of, operand_of, cond_of, conj_of, factor_of, test_of};
 ghost use Rattle.tql_tree.specs.Expressions.{expr_of, boxed_expr_of};
 ghost use Rattle.tql_tree.specs.Statements.{filter_of};
-ghost use Rattle.tql_scope.specs.Aggregates.{in_sum};
-ghost use Rattle.tql_filter.specs.Aggregates.{in_marked, in_operand, in_condition, in_conj, in_factor, in_test, in_filter};
+ghost use Rattle.tql_spec.specs.Aggregates.{in_sum};
+ghost use Rattle.tql_spec.specs.Aggregates.{in_marked, in_operand, in_condition, in_conj, in_factor, in_test, in_filter};
 
 use tql_memory::Memory;
 use tql_scope::aggregates::has_aggregate;

@@ -2,7 +2,8 @@
 use Rattle.std.proofs.Common.{◌≡◌, ℕ, suc, ◌+◌, ◌<◌, ◌≤◌, ◌==◌, Bool, true, false, cond, List, [], ◌∷◌, ◌++◌, length, take, drop, Option, Some, None, refl, sym, ap, ◌∙◌, arith, append-nil, append_assoc, take-append-drop, length-append, length-drop, drop-drop, drop_at, ◌-◌}
 use Rattle.std.proofs.lemmas.Bool.{eqb-true}
 use Rattle.std.specs.Prelude.{◌&&◌, not, filter, map}
-use Rattle.tql_spec.specs.Script.{Place, Outside, AfterDash, InText, InName, InComment, Piece, place_after, can_end, cut, without_lead, trimmed, is_empty, statements}
+use Rattle.tql_spec.specs.Script.{Place, Outside, AfterDash, InText, InName, InComment, Piece, place_after, can_end, cut, without_lead, trimmed, statements}
+use Rattle.tql_spec.specs.Words.{is_empty}
 use Rattle.tql_lex.specs.Cutting.{one_more, end_from, finished_piece, unfinished_piece, BeginsWith, HoldsUnfinished, Begins}
 use Rattle.tql_lex.specs.Stream.{Stream}
 use Rattle.tql_lex.specs.Pieces.{GivesFirst, HasNone}

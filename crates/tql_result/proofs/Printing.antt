@@ -6,10 +6,9 @@ use Rattle.std.proofs.lemmas.List.Folds.{flat_map-map}
 use Rattle.std.specs.Prelude.{All, Vec, String, codes, decimal}
 use Rattle.std.specs.List.{flat_map, join_with_byte}
 use Rattle.tql_spec.specs.Text.{heading_text, line, row_text}
-use Rattle.tql_value.specs.Views.{datum_of_value}
+use Rattle.tql_value.specs.Views.{datum_of_value, row_of}
 use Rattle.tql_value.specs.declared.value.Value.{Value}
 use Rattle.tql_value.specs.Points.{IsPrintable, ArePrintable}
-use Rattle.tql_result.specs.Replies.{row_of}
 use Rattle.tql_result.proofs.Joining.{all_unmapped}
 
 -- each value of each row can be printed

@@ -4,9 +4,8 @@ use Rattle.tql_spec.specs.Datum.{Row}
 use Rattle.tql_spec.specs.Definition.{Name}
 use Rattle.tql_spec.specs.Machine as spec
 use Rattle.tql_spec.specs.Answer as run
-use Rattle.tql_value.specs.Views.{datum_of_value}
+use Rattle.tql_value.specs.Views.{rows_of}
 use Rattle.tql_value.specs.Refusals.{refusal_of}
-use Rattle.tql_value.specs.declared.value.Value.{Value}
 use Rattle.tql_value.specs.declared.value.Rows.{Rows}
 use Rattle.tql_value.specs.Points.{ArePrintable}
 use Rattle.tql_result.specs.declared.reply.Verb.{Verb}
@@ -28,13 +27,9 @@ plain_verb verb.Committed = spec.Committed
 plain_verb verb.RolledBack = spec.RolledBack
 plain_verb verb.ClockSet = spec.ClockSet
 
--- the data of a row
-abbrev pub row_of : List Value → Row
-row_of values = map datum_of_value values
-
 -- the data of a table's rows
-abbrev pub rows_of : Rows → List Row
-rows_of t = map (λ r. row_of r.items) t.rows.items
+abbrev pub table_rows : Rows → List Row
+table_rows t = rows_of t.rows.items
 
 -- the names that a table is headed by
 abbrev pub headings_of : Rows → List Name
@@ -43,7 +38,7 @@ headings_of t = map string_bytes t.headings.items
 -- the reply among the definitions' replies
 abbrev pub reply_of : Reply → spec.Reply
 reply_of (reply.Done v n) = spec.Done (plain_verb v) n
-reply_of (reply.Table t) = spec.Table (headings_of t) (rows_of t)
+reply_of (reply.Table t) = spec.Table (headings_of t) (table_rows t)
 reply_of (reply.Refused e) = spec.Refused (refusal_of e)
 
 -- a reply of such rows

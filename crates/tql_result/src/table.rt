@@ -2,9 +2,9 @@ ghost use Rattle.std.specs.Prelude.{◌∷◌, ◌++◌, ◌↔◌, All, IsTrue,
 ghost use Rattle.std.specs.List.{flat_map, join_with_byte};
 ghost use Rattle.tql_spec.specs.Machine.{Table};
 ghost use Rattle.tql_spec.specs.Text.{cell_text, row_text, line, reply_text};
-ghost use Rattle.tql_value.specs.Views.{datum_of_value};
+ghost use Rattle.tql_value.specs.Views.{datum_of_value, row_of};
 ghost use Rattle.tql_result.specs.Devices.{Pushes};
-ghost use Rattle.tql_result.specs.Replies.{row_of, rows_of, headings_of};
+ghost use Rattle.tql_result.specs.Replies.{table_rows, headings_of};
 ghost use Rattle.tql_value.specs.Points.{IsPrintable, ArePrintable};
 
 use crate::cell::{is_printable, write_cell};
@@ -102,7 +102,7 @@ fn are_printable_rows(rows: &[Vec<Value, Memory>]) -> bool
 /// Whether a table has a text, which `write_table` asks for: no day and no moment in it lies outside the
 /// years 1 to 9999.
 pub fn is_printable_table(table: &Rows) -> bool
-    ensures { IsTrue result ↔ ArePrintable (rows_of table.now) }
+    ensures { IsTrue result ↔ ArePrintable (table_rows table.now) }
 {
     are_printable_rows(table.rows.as_slice())
 }
@@ -111,8 +111,8 @@ pub fn is_printable_table(table: &Rows) -> bool
 /// and values are parted by `|`; a heading stands in `"` unless it is of letters A to Z, `_` and digits
 /// (this project's choice). It takes no memory. After an error a beginning of the text was pushed.
 pub fn write_table<S: Sink>(sink: &mut S, table: &Rows) -> Result<(), DeviceFault>
-    requires { ArePrintable (rows_of table.now) }
-    ensures { Pushes (reply_text (Table (headings_of table.now) (rows_of table.now))) result
+    requires { ArePrintable (table_rows table.now) }
+    ensures { Pushes (reply_text (Table (headings_of table.now) (table_rows table.now))) result
         (S.written sink.old) (S.written sink.new) (S.failures sink.old) (S.failures sink.new) }
 {
     let rows = table.rows.as_slice();

@@ -8,7 +8,7 @@ use Rattle.tql_spec.specs.Creation.{has_aggregate}
 use Rattle.tql_spec.specs.Names.{Checked, ◌>>=◌, Known, Thing, AColumn, APeriod, Typed, things, one_column, literal, arithmetic, negation, aggregate, negative, expr, more_terms, product, more_factors, signed, primary}
 use Rattle.tql_spec.specs.Syntax as tree
 use Rattle.tql_spec.specs.Syntax.{MoreTerms, NoTerm, PlusTerm, MinusTerm, Terms, MoreFactors, NoFactor, TimesFactor, Factors, Unsigned, Positive, Negative, Primary, NumberLiteral, TextLiteral, DateLiteral, TimestampLiteral, ColumnNamed, Enclosed, CountStar, Over}
-use Rattle.tql_scope.specs.Aggregates.{in_sum, in_terms, in_product, in_factors, in_signed, in_primary}
+use Rattle.tql_spec.specs.Aggregates.{in_sum, in_terms, in_product, in_factors, in_signed, in_primary}
 
 or_assoc : (a b c : Bool) → ((a || b) || c) ≡ (a || (b || c))
 or_assoc true b c = refl

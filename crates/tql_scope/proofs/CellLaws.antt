@@ -6,7 +6,7 @@ use Rattle.tql_spec.specs.Creation.{has_aggregate}
 use Rattle.tql_spec.specs.Names.{Known, Typed, expr, unless, refuse_if}
 use Rattle.tql_spec.specs.Refusal.{Refusal, FormNotAllowedHere}
 use Rattle.tql_spec.specs.Syntax as tree
-use Rattle.tql_scope.specs.Aggregates.{in_sum}
+use Rattle.tql_spec.specs.Aggregates.{in_sum}
 use Rattle.tql_scope.specs.Gathered.{Gathers}
 use Rattle.tql_scope.proofs.AggregateLaws.{sum_as_written}
 use Rattle.tql_scope.proofs.Gathering.{bound, unless_asked}

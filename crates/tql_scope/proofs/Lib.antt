@@ -5,4 +5,5 @@ pub mod ChainLaws
 pub mod Gathering
 pub mod LiteralLaws
 pub mod Loops
+pub mod NumberLemmas
 pub mod Views

@@ -7,8 +7,7 @@ use Rattle.tql_spec.specs.Expression.{Literal, Function, Count, Sum, Min, Max, A
 use Rattle.tql_spec.specs.Names.{Checked, Typed, typed, sound, unless, literal, aggregate}
 use Rattle.tql_spec.specs.Refusal.{ValueOutOfRange, TypesDoNotFit}
 use Rattle.tql_scope.specs.Bounds.{literal_of, is_no_sum, aggregate_kind}
-use Rattle.tql_define.specs.Numbers.{signed_value}
-use Rattle.tql_scope.specs.Numbers.{number_literal}
+use Rattle.tql_scope.specs.Numbers.{number_literal, signed_value}
 
 -- a number where it is there
 abbrev pub number_as : Option Datum → Checked Typed

@@ -1,4 +1,3 @@
-pub mod Aggregates
 pub mod Bounds
 pub mod Chains
 pub mod Gathered

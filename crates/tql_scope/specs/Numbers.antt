@@ -1,5 +1,7 @@
 -- The numbers that literals spell.
-use Rattle.std.specs.Prelude.{ℕ, ◌^◌, Bool, true, false, List, pos, neg_ℤ}
+use Rattle.std.specs.Prelude.{ℕ, ◌^◌, Bool, true, false, nat_le, List, pos, neg_ℤ, Option, Some, None, if◌then◌else◌}
+use Rattle.tql_spec.specs.Calendar.{number_of}
+use Rattle.tql_spec.specs.Datum.{Datum, Int}
 use Rattle.tql_spec.specs.Names as names
 use Rattle.tql_spec.specs.Names.{Checked, Typed}
 
@@ -7,3 +9,8 @@ use Rattle.tql_spec.specs.Names.{Checked, Typed}
 abbrev pub number_literal : Bool → List ℕ → Checked Typed
 number_literal true ds = names.number (2 ^ 63) (λ n. neg_ℤ (pos n)) ds
 number_literal false ds = names.number 9223372036854775807 pos ds
+
+-- a number with `-` before it, or without, where it lies within 64 bits
+abbrev pub signed_value : Bool → List ℕ → Option Datum
+signed_value true ds = let n = number_of ds in if nat_le n (2 ^ 63) then Some (Int (neg_ℤ (pos n))) else None
+signed_value false ds = let n = number_of ds in if nat_le n 9223372036854775807 then Some (Int (pos n)) else None

@@ -1,7 +1,7 @@
 //! Whether an aggregate stands in an expression. What is bound has one exactly where one is written.
 ghost use Rattle.std.specs.Prelude.{◌≡◌};
 ghost use Rattle.tql_tree.specs.Expressions.{expr_of, term_of, primary_of};
-ghost use Rattle.tql_scope.specs.Aggregates.{in_sum, in_product, in_primary};
+ghost use Rattle.tql_spec.specs.Aggregates.{in_sum, in_product, in_primary};
 
 use tql_tree::expression::{Expr, Primary, Term};
 

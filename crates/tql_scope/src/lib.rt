@@ -10,6 +10,8 @@ pub mod faults;
 pub mod kinds;
 mod literals;
 pub mod names;
+pub mod number;
 pub mod scope;
 mod signs;
+pub mod tables;
 pub mod texts;

@@ -20,7 +20,7 @@ use crate::names::things;
 use crate::scope::{Known, Thing, Typed};
 use crate::texts::unquoted;
 use std::alloc::AllocError;
-use tql_define::number::signed;
+use crate::number::signed;
 use tql_expr::terms::Terms;
 use tql_memory::Memory;
 use tql_tree::expression::Named;

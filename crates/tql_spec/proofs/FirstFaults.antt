@@ -5,7 +5,7 @@ use Rattle.std.proofs.lemmas.Bool.Decides.{nat_tests}
 use Rattle.tql_spec.specs.Calendar.{read_timestamp}
 use Rattle.tql_spec.specs.Refusal.{Refusal, place, earlier, first}
 use Rattle.tql_spec.specs.Definition.{TableDef}
-use Rattle.tql_spec.specs.Machine.{State, Reply, Bound, Manner, SetsClock, manner_of, state_faults, effect, step, unless}
+use Rattle.tql_spec.specs.Machine.{State, Reply, Bound, Manner, SetsClock, manner_of, state_faults, effect, step, unless_refused}
 use Rattle.tql_spec.specs.Syntax.{Statement, CreateTree, DropTree, InsertValues, InsertSelect, UpdateTree, DeleteTree, QueryTree, StartTree, CommitTree, RollbackTree, AtTree}
 use Rattle.tql_spec.specs.Binding.{bind, manner, or_bad_moment}
 use Rattle.tql_spec.specs.Run.{respond}
@@ -66,6 +66,6 @@ bound_steps s t k =
     let b : Bound = (bind s.definitions t).value in
     let r : Reply × State = effect s b in
     let none = none_first (bind s.definitions t).faults k in
-    ap (λ (fs : List Refusal). unless (first (state_faults s (manner t) ++ fs)) s r.0 r.1) none
-    ∙ ap (λ (fs : List Refusal). unless (first fs) s r.0 r.1) (append-nil (state_faults s (manner t)))
-    ∙ ap (λ (m : Manner). unless (first (state_faults s m)) s r.0 r.1) (manner_kept s.definitions t k)
+    ap (λ (fs : List Refusal). unless_refused (first (state_faults s (manner t) ++ fs)) s r.0 r.1) none
+    ∙ ap (λ (fs : List Refusal). unless_refused (first fs) s r.0 r.1) (append-nil (state_faults s (manner t)))
+    ∙ ap (λ (m : Manner). unless_refused (first (state_faults s m)) s r.0 r.1) (manner_kept s.definitions t k)

@@ -26,3 +26,4 @@ pub mod TokenLaws
 pub mod FirstFaults
 mod FaultBags
 mod ChangeBags
+mod QueryBags

@@ -6,7 +6,7 @@ use Rattle.tql_spec.specs.Datum.{Row}
 use Rattle.tql_spec.specs.Query.{Query}
 use Rattle.tql_spec.specs.Change.{Outcome}
 use Rattle.tql_spec.specs.History.{Copy, Entry}
-use Rattle.tql_spec.specs.Machine.{State, Reply, Done, Change, effect, unless, asked, altered, manner_of, state_faults, working, with_working, outcome, changed_table, constraint_faults, verb_of}
+use Rattle.tql_spec.specs.Machine.{State, Reply, Done, Change, effect, unless_refused, asked, altered, manner_of, state_faults, working, with_working, outcome, changed_table, constraint_faults, verb_of}
 use Rattle.tql_spec.specs.Script.{Piece}
 use Rattle.tql_spec.specs.Syntax.{Statement}
 use Rattle.tql_spec.specs.Binding.{bind, manner}
@@ -25,7 +25,7 @@ no_right (x ∷ xs) ys e = absurd (cc)
 
 -- a property of states that a statement can keep
 pub unless_either : (P : State → Type 0) (o : Option Refusal) (old : State) (reply : Reply) (new : State) → P old
-    → (o ≡ None → P new) → P (unless o old reply new).1
+    → (o ≡ None → P new) → P (unless_refused o old reply new).1
 unless_either P None old reply new p q = q refl
 unless_either P (Some e) old reply new p q = p
 

@@ -8,7 +8,7 @@ use Rattle.tql_spec.specs.Bag.{In}
 use Rattle.tql_spec.specs.Calendar.{high}
 use Rattle.tql_spec.specs.Definition.{Stamped, Version, same_stamped}
 use Rattle.tql_spec.specs.History.{Entry, TableEntry, FallingFrom, Falling, rows_in, table_history, has_row, still, ends_before, with_end, completed, current, as_of_from, as_of, meets, has_version, found_from, from_to}
-use Rattle.tql_spec.specs.Spans.{SpanHolds, InEach, EndsAt, rows_of, AreRowsOf, NowIsTheNewest, StandsAt, AsOfIsTheCopyThen, IsFromTo, IsBetween, times, MetWith, AreOfCopiesMet, RangesAreCopiesMet, ReadsBySpans}
+use Rattle.tql_spec.specs.Spans.{SpanHolds, InEach, EndsAt, found_rows, AreRowsOf, NowIsTheNewest, StandsAt, AsOfIsTheCopyThen, IsFromTo, IsBetween, times, MetWith, AreOfCopiesMet, RangesAreCopiesMet, ReadsBySpans}
 use Rattle.tql_spec.proofs.Members.{by_bool, lt_tells, le_tells}
 use Rattle.tql_spec.proofs.MemberLists.{in_left, in_right, in_either, in_image, in_kept, has_tells, times_none, times_some, there_if, times_append, times_kept}
 
@@ -97,7 +97,7 @@ ends_next t newer ends e k r = elim (has_tells (rows_in e.copy t) r) [
 -- ---- rows with their ends
 
 -- rows with their ends are the rows
-rows_completed : (ends : Stamped → ℤ) (rows : List Stamped) → rows_of (completed ends rows) ≡ rows
+rows_completed : (ends : Stamped → ℤ) (rows : List Stamped) → found_rows (completed ends rows) ≡ rows
 rows_completed ends [] = refl
 rows_completed ends (r ∷ rows) = ap {B = List Stamped} (λ xs. r ∷ xs) (rows_completed ends rows)
 
@@ -324,26 +324,26 @@ met_from a b s until p h k l = let x = h.0 in let y = h.1 in grind (arith, ints)
 
 -- the rows that no version has
 abbrev fresh : List Version → Stamped → Bool
-fresh vs r = not (has_row (rows_of vs) r)
+fresh vs r = not (has_row (found_rows vs) r)
 
 -- the test among versions is that among their rows
-has_version_is : (vs : List Version) (r : Stamped) → has_version vs r ≡ has_row (rows_of vs) r
+has_version_is : (vs : List Version) (r : Stamped) → has_version vs r ≡ has_row (found_rows vs) r
 has_version_is [] r = refl
 has_version_is (v ∷ vs) r = ap (λ b. same_stamped r v.row || b) (has_version_is vs r)
 
 -- the rows of versions that are new
 rows_fresh : (earlier : List Version) (ends : Stamped → ℤ) (rows : List Stamped)
-    → rows_of (filter (λ v. not (has_version earlier v.row)) (completed ends rows)) ≡ filter (fresh earlier) rows
+    → found_rows (filter (λ v. not (has_version earlier v.row)) (completed ends rows)) ≡ filter (fresh earlier) rows
 rows_fresh earlier ends [] = refl
 rows_fresh earlier ends (r ∷ rows) =
     let later = rows_fresh earlier ends rows in
     rw (has_version_is earlier r)
-    (by_bool (has_row (rows_of earlier) r) (λ e. rw e later)
+    (by_bool (has_row (found_rows earlier) r) (λ e. rw e later)
     (λ e. rw e (ap {B = List Stamped} (λ xs. r ∷ xs) later)))
 
 -- of a copy that is met or not
 rows_met : (earlier : List Version) (ends : Stamped → ℤ) (rows : List Stamped) (b : Bool)
-    → rows_of (filter (λ v. not (has_version earlier v.row)) (if b then completed ends rows else [])) ≡ filter
+    → found_rows (filter (λ v. not (has_version earlier v.row)) (if b then completed ends rows else [])) ≡ filter
     (fresh earlier) (if b then rows else [])
 rows_met earlier ends rows true = rows_fresh earlier ends rows
 rows_met earlier ends rows false = refl
@@ -412,16 +412,16 @@ module _ (t : ℕ) (Asked : ℤ → Type 0) (a b : ℤ) (asks : (p : ℤ) → As
 
   -- how often a row stands in the versions: as often as the next copy adds it, and as in the rest
   times_found : (until : ℤ) (ends : Stamped → ℤ) (e : Entry) (older : List Entry) (r : Stamped)
-      → times r (rows_of (walk until ends (e ∷ older)))
+      → times r (found_rows (walk until ends (e ∷ older)))
       ≡ cond (fresh (walk e.moment (ends_before (at t e) ends) older) r)
       (times r (if meets a b e.moment until then rows_in e.copy t else [])) 0
-      + times r (rows_of (walk e.moment (ends_before (at t e) ends) older))
+      + times r (found_rows (walk e.moment (ends_before (at t e) ends) older))
   times_found until ends e older r =
       let earlier : List Version = walk e.moment (ends_before (at t e) ends) older in
       let rows : List Stamped = if meets a b e.moment until then rows_in e.copy t else [] in
       ap (times r) (map-append (λ (v : Version). v.row) (added until ends e earlier) earlier)
-      ∙ times_append r (rows_of (added until ends e earlier)) (rows_of earlier)
-      ∙ ap (λ n. n + times r (rows_of earlier))
+      ∙ times_append r (found_rows (added until ends e earlier)) (found_rows earlier)
+      ∙ ap (λ n. n + times r (found_rows earlier))
       (ap (times r) (rows_met earlier ends (rows_in e.copy t) (meets a b e.moment until))
       ∙ times_kept (fresh earlier) r rows)
 
@@ -434,19 +434,19 @@ module _ (t : ℕ) (Asked : ℤ → Type 0) (a b : ℤ) (asks : (p : ℤ) → As
       → IsUntil newer until → AreEnds t newer ends → FallingFrom until (e ∷ older)
       → (r : Stamped)
       → (Walked t Asked (newer ++ e ∷ []) older r
-      → StandsAsIn (newer ++ e ∷ []) older r (times r (rows_of (walk e.moment (ends_before (at t e) ends) older))))
+      → StandsAsIn (newer ++ e ∷ []) older r (times r (found_rows (walk e.moment (ends_before (at t e) ends) older))))
       → Walked t Asked newer (e ∷ older) r
-      → StandsAsIn newer (e ∷ older) r (times r (rows_of (walk until ends (e ∷ older))))
-  each_step newer until ends e older u k f r later w = elim (has_tells (rows_of earlier) r) [
+      → StandsAsIn newer (e ∷ older) r (times r (found_rows (walk until ends (e ∷ older))))
+  each_step newer until ends e older u k f r later w = elim (has_tells (found_rows earlier) r) [
     | inl y ↦ (
       from_later t Asked newer e older r (again y.1).0,
-      times_found until ends e older r ∙ ap (λ b. cond (not b) here 0 + times r (rows_of earlier)) y.0
+      times_found until ends e older r ∙ ap (λ b. cond (not b) here 0 + times r (found_rows earlier)) y.0
           ∙ zero_plus (again y.1).1,
     )
     | inr n ↦ elim (here_or_later t Asked newer e older r w) [
       | inl h ↦ (
         from_here t Asked newer e older r h,
-        times_found until ends e older r ∙ ap (λ b. cond (not b) here 0 + times r (rows_of earlier)) n.0
+        times_found until ends e older r ∙ ap (λ b. cond (not b) here 0 + times r (found_rows earlier)) n.0
             ∙ only_here n.1 (ap (times r) (yes _ (met_here newer until e r u h) (rows_in e.copy t) [])),
       )
       | inr l ↦ absurd (n.1 (found_later (later l)))
@@ -459,26 +459,26 @@ module _ (t : ℕ) (Asked : ℤ → Type 0) (a b : ℤ) (asks : (p : ℤ) → As
       here : ℕ
       here = times r (if meets a b e.moment until then rows_in e.copy t else [])
 
-      again : In r (rows_of earlier) → StandsAsIn (newer ++ e ∷ []) older r (times r (rows_of earlier))
+      again : In r (found_rows earlier) → StandsAsIn (newer ++ e ∷ []) older r (times r (found_rows earlier))
       again m =
           let i = in_image (λ (v : Version). v.row) r earlier m in
           let s = walk_only (newer ++ e ∷ []) e.moment (ends_before (at t e) ends) older
           (until_next newer until e u f.0) (ends_next t newer ends e k) f.1 i.0 i.1 in
           later (subst (λ x. Walked t Asked (newer ++ e ∷ []) older x) (sym i.2) s.0)
 
-      found_later : StandsAsIn (newer ++ e ∷ []) older r (times r (rows_of earlier)) → In r (rows_of earlier)
-      found_later s = there_if r (rows_of earlier)
+      found_later : StandsAsIn (newer ++ e ∷ []) older r (times r (found_rows earlier)) → In r (found_rows earlier)
+      found_later s = there_if r (found_rows earlier)
           (omega (arith, s.1, times_some r (rows_in s.0.copy.copy t) s.0.there))
 
       zero_plus : {n m : ℕ} → n ≡ m → 0 + n ≡ m
       zero_plus q = omega arith
 
-      only_here : (In r (rows_of earlier) → ⊥) → {n m : ℕ} → n ≡ m → n + times r (rows_of earlier) ≡ m
-      only_here h q = omega (arith, times_none r (rows_of earlier) h)
+      only_here : (In r (found_rows earlier) → ⊥) → {n m : ℕ} → n ≡ m → n + times r (found_rows earlier) ≡ m
+      only_here h q = omega (arith, times_none r (found_rows earlier) h)
 
   walk_each : (newer : List Entry) (until : ℤ) (ends : Stamped → ℤ) (es : List Entry) → IsUntil newer until
       → AreEnds t newer ends → FallingFrom until es
-      → (r : Stamped) → Walked t Asked newer es r → StandsAsIn newer es r (times r (rows_of (walk until ends es)))
+      → (r : Stamped) → Walked t Asked newer es r → StandsAsIn newer es r (times r (found_rows (walk until ends es)))
   walk_each newer until ends [] u k f r w = absurd (nowhere w.passed w.whole)
     where
       nowhere : (passed : List Entry) → [] ≡ passed ++ w.copy ∷ w.older → ⊥

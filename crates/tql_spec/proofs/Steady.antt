@@ -10,7 +10,7 @@ use Rattle.tql_spec.specs.Period.{Period}
 use Rattle.tql_spec.specs.Expression.{Cond}
 use Rattle.tql_spec.specs.Definition.{TableDef, Stamped, same_stamped, shown, stamped, table_at}
 use Rattle.tql_spec.specs.History.{Copy, rows_in}
-use Rattle.tql_spec.specs.Change.{Fate, Untouched, Replaced, after_fates, Work, fate, fate_where, made_of, is_touched, pieces, insert, modify, row_of, outcome_of}
+use Rattle.tql_spec.specs.Change.{Fate, Untouched, Replaced, after_fates, Work, fate, fate_where, made_of, is_touched, pieces, insert, modify, new_row, outcome_of}
 use Rattle.tql_spec.specs.Machine.{State, Change, InsertTuples, InsertQuery, Modify, outcome, changed_table}
 use Rattle.tql_spec.specs.Spans.{times}
 use Rattle.tql_spec.proofs.Members.{by_bool, same_stamped-is}
@@ -53,11 +53,11 @@ insert_passes : (d : TableDef) (m : ℤ) (rows : List Stamped) (columns : List �
     → Passes m rows (insert d m rows columns o).rows
 insert_passes d m rows columns None = unchanged m rows
 insert_passes d m rows columns (Some tuples) = added m rows
-    (map (λ values. stamped d m (row_of d columns values)) tuples) begin
+    (map (λ values. stamped d m (new_row d columns values)) tuples) begin
   where
-    begin : BeginAt m (map (λ values. stamped d m (row_of d columns values)) tuples)
+    begin : BeginAt m (map (λ values. stamped d m (new_row d columns values)) tuples)
     begin r n =
-        let i = in_image (λ values. stamped d m (row_of d columns values)) r tuples n in ap
+        let i = in_image (λ values. stamped d m (new_row d columns values)) r tuples n in ap
         (λ (x : Stamped). x.start) i.2
 
 -- ---- fates

@@ -13,7 +13,7 @@ use Rattle.tql_spec.specs.Period.{Period, before, inside, after, if_any}
 use Rattle.tql_spec.specs.Expression.{Cond, eval}
 use Rattle.tql_spec.specs.Definition.{TableDef, Application, System, Stamped, table_at, period_of, with_period, with_period_by, with_generated, without_generated, shown, stamped}
 use Rattle.tql_spec.specs.History.{Copy, rows_in}
-use Rattle.tql_spec.specs.Change.{Assignment, Fate, Replaced, Work, assigned, filled, row_of, fate, fate_where, made_of, is_touched, pieces, insert as insertion, modify, outcome_of}
+use Rattle.tql_spec.specs.Change.{Assignment, Fate, Replaced, Work, assigned, filled, new_row, fate, fate_where, made_of, is_touched, pieces, insert as insertion, modify, outcome_of}
 use Rattle.tql_spec.specs.Machine.{State, Change, InsertTuples, InsertQuery, Modify, outcome, changed_table}
 use Rattle.tql_spec.specs.Binding.{generated_columns}
 use Rattle.tql_spec.specs.Reached.{Fits}
@@ -205,10 +205,10 @@ insert_fits : (d : TableDef) (m : ℤ) (rows : List Stamped) (columns : List ℕ
     → Sound d → AllFit d rows → AllFit d (insertion d m rows columns o).rows
 insert_fits d m rows columns None k f r n = f r n
 insert_fits d m rows columns (Some tuples) k f r n = elim
-    (in_either r rows (map (λ values. stamped d m (row_of d columns values)) tuples) n) [
+    (in_either r rows (map (λ values. stamped d m (new_row d columns values)) tuples) n) [
       | inl i ↦ f r i
-      | inr i ↦ let j = in_image (λ values. stamped d m (row_of d columns values)) r tuples i in
-          subst (Fits d) (sym j.2) (stamped_fits d m (row_of d columns j.0) k
+      | inr i ↦ let j = in_image (λ values. stamped d m (new_row d columns values)) r tuples i in
+          subst (Fits d) (sym j.2) (stamped_fits d m (new_row d columns j.0) k
           (filled_length (replicate (width d) Null) columns j.0 ∙ length-replicate (width d) Null))
     ]
 

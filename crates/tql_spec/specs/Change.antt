@@ -65,8 +65,8 @@ filled row (c ∷ cs) [] = row
 filled row (c ∷ cs) (v ∷ vs) = filled (slice_set row c v) cs vs
 
 -- a new row with these values in these columns
-abbrev pub row_of : TableDef → List ℕ → List Datum → Row
-row_of d columns values = filled (replicate (length d.columns) Null) columns values
+abbrev pub new_row : TableDef → List ℕ → List Datum → Row
+new_row d columns values = filled (replicate (length d.columns) Null) columns values
 
 -- the outcome where these rows are added
 abbrev pub added_to : TableDef → List Stamped → List Stamped → Outcome
@@ -75,7 +75,7 @@ added_to d rows new = record { rows = rows ++ new; count = length new; faults = 
 -- INSERT: one new row for each tuple
 abbrev pub insert : TableDef → ℤ → List Stamped → List ℕ → Option (List (List Datum)) → Outcome
 insert d m rows columns None = out_of_range rows
-insert d m rows columns (Some tuples) = added_to d rows (map (λ values. stamped d m (row_of d columns values)) tuples)
+insert d m rows columns (Some tuples) = added_to d rows (map (λ values. stamped d m (new_row d columns values)) tuples)
 
 -- what becomes of a row
 pub data Fate : Type 0 where

@@ -10,6 +10,7 @@ pub mod Definition
 pub mod History
 pub mod Spans
 pub mod Query
+pub mod QueryLaws
 pub mod Change
 pub mod ChangeLaws
 pub mod Constraint
@@ -25,6 +26,7 @@ pub mod Grammar
 pub mod Names
 pub mod Creation
 pub mod Binding
+pub mod Aggregates
 pub mod Running
 pub mod Run
 pub mod Reached

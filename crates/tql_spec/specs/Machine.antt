@@ -176,9 +176,9 @@ abbrev pub constraint_faults : List TableDef → Copy → List Refusal
 constraint_faults defs copy = fault_if (not (keys_hold defs copy)) DuplicateKey ++ fault_if (not (references_hold defs copy)) ReferenceNotMet
 
 -- the reply and the state, unless a fault is present
-abbrev pub unless : Option Refusal → State → Reply → State → Reply × State
-unless None old reply new = (reply, new)
-unless (Some e) old reply new = (Refused e, old)
+abbrev pub unless_refused : Option Refusal → State → Reply → State → Reply × State
+unless_refused None old reply new = (reply, new)
+unless_refused (Some e) old reply new = (Refused e, old)
 
 -- a change, with keys and references tested on the copy after it
 abbrev pub altered : State → Change → Reply × State
@@ -186,7 +186,7 @@ altered s c =
     let e = working s s.transaction in
     let o = outcome s e.moment e.copy c in
     let copy = slice_set e.copy (changed_table c) o.rows in
-    unless (first (o.faults ++ constraint_faults s.definitions copy)) s
+    unless_refused (first (o.faults ++ constraint_faults s.definitions copy)) s
     (Done (verb_of c) (Some o.count)) (with_working s s.transaction (record { moment = e.moment; copy = copy }))
 
 -- a query answered: its rows in order, or out of range
@@ -212,7 +212,7 @@ effect s (Ask q) = asked s q (answer (bag_of s) q)
 
 -- one step
 abbrev pub step : State → Bound → Reply × State
-step s b = let r = effect s b in unless (first (state_faults s (manner_of b))) s r.0 r.1
+step s b = let r = effect s b in unless_refused (first (state_faults s (manner_of b))) s r.0 r.1
 
 -- the replies to a list of statements, and the state after them
 abbrev pub replies : State → List Bound → List Reply

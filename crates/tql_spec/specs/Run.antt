@@ -5,7 +5,7 @@ use Rattle.tql_spec.specs.Refusal.{Refusal, OutOfMemory, NotAStatement, NotUtf8,
 use Rattle.tql_spec.specs.Definition.{TableDef}
 use Rattle.tql_spec.specs.History.{Entry, Copy}
 use Rattle.tql_spec.specs.Constraint.{keys_hold, references_hold}
-use Rattle.tql_spec.specs.Machine.{State, Reply, Refused, effect, entries, state_faults, unless}
+use Rattle.tql_spec.specs.Machine.{State, Reply, Refused, effect, entries, state_faults, unless_refused}
 use Rattle.tql_spec.specs.Answer.{Answer, Replied, Accepted}
 use Rattle.tql_spec.specs.Text.{replies_text}
 use Rattle.tql_spec.specs.Script.{Piece, statements}
@@ -67,7 +67,7 @@ statement_faults s t = state_faults s (manner t) ++ (bind s.definitions t).fault
 
 -- the reply to a statement and the state after it
 abbrev pub respond : State → Statement → Reply × State
-respond s t = let r = effect s (bind s.definitions t).value in unless (first (statement_faults s t)) s r.0 r.1
+respond s t = let r = effect s (bind s.definitions t).value in unless_refused (first (statement_faults s t)) s r.0 r.1
 
 -- the reply to what a piece says
 abbrev pub respond_to : State → Sense → Reply × State

@@ -1,10 +1,12 @@
 -- The statements that run so far, a part of the whole grammar.
+use Rattle.tql_spec.specs.Words.{is_empty}
 use Rattle.std.specs.Prelude.{Bool, true, false, not, ◌&&◌, IsTrue, List, [], ◌∷◌, is_none, None}
 use Rattle.std.specs.List.{list_all}
 use Rattle.tql_spec.specs.Token.{Token}
 use Rattle.tql_spec.specs.Syntax.{Element, ColumnElement, PeriodElement, SelectTree, Statement, CreateTree, DropTree, InsertValues, UpdateTree, DeleteTree, QueryTree, StartTree, CommitTree, RollbackTree, AtTree}
 use Rattle.tql_spec.specs.Grammar.{IsStatement}
-use Rattle.tql_spec.specs.Binding.{is_star, is_empty}
+use Rattle.tql_spec.specs.Binding.{is_star}
+use Rattle.tql_spec.specs.Aggregates.{in_items, in_filter}
 
 -- ---- statements
 
@@ -13,6 +15,12 @@ abbrev pub is_plain_element : Element → Bool
 is_plain_element (ColumnElement c) = true
 is_plain_element (PeriodElement None start end) = true
 is_plain_element _ = false
+
+-- a query of one table reference, with nothing but items, a clause, an alias and WHERE, and no aggregate
+abbrev pub is_plain_select : SelectTree → Bool
+is_plain_select s =
+    not s.distinct && is_empty s.first.joins && is_empty s.more && is_empty s.grouping && is_none s.having
+    && not (in_items s.items) && not (in_filter s.filter)
 
 -- all columns of one table, with a clause or without
 abbrev pub is_whole_table : SelectTree → Bool

@@ -37,12 +37,12 @@ EndsAt t later r end = (InEach t later r × (end ≡ high)) ⊎ EndsIn t later r
 -- ---- one copy
 
 -- the rows that versions are of
-abbrev pub rows_of : List Version → List Stamped
-rows_of vs = map (λ (v : Version). v.row) vs
+abbrev pub found_rows : List Version → List Stamped
+found_rows vs = map (λ (v : Version). v.row) vs
 
 -- the versions are a copy's rows, each with its end
 pub record AreRowsOf (t : ℕ) (later : List Entry) (e : Entry) (vs : List Version) : Type 0 where
-  pub rows : rows_of vs ≡ rows_in e.copy t
+  pub rows : found_rows vs ≡ rows_in e.copy t
   pub ends : (v : Version) → In v vs → EndsAt t later v.row v.end
 
 -- no clause: the rows of the newest copy, and none before any commit
@@ -106,7 +106,7 @@ times_there t {Asked} {entries} {r} c = times r (rows_in c.copy.copy t)
 pub record AreOfCopiesMet (t : ℕ) (Asked : ℤ → Type 0) (entries : List Entry) (vs : List Version) : Type 0 where
   pub only : (v : Version) → In v vs → (c : MetWith t Asked entries v.row) × EndsAt t c.later v.row v.end
   pub each : (r : Stamped) → MetWith t Asked entries r
-      → (c : MetWith t Asked entries r) × (times r (rows_of vs) ≡ times_there t c)
+      → (c : MetWith t Asked entries r) × (times r (found_rows vs) ≡ times_there t c)
 
 -- both forms of a range
 pub record RangesAreCopiesMet (t : ℕ) (a b : ℤ) (entries : List Entry) : Type 0 where
@@ -139,7 +139,7 @@ pub record IsSteady (t : ℕ) (entries : List Entry) : Type 0 where
 -- of steady rows: each row of a copy met stands as often as in any copy met that has it, and ends as it does in any of
 -- them
 pub record AreOfAnyCopyMet (t : ℕ) (Asked : ℤ → Type 0) (entries : List Entry) (vs : List Version) : Type 0 where
-  pub as_often : (r : Stamped) (c : MetWith t Asked entries r) → times r (rows_of vs) ≡ times_there t c
+  pub as_often : (r : Stamped) (c : MetWith t Asked entries r) → times r (found_rows vs) ≡ times_there t c
   pub ends : (v : Version) → In v vs → (c : MetWith t Asked entries v.row) → EndsAt t c.later v.row v.end
 
 -- both forms of a range

@@ -51,3 +51,8 @@ all_pairs test (x ∷ xs) = list_all (test x) xs && all_pairs test xs
 abbrev pub listed : {A : Type 0} → Option A → List A
 listed None = []
 listed (Some x) = x ∷ []
+
+-- whether a list has no element
+abbrev pub is_empty : {A : Type 0} → List A → Bool
+is_empty [] = true
+is_empty _ = false

@@ -4,6 +4,7 @@
 ghost use Rattle.tql_spec.specs.Datum.{Day, Moment};
 ghost use Rattle.tql_spec.specs.Period.{FormulasAreSets, PartsAreSets, Period, PointFormulaIsSet};
 ghost use Rattle.tql_spec.specs.ChangeLaws.{ChangesKeepNoOrder, ChangesByParts};
+ghost use Rattle.tql_spec.specs.QueryLaws.{PlainQueriesSelect, SelectionsKeepNoOrder};
 ghost use Rattle.tql_spec.specs.Expression.{SafeConditionsAreJudged};
 ghost use Rattle.tql_spec.specs.Constraint.{KeyTestIsRight, ReferenceTestIsRight};
 ghost use Rattle.tql_spec.specs.Run.{RefusalsKeepState, RunsKeepConstraints};
@@ -95,4 +96,11 @@ pub fn changes_keep_no_order()
 /// Where nothing that an UPDATE or a DELETE evaluates is out of range, the rows after it are those that it leaves and the new ones.
 pub fn changes_by_parts()
     ensures { ChangesByParts }
+{}
+
+/// A query of one table reference without groups selects from its rows, and what it selects is the same bag, or out of range as well,
+/// whatever the order in which they are kept.
+pub fn plain_queries_select()
+    ensures selects { PlainQueriesSelect }
+    ensures no_order { SelectionsKeepNoOrder }
 {}

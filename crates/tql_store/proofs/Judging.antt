@@ -6,7 +6,7 @@ use Rattle.std.proofs.lemmas.List.Sums.{sum_by-cons}
 use Rattle.tql_spec.proofs.Members.{by_bool}
 use Rattle.tql_spec.specs.Definition.{Stamped}
 use Rattle.tql_store.specs.Changes.{alive}
-use Rattle.tql_store.specs.Represents.{listed, Judged}
+use Rattle.tql_store.specs.Represents.{is_among, Judged}
 use Rattle.tql_store.specs.Slots.{Slot}
 use Rattle.tql_store.specs.Stands.{is_current}
 use Rattle.tql_store.specs.Views.{version_of, Names, NamesOnce}
@@ -33,21 +33,21 @@ counting : (i : ℕ) (v : Version) (vs : List Version) → count_by (λ (x : Ver
 counting i v vs = sum_by-cons (λ (x : Version). cond (nat_eq x.id i) 1 0) v vs
 
 -- a slot's place is listed if it is named at all and its row passes
-listed-ids : (t : ℕ) (gone : Stamped → Bool) (slots : List Slot) (i : ℕ) (s : Slot) → slice_get slots i ≡ Some s → (found : List Version) → All (Names t slots) found → listed i (ids_of gone found) ≡ (ltb 0 (count_by (λ (x : Version). nat_eq x.id i) found) && gone s.version.row)
+listed-ids : (t : ℕ) (gone : Stamped → Bool) (slots : List Slot) (i : ℕ) (s : Slot) → slice_get slots i ≡ Some s → (found : List Version) → All (Names t slots) found → is_among i (ids_of gone found) ≡ (ltb 0 (count_by (λ (x : Version). nat_eq x.id i) found) && gone s.version.row)
 listed-ids t gone slots i s at [] names = refl
 listed-ids t gone slots i s at (v ∷ vs) names =
-    let later : listed i (ids_of gone vs) ≡ (ltb 0 (count_by (λ (x : Version). nat_eq x.id i) vs) && gone s.version.row) = listed-ids t gone slots i s at vs (λ k d h. names (suc k) d (omega arith)) in
+    let later : is_among i (ids_of gone vs) ≡ (ltb 0 (count_by (λ (x : Version). nat_eq x.id i) vs) && gone s.version.row) = listed-ids t gone slots i s at vs (λ k d h. names (suc k) d (omega arith)) in
     by_bool (nat_eq v.id i) (here later) (past later)
   where
     row_is : nat_eq v.id i ≡ true → gone (version_of v).row ≡ gone s.version.row
     row_is e = ap (λ (x : Slot). gone x.version.row) (one_slot (record { table = t; version = version_of v }) s (sym (names 0 v (omega arith)) ∙ ap (slice_get slots) (one_number v.id i e) ∙ at))
 
-    here : listed i (ids_of gone vs) ≡ (ltb 0 (count_by (λ (x : Version). nat_eq x.id i) vs) && gone s.version.row) → nat_eq v.id i ≡ true → listed i (ids_of gone (v ∷ vs)) ≡ (ltb 0 (count_by (λ (x : Version). nat_eq x.id i) (v ∷ vs)) && gone s.version.row)
+    here : is_among i (ids_of gone vs) ≡ (ltb 0 (count_by (λ (x : Version). nat_eq x.id i) vs) && gone s.version.row) → nat_eq v.id i ≡ true → is_among i (ids_of gone (v ∷ vs)) ≡ (ltb 0 (count_by (λ (x : Version). nat_eq x.id i) (v ∷ vs)) && gone s.version.row)
     here later e = by_bool (gone (version_of v).row)
-        (λ g. ap (λ (b : Bool). listed i (map (λ (x : Version). x.id) (cond b (v ∷ filter (λ (x : Version). gone (version_of x).row) vs) (filter (λ (x : Version). gone (version_of x).row) vs)))) g
-        ∙ ap (λ (b : Bool). b || listed i (ids_of gone vs)) (turned v.id i true e)
+        (λ g. ap (λ (b : Bool). is_among i (map (λ (x : Version). x.id) (cond b (v ∷ filter (λ (x : Version). gone (version_of x).row) vs) (filter (λ (x : Version). gone (version_of x).row) vs)))) g
+        ∙ ap (λ (b : Bool). b || is_among i (ids_of gone vs)) (turned v.id i true e)
         ∙ sym (named ∙ ap (λ (b : Bool). true && b) (sym (row_is e) ∙ g)))
-        (λ g. ap (λ (b : Bool). listed i (map (λ (x : Version). x.id) (cond b (v ∷ filter (λ (x : Version). gone (version_of x).row) vs) (filter (λ (x : Version). gone (version_of x).row) vs)))) g
+        (λ g. ap (λ (b : Bool). is_among i (map (λ (x : Version). x.id) (cond b (v ∷ filter (λ (x : Version). gone (version_of x).row) vs) (filter (λ (x : Version). gone (version_of x).row) vs)))) g
         ∙ later ∙ ap (λ (b : Bool). ltb 0 (count_by (λ (x : Version). nat_eq x.id i) vs) && b) (sym (row_is e) ∙ g) ∙ never (ltb 0 (count_by (λ (x : Version). nat_eq x.id i) vs))
         ∙ sym (named ∙ ap (λ (b : Bool). true && b) (sym (row_is e) ∙ g)))
       where
@@ -59,11 +59,11 @@ listed-ids t gone slots i s at (v ∷ vs) names =
         named = ap (λ (n : ℕ). ltb 0 n && gone s.version.row) (counting i v vs ∙ ap (λ (b : Bool). cond {A = ℕ} b 1 0 + count_by (λ (x : Version). nat_eq x.id i) vs) e)
             ∙ ap (λ (b : Bool). b && gone s.version.row) (positive (count_by (λ (x : Version). nat_eq x.id i) vs))
 
-    past : listed i (ids_of gone vs) ≡ (ltb 0 (count_by (λ (x : Version). nat_eq x.id i) vs) && gone s.version.row) → nat_eq v.id i ≡ false → listed i (ids_of gone (v ∷ vs)) ≡ (ltb 0 (count_by (λ (x : Version). nat_eq x.id i) (v ∷ vs)) && gone s.version.row)
+    past : is_among i (ids_of gone vs) ≡ (ltb 0 (count_by (λ (x : Version). nat_eq x.id i) vs) && gone s.version.row) → nat_eq v.id i ≡ false → is_among i (ids_of gone (v ∷ vs)) ≡ (ltb 0 (count_by (λ (x : Version). nat_eq x.id i) (v ∷ vs)) && gone s.version.row)
     past later e = skip (gone (version_of v).row) ∙ later ∙ ap (λ (n : ℕ). ltb 0 n && gone s.version.row) (sym (counting i v vs ∙ none))
       where
-        skip : (b : Bool) → listed i (map (λ (x : Version). x.id) (cond b (v ∷ filter (λ (x : Version). gone (version_of x).row) vs) (filter (λ (x : Version). gone (version_of x).row) vs))) ≡ listed i (ids_of gone vs)
-        skip true = ap (λ (b : Bool). b || listed i (ids_of gone vs)) (turned v.id i false e)
+        skip : (b : Bool) → is_among i (map (λ (x : Version). x.id) (cond b (v ∷ filter (λ (x : Version). gone (version_of x).row) vs) (filter (λ (x : Version). gone (version_of x).row) vs))) ≡ is_among i (ids_of gone vs)
+        skip true = ap (λ (b : Bool). b || is_among i (ids_of gone vs)) (turned v.id i false e)
         skip false = refl
 
         none : cond {A = ℕ} (nat_eq v.id i) 1 0 + count_by (λ (x : Version). nat_eq x.id i) vs ≡ count_by (λ (x : Version). nat_eq x.id i) vs

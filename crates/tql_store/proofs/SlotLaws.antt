@@ -10,7 +10,7 @@ use Rattle.tql_spec.specs.Definition.{Stamped, Version}
 use Rattle.tql_store.proofs.Apply.{lt_true}
 use Rattle.tql_store.proofs.Begin.{eq_tells}
 use Rattle.tql_store.specs.Changes.{alive, fresh, closed_if, replaced, reopened, undone, pruned}
-use Rattle.tql_store.specs.Represents.{listed, taken, Judged}
+use Rattle.tql_store.specs.Represents.{is_among, taken, Judged}
 use Rattle.tql_store.specs.Slots.{Slot, live, closed_slot, close_at, closing, fresh_slot, undone_slots, place_of, is_brief, is_settled, settled, without}
 use Rattle.tql_store.specs.Stands.{is_current}
 use Rattle.tql_store.specs.declared.tables.Place.{Place}
@@ -110,19 +110,19 @@ no_suc i = grind (arith, nat_tests)
 both_suc : (i j : ℕ) → nat_eq i j ≡ nat_eq (suc i) (suc j)
 both_suc i j = grind (arith, nat_tests)
 
-listed-lowered : (i : ℕ) (removed : List ℕ) → listed i (lowered removed) ≡ listed (suc i) removed
+listed-lowered : (i : ℕ) (removed : List ℕ) → is_among i (lowered removed) ≡ is_among (suc i) removed
 listed-lowered i [] = refl
-listed-lowered i (zero ∷ is) = listed-lowered i is ∙ sym (ap (λ b. b || listed (suc i) is) (no_zero i))
-listed-lowered i (suc j ∷ is) = ap (λ b. nat_eq i j || b) (listed-lowered i is) ∙ ap (λ b. b || listed (suc i) is) (both_suc i j)
+listed-lowered i (zero ∷ is) = listed-lowered i is ∙ sym (ap (λ b. b || is_among (suc i) is) (no_zero i))
+listed-lowered i (suc j ∷ is) = ap (λ b. nat_eq i j || b) (listed-lowered i is) ∙ ap (λ b. b || is_among (suc i) is) (both_suc i j)
 
-closing-first : (m : ℤ) (removed : List ℕ) (s : Slot) (ss : List Slot) → closing m removed (s ∷ ss) ≡ (if listed 0 removed then closed_slot m s else s) ∷ closing m (lowered removed) ss
+closing-first : (m : ℤ) (removed : List ℕ) (s : Slot) (ss : List Slot) → closing m removed (s ∷ ss) ≡ (if is_among 0 removed then closed_slot m s else s) ∷ closing m (lowered removed) ss
 closing-first m [] s ss = refl
-closing-first m (zero ∷ is) s ss = closing-first m is (closed_slot m s) ss ∙ twice (listed 0 is)
+closing-first m (zero ∷ is) s ss = closing-first m is (closed_slot m s) ss ∙ twice (is_among 0 is)
   where
     twice : (b : Bool) → (if b then closed_slot m (closed_slot m s) else closed_slot m s) ∷ closing m (lowered is) ss ≡ closed_slot m s ∷ closing m (lowered is) ss
     twice true = refl
     twice false = refl
-closing-first m (suc i ∷ is) s ss = closing-first m is s (close_at m i ss) ∙ ap (λ b. (if b || listed 0 is then closed_slot m s else s) ∷ closing m (lowered is) (close_at m i ss)) (sym (no_suc i))
+closing-first m (suc i ∷ is) s ss = closing-first m is s (close_at m i ss) ∙ ap (λ b. (if b || is_among 0 is then closed_slot m s else s) ∷ closing m (lowered is) (close_at m i ss)) (sym (no_suc i))
 
 closing-none : (m : ℤ) (removed : List ℕ) → closing m removed [] ≡ []
 closing-none m [] = refl

@@ -17,7 +17,7 @@ use Rattle.tql_store.proofs.SlotLaws.{live-settled, live-settled_brief, live-und
 use Rattle.tql_store.specs.Asked.{asked, answers}
 use Rattle.tql_store.specs.Changes.{InTransaction, last_rows, rows_after, alive}
 use Rattle.tql_store.specs.Represents.{Copies, Working, horizon_of, StandsWith, Represents, appended, CommitAppends, RollbackRestores, BeginCopies, ChangeReplaces, Judged, with_rows, seen_by, AnswersAsOf, AnswersFromTo, AnswersNow}
-use Rattle.tql_store.specs.Slots.{Slot, Held, place_of, is_kept, is_brief, is_versioned, live, moment_of, settled, undone_slots, closing, fresh_slot}
+use Rattle.tql_store.specs.Slots.{Slot, Held, place_of, is_kept, is_brief, is_versioned, live, moment_or_high, settled, undone_slots, closing, fresh_slot}
 use Rattle.tql_store.specs.Stands.{Under, Within, StandsFor, holds, is_current}
 use Rattle.tql_store.specs.declared.tables.Place.{Place}
 use Rattle.tql_store.specs.declared.tables.Place.TheVariants.{Free, Versioned, Unversioned}
@@ -55,10 +55,10 @@ in_turn old copies working m e r t = subst (λ (o : Option ℤ). StandsWith (hor
 pub at_rest : (old : Held) (copies : Copies) (working : Working) → old.working ≡ None → Represents old copies working → (t : ℕ) → StandsFor (horizon_of old.tables old.last t) (live t old.slots) (copies t)
 at_rest old copies working e r t = subst (λ (o : Option ℤ). StandsWith (horizon_of old.tables old.last t) o (live t old.slots) (copies t) (working t)) e (r.stands t)
 
-pub commit-appends : (old new : Held) → new ≡ record { tables = old.tables; slots = settled old.tables (moment_of old.working) old.slots; working = None; last = old.working } → CommitAppends old new
+pub commit-appends : (old new : Held) → new ≡ record { tables = old.tables; slots = settled old.tables (moment_or_high old.working) old.slots; working = None; last = old.working } → CommitAppends old new
 commit-appends old new e = λ copies working m is r. subst (λ (h : Held). Represents h (appended m working copies) working) (sym e) (record {
   dated = λ t. sym is;
-  stands = λ t. subst (λ (o : Option ℤ). StandsFor (horizon_of old.tables o t) (live t (settled old.tables (moment_of o) old.slots)) (record { moment = m; rows = working t } ∷ copies t)) (sym is)
+  stands = λ t. subst (λ (o : Option ℤ). StandsFor (horizon_of old.tables o t) (live t (settled old.tables (moment_or_high o) old.slots)) (record { moment = m; rows = working t } ∷ copies t)) (sym is)
       (by_bool (is_brief (place_of old.tables t))
       (λ brief. subst (λ (g : Option ℤ). StandsFor g (live t (settled old.tables m old.slots)) (record { moment = m; rows = working t } ∷ copies t)) (sym (last_horizon old.tables (Some m) t brief))
       (brief-commit-law _ (live t old.slots) _ (record { moment = m; rows = working t }) (copies t) (in_turn old copies working m is r t) (same-list (live-settled_brief old.tables t m old.slots brief))))
@@ -66,12 +66,12 @@ commit-appends old new e = λ copies working m is r. subst (λ (h : Held). Repre
       (commit-law _ (live t old.slots) _ (record { moment = m; rows = working t }) (copies t) (in_turn old copies working m is r t) (same-list (live-settled old.tables t m old.slots kept)))));
 })
 
-pub rollback-restores : (old new : Held) → new ≡ record old { slots = undone_slots (moment_of old.working) old.slots; working = None } → RollbackRestores old new
+pub rollback-restores : (old new : Held) → new ≡ record old { slots = undone_slots (moment_or_high old.working) old.slots; working = None } → RollbackRestores old new
 rollback-restores old new e = λ copies working m is r. subst (λ (h : Held). Represents h copies working) (sym e) (record {
   dated = r.dated;
   stands = λ t. let turn = in_turn old copies working m is r t in
-      rollback-law _ (live t old.slots) (live t (undone_slots (moment_of old.working) old.slots)) _ _ turn
-      (same-list (ap (λ (o : Option ℤ). live t (undone_slots (moment_of o) old.slots)) is ∙ live-undone t m old.slots turn.below));
+      rollback-law _ (live t old.slots) (live t (undone_slots (moment_or_high old.working) old.slots)) _ _ turn
+      (same-list (ap (λ (o : Option ℤ). live t (undone_slots (moment_or_high o) old.slots)) is ∙ live-undone t m old.slots turn.below));
 })
 
 -- the horizon lies before a moment that is later than the last commit
@@ -108,11 +108,11 @@ answers-now h t found e = λ copies working r. same-trans (same-list e) (same-sy
 
 -- ---- changes
 
-pub change-replaces : (t : ℕ) (removed : List ℕ) (added : List (List Datum)) (old new : Held) → new ≡ record old { slots = closing (moment_of old.working) removed old.slots ++ map (fresh_slot t (moment_of old.working)) added } → ChangeReplaces t removed added old new
+pub change-replaces : (t : ℕ) (removed : List ℕ) (added : List (List Datum)) (old new : Held) → new ≡ record old { slots = closing (moment_or_high old.working) removed old.slots ++ map (fresh_slot t (moment_or_high old.working)) added } → ChangeReplaces t removed added old new
 change-replaces t removed added old new e = λ copies working m gone is j r.
     subst (λ (h : Held). Represents h copies (with_rows t (rows_after m gone added (working t)) working)) (sym e) (record {
       dated = r.dated;
-      stands = λ u. subst (λ (o : Option ℤ). StandsWith (horizon_of old.tables old.last u) o (live u (closing (moment_of o) removed old.slots ++ map (fresh_slot t (moment_of o)) added)) (copies u) (with_rows t (rows_after m gone added (working t)) working u)) (sym is)
+      stands = λ u. subst (λ (o : Option ℤ). StandsWith (horizon_of old.tables old.last u) o (live u (closing (moment_or_high o) removed old.slots ++ map (fresh_slot t (moment_or_high o)) added)) (copies u) (with_rows t (rows_after m gone added (working t)) working u)) (sym is)
           (let turn = in_turn old copies working m is r in by_bool (nat_eq u t)
           (λ same. at_table copies working m gone j turn u (decided u t same))
           (λ other. subst (λ (vs : List Version). InTransaction (horizon_of old.tables old.last u) vs (record { moment = m; rows = with_rows t (rows_after m gone added (working t)) working u }) (copies u)) (sym (live-others t u gone m removed added old.slots other j))
@@ -133,9 +133,9 @@ map-both : {X Y Z : Type 0} (f : X → Y) (g : Y → Z) (xs : List X) → map (�
 map-both f g [] = refl
 map-both f g (x ∷ xs) = ap (λ zs. g (f x) ∷ zs) (map-both f g xs)
 
-pub change-of : {X : Type 0} (cells : X → List Datum) (rows : List X) (t : ℕ) (removed : List ℕ) (old new : Held) → new ≡ record old { slots = closing (moment_of old.working) removed old.slots ++ map (λ x. fresh_slot t (moment_of old.working) (cells x)) rows } → ChangeReplaces t removed (map cells rows) old new
+pub change-of : {X : Type 0} (cells : X → List Datum) (rows : List X) (t : ℕ) (removed : List ℕ) (old new : Held) → new ≡ record old { slots = closing (moment_or_high old.working) removed old.slots ++ map (λ x. fresh_slot t (moment_or_high old.working) (cells x)) rows } → ChangeReplaces t removed (map cells rows) old new
 change-of cells rows t removed old new e = change-replaces t removed (map cells rows) old new
-    (e ∙ ap (λ (ss : List Slot). record old { slots = closing (moment_of old.working) removed old.slots ++ ss }) (map-both cells (fresh_slot t (moment_of old.working)) rows))
+    (e ∙ ap (λ (ss : List Slot). record old { slots = closing (moment_or_high old.working) removed old.slots ++ ss }) (map-both cells (fresh_slot t (moment_or_high old.working)) rows))
 
 -- ---- the ranges as the store tests them
 

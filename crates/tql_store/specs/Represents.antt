@@ -54,10 +54,10 @@ RollbackRestores old new = (copies : Copies) (working : Working) (m : ℤ) → o
 
 -- ---- changes
 
--- a place is listed
-abbrev pub listed : ℕ → List ℕ → Bool
-listed i [] = false
-listed i (j ∷ js) = nat_eq i j || listed i js
+-- whether a place is among these
+abbrev pub is_among : ℕ → List ℕ → Bool
+is_among i [] = false
+is_among i (j ∷ js) = nat_eq i j || is_among i js
 
 -- the slots that a change of a table takes away, told by their rows
 abbrev pub taken : ℕ → (Stamped → Bool) → Slot → Bool
@@ -65,7 +65,7 @@ taken t gone s = nat_eq s.table t && (alive s.version && (is_current s.version &
 
 -- the places listed are those of the slots that are taken away: what goes is told by the rows' values
 abbrev pub Judged : ℕ → (Stamped → Bool) → List ℕ → List Slot → Type 0
-Judged t gone removed slots = (i : ℕ) (s : Slot) → slice_get slots i ≡ Some s → listed i removed ≡ taken t gone s
+Judged t gone removed slots = (i : ℕ) (s : Slot) → slice_get slots i ≡ Some s → is_among i removed ≡ taken t gone s
 
 -- the working copy with other rows of one table
 abbrev pub with_rows : ℕ → List Stamped → Working → Working

@@ -67,9 +67,9 @@ abbrev pub live : ℕ → List Slot → List Version
 live t slots = map (λ (s : Slot). s.version) (filter (λ s. nat_eq s.table t && alive s.version) slots)
 
 -- the moment of an open transaction
-abbrev pub moment_of : Option ℤ → ℤ
-moment_of None = high
-moment_of (Some m) = m
+abbrev pub moment_or_high : Option ℤ → ℤ
+moment_or_high None = high
+moment_or_high (Some m) = m
 
 -- a slot whose version is closed at a moment
 abbrev pub closed_slot : ℤ → Slot → Slot

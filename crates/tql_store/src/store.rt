@@ -1,7 +1,7 @@
 ghost use Rattle.std.specs.Prelude.{◌≡◌, ◌↔◌, ◌+ℤ◌, pos, ◌<◌, ◌++◌, ◌+◌, ◌<ℤ◌, [], map, filter, length, All, IsNone, IsSome, IsTrue, is_some, Some, None, IfOk, OnOk, OnErr, IfErr, Err};
 ghost use Rattle.tql_spec.specs.Calendar.{high};
 ghost use Rattle.tql_store.specs.Stands.{holds, is_current, Under};
-ghost use Rattle.tql_store.specs.Slots.{Held, live, moment_of, closing, fresh_slot, undone_slots, settled, without, has_table as table_there, is_versioned as table_versioned, table_count as tables_there};
+ghost use Rattle.tql_store.specs.Slots.{Held, live, moment_or_high, closing, fresh_slot, undone_slots, settled, without, has_table as table_there, is_versioned as table_versioned, table_count as tables_there};
 ghost use Rattle.tql_store.specs.Views.{slot_of, version_of, Names, NamesOnce};
 ghost use Rattle.tql_store.specs.Represents.{Represents, BeginCopies, ChangeReplaces, CommitAppends, RollbackRestores, AddsTable, AddKeepsCopies, DropEmpties, Takes, AnswersAsOf, AnswersFromTo, AnswersNow};
 ghost use Rattle.tql_store.specs.Asked.{asked, answers};
@@ -188,7 +188,7 @@ impl Store {
 
     /// The moment of the open transaction.
     fn moment(&self) -> i64
-        ensures { result ≡ moment_of self.now.working }
+        ensures { result ≡ moment_or_high self.now.working }
     {
         match self.working {
             Some(moment) => moment,
@@ -213,8 +213,8 @@ impl Store {
         requires present { IsTrue (table_there self.old delta.table) }
         requires within { All (λ i. i < length self.old.slots) delta.removed.items }
         ensures ok { OnOk result (self.new ≡ (record self.old {
-          slots = closing (moment_of self.old.working) delta.removed.items self.old.slots
-              ++ map (λ row. fresh_slot delta.table (moment_of self.old.working) (map datum_of_value row.items)) delta.added.items;
+          slots = closing (moment_or_high self.old.working) delta.removed.items self.old.slots
+              ++ map (λ row. fresh_slot delta.table (moment_or_high self.old.working) (map datum_of_value row.items)) delta.added.items;
         })) }
         ensures copies { OnOk result (ChangeReplaces delta.table delta.removed.items
             (map (λ row. map datum_of_value row.items) delta.added.items) self.old self.new) }
@@ -231,7 +231,7 @@ impl Store {
         requires { IsSome self.old.working }
         ensures slots { self.new ≡ (record {
           tables = self.old.tables;
-          slots = settled self.old.tables (moment_of self.old.working) self.old.slots;
+          slots = settled self.old.tables (moment_or_high self.old.working) self.old.slots;
           working = None;
           last = self.old.working;
         }) }
@@ -247,7 +247,7 @@ impl Store {
     pub fn rollback(&mut self)
         requires { IsSome self.old.working }
         ensures slots { self.new ≡ (record self.old {
-          slots = undone_slots (moment_of self.old.working) self.old.slots;
+          slots = undone_slots (moment_or_high self.old.working) self.old.slots;
           working = None;
         }) }
         ensures copies { RollbackRestores self.old self.new }

@@ -1,6 +1,6 @@
 -- The parts of a TIMESTAMP literal.
 use Rattle.std.specs.Prelude.{ℕ, ◌&&◌, List, drop, Option, Some}
-use Rattle.tql_spec.specs.Calendar.{digits_at, stands_at, where_true, read_fraction, micros_of_time}
+use Rattle.tql_spec.specs.Calendar.{digits_at, has_byte_at, where_true, read_fraction, micros_of_time}
 use Rattle.tql_spec.specs.Words.{◌>>=◌}
 
 -- HH:MM:SS and a fraction from the place 10 on, after a blank: its microseconds
@@ -11,4 +11,4 @@ time_read bs = do
   s ← digits_at bs 17 2
   f ← read_fraction (drop 19 bs)
   micros ← micros_of_time h m s f
-  where_true (stands_at bs 10 32 && stands_at bs 13 58 && stands_at bs 16 58) (Some micros)
+  where_true (has_byte_at bs 10 32 && has_byte_at bs 13 58 && has_byte_at bs 16 58) (Some micros)

@@ -1,6 +1,6 @@
 -- The pure data that the values of the code stand for.
-use Rattle.std.specs.Prelude.{Bool, true, Option, Some, None, Result, Ok, Err}
-use Rattle.tql_spec.specs.Datum.{Datum, Null, Int, Text, Day, Moment, Ints, Texts, Days, Moments, Equals, Differs, Below, AtMost, Above, AtLeast, same_kind}
+use Rattle.std.specs.Prelude.{Bool, true, List, map, Vec, Option, Some, None, Result, Ok, Err}
+use Rattle.tql_spec.specs.Datum.{Datum, Row, Null, Int, Text, Day, Moment, Ints, Texts, Days, Moments, Equals, Differs, Below, AtMost, Above, AtLeast, same_kind}
 use Rattle.tql_spec.specs.Datum as spec
 use Rattle.tql_spec.specs.Truth.{False, Unknown, True}
 use Rattle.tql_spec.specs.Truth as logic
@@ -64,3 +64,11 @@ kinds_meet None l = true
 abbrev pub outcome : Result View Range → Option Datum
 outcome (Ok v) = Some (datum_of_view v)
 outcome (Err e) = None
+
+-- the data of a row
+abbrev pub row_of : List Value → Row
+row_of values = map datum_of_value values
+
+-- the data of rows
+abbrev pub rows_of : {A : Type 0} → List (Vec Value A) → List Row
+rows_of rows = map (λ r. row_of r.items) rows

@@ -1,6 +1,6 @@
 ghost use Rattle.std.specs.Prelude.{◌≡◌, ◌+◌, ◌*◌, ◌<◌, ◌≤◌, ◌^◌, length, drop, IsTrue, IfSome, All, Some, None, if◌then◌else◌, pos, ◌-ℤ◌, ◌&&◌, ◌-◌, ◌++◌, slice_index, replicate};
 ghost use Rattle.std.specs.List.{list_all};
-ghost use Rattle.tql_spec.specs.Calendar.{is_digit, number_of, digits_at as digits, stands_at as stands, days_at_start, day_count, read_date as date_read, read_fraction as fraction_read, micros_of, micros_of_time, day_length, read_timestamp as timestamp_read};
+ghost use Rattle.tql_spec.specs.Calendar.{is_digit, number_of, digits_at as digits, has_byte_at as stands, days_at_start, day_count, read_date as date_read, read_fraction as fraction_read, micros_of, micros_of_time, day_length, read_timestamp as timestamp_read};
 ghost use Rattle.tql_value.specs.Literals.{time_read};
 ghost use Rattle.tql_value.specs.Points.{IsDay, IsMoment};
 
@@ -40,7 +40,7 @@ fn rest_from(bytes: &[u8], place: usize) -> &[u8]
 }
 
 /// Whether this byte, which is not 0, stands at this place.
-fn stands_at(bytes: &[u8], place: usize, byte: u8) -> bool
+fn has_byte_at(bytes: &[u8], place: usize, byte: u8) -> bool
     requires { 0 < byte }
     ensures { result ≡ stands bytes.now place byte }
 {
@@ -58,7 +58,7 @@ fn date_at_start(bytes: &[u8]) -> Option<u32>
     let year = digits_at(bytes, 0, 4)?;
     let month = digits_at(bytes, 5, 2)?;
     let day = digits_at(bytes, 8, 2)?;
-    if stands_at(bytes, 4, b'-') && stands_at(bytes, 7, b'-') {
+    if has_byte_at(bytes, 4, b'-') && has_byte_at(bytes, 7, b'-') {
         days_to_date(year, month, day)
     } else {
         None
@@ -147,7 +147,7 @@ fn time_of_day(hour: u16, minute: u16, second: u16, fraction: u32) -> Option<u64
 fn has_signs_of_time(bytes: &[u8]) -> bool
     ensures { result ≡ (stands bytes.now 10 32 && stands bytes.now 13 58 && stands bytes.now 16 58) }
 {
-    stands_at(bytes, 10, b' ') && stands_at(bytes, 13, b':') && stands_at(bytes, 16, b':')
+    has_byte_at(bytes, 10, b' ') && has_byte_at(bytes, 13, b':') && has_byte_at(bytes, 16, b':')
 }
 
 /// The time `HH:MM:SS`, with a fraction or without, at the end of a TIMESTAMP literal's bytes, in

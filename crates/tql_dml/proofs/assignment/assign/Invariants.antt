@@ -1,7 +1,7 @@
 use Rattle.std.proofs.Common.{◌≡◌, drop, map}
 use Rattle.tql_spec.specs.Change.{assigned}
 use Rattle.tql_bound.specs.Works.{assignment_of}
-use Rattle.tql_dml.specs.Inserts.{row_of}
+use Rattle.tql_value.specs.Views.{row_of}
 use Rattle.tql_dml.specs.Parts.{shown_by}
 use Rattle.tql_dml.proofs.assignment.assign.Given as goal
 

@@ -1,5 +1,5 @@
 use Rattle.std.proofs.Common.{◌≡◌, take}
-use Rattle.tql_dml.specs.Inserts.{row_of}
+use Rattle.tql_value.specs.Views.{row_of}
 use Rattle.tql_dml.specs.Parts.{shown_by}
 use Rattle.tql_dml.proofs.assignment.copied.Given as goal
 

@@ -4,7 +4,7 @@ use Rattle.std.proofs.lemmas.Iterator.Search.{any_from_yields_List}
 use Rattle.tql_spec.specs.Definition.{Column}
 use Rattle.tql_catalog.specs.Definitions.{column_of}
 use Rattle.tql_dml.specs.Cells.{columns_at, has_long_text, lacks_a_value}
-use Rattle.tql_dml.specs.Inserts.{rows_of}
+use Rattle.tql_value.specs.Views.{rows_of}
 use Rattle.tql_dml.proofs.FaultLaws.{cells_in, long_rows, lacking_rows, first_is, long_is_first}
 use Rattle.tql_dml.proofs.faults.first_fault.Goals as goal
 

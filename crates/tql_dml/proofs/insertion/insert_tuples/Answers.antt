@@ -6,7 +6,7 @@ use Rattle.tql_bound.specs.Changes.{tuple_of}
 use Rattle.tql_catalog.specs.Definitions.{column_of}
 use Rattle.tql_dml.specs.Alters.{tuples_in}
 use Rattle.tql_dml.specs.Cells.{stored_cells}
-use Rattle.tql_dml.specs.Inserts.{rows_of}
+use Rattle.tql_value.specs.Views.{rows_of}
 use Rattle.tql_dml.proofs.Altering.{insert_refused, insert_adds, insert_fits}
 use Rattle.tql_dml.proofs.Inserting.{first_read}
 use Rattle.tql_dml.proofs.insertion.insert_tuples.Goals as goal

@@ -1,7 +1,7 @@
 use Rattle.std.proofs.Common.{ap, map, List}
 use Rattle.tql_spec.specs.Datum.{Row}
 use Rattle.tql_catalog.specs.Definitions.{column_of}
-use Rattle.tql_dml.specs.Inserts.{rows_of}
+use Rattle.tql_value.specs.Views.{rows_of}
 use Rattle.tql_dml.specs.Parts.{parts_in}
 use Rattle.tql_dml.proofs.Altering.{modify_fails, modify_refused, modify_gives, modify_fits}
 use Rattle.tql_dml.proofs.Inserting.{first_read}

@@ -1,6 +1,6 @@
 use Rattle.std.proofs.Common.{◌≡◌, ◌∙◌, ◌≤◌, min, length, arith, subst, sym, slice_index_or}
 use Rattle.tql_spec.specs.Change.{filled}
-use Rattle.tql_dml.specs.Inserts.{row_of}
+use Rattle.tql_value.specs.Views.{row_of}
 use Rattle.tql_dml.proofs.Removals.{one_more_filled, all_filled}
 use Rattle.tql_dml.proofs.spread.fill.Goals as goal
 

@@ -1,6 +1,6 @@
 use Rattle.std.proofs.Common.{◌≡◌, drop}
 use Rattle.tql_spec.specs.Change.{filled}
-use Rattle.tql_dml.specs.Inserts.{row_of}
+use Rattle.tql_value.specs.Views.{row_of}
 use Rattle.tql_dml.proofs.spread.fill.Given as goal
 
 abbrev pub invariant-loop-place : goal.invariant-loop-place

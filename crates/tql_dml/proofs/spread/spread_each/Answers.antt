@@ -1,7 +1,7 @@
 use Rattle.std.proofs.Common.{◌∙◌, ap, sym, arith, Vec}
 use Rattle.tql_value.specs.declared.value.Value.{Value}
 use Rattle.tql_dml.specs.Cells.{stored_cells}
-use Rattle.tql_dml.specs.Inserts.{row_of}
+use Rattle.tql_value.specs.Views.{row_of}
 use Rattle.tql_dml.proofs.Removals.{one_more_row}
 use Rattle.tql_dml.proofs.spread.spread_each.Goals as goal
 

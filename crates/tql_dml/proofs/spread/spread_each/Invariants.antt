@@ -1,6 +1,6 @@
 use Rattle.std.proofs.Common.{◌≡◌, ◌++◌, drop, map}
 use Rattle.tql_dml.specs.Cells.{stored_cells}
-use Rattle.tql_dml.specs.Inserts.{rows_of}
+use Rattle.tql_value.specs.Views.{rows_of}
 use Rattle.tql_dml.proofs.spread.spread_each.Given as goal
 
 abbrev pub invariant-loop-tuple : goal.invariant-loop-tuple

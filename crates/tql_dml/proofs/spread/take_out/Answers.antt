@@ -1,5 +1,5 @@
 use Rattle.std.proofs.Common.{ap, ◌∙◌}
-use Rattle.tql_dml.specs.Inserts.{row_of}
+use Rattle.tql_value.specs.Views.{row_of}
 use Rattle.tql_dml.proofs.Removals.{row_remove}
 use Rattle.tql_dml.proofs.spread.take_out.Goals as goal
 

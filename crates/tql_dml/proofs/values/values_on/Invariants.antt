@@ -2,7 +2,7 @@ use Rattle.std.proofs.Common.{◌≡◌, drop, map, []}
 use Rattle.tql_spec.specs.Expression.{eval}
 use Rattle.tql_spec.specs.Words.{map_all}
 use Rattle.tql_expr.specs.Meaning.{expr}
-use Rattle.tql_dml.specs.Inserts.{row_of}
+use Rattle.tql_value.specs.Views.{row_of}
 use Rattle.tql_dml.proofs.Evaluations.{behind}
 use Rattle.tql_dml.proofs.values.values_on.Given as goal
 

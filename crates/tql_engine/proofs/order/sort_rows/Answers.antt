@@ -8,7 +8,7 @@ use Rattle.tql_spec.specs.Datum.{Row}
 use Rattle.tql_spec.specs.Query.{by_columns}
 use Rattle.tql_spec.proofs.Orders.{by_columns-total, sorted_is_in_order}
 use Rattle.tql_value.specs.declared.value.Value.{Value}
-use Rattle.tql_engine.specs.Views.{row_of, rows_of}
+use Rattle.tql_value.specs.Views.{row_of, rows_of}
 use Rattle.tql_engine.proofs.order.sort_rows.Goals as goal
 
 -- sorted by the rows that elements stand for: the rows are sorted

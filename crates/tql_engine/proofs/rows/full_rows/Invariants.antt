@@ -1,7 +1,7 @@
 use Rattle.std.proofs.Common.{◌≡◌, ◌++◌, drop, map}
 use Rattle.tql_spec.specs.Definition.{full}
 use Rattle.tql_store.specs.Views.{version_of}
-use Rattle.tql_engine.specs.Views.{rows_of}
+use Rattle.tql_value.specs.Views.{rows_of}
 use Rattle.tql_engine.proofs.rows.full_rows.Given as goal
 
 abbrev pub invariant-loop-version : goal.invariant-loop-version

@@ -2,7 +2,7 @@ use Rattle.std.proofs.Common.{◌∙◌, ap}
 use Rattle.std.proofs.Math.Facts.{to_z-of_z}
 use Rattle.std.specs.Prelude.{insert}
 use Rattle.tql_spec.specs.Datum.{Moment}
-use Rattle.tql_engine.specs.Views.{row_of}
+use Rattle.tql_value.specs.Views.{row_of}
 use Rattle.tql_engine.proofs.RowLemmas.{row_inserted}
 use Rattle.tql_engine.proofs.rows.put_moment.Goals as goal
 

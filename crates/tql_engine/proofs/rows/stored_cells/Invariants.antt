@@ -1,5 +1,5 @@
 use Rattle.std.proofs.Common.{◌≡◌, ◌++◌, drop}
-use Rattle.tql_engine.specs.Views.{row_of}
+use Rattle.tql_value.specs.Views.{row_of}
 use Rattle.tql_engine.proofs.rows.stored_cells.Given as goal
 
 abbrev pub invariant-loop-cell : goal.invariant-loop-cell

@@ -1,7 +1,7 @@
 use Rattle.std.proofs.Common.{◌≡◌, drop, map}
 use Rattle.tql_spec.specs.Parts.{tests_of, conjs_of}
 use Rattle.tql_tree.specs.Conditions.{cond_of, conj_of, factor_of}
-use Rattle.tql_filter.specs.Aggregates.{in_condition, in_conjs, in_conj, in_tests}
+use Rattle.tql_spec.specs.Aggregates.{in_condition, in_conjs, in_conj, in_tests}
 use Rattle.tql_filter.proofs.aggregates.+aggregates.Given as goal
 
 -- those that are left decide

@@ -1,7 +1,7 @@
 use Rattle.std.proofs.Common.{◌≡◌, drop, map}
 use Rattle.std.specs.List.{list_any}
 use Rattle.tql_tree.specs.Expressions.{boxed_expr_of}
-use Rattle.tql_scope.specs.Aggregates.{in_sum}
+use Rattle.tql_spec.specs.Aggregates.{in_sum}
 use Rattle.tql_filter.proofs.aggregates.is_in_any.Given as goal
 
 -- those that are left decide

@@ -1,6 +1,6 @@
 use Rattle.std.proofs.Common.{sym, ap}
 use Rattle.tql_spec.specs.Text.{row_text}
-use Rattle.tql_result.specs.Replies.{row_of}
+use Rattle.tql_value.specs.Views.{row_of}
 use Rattle.tql_result.proofs.Joining.{flat_map_next}
 use Rattle.tql_result.proofs.Pushing.{step, stop}
 use Rattle.tql_result.proofs.table.push_rows.Goals as goal

@@ -1,7 +1,7 @@
 use Rattle.std.proofs.Common.{drop}
 use Rattle.std.specs.List.{flat_map}
 use Rattle.tql_spec.specs.Text.{row_text}
-use Rattle.tql_result.specs.Replies.{row_of}
+use Rattle.tql_value.specs.Views.{row_of}
 use Rattle.tql_result.proofs.Pushing.{Sent}
 use Rattle.tql_result.proofs.table.push_rows.Given as goal
 

@@ -1,7 +1,7 @@
 use Rattle.std.proofs.Common.{◌≡◌, drop, map}
 use Rattle.tql_spec.specs.Parts.{terms_of, factors_of}
 use Rattle.tql_tree.specs.Expressions.{expr_of, term_of, added_of, signed_of}
-use Rattle.tql_scope.specs.Aggregates.{in_sum, in_terms, in_product, in_factors}
+use Rattle.tql_spec.specs.Aggregates.{in_sum, in_terms, in_product, in_factors}
 use Rattle.tql_scope.proofs.aggregates.+aggregates.Given as goal
 
 -- those that are left decide

@@ -6,7 +6,7 @@ use Rattle.tql_tree.specs.Expressions.{expr_of}
 use Rattle.tql_tree.specs.Statements.{cell_of}
 use Rattle.tql_tree.specs.declared.expression.ExprIn.{ExprIn}
 use Rattle.tql_tree.specs.declared.statement.Cell.{Cell}
-use Rattle.tql_scope.specs.Aggregates.{in_sum}
+use Rattle.tql_spec.specs.Aggregates.{in_sum}
 use Rattle.tql_scope.specs.Bounds.{typed_of}
 use Rattle.tql_scope.specs.Gathered.{Gathers}
 use Rattle.tql_scope.specs.Scopes.{scope_of}

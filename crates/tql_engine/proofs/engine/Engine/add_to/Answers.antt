@@ -7,7 +7,7 @@ use Rattle.tql_spec.specs.Machine.{State}
 use Rattle.tql_store.specs.Slots.{has_table}
 use Rattle.tql_catalog.specs.Rows.{IsRowOf}
 use Rattle.tql_bound.specs.declared.change.Insertion.{Insertion}
-use Rattle.tql_dml.specs.Inserts.{rows_of}
+use Rattle.tql_value.specs.Views.{rows_of}
 use Rattle.tql_catalog.specs.declared.catalog.Table.{Table}
 use Rattle.tql_engine.specs.Committing.{ChangesRows, KeepsRows}
 use Rattle.tql_engine.specs.Stands.{Held, StandsFor}

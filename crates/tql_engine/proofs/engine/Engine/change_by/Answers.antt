@@ -10,7 +10,7 @@ use Rattle.tql_catalog.specs.Rows.{IsRowOf}
 use Rattle.tql_bound.specs.Works.{work_of}
 use Rattle.tql_bound.specs.declared.change.Modification.{Modification}
 use Rattle.tql_dml.specs.Alters.{conds_in}
-use Rattle.tql_dml.specs.Inserts.{rows_of}
+use Rattle.tql_value.specs.Views.{rows_of}
 use Rattle.tql_catalog.specs.declared.catalog.Table.{Table}
 use Rattle.tql_engine.specs.Committing.{ChangesRows, KeepsRows}
 use Rattle.tql_engine.specs.Modifying.{Makes, Made}

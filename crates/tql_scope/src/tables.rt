@@ -5,16 +5,16 @@ ghost use Rattle.tql_catalog.specs.Tables.{definitions_of};
 ghost use Rattle.tql_tree.specs.Expressions.{name_of};
 ghost use Rattle.tql_scope.specs.Gathered.{Gathers};
 
+use crate::faults::Faults;
+use crate::texts::meant;
 use std::alloc::AllocError;
 use tql_catalog::catalog::Catalog;
 use tql_memory::Memory;
-use tql_scope::faults::Faults;
-use tql_scope::texts::meant;
 use tql_tree::expression::Name;
 use tql_value::refusal::Refusal;
 
 /// The place of a table; where there is none, a fault, and the first place stands for it.
-#[tactic(auto, using(tql_scope::proofs::Gathering::gathering))]
+#[tactic(auto, using(crate::proofs::Gathering::gathering))]
 fn or_no_table(place: Option<usize>, faults: &mut Faults) -> usize
     ensures { Gathers (binding.or_no_table place) faults.old faults.new result }
 {

@@ -1,7 +1,8 @@
+//! The numbers that digits spell.
 ghost use Rattle.std.specs.Prelude.{◌≡◌, ◌≤◌, ◌+◌, ◌-◌, ◌*◌, ◌^◌, MatchOption, option_map};
 ghost use Rattle.tql_spec.specs.Calendar.{number_of};
 ghost use Rattle.tql_spec.specs.Datum.{Int};
-ghost use Rattle.tql_define.specs.Numbers.{signed_value};
+ghost use Rattle.tql_scope.specs.Numbers.{signed_value};
 
 /// A number with one more digit behind it.
 fn with_digit(number: u64, digit: u8) -> Option<u64>

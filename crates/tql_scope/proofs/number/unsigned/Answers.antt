@@ -1,6 +1,6 @@
 use Rattle.std.proofs.Common.{arith}
-use Rattle.tql_define.proofs.NumberLemmas.{out_of_range}
-use Rattle.tql_define.proofs.number.unsigned.Goals as goal
+use Rattle.tql_scope.proofs.NumberLemmas.{out_of_range}
+use Rattle.tql_scope.proofs.number.unsigned.Goals as goal
 
 pub returns-in_err-number : goal.returns-in_err-number
 returns-in_err-number c =

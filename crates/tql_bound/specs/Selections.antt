@@ -1,0 +1,38 @@
+-- The machine's queries that bound ones stand for.
+use Rattle.std.specs.Prelude.{Bool, true, false, [], ◌∷◌, map, None, string_bytes}
+use Rattle.tql_spec.specs.History as history
+use Rattle.tql_spec.specs.Query.{Query, Ref}
+use Rattle.tql_expr.specs.Meaning.{expr, cond}
+use Rattle.tql_bound.specs.declared.selection.When.{When}
+use Rattle.tql_bound.specs.declared.selection.When.TheVariants as when
+use Rattle.tql_bound.specs.declared.selection.Reference.{Reference}
+use Rattle.tql_bound.specs.declared.selection.Selection.{Selection}
+
+-- the versions that are asked for
+abbrev pub when_of : When → history.When
+when_of when.Now = history.Now
+when_of (when.AsOf m) = history.AsOf m
+when_of (when.FromTo a b) = history.FromTo a b
+when_of (when.Between a b) = history.Between a b
+
+-- whether the current rows are asked for
+abbrev pub is_now : When → Bool
+is_now when.Now = true
+is_now _ = false
+
+-- a table reference
+abbrev pub reference_of : Reference → Ref
+reference_of r = record { table = r.table; when = when_of r.when; width = r.width }
+
+-- a query of one reference, without groups, that keeps repeated rows and asks for no order
+abbrev pub selection_of : Selection → Query
+selection_of x = record {
+  chains = record { first = reference_of x.reference; joins = [] } ∷ [];
+  filter = map (cond x.terms) x.conjuncts.items;
+  grouping = None;
+  having = [];
+  items = map (expr x.terms) x.items.items;
+  headings = map string_bytes x.headings.items;
+  distinct = false;
+  ordering = [];
+}
