@@ -15,7 +15,7 @@ use Rattle.tql_catalog.proofs.Definitions.{has_its_system}
 use Rattle.tql_catalog.specs.Rows.{IsRowOf, has_system, numbers_repeat, are_assignable}
 use Rattle.tql_value.specs.Points.{IsPrintable}
 use Rattle.tql_expr.proofs.Printing.{printable_cell}
-use Rattle.tql_value.specs.Views.{datum_of_value, rows_of}
+use Rattle.tql_value.specs.Views.{datum_of_value, row_of, rows_of}
 use Rattle.tql_value.specs.declared.value.Value.{Value}
 use Rattle.tql_dml.specs.Cells.{stored_cells}
 use Rattle.tql_dml.proofs.Kept.{kept, kept_law, and_left, and_right, not_is}

@@ -24,6 +24,8 @@ mod AtPoints
 pub mod Orders
 pub mod TokenLaws
 pub mod FirstFaults
+pub mod LateNames
+pub mod LateFaults
 mod FaultBags
 mod ChangeBags
 mod QueryBags

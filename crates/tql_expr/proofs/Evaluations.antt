@@ -5,7 +5,7 @@ use Rattle.std.proofs.lemmas.List.{drop_more, drop_all, append-nil}
 use Rattle.tql_spec.specs.Words.{with_front, map_all}
 use Rattle.tql_value.specs.declared.refusal.Refusal.{Refusal}
 use Rattle.tql_value.specs.declared.refusal.Refusal.TheVariants as r
-use Rattle.tql_dml.specs.Evaluated.{Fails}
+use Rattle.tql_expr.specs.Evaluated.{Fails, behind}
 
 -- ---- why there is no value
 
@@ -22,11 +22,6 @@ fails_with o whole r.ValueOutOfRange h f = h f
 fails_with o whole _ h f = f
 
 -- ---- lists
-
--- these before the others, where the others are there
-abbrev pub behind : {A : Type 0} → List A → Option (List A) → Option (List A)
-behind xs None = None
-behind xs (Some ys) = Some (xs ++ ys)
 
 front_moved : {A : Type 0} (done : List A) (y : A) (rest : Option (List A)) → behind (done ++ y ∷ []) rest ≡ behind done (with_front (Some y) rest)
 front_moved done y None = refl

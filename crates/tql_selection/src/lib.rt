@@ -1,0 +1,4 @@
+// What SELECT of one table reference gives of the versions that are found.
+#![tactic(auto)]
+
+pub mod selecting;
