@@ -35,7 +35,7 @@ pieces_placed before bytes = pieces_behind before (cut Outside bytes)
 -- ---- their places
 
 -- a text is its lead and what is left without it
-lead_parts : (in_comment : Bool) (bs : List ℕ) → lead in_comment bs ++ without_lead in_comment bs ≡ bs
+pub lead_parts : (in_comment : Bool) (bs : List ℕ) → lead in_comment bs ++ without_lead in_comment bs ≡ bs
 lead_parts in_comment [] = refl
 lead_parts true (b ∷ bs) = ap (λ (z : List ℕ). b ∷ z) (lead_parts (not (b == 10)) bs)
 lead_parts false (b ∷ bs) = by (is_blank b || begins_comment b bs) (lead_parts (begins_comment b bs) bs) where
