@@ -3,6 +3,7 @@ use Rattle.std.specs.Prelude.{◌≡◌, ℕ, ◌<◌, ◌≤◌, ◌++◌, not,
 use Rattle.std.specs.List.{list_all}
 use Rattle.tql_spec.specs.Script as script
 use Rattle.tql_spec.specs.Script.{statements}
+use Rattle.tql_spec.specs.Lines.{placed_from, line_of}
 use Rattle.tql_lex.specs.Stream.{Stream}
 use Rattle.tql_lex.specs.declared.scan.Found.{Found}
 use Rattle.tql_lex.specs.declared.splitter.Piece.{Piece}
@@ -23,7 +24,7 @@ StandsFor (Unfinished t) p = (p.text ≡ t.now) × IsFalse p.finished × (length
 abbrev pub piece_found : Found → script.Piece
 piece_found f = record { text = f.text.now; finished = f.finished }
 
--- the statement is the first of those left, whatever is still to come; after the end nothing comes
+-- the statement is the first of those left, whatever is still to come, and stands on its line; after the end nothing comes
 pub record GivesFirst (old new : Stream) (p : script.Piece) : Type 0 where
   pub given : statements old.left ≡ p ∷ statements new.left
   pub coming : (more : List ℕ) → IsFalse old.ended → statements (old.left ++ more) ≡ p ∷ statements (new.left ++ more)
@@ -31,6 +32,10 @@ pub record GivesFirst (old new : Stream) (p : script.Piece) : Type 0 where
   pub ended : new.ended ≡ old.ended
   pub used : List ℕ
   pub parts : old.left ≡ used ++ new.left
+  pub passed : new.passed ≡ old.passed ++ used
+  pub before : List ℕ
+  pub placed : placed_from old.passed old.left ≡ record { before = before; piece = p } ∷ placed_from new.passed new.left
+  pub line : new.line ≡ line_of (record { before = before; piece = p })
 
 -- no statement is left: none that is whole, and after the end none at all
 pub record HasNone (s : Stream) : Type 0 where

@@ -1,5 +1,6 @@
 //! Scanning the bytes of a script.
-ghost use Rattle.std.specs.Prelude.{◌≡◌, ◌<◌, false, length, IfSome};
+ghost use Rattle.std.specs.Prelude.{◌≡◌, ◌+◌, ◌-◌, ◌<◌, ◌≤◌, false, length, take, IfSome};
+ghost use Rattle.tql_spec.specs.Lines as lines;
 ghost use Rattle.tql_spec.specs.Script as script;
 ghost use Rattle.tql_lex.specs.Cutting.{end_from, IsFirst};
 
@@ -54,16 +55,32 @@ fn end_of_piece(bytes: &[u8]) -> Option<usize>
     None
 }
 
-/// A statement's text, what is left behind it, and whether its `;` came.
+/// How many line feeds are among the bytes.
+pub(crate) fn line_feeds(bytes: &[u8]) -> usize
+    ensures value { result ≡ lines.line_feeds bytes.now }
+    ensures fewer { result ≤ length bytes.now }
+{
+    bytes.iter().filter(|byte| **byte == b'\n').count()
+}
+
+/// What stands before a text that ends so many bytes before the end.
+fn bytes_before<'a>(bytes: &'a [u8], text: &[u8], behind: usize) -> &'a [u8]
+    requires { length text.now + behind ≤ length bytes.now }
+    ensures { result.now ≡ take (length bytes.now - (length text.now + behind)) bytes.now }
+{
+    &bytes[..bytes.len() - (text.len() + behind)]
+}
+
+/// What stands before a statement, its text, what is left behind it, and whether its `;` came.
 #[derive(Clone, Copy)]
 pub(crate) struct Found<'a> {
+    pub(crate) before: &'a [u8],
     pub(crate) text: &'a [u8],
     pub(crate) rest: &'a [u8],
     pub(crate) finished: bool,
 }
 
 /// The first statement of these bytes.
-#[tactic(auto, using(crate::proofs::CuttingLemmas::nothing_past, crate::proofs::CuttingLemmas::past_blank, crate::proofs::CuttingLemmas::begins, crate::proofs::CuttingLemmas::holds_none, crate::proofs::CuttingLemmas::holds_unfinished))]
 pub(crate) fn first_statement(bytes: &[u8]) -> Option<Found<'_>>
     ensures { IsFirst bytes.now result }
 {
@@ -75,6 +92,7 @@ pub(crate) fn first_statement(bytes: &[u8]) -> Option<Found<'_>>
         rest = behind;
         if !text.is_empty() {
             return Some(Found {
+                before: bytes_before(bytes, text, behind.len() + 1),
                 text,
                 rest,
                 finished: true,
@@ -86,6 +104,7 @@ pub(crate) fn first_statement(bytes: &[u8]) -> Option<Found<'_>>
         return None;
     }
     Some(Found {
+        before: bytes_before(bytes, text, 0),
         text,
         rest: &[],
         finished: false,

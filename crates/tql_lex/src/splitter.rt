@@ -2,7 +2,7 @@
 ghost use Rattle.std.specs.Prelude.{◌≡◌, ◌++◌, true, false, IsFalse, OnOk, OnErr, IfErr};
 ghost use Rattle.tql_lex.specs.Pieces.{StandsFor, piece_found};
 
-use crate::scan::{Found, first_statement};
+use crate::scan::{Found, first_statement, line_feeds};
 use std::marker::Model;
 use tql_memory::Memory;
 use tql_value::refusal::Refusal;
@@ -29,17 +29,23 @@ pub struct Splitter {
     bytes: Vec<u8, Memory>,
     start: usize,
     ended: bool,
+    /// How many line feeds stand before the start.
+    feeds: usize,
+    /// The line of the statement that was given last.
+    line: u64,
 }
 
 impl Model for Splitter {
-    ghost use Rattle.std.specs.Prelude.{drop, ◌≤◌, vec_len};
+    ghost use Rattle.std.specs.Prelude.{◌≡◌, drop, take, ◌≤◌, vec_len};
+    ghost use Rattle.tql_spec.specs.Lines as lines;
     ghost use Rattle.tql_lex.specs.Stream.{Stream};
 
     ghost Value = { Stream };
 
-    ghost view = { λ s. record { left = drop s.start s.bytes.items; ended = s.ended } };
+    ghost view = { λ s. record {
+        left = drop s.start s.bytes.items; ended = s.ended; passed = take s.start s.bytes.items; line = s.line } };
 
-    ghost invariant = { λ s. s.start ≤ vec_len s.bytes };
+    ghost invariant = { λ s. (s.start ≤ vec_len s.bytes) × (s.feeds ≡ lines.line_feeds (take s.start s.bytes.items)) };
 }
 
 impl Splitter {
@@ -51,11 +57,14 @@ impl Splitter {
     pub fn new(memory: Memory) -> Splitter
         ensures empty { result.left ≡ List.[] }
         ensures open { result.ended ≡ false }
+        ensures unread { result.passed ≡ List.[] }
     {
         Splitter {
             bytes: Vec::new(memory),
             start: 0,
             ended: false,
+            feeds: 0,
+            line: 1,
         }
     }
 
@@ -64,6 +73,7 @@ impl Splitter {
         requires { IsFalse self.old.ended }
         ensures left { OnOk result (self.new.left ≡ self.old.left ++ bytes.now) }
         ensures ended { OnOk result (self.new.ended ≡ self.old.ended) }
+        ensures passed { OnOk result (self.new.passed ≡ self.old.passed) }
         ensures refused { OnErr result (self.new ≡ self.old) }
         ensures reason { IfErr result (λ e. e ≡ Refusal.OutOfMemory) }
     {
@@ -75,6 +85,7 @@ impl Splitter {
     pub fn finish(&mut self)
         ensures left { self.new.left ≡ self.old.left }
         ensures ended { self.new.ended ≡ true }
+        ensures passed { self.new.passed ≡ self.old.passed }
     {
         self.ended = true;
     }
@@ -84,6 +95,13 @@ impl Splitter {
         ensures { result ≡ self.now.ended }
     {
         self.ended
+    }
+
+    /// The line of the statement that was given last, of its first byte that counts; the first line is 1.
+    pub fn line(&self) -> u64
+        ensures { result ≡ self.now.line }
+    {
+        self.line
     }
 
     /// The next statement: its text from the first byte that is neither a blank nor in a comment up to its `;`.
@@ -99,6 +117,9 @@ impl Splitter {
         if !found.finished && !self.ended {
             return None;
         }
+        let feeds = self.feeds + line_feeds(found.before);
+        self.line = feeds as u64 + 1;
+        self.feeds = feeds + line_feeds(found.text);
         self.start = bytes.len() - found.rest.len();
         Some(piece_of(found))
     }

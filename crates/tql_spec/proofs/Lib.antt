@@ -23,6 +23,7 @@ mod ConstraintRuns
 mod AtPoints
 pub mod Orders
 pub mod TokenLaws
+pub mod LineLaws
 pub mod FirstFaults
 pub mod LateNames
 pub mod LateFaults

@@ -18,6 +18,7 @@ pub mod Machine
 pub mod Answer
 pub mod Text
 pub mod Script
+pub mod Lines
 pub mod Token
 pub mod FirstToken
 pub mod Syntax

@@ -1,6 +1,7 @@
 // The definitions that the table engine is verified against, and the laws about them.
 #![tactic(auto)]
 
+ghost use Rattle.std.specs.Prelude.{ℕ, List};
 ghost use Rattle.tql_spec.specs.Datum.{Day, Moment};
 ghost use Rattle.tql_spec.specs.Period.{FormulasAreSets, PartsAreSets, Period, PointFormulaIsSet};
 ghost use Rattle.tql_spec.specs.ChangeLaws.{ChangesKeepNoOrder, ChangesByParts};
@@ -8,6 +9,7 @@ ghost use Rattle.tql_spec.specs.QueryLaws.{PlainQueriesSelect, SelectionsKeepNoO
 ghost use Rattle.tql_spec.specs.Expression.{SafeConditionsAreJudged};
 ghost use Rattle.tql_spec.specs.Constraint.{KeyTestIsRight, ReferenceTestIsRight};
 ghost use Rattle.tql_spec.specs.Run.{RefusalsKeepState, RunsKeepConstraints};
+ghost use Rattle.tql_spec.specs.Lines.{StatementsInPlace};
 ghost use Rattle.tql_spec.specs.Token.{HasOneTokenList};
 ghost use Rattle.tql_spec.specs.Spans.{ReadsBySpans, SteadyRangesAgree};
 ghost use Rattle.tql_spec.specs.Reached.{ReachedAreInOrder, ReachedFit, ReachedAreSteady, ReachedReadBySpans};
@@ -44,6 +46,11 @@ pub fn safe_conditions()
 /// A reference's test says what holds at each point.
 pub fn references_at_each_point()
     ensures { ReferenceTestIsRight }
+{}
+
+/// The statements of a script in their places are its statements, and each stands there.
+pub fn statements_in_place()
+    ensures { (script : List ℕ) → StatementsInPlace script }
 {}
 
 /// A text has one list of tokens, if any.
