@@ -1,5 +1,5 @@
 -- What a selection gives row by row.
-use Rattle.std.specs.Prelude.{◌≡◌, refl, ℕ, ◌+◌, ◌<◌, ◌≤◌, Bool, true, false, List, [], ◌∷◌, ◌++◌, map, length, slice_index_or, Option, Some, None}
+use Rattle.std.specs.Prelude.{◌≡◌, refl, ℕ, ◌+◌, ◌<◌, ◌≤◌, Bool, true, false, List, [], ◌∷◌, map, length, slice_index_or, Option, Some, None}
 use Rattle.std.proofs.Common.{sym, ap, append_assoc, ◌∙◌, drop}
 use Rattle.std.proofs.lemmas.List.{drop_more, drop_all, append-nil}
 use Rattle.tql_spec.specs.Words.{◌>>=◌, with_front, map_all, kept_if, filter_all}

@@ -1,16 +1,15 @@
 -- In the order of report the faults of names, kinds, forms and literals stand behind those of the transaction and the clock.
-use Rattle.std.specs.Prelude.{◌≡◌, refl, ◌<◌, ℕ, ℤ, Bool, true, false, not, ◌||◌, is_some, is_none, nat_lt, List, [], ◌∷◌, ◌++◌, map, length, Option, Some, None, ⊤, if◌then◌else◌}
+use Rattle.std.specs.Prelude.{◌≡◌, refl, ◌<◌, ℕ, ℤ, Bool, true, false, not, ◌||◌, is_some, is_none, nat_lt, List, [], ◌∷◌, map, Option, Some, None, ⊤, if◌then◌else◌}
 use Rattle.std.proofs.Common.{arith}
 use Rattle.std.proofs.lemmas.Bool.Decides.{nat_tests}
 use Rattle.tql_spec.specs.Words.{listed}
-use Rattle.tql_spec.specs.Calendar.{number_of, read_timestamp}
+use Rattle.tql_spec.specs.Calendar.{read_timestamp}
 use Rattle.tql_spec.specs.Datum.{Kind}
 use Rattle.tql_spec.specs.Refusal.{Refusal, place, earlier, first}
-use Rattle.tql_spec.specs.Expression.{Cond}
 use Rattle.tql_spec.specs.Definition.{Name, TableDef, Application, place_of, table_at}
-use Rattle.tql_spec.specs.Names.{Checked, Known, Typed, things, check_each, expr, optional_conjuncts}
+use Rattle.tql_spec.specs.Names.{Known, things, check_each, optional_conjuncts}
 use Rattle.tql_spec.specs.Creation.{or_first, number_in, column_number, column_numbers, PeriodPart, application_period, system_period, period_number, listed_columns, kinds_differ, kinds_at, kinds_in, kinds_of, periods_differ, application_kind, period_called, is_declared_key, names_of, application_name, application_parts, system_parts, constraints_of, repeats, reference, reference_in, references, keys, checks, whole_faults, create}
-use Rattle.tql_spec.specs.Binding.{or_no_table, table_number, or_bad_moment, moment, when, source, Joined, join, joins, chain, Output, item_outputs, outputs, group_column, only_place, places_of, key_place, order_key, plain_conjuncts, plain_filter, whole_scope, is_grouped, grouping_faults, select, cell, assigned_columns, insert_columns, kinds_for, cells_misfit, tuple, insert_values, insert_select, rising, read_point, period_kind, portion_period, portion, own_scope, assignment, sets_period, update, delete, bind}
+use Rattle.tql_spec.specs.Binding.{or_no_table, table_number, or_bad_moment, moment, when, source, Joined, join, joins, chain, Output, item_outputs, outputs, group_column, only_place, places_of, key_place, order_key, plain_conjuncts, plain_filter, whole_scope, is_grouped, grouping_faults, select, cell, assigned_columns, insert_columns, kinds_for, cells_misfit, tuple, rising, read_point, period_kind, portion_period, portion, own_scope, assignment, sets_period, bind}
 use Rattle.tql_spec.specs.Syntax.{Named, Condition, MomentTree, SpanTree, NoSpan, AsOfTree, FromToTree, BetweenTree, RefTree, JoinTree, InnerJoin, LeftJoin, CrossJoin, ChainTree, Item, Items, AllColumns, TheseItems, SelectTree, KeyName, ByHeading, ByPosition, OrderTree, CellTree, NullCell, ValueCell, Tuple, SetTree, PortionTree, RefList, Constraint, KeyTree, ForeignTree, CheckTree, Element, Statement, CreateTree, DropTree, InsertValues, InsertSelect, UpdateTree, DeleteTree, QueryTree, StartTree, CommitTree, RollbackTree, AtTree}
 use Rattle.tql_spec.proofs.LateNames.{is_late, AreLate, none, ◌⊗◌, unknown, ambiguous, misfit, misplaced, referenced, crowded, outside, falling, each_late, one_column_late, expr_late, condition_late, conjuncts_late, optional_late}
 

@@ -1,14 +1,13 @@
 -- In the order of report the faults of expressions and conditions stand behind those of the transaction and the clock.
-use Rattle.std.specs.Prelude.{◌≡◌, refl, ℕ, ℤ, Bool, true, false, nat_lt, List, [], ◌∷◌, ◌++◌, Option, Some, None}
+use Rattle.std.specs.Prelude.{◌≡◌, refl, ℤ, Bool, true, false, nat_lt, List, [], ◌∷◌, ◌++◌, Option, Some, None}
 use Rattle.std.specs.List.{AllByRecursion}
-use Rattle.tql_spec.specs.Datum.{Datum, Kind, Operation, Plus, Minus, Times}
-use Rattle.tql_spec.specs.Period.{Relation}
+use Rattle.tql_spec.specs.Datum.{Datum, Kind, Plus, Minus, Times}
 use Rattle.tql_spec.specs.Refusal.{Refusal, place, fault_if, TableUnknownOrAlreadyThere, NameUnknownAmbiguousOrRepeated, TypesDoNotFit, FormNotAllowedHere, TableIsReferenced, TooManyTablesOrReaders, ValueOutOfRange, PortionNotRising}
 use Rattle.tql_spec.specs.Calendar.{read_date, read_timestamp}
-use Rattle.tql_spec.specs.Expression.{Function, Count, Sum, Min, Max, Expr, Cond}
+use Rattle.tql_spec.specs.Expression.{Function, Count, Sum, Min, Max, Cond}
 use Rattle.tql_spec.specs.Syntax as tree
 use Rattle.tql_spec.specs.Syntax.{Named, Product, MoreTerms, NoTerm, PlusTerm, MinusTerm, Terms, MoreFactors, NoFactor, TimesFactor, Factors, Signed, Unsigned, Positive, Negative, Primary, NumberLiteral, TextLiteral, DateLiteral, TimestampLiteral, ColumnNamed, Enclosed, CountStar, Over, Marked, FromEnds, SystemTime, Operand, ByMark, ByName, Condition, AnyOf, MoreConjs, NoConj, OrConj, Conj, AllOf, MoreTests, NoTest, AndTest, Factor, Straight, Negated, Test, Grouped, Compared, NullTest, BetweenTest, InTest, RelationTest, ContainsPeriod, ContainsPoint}
-use Rattle.tql_spec.specs.Names.{Checked, check_each, Known, Thing, AColumn, APeriod, things, Typed, one_column, number, literal, arithmetic, negation, aggregate, negative, expr, more_terms, product, more_factors, signed, primary, sole_name, Ends, one_period, system_periods, only_one, marked, operand, related, compared, in_list, contained_point, contained_named, contained, condition, more_conjs, conj, more_tests, factor, test, factors_of, conjuncts, optional_conjuncts}
+use Rattle.tql_spec.specs.Names.{Checked, check_each, Known, Thing, AColumn, APeriod, things, Typed, one_column, literal, arithmetic, aggregate, negative, expr, more_terms, product, more_factors, signed, primary, sole_name, Ends, one_period, system_periods, only_one, marked, operand, in_list, contained_point, contained_named, contained, condition, more_conjs, conj, more_tests, factor, test, factors_of, conjuncts, optional_conjuncts}
 
 -- a fault stands behind those of the transaction and the clock
 abbrev pub is_late : Refusal → Bool
