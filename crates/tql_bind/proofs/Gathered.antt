@@ -1,5 +1,5 @@
 -- Statements that are bound with their faults gathered.
-use Rattle.std.proofs.Common.{◌≡◌, refl, sym, ◌∙◌, ap, Bool, List, Some, None, Option, Ok, Err, ℕ}
+use Rattle.std.proofs.Common.{◌≡◌, sym, ◌∙◌, Bool, List, Some, None, Option, Ok, Err, ℕ}
 use Rattle.tql_spec.specs.Refusal as spec
 use Rattle.tql_spec.specs.Refusal.{TableIsReferenced, first}
 use Rattle.tql_spec.specs.Binding.{bind, is_referenced, table_number}
@@ -22,11 +22,6 @@ told view c _ h = h
 -- no fault was gathered
 pub clean : {A B : Type 0} (view : A → B) (c : Checked B) (old new : Option spec.Refusal) (a : A) → old ≡ None → new ≡ None → Gathers c old new (view a) → Binds view c (Ok a)
 clean view c old new a none end g = (first_is c old new (view a) none g ∙ end, sym g.value)
-
--- the same refusal, whatever is seen of the value
-pub same_refusal : {A B C : Type 0} (view : A → B) (other : C → B) (c : Checked B) (e : Refusal) → Binds view c (Err e) → Binds other c (Err e)
-same_refusal view other c OutOfMemory h = tt
-same_refusal view other c _ h = h
 
 -- DROP TABLE
 pub drop_bound : (defs : List TableDef) (n : Name) (old mid new : Option spec.Refusal) (t : ℕ) (b : Bool)

@@ -2,7 +2,7 @@
 use Rattle.std.proofs.Common.{◌≡◌, refl, ap, sym, ◌∙◌, subst, ℕ, suc, ◌<◌, Bool, true, false, List, [], ◌∷◌, ◌++◌, Some, None, Option, length, arith}
 use Rattle.std.specs.Prelude.{◌||◌, IsTrue, not, if◌then◌else◌, is_none, is_some}
 use Rattle.tql_spec.specs.Binding.{bind, or_no_table, table_number, when}
-use Rattle.tql_spec.specs.Definition.{Name, TableDef, System, next_place, place_of, table_at}
+use Rattle.tql_spec.specs.Definition.{Name, TableDef, next_place, place_of, table_at}
 use Rattle.tql_spec.specs.History as history
 use Rattle.tql_spec.specs.Machine.{Alter, Ask, Bound, CreateTable, DropTable, SetClock, Start, Commit, Rollback, changed_table}
 use Rattle.tql_spec.specs.Names.{Checked}

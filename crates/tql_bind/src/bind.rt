@@ -79,11 +79,7 @@ fn bound(
 }
 
 /// A statement other than CREATE TABLE, bound without a fault, or the first of its faults.
-fn faultless(
-    memory: Memory,
-    tables: &Catalog,
-    statement: &Statement<'_>,
-) -> Result<Bound, Refusal>
+fn faultless(memory: Memory, tables: &Catalog, statement: &Statement<'_>) -> Result<Bound, Refusal>
     requires runs { IsTrue (does_run (statement_of statement.now)) }
     requires other { IsTrue (not (is_creation (statement_of statement.now))) }
     ensures binds { Binds bound_of (bind (definitions_of tables.now) (statement_of statement.now)) result }
