@@ -22,7 +22,7 @@ use Rattle.tql_value.specs.declared.refusal.Refusal.{Refusal}
 use Rattle.tql_value.specs.declared.refusal.Refusal.TheVariants as r
 use Rattle.tql_dml.specs.Alters.{Gives, Alters, inserted, tuples_in, rows_in, conds_in, modified, fates, coming, gone, IsVersionOf}
 use Rattle.tql_dml.specs.Cells.{stored_columns, stored_cells, rows_faults}
-use Rattle.tql_dml.specs.Evaluated.{Fails}
+use Rattle.tql_expr.specs.Evaluated.{Fails}
 use Rattle.tql_value.specs.Views.{rows_of}
 use Rattle.tql_dml.specs.Parts.{Parts, parts}
 use Rattle.tql_dml.proofs.Fates.{Told, agreed, disagreed, fates_agree}

@@ -1,5 +1,5 @@
 -- The cells of a new row: their number, their values, and the row whose values are given in order.
-use Rattle.std.specs.Prelude.{◌≡◌, refl, ℕ, zero, suc, ◌<◌, Bool, true, false, not, ◌&&◌, ◌||◌, ◌==◌, nat_lt, List, [], ◌∷◌, map, filter, length, replicate, slice_set, slice_index_or, All, Vec, nat_eq, IsTrue, Option, Some, None}
+use Rattle.std.specs.Prelude.{◌≡◌, refl, ℕ, ◌<◌, Bool, true, false, not, ◌&&◌, ◌||◌, ◌==◌, nat_lt, List, [], ◌∷◌, map, filter, length, replicate, slice_set, slice_index_or, All, Vec, nat_eq, IsTrue, Option, Some, None}
 use Rattle.std.specs.List.{list_all, range_with_len}
 use Rattle.std.proofs.Common.{sym, ap, subst, ◌∙◌, arith}
 use Rattle.std.proofs.lemmas.List.{length-set, length-map, length-replicate, get_or-set_same, get_or-set_other}
@@ -15,7 +15,7 @@ use Rattle.tql_catalog.proofs.Definitions.{has_its_system}
 use Rattle.tql_catalog.specs.Rows.{IsRowOf, has_system, numbers_repeat, are_assignable}
 use Rattle.tql_value.specs.Points.{IsPrintable}
 use Rattle.tql_expr.proofs.Printing.{printable_cell}
-use Rattle.tql_value.specs.Views.{datum_of_value, rows_of}
+use Rattle.tql_value.specs.Views.{datum_of_value, row_of, rows_of}
 use Rattle.tql_value.specs.declared.value.Value.{Value}
 use Rattle.tql_dml.specs.Cells.{stored_cells}
 use Rattle.tql_dml.proofs.Kept.{kept, kept_law, and_left, and_right, not_is}

@@ -1,8 +1,8 @@
 -- What an insert makes, from what its parts make.
-use Rattle.std.specs.Prelude.{◌≡◌, refl, ℕ, ℤ, List, [], ◌∷◌, ◌++◌, map, length, All, Option, Some, None, Err}
-use Rattle.std.proofs.Common.{sym, ap, subst, ◌∙◌}
+use Rattle.std.specs.Prelude.{◌≡◌, refl, ℕ, ℤ, List, [], ◌∷◌, ◌++◌, map, length, Option}
+use Rattle.std.specs.List.{flat_map}
+use Rattle.std.proofs.Common.{sym, ap, ◌∙◌}
 use Rattle.std.proofs.lemmas.List.{length-map}
-use Rattle.std.proofs.lemmas.List.Elements.{All-map, All-weaker}
 use Rattle.tql_spec.specs.Datum.{Row}
 use Rattle.tql_spec.specs.Refusal as spec
 use Rattle.tql_spec.specs.Refusal.{first}
@@ -11,16 +11,10 @@ use Rattle.tql_spec.specs.Change.{row_faults, new_row, cell_faults}
 use Rattle.tql_spec.specs.Binding.{all_assignable}
 use Rattle.tql_catalog.specs.Defined.{IsDefinition}
 use Rattle.tql_catalog.proofs.Definitions.{has_its_system}
-use Rattle.tql_catalog.specs.Rows.{IsTupleOf, IsRowOf}
-use Rattle.tql_store.specs.declared.store.Delta.{Delta}
-use Rattle.tql_value.specs.Refusals.{refusal_of}
-use Rattle.tql_value.specs.declared.refusal.Refusal.{Refusal}
-use Rattle.tql_value.specs.declared.refusal.Refusal.TheVariants as r
 use Rattle.tql_dml.specs.Cells.{no_column, columns_at, stored_columns, stored_cells, rows_faults}
-use Rattle.tql_value.specs.Views.{rows_of}
 use Rattle.tql_dml.proofs.Kept.{kept, kept_law}
 use Rattle.tql_dml.proofs.FaultLaws.{plain_faults}
-use Rattle.tql_dml.proofs.Filling.{length-stored, stored_fits}
+use Rattle.tql_dml.proofs.Filling.{length-stored}
 
 -- the new rows of a moment: these values in these columns, and null in the others
 abbrev pub new_rows : TableDef → ℤ → List ℕ → List Row → List Stamped

@@ -3,7 +3,6 @@ pub mod FaultLaws
 pub mod Filling
 pub mod Removals
 pub mod Inserting
-pub mod Evaluations
 pub mod Altering
 pub mod Rows
 pub mod Fates

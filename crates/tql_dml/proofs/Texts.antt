@@ -1,14 +1,13 @@
 -- New rows have values that have texts, where those that they are computed on have.
-use Rattle.std.specs.Prelude.{◌≡◌, ℕ, zero, suc, ℤ, Bool, true, false, nat_lt, List, [], ◌∷◌, ◌++◌, map, length, insert, remove, slice_set, take, drop, All, Vec, Option, Some, None, ⊤, pos, if◌then◌else◌}
+use Rattle.std.specs.Prelude.{◌≡◌, ℕ, suc, Bool, true, false, nat_lt, List, [], ◌∷◌, map, remove, slice_set, take, drop, All, Vec, Option, Some, None, ⊤, if◌then◌else◌}
 use Rattle.std.proofs.Common.{subst, arith}
 use Rattle.std.proofs.lemmas.Int.{ints}
 use Rattle.std.proofs.lemmas.List.Elements.{All-head, All-tail, All-append, All-push, All-nil, All-set, All-take, All-drop}
-use Rattle.tql_spec.specs.Words.{◌>>=◌, with_front, map_all}
-use Rattle.tql_spec.specs.Datum.{Datum, Int, Moment, Row, Operation, Minus, calculate, fits, result_of}
+use Rattle.tql_spec.specs.Words.{◌>>=◌, map_all}
+use Rattle.tql_spec.specs.Datum.{Row}
 use Rattle.tql_spec.specs.Calendar.{high}
-use Rattle.tql_spec.specs.Definition.{System, TableDef, with_generated, without_generated, shown}
-use Rattle.tql_spec.specs.Expression.{Cond, eval, if_countable, aggregate}
-use Rattle.tql_spec.specs.Expression as tree
+use Rattle.tql_spec.specs.Definition.{System, TableDef, without_generated, shown}
+use Rattle.tql_spec.specs.Expression.{Cond, eval}
 use Rattle.tql_spec.specs.Change.{assigned, is_touched}
 use Rattle.tql_bound.specs.Changes.{tuple_of}
 use Rattle.tql_bound.specs.Works.{assignment_of, work_of}
@@ -17,17 +16,12 @@ use Rattle.tql_bound.specs.declared.change.Work as code
 use Rattle.tql_bound.specs.declared.change.Work.TheVariants as work
 use Rattle.tql_catalog.specs.Defined.{IsDefinition}
 use Rattle.tql_catalog.specs.Rows.{IsRowOf}
-use Rattle.tql_expr.specs.Meaning.{trees, expr, datum_at}
-use Rattle.tql_expr.specs.Trees.{Term, expr_of, term_in, terms_from, node_term}
-use Rattle.tql_expr.specs.declared.node.Node.{Node}
-use Rattle.tql_expr.specs.declared.node.Node.TheVariants.{Literal}
+use Rattle.tql_expr.specs.Meaning.{expr}
 use Rattle.tql_expr.specs.declared.terms.ExprId.{ExprId}
 use Rattle.tql_expr.specs.declared.terms.Terms.{Terms}
 use Rattle.tql_store.specs.Views.{version_of}
 use Rattle.tql_store.specs.declared.version.Version.{Version}
 use Rattle.tql_value.specs.Points.{IsPrintable, IsMoment}
-use Rattle.tql_value.specs.Views.{datum_of_value}
-use Rattle.tql_value.specs.declared.value.Value.{Value}
 use Rattle.tql_dml.specs.Alters.{IsVersionOf}
 use Rattle.tql_dml.specs.Parts.{Parts, before, touched_part, part_where, part_of, parts}
 use Rattle.tql_expr.proofs.Printing.{OptionPrints, RowPrints, RowsPrint, expr_prints, eval_prints, values_print, rows_front_print, generated_prints}

@@ -1,4 +1,3 @@
 pub mod Cells
-pub mod Evaluated
 pub mod Alters
 pub mod Parts

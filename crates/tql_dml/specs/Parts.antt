@@ -2,19 +2,13 @@
 use Rattle.std.specs.Prelude.{ℕ, Bool, true, false, List, [], ◌∷◌, ◌++◌, map, Option, Some, None}
 use Rattle.tql_spec.specs.Words.{◌>>=◌}
 use Rattle.tql_spec.specs.Datum.{Row}
-use Rattle.tql_spec.specs.Definition.{TableDef, with_generated, without_generated, shown}
+use Rattle.tql_spec.specs.Definition.{TableDef, without_generated, shown}
 use Rattle.tql_spec.specs.Expression.{Cond}
 use Rattle.tql_spec.specs.Change.{Work, made_of, is_touched}
-use Rattle.tql_expr.specs.Rows.{generated}
-use Rattle.tql_expr.specs.declared.row.StoredRow.{StoredRow}
 use Rattle.tql_store.specs.Views.{version_of}
 use Rattle.tql_store.specs.declared.version.Version.{Version}
-use Rattle.tql_value.specs.Views.{datum_of_value, rows_of}
+use Rattle.tql_value.specs.Views.{rows_of}
 use Rattle.tql_dml.specs.declared.modification.Changed.{Changed}
-
--- the row that a stored one shows
-abbrev pub shown_by : StoredRow → Row
-shown_by r = with_generated (generated r.system) (map datum_of_value r.cells.now) r.start r.end
 
 -- the cells that are stored of a row that is made
 abbrev pub stored_of : TableDef → Option Row → Option Row

@@ -4,9 +4,10 @@ ghost use Rattle.tql_spec.specs.Definition.{shown};
 ghost use Rattle.tql_catalog.specs.Rows.{IsRowOf, stored_width};
 ghost use Rattle.tql_store.specs.Views.{version_of};
 ghost use Rattle.tql_dml.specs.Alters.{Alters, modified, fates, coming, gone, work_in, conds_in, IsVersionOf};
-ghost use Rattle.tql_dml.specs.Evaluated.{Evaluated};
+ghost use Rattle.tql_expr.specs.Evaluated.{Evaluated};
+ghost use Rattle.tql_expr.specs.Shown.{shown_by};
 ghost use Rattle.tql_value.specs.Views.{rows_of};
-ghost use Rattle.tql_dml.specs.Parts.{shown_by, before, touched_part, part_of, parts, parts_in};
+ghost use Rattle.tql_dml.specs.Parts.{before, touched_part, part_of, parts, parts_in};
 
 use crate::assignment::changed_row;
 use crate::faults::first_fault;

@@ -3,48 +3,16 @@ ghost use Rattle.std.specs.Prelude.{[], All, map};
 ghost use Rattle.tql_spec.specs.Expression as tree;
 ghost use Rattle.tql_spec.specs.Words.{map_all};
 ghost use Rattle.tql_bound.specs.Changes.{tuple_of};
-ghost use Rattle.tql_expr.specs.Meaning.{expr as tree_of, HasExpr};
-ghost use Rattle.tql_value.specs.Views.{datum_of_value, row_of, rows_of};
-ghost use Rattle.tql_dml.specs.Evaluated.{Evaluated};
+ghost use Rattle.tql_expr.specs.Meaning.{HasExpr};
+ghost use Rattle.tql_value.specs.Views.{rows_of};
+ghost use Rattle.tql_expr.specs.Evaluated.{Evaluated};
 
-use tql_expr::columns::Columns;
 use tql_expr::row::Row;
 use tql_expr::terms::{ExprId, Terms};
+use tql_expr::values::values_on;
 use tql_memory::Memory;
 use tql_value::refusal::Refusal;
 use tql_value::value::Value;
-
-/// The value of an expression on a row, in memory of its own.
-pub(crate) fn value_on<C: Columns>(
-    memory: Memory,
-    terms: &Terms,
-    expr: ExprId,
-    row: &C,
-) -> Result<Value, Refusal>
-    requires { HasExpr terms.now expr }
-    ensures { Evaluated datum_of_value
-        (tree.eval (C.group row.now) (C.values row.now) (tree_of terms.now expr)) result }
-{
-    terms.eval(expr, row)?.to_value(memory)
-}
-
-/// The values of expressions on a row.
-fn values_on(
-    memory: Memory,
-    terms: &Terms,
-    exprs: &[ExprId],
-    row: &Row,
-) -> Result<Vec<Value, Memory>, Refusal>
-    requires { All (HasExpr terms.now) exprs.now }
-    ensures { Evaluated (λ values. row_of values.items)
-        (map_all (tree.eval [] row.now) (map (tree_of terms.now) exprs.now)) result }
-{
-    let mut values = Vec::with_capacity(memory, exprs.len())?;
-    for expr in exprs {
-        values.push(value_on(memory, terms, *expr, row)?)?;
-    }
-    Ok(values)
-}
 
 /// The values of tuples of expressions on a row.
 fn tuples_on(

@@ -2,3 +2,5 @@ pub mod Nodes
 pub mod Trees
 pub mod Meaning
 pub mod Rows
+pub mod Evaluated
+pub mod Shown

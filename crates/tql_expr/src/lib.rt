@@ -10,3 +10,4 @@ pub mod row;
 pub mod safety;
 pub mod scalar;
 pub mod terms;
+pub mod values;

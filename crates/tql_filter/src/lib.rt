@@ -10,4 +10,4 @@ mod membership;
 pub mod periods;
 mod relations;
 mod signs;
-mod sole_names;
+pub mod sole_names;

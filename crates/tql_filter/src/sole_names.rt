@@ -44,7 +44,7 @@ fn sole_factor<'a>(product: &Term<'a>) -> Option<Named<'a>>
 }
 
 /// The name that an expression is, where it is one and nothing else.
-pub(crate) fn sole_name<'a>(expr: &Expr<'a>) -> Option<Named<'a>>
+pub fn sole_name<'a>(expr: &Expr<'a>) -> Option<Named<'a>>
     ensures { option_map named_of result ≡ names.sole_name (expr_of expr.now) }
 {
     if expr.more.is_empty() {

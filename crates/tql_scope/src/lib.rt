@@ -9,6 +9,7 @@ pub mod expressions;
 pub mod faults;
 pub mod kinds;
 mod literals;
+pub mod moments;
 pub mod names;
 pub mod number;
 pub mod scope;

@@ -25,6 +25,8 @@ pub mod Orders
 pub mod TokenLaws
 pub mod LineLaws
 pub mod FirstFaults
+pub mod LateNames
+pub mod LateFaults
 mod FaultBags
 mod ChangeBags
 mod QueryBags

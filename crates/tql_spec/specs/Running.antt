@@ -5,7 +5,6 @@ use Rattle.std.specs.List.{list_all}
 use Rattle.tql_spec.specs.Token.{Token}
 use Rattle.tql_spec.specs.Syntax.{Element, ColumnElement, PeriodElement, SelectTree, Statement, CreateTree, DropTree, InsertValues, UpdateTree, DeleteTree, QueryTree, StartTree, CommitTree, RollbackTree, AtTree}
 use Rattle.tql_spec.specs.Grammar.{IsStatement}
-use Rattle.tql_spec.specs.Binding.{is_star}
 use Rattle.tql_spec.specs.Aggregates.{in_items, in_filter}
 
 -- ---- statements
@@ -22,12 +21,6 @@ is_plain_select s =
     not s.distinct && is_empty s.first.joins && is_empty s.more && is_empty s.grouping && is_none s.having
     && not (in_items s.items) && not (in_filter s.filter)
 
--- all columns of one table, with a clause or without
-abbrev pub is_whole_table : SelectTree → Bool
-is_whole_table s =
-    not s.distinct && is_star s.items && is_empty s.first.joins && is_none s.first.first.alias && is_empty s.more
-    && is_none s.filter && is_empty s.grouping && is_none s.having
-
 -- whether a statement runs
 abbrev pub does_run : Statement → Bool
 does_run (CreateTree n e es versioned) = list_all is_plain_element (e ∷ es)
@@ -35,7 +28,7 @@ does_run (DropTree n) = true
 does_run (InsertValues n ns t ts) = true
 does_run (UpdateTree n None s ss c) = true
 does_run (DeleteTree n None c) = true
-does_run (QueryTree s []) = is_whole_table s
+does_run (QueryTree s []) = is_plain_select s
 does_run StartTree = true
 does_run CommitTree = true
 does_run RollbackTree = true

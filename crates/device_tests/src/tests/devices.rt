@@ -1,7 +1,6 @@
-// Readers and writers that fail, and a responder that counts bytes.
+// A responder that counts bytes.
 ghost use Rattle.std.specs.Prelude.{⊤};
 
-use std::io::{self, Error, ErrorKind, Read, Write};
 use tql_memory::Memory;
 use tql_result::answer::Answer;
 use tql_result::reply::{Reply, Verb};
@@ -32,63 +31,4 @@ impl Responder for Lengths {
     }
 
     ghost refuses = { λ _ _ _ _. tt };
-}
-
-/// A reader of bytes that gives so many at once, fails where it has no reads left, and is interrupted so many times
-/// before each read.
-#[derive(Drop)]
-pub struct Chunks<'a> {
-    pub left: &'a [u8],
-    pub size: usize,
-    pub reads_left: u64,
-    pub interrupts: u64,
-    pub interrupts_left: u64,
-}
-
-impl Read for Chunks<'_> {
-    fn read(&mut self, buf: &mut [u8]) -> io::Result<usize> {
-        if let Some(left) = self.interrupts_left.checked_sub(1) {
-            self.interrupts_left = left;
-            return Err(Error::from(ErrorKind::Interrupted));
-        }
-        self.interrupts_left = self.interrupts;
-        let Some(reads_left) = self.reads_left.checked_sub(1) else {
-            return Err(Error::from(ErrorKind::BrokenPipe));
-        };
-        self.reads_left = reads_left;
-        let count = self.size.min(self.left.len()).min(buf.len());
-        let (given, left) = self.left.split_at(count);
-        buf[..count].copy_from_slice(given);
-        self.left = left;
-        Ok(count)
-    }
-}
-
-/// A writer that takes so many bytes at once, and fails where it has no writes left, or at a flush.
-#[derive(Drop)]
-pub struct Kept {
-    pub bytes: Vec<u8>,
-    pub size: usize,
-    pub writes_left: u64,
-    pub flushes: bool,
-}
-
-impl Write for Kept {
-    fn write(&mut self, buf: &[u8]) -> io::Result<usize> {
-        let Some(writes_left) = self.writes_left.checked_sub(1) else {
-            return Err(Error::from(ErrorKind::BrokenPipe));
-        };
-        self.writes_left = writes_left;
-        let (taken, _) = buf.split_at(self.size.min(buf.len()));
-        self.bytes.extend_from_slice(taken)?;
-        Ok(taken.len())
-    }
-
-    fn flush(&mut self) -> io::Result<()> {
-        if self.flushes {
-            Ok(())
-        } else {
-            Err(Error::from(ErrorKind::BrokenPipe))
-        }
-    }
 }

@@ -1,6 +1,7 @@
 // tql_run: whole runs, over devices that fail and memory that ends.
-use crate::tests::devices::{Chunks, Kept, Lengths};
+use crate::tests::devices::Lengths;
 use std::test::Fail;
+use test_devices::{Chunks, Kept};
 use tql_memory::memory;
 use tql_result::std_sink::StdSink;
 use tql_run::run::{Fault, Summary, run};

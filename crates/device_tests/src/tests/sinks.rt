@@ -1,7 +1,7 @@
 // tql_result: what a sink that fails leaves of a reply, and what it counts.
-use crate::tests::devices::Kept;
 use std::alloc::{AllocError, Global};
 use std::test::Fail;
+use test_devices::Kept;
 use tql_memory::{Memory, memory};
 use tql_result::device::DeviceFault;
 use tql_result::print::{is_printable_reply, write_reply};

@@ -1,6 +1,6 @@
 // tql_run: a read that is interrupted is made again, and one that fails is counted.
-use crate::tests::devices::Chunks;
 use std::test::Fail;
+use test_devices::Chunks;
 use tql_run::device::Source;
 use tql_run::std_source::StdSource;
 

@@ -3,7 +3,7 @@ use Rattle.tql_spec.specs.Expression.{eval}
 use Rattle.tql_spec.specs.Words.{map_all}
 use Rattle.tql_bound.specs.Changes.{tuple_of}
 use Rattle.tql_value.specs.Views.{rows_of}
-use Rattle.tql_dml.proofs.Evaluations.{behind}
+use Rattle.tql_expr.specs.Evaluated.{behind}
 use Rattle.tql_dml.proofs.values.tuples_on.Given as goal
 
 -- the rows so far, before those of the tuples that are left, are those of all

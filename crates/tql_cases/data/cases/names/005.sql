@@ -1,0 +1,123 @@
+-- cases: pieces
+-- Made at random. The text comes from a rendering of the language that shares nothing with the engine.
+AT TIMESTAMP '2011-01-01 00:00:00';
+CREATE -- it;s "a"
+TABLE	U-- é
+(Start--
+INTEGER, ROW VARCHAR(10),-- é
+v  VARCHAR(2) , -- it;s "a"
+s	TIMESTAMP	Generated
+always-- é
+AS-- é
+row
+START, Sys_e
+TIMESTAMP  without
+TIME
+ZONE generated	ALWAYS-- é
+AS-- é
+ROW END,  PERIOD
+FOR  SYSTEM_TIME	(S, Sys_e ))	WITH  system--
+VERSIONING;
+INSERT INTO U VALUES (1, 1, 'a');
+INSERT INTO U VALUES (3, NULL, 'ab');
+Insert INTO
+U VALUES-- é
+(2, -- it;s "a"
+'a', '; ');
+insert
+INTO
+U VALUES
+(2, --
+'A', -- it;s "a"
+'a ');
+INSERT INTO U VALUES (1, 'a', NULL);
+SELECT ROW, ROW, S FROM U FOR SYSTEM_TIME AS OF TIMESTAMP '2011-01-01 00:00:00.000001' WHERE START IS NULL;
+DELETE FROM U WHERE START >= 4611686018427387904 AND START >= 1 AND START IS NOT NULL;
+DELETE FROM U WHERE NOT ROW IN ('A');
+INSERT  ( INTO U VALUES (0, 'ab', 'a');
+Update  U  SET
+v
+ = -- it;s "a"
+'a';
+CREATE TABLE EMP (A INTEGER, B VARCHAR(3), C DATE, D DATE);
+Create-- é
+TABLE
+U  (N
+INT,
+SYS_S TIMESTAMP(12) without-- é
+time ZONE	GENERATED-- é
+ALWAYS	AS--
+ROW START, Sys_e -- it;s "a"
+Timestamp(6)
+WITHOUT time Zone GENERATED-- é
+always
+AS -- it;s "a"
+ROW	END,  PERIOD  FOR -- it;s "a"
+SYSTEM_TIME (SYS_S,	Sys_e))
+with
+SYSTEM  VERSIONING;
+START TRANSACTION;
+SELECT  *	From--
+u  for--
+system_time
+FROM TIMESTAMP '2011-01-01 00:00:00.000001'  TO
+TIMESTAMP
+'2011-01-01 00:00:00.000007';
+COMMIT;
+INSERT -- it;s "a"
+INTO u -- it;s "a"
+ (row,--
+V,	START) -- it;s "a"
+Values
+('ab',	'A', 0) , ('A' ,-- é
+'a',--
+-1) ;
+CREATE
+TABLE	V -- it;s "a"
+(OF
+BIGINT,	Start -- it;s "a"
+VARCHAR(1),	S
+Timestamp	GENERATED
+Always--
+AS -- it;s "a"
+ROW start, SYS_E-- é
+TIMESTAMP  Not  null-- é
+GENERATED Always--
+as ROW end, PERIOD  FOR System_time -- it;s "a"
+(S, sys_e)) With  SYSTEM  VERSIONING;
+at
+Timestamp
+'2010-12-31 23:00:00.000008';
+DELETE FROM U WHERE START - START <= START AND DATE '2011-01-01
+' IS NULL;
+INSERT INTO U VALUES ((3), '''''', 'a'), (1, 'b', 'b');
+UPDATE U SET V = V;
+update EMP-- é
+SET C -- it;s "a"
+=  D -- it;s "a"
+where--
+Not A--
+NOT Between  (A)
+AND
+-1--
+Or-- é
+A--
+ >=
+0-- é
+AND EMP. D <>	DATE	'2011-01-06';
+INSERT INTO U VALUES (1, NULL, 'A');
+INSERT INTO U VALUES (0, 'b', 'A');
+INSERT INTO U VALUES (1, '𝄞', NULL), ((3), '|', 'A'), (-(9223372036854775808), 'a', 'A');
+INSERT INTO V (OF) VALUES (-1), (2);
+SELECT * FROM V FOR SYSTEM_TIME AS OF TIMESTAMP '2011-01-01 00:00:00.000001';
+UPDATE U SET ROW = 'ab' WHERE 1 <= START - START AND U.START <= START AND (U.START - START < 0 AND START < 2);
+UPDATE U SET ROW = ROW, START = START WHERE 1 <= -1 AND START = START;
+SELECT * FROM U;
+SELECT * FROM U FOR SYSTEM_TIME BETWEEN TIMESTAMP '0001-01-01 00:00:00' AND TIMESTAMP '9999-12-31 23:59:59.999999';
+SELECT * FROM U FOR SYSTEM_TIME AS OF TIMESTAMP '2011-01-01 08:00:00';
+SELECT * FROM U FOR SYSTEM_TIME AS OF TIMESTAMP '2011-01-01 00:00:00.000003';
+SELECT * FROM EMP;
+SELECT * FROM V;
+SELECT * FROM V FOR SYSTEM_TIME BETWEEN TIMESTAMP '0001-01-01 00:00:00' AND TIMESTAMP '9999-12-31 23:59:59.999999';
+SELECT * FROM V FOR SYSTEM_TIME AS OF TIMESTAMP '0001-01-01 00:00:00.000001';
+SELECT * FROM V FOR SYSTEM_TIME AS OF TIMESTAMP '2011-01-01 00:00:00.000010';

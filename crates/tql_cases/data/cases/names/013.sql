@@ -1,0 +1,92 @@
+-- cases: pieces
+-- Made at random. The text comes from a rendering of the language that shares nothing with the engine.
+AT TIMESTAMP '2011-01-01 00:00:00';
+CREATE TABLE W (N BIGINT, START VARCHAR(3) NOT NULL, A BIGINT NOT NULL, SYS_S TIMESTAMP(0) NOT NULL GENERATED ALWAYS AS ROW START, E TIMESTAMP(12) WITHOUT TIME ZONE GENERATED ALWAYS AS ROW END, PERIOD FOR SYSTEM_TIME (SYS_S, E)) WITH SYSTEM VERSIONING;
+UPDATE -- it;s "a"
+w -- it;s "a"
+SET--
+A
+= -- it;s "a"
+N,  N -- it;s "a"
+=	A
+WHERE -- it;s "a"
+W.N	>	1  AND	A	+	W.N -- it;s "a"
+<> -- it;s "a"
+1;
+UPDATE W SET A = N, N = A WHERE W.N IN (2, 0);
+UPDATE W SET START = 'zz' WHERE N < -1 OR W.A > 0 AND N * 4611686018427387904 < 0;
+SELECT SYS_S M, W.START FROM W;
+CREATE  TABLE  "t"	(period
+FOR
+SYSTEM_TIME   (S,  SYS_E), WITHOUT
+VARCHAR(3), S TIMESTAMP  generated  always-- é
+AS ROW -- it;s "a"
+START,-- é
+sys_e--
+timestamp
+GENERATED ALWAYS AS
+ROW -- it;s "a"
+END,-- é
+C varchar(2)-- é
+NOT
+null)--
+WITH-- é
+SYSTEM versioning;
+CREATE TABLE "x y" (WORK INT NOT NULL, K INTEGER, S TIMESTAMP(0) WITHOUT TIME ZONE GENERATED ALWAYS AS ROW START, E TIMESTAMP WITHOUT TIME ZONE GENERATED ALWAYS AS ROW END, PERIOD FOR SYSTEM_TIME (S, E)) WITH SYSTEM VERSIONING;
+INSERT INTO "x y" VALUES (-9223372036854775808, -0001);
+insert-- é
+INTO "x y"--
+values -- it;s "a"
+(1,  NULL),--
+(0, -- it;s "a"
+Null );
+SELECT DATE '2011-01-02' C2, N FROM W R;
+INSERT INTO "t" VALUES ('b', '');
+SELECT K, WORK FROM "x y" FOR SYSTEM_TIME BETWEEN TIMESTAMP '0001-01-01 00:00:00' AND TIMESTAMP '2011-01-01 00:00:00.000005';
+INSERT INTO "t" (WITHOUT, C) VALUES (NULL, 'ab');
+START TRANSACTION;
+INSERT -- it;s "a"
+INTO -- it;s "a"
+"t"-- é
+VALUES--
+('
+' , -- it;s "a"
+'ab'),
+('A', -- it;s "a"
+'A') ,  -- it;s "a"
+('a ', -- it;s "a"
+'ab') ;
+INSERT INTO "t" VALUES ('a', 'ab'), (NULL, 'a'), ('b', '|');
+DELETE FROM W WHERE W.N <> 3;
+rollback;
+Start-- é
+TRANSACTION;
+INSERT INTO W VALUES (-1, 'b', 0);
+CREATE TABLE LOG (SYS_S TIMESTAMP WITHOUT TIME ZONE GENERATED ALWAYS AS ROW START, "é" DATE, E TIMESTAMP(12) WITHOUT TIME ZONE GENERATED ALWAYS AS ROW END, PERIOD FOR SYSTEM_TIME (SYS_S, E), "q""q" VARCHAR(2)) WITH SYSTEM VERSIONING;
+DELETE	From -- it;s "a"
+w  WHERE-- é
+Not N -- it;s "a"
+<
+A;
+SELECT * FROM W WHERE N >= 2;
+INSERT
+INTO W-- é
+VALUES (-1 , -- it;s "a"
+'|', -1
++ -1);
+UPDATE "x y" SET WORK = 2 WHERE NOT S >= TIMESTAMP '2011-01-01 07:00:00';
+INSERT INTO--
+"t" (without, -- é
+c) Values -- it;s "a"
+('b',	'a'),	(NULL,
+null);
+INSERT INTO "x y" VALUES (0, 0), (2 - -4611686018427387904 + 2, -1);
+SELECT-- é
+*	FROM
+W FOR
+SYSTEM_TIME  BETWEEN  timestamp -- it;s "a"
+'2011-01-01 00:00:00.0000070' -- it;s "a"
+AND Timestamp
+'2011-01-01 09:00:00';
+DELETE FROM W WHERE A >= 1 OR A < (A);
+AT TIMESTAMP '2011-01-01 00:00:01.0000069';

@@ -1,0 +1,75 @@
+-- cases: pieces
+-- Made at random. The text comes from a rendering of the language that shares nothing with the engine.
+AT TIMESTAMP '2011-01-01 00:00:00';
+CREATE TABLE LOG (K BIGINT, OF TIMESTAMP(12) WITHOUT TIME ZONE, "é" VARCHAR(2));
+CREATE TABLE EMP ("a" VARCHAR(2), ACTION INTEGER);
+SELECT "a" FROM EMP WHERE nocol = 1;
+START
+TRANSACTION;
+DELETE FROM LOG;
+INSERT INTO EMP VALUES ('b', NULL), (('ab'), 3), ('a ', 0);
+SELECT 9223372036854775808 FROM LOG WHERE K = 1 AND 1 = 1;
+INSERT INTO LOG VALUES (2, TIMESTAMP '2011-01-01 08:00:00', 'b');
+INSERT INTO LOG VALUES (3, TIMESTAMP '2011-01-01 00:00:00', 'b');
+INSERT INTO EMP VALUES ('; ', 3);
+UPDATE LOG SET K = K;
+INSERT--
+into
+LOG  Values (3,
+timestamp	'2011-01-01 00:00:00.000001',	'|'),
+( 3 ,	timestamp
+'2010-12-31 23:59:59.999999',--
+'é'), (0, TIMESTAMP  '2011-01-01 07:00:00.000000',  -- it;s "a"
+'ab');
+INSERT into	LOG-- é
+VALUES
+(0,	TIMESTAMP -- it;s "a"
+'2010-12-31 23:59:59.999999',
+NULL),
+(4294967296,-- é
+TIMESTAMP '2011-01-01 07:00:00', -- it;s "a"
+'ab');
+UPDATE LOG SET OF = (OF);
+DROP  table Emp -- it;s "a"
+RESTRICT;
+SELECT * FROM LOG AS B WHERE K IN (B.K, 2);
+AT TIMESTAMP '2011-01-01 23:59:59.9999990';
+SELECT K, LOG."é" FROM LOG WHERE "é" BETWEEN 'a' AND "é";
+UPDATE LOG SET "é" = LOG."é", OF = LOG.OF WHERE "é" > LOG."é" AND 0 = 3;
+SELECT * FROM EMP R;
+DELETE FROM EMP;
+COMMIT;
+CREATE TABLE "x y" ("é" INT);
+CREATE
+TABLE-- é
+"t"
+(Start  Int,
+WORK  TIMESTAMP( 12) -- it;s "a"
+WITHOUT TIME
+ZONE,
+OF BIGINT);
+INSERT -- it;s "a"
+into--
+LOG -- it;s "a"
+values (2,	Timestamp
+'2011-01-01 00:00:00.000000', 'zz'),-- é
+(3 , -- it;s "a"
+(TIMESTAMP -- it;s "a"
+'2010-12-31 23:59:59.999999'), 'b'),	(Null, -- it;s "a"
+TIMESTAMP '2011-01-01 06:00:00',
+'
+') ;
+INSERT--
+INTO	"x y"-- é
+("é")
+VALUES
+(0);
+INSERT INTO "t" VALUES ((0), TIMESTAMP '2011-01-01 00:00:00.000002', NULL);
+AT TIMESTAMP '2011-01-01 00:00:01.000003';
+UPDATE "x y" SET "é" = "é";
+START TRANSACTION;
+ROLLBACK;
+SELECT * FROM LOG;
+SELECT * FROM EMP;
+SELECT * FROM "x y";
+SELECT * FROM "t";

@@ -1,0 +1,146 @@
+-- cases: pieces
+-- Made at random. The text comes from a rendering of the language that shares nothing with the engine.
+AT TIMESTAMP '2011-01-01 00:00:00';
+CREATE TABLE W (N INTEGER, START INT);
+INSERT
+INTO
+W-- é
+values -- it;s "a"
+(0,
+3);
+CREATE
+TABLE-- é
+V
+(C1
+VARCHAR(1)) ;
+SELECT w.start,	N  From -- it;s "a"
+W  WHERE START  <=  Start	-
+START;
+INSERT INTO V (C1) VALUES ('z');
+INSERT--
+into	W VALUES-- é
+ (-1,
+-1),--
+(2,  0002);
+INSERT INTO W VALUES (4294967296, 1), (NULL, 2), (0002, -1);
+Select * -- it;s "a"
+FROM--
+W
+A WHERE
+('|') IS-- é
+NULL OR-- é
+-1-- é
+between
+A.start -- it;s "a"
+AND -- it;s "a"
+(-4611686018427387904)-- é
+And-- é
+-1 -- it;s "a"
+IN-- é
+(N, -- it;s "a"
+2,-- é
+0)  And-- é
+NOT -9223372036854775809  IS--
+NOT NULL;
+UPDATE V SET C1 = NULL WHERE C1 = C1 OR C1 = 'A';
+select--
+C1, (Timestamp
+'2011-01-01 00:00:00.000003') -- it;s "a"
+FROM-- é
+v;
+SELECT C1 A, C1 A FROM V WHERE C1 = '𝄞';
+DROP TABLE V;
+update  W -- it;s "a"
+SET
+start--
+=-- é
+4611686018427387904  * -- it;s "a"
+w.N  +  START WHERE -- it;s "a"
+N-- é
+> -- it;s "a"
+0 -- it;s "a"
+AND	START  +
+4611686018427387904-- é
+> -- it;s "a"
+0;
+CREATE TABLE U (N DATE, "a" DATE, S TIMESTAMP WITHOUT TIME ZONE GENERATED ALWAYS AS ROW START NOT NULL, E TIMESTAMP(6) WITHOUT TIME ZONE GENERATED ALWAYS AS ROW END, PERIOD FOR SYSTEM_TIME (S, E)) WITH SYSTEM VERSIONING;
+CREATE TABLE "t" (V INTEGER, ROW TIMESTAMP(0) WITHOUT TIME ZONE, E TIMESTAMP GENERATED ALWAYS AS ROW END, OF VARCHAR(10), PERIOD FOR SYSTEM_TIME (SYS_S, E), SYS_S TIMESTAMP(12) GENERATED ALWAYS AS ROW START) WITH SYSTEM VERSIONING;
+Insert INTO-- é
+u (N,
+"a")  VALUES -- it;s "a"
+(DATE	'2011-01-08', -- it;s "a"
+(DATE	'2011-01-02'));
+INSERT INTO U VALUES (DATE '2011-01-01', DATE '2011-01-08');
+INSERT INTO U VALUES (NULL, DATE '2011-01-02');
+AT TIMESTAMP '2011-01-01 00:00:00.0000089';
+INSERT INTO "t" VALUES ((-9223372036854775807), TIMESTAMP '2011-01-01 00:00:00.000005', '𝄞'), (1, TIMESTAMP '2011-01-01 00:00:00.000006', ('b')), (0, TIMESTAMP '2011-01-01 00:00:00.000007', 'é');
+Update  "t" -- it;s "a"
+Set	Row
+=  (E),
+V  =
+v
+WHERE
+V  =  1	OR OF
+BETWEEN -- it;s "a"
+'a '--
+AND 'b' And-- é
+E	In-- é
+((E),
+TIMESTAMP '2011-01-01 00:00:00.000005',--
+ROW);
+DELETE  from  W
+WHERE N	IN--
+(1 -- it;s "a"
++--
+N,
+3,
+0);
+SELECT * FROM "t" R;
+START Transaction;
+DELETE FROM
+W-- é
+WHERE
+Start <> -- it;s "a"
+2  And  START
+* 9223372036854775807
+> -- it;s "a"
+0;
+DROP TABLE NOSUCH;
+UPDATE-- é
+U -- it;s "a"
+SET	N
+=
+Date  '2011-01-08' WHERE U."a"
+=--
+DATE
+'2011-01-08';
+INSERT INTO "t" VALUES (0, TIMESTAMP '9999-12-31 23:59:59.999999', 'A');
+SELECT-- é
+2
++	3
+*-- é
+2
+- --
+(2)-- é
+*
+- 1 -- it;s "a"
++-- é
+0--
+as
+A,  u."a"	from U
+for system_time--
+BETWEEN	TIMESTAMP	'2011-01-01 00:00:00.000005' AND Timestamp
+'2011-01-01 00:00:00.000011' WHERE--
+not
+(NOT--
+E <
+Timestamp-- é
+'2011-01-01 00:00:00.000002') -- it;s "a"
+AND--
+TIMESTAMP--
+'2011-01-01 00:00:00.000011' <
+TIMESTAMP '2011-01-01 00:00:00.000007'	OR-- é
+N
+= DATE--
+'2011-01-07';
+CREATE TABLE V (C1 BIGINT, SYS_S TIMESTAMP GENERATED ALWAYS AS ROW START, SYS_E TIMESTAMP(12) GENERATED ALWAYS AS ROW END, PERIOD FOR SYSTEM_TIME (SYS_S, SYS_E)) WITH SYSTEM VERSIONING;

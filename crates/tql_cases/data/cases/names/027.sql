@@ -1,0 +1,113 @@
+-- cases: pieces
+-- Made at random. The text comes from a rendering of the language that shares nothing with the engine.
+AT TIMESTAMP '2011-01-01 00:00:00';
+CREATE
+TABLE-- é
+U
+(A
+VARCHAR(65535),-- é
+work Varchar(1), -- it;s "a"
+K-- é
+BIGINT--
+NOT -- it;s "a"
+NULL );
+INSERT	into	U	VALUES	('a ',
+'a',  NULL),  ('a', -- it;s "a"
+'z',
+0),--
+('a', -- it;s "a"
+'',-- é
+3);
+UPDATE t AS u SET x = 1;
+INSERT INTO U VALUES ('b', 'a', +01), ('zz', '日', 3);
+INSERT INTO U VALUES (NULL, NULL, 2), ('b', 'i', -1), ('b', 'b', -1);
+INSERT--
+INTO U-- é
+VALUES -- it;s "a"
+('|', -- it;s "a"
+'''', 1),	 ('ab',--
+'A', 	1),
+('; --',	null, 3);
+SELECT K, DATE '2011-01-10', A.A FROM U AS A;
+CREATE TABLE "x y" (E TIMESTAMP(12) GENERATED ALWAYS AS ROW END, PERIOD FOR SYSTEM_TIME (S, E), S TIMESTAMP GENERATED ALWAYS AS ROW START, Y DATE NOT NULL) WITH SYSTEM VERSIONING;
+INSERT INTO U VALUES ('a', 'a', (-1));
+SELECT * FROM "x y";
+SELECT * FROM U;
+UPDATE U SET K = K + 1, WORK = WORK;
+Create
+TABLE
+W -- it;s "a"
+("é"--
+BIGINT,	X--
+BIGINT);
+INSERT -- it;s "a"
+INTO--
+"x y"  VALUES -- it;s "a"
+(Date  '2011-01-06'),	(DATE-- é
+'0001-01-01');
+INSERT INTO U VALUES ('A', '', 0 - -1);
+INSERT INTO U (A, K) VALUES ('A', 1);
+SELECT WORK, TIMESTAMP '2011-01-01 00:00:00.000004' FROM U AS A WHERE (A.K = K) AND ((NOT K < 2 OR +00 IS NULL) OR K <> +0001);
+AT TIMESTAMP '2011-01-01 00:00:00.0000089';
+SELECT	K,
+U.Work FROM
+u
+WHERE--
+WORK = '
+'  AND
+work
+=
+'a';
+AT TIMESTAMP '2011-01-02 00:00:00.000007';
+UPDATE "x y" SET Y = (Y) WHERE S NOT IN (E, (S)) AND "x y".Y IN (Y, DATE '0001-01-01', Y) OR TIMESTAMP '2011-01-01 00:00:00.000005' <= "x y".E;
+SELECT * FROM "x y" WHERE Y > Y OR E < (S) AND NOT "x y".S <> TIMESTAMP '2011-01-02 00:00:00.000007999999';
+SELECT * FROM "x y" WHERE S < TIMESTAMP '2011-01-02 00:00:00.000007';
+CREATE  table-- é
+"t" (V--
+Varchar(3),
+K--
+VARCHAR(003)	NOT-- é
+null,
+OF-- é
+Integer,
+S	TIMESTAMP(12) Without TIME-- é
+ZONE  NOT NULL  GENERATED ALWAYS  as
+ROW
+START,-- é
+E TIMESTAMP--
+GENERATED-- é
+ALWAYS  As
+Row	END,
+period  FOR  SYSTEM_TIME--
+(S,  E))--
+WITH -- it;s "a"
+SYSTEM-- é
+VERSIONING;
+SELECT * FROM "x y" FOR SYSTEM_TIME AS OF TIMESTAMP '2011-01-01 00:00:00.000003';
+update-- é
+"t"
+SET V
+=
+K;
+INSERT INTO W VALUES (2, NULL), (2, 2);
+insert--
+INTO
+U  values	('A', null,  2);
+UPDATE W SET X = X WHERE -1 > X * W."é";
+DELETE-- é
+FROM--
+u--
+WHERE -- it;s "a"
+NOT
+WORK
+< u.A;
+SELECT * FROM U;
+SELECT * FROM "x y";
+SELECT * FROM "x y" FOR SYSTEM_TIME BETWEEN TIMESTAMP '0001-01-01 00:00:00' AND TIMESTAMP '9999-12-31 23:59:59.999999';
+SELECT * FROM "x y" FOR SYSTEM_TIME AS OF TIMESTAMP '2011-01-01 08:00:00';
+SELECT * FROM "x y" FOR SYSTEM_TIME AS OF TIMESTAMP '2011-01-01 00:00:00.000007';
+SELECT * FROM W;
+SELECT * FROM "t";
+SELECT * FROM "t" FOR SYSTEM_TIME BETWEEN TIMESTAMP '0001-01-01 00:00:00' AND TIMESTAMP '9999-12-31 23:59:59.999999';
+SELECT * FROM "t" FOR SYSTEM_TIME AS OF TIMESTAMP '2011-01-01 00:00:00.000003';
+SELECT * FROM "t" FOR SYSTEM_TIME AS OF TIMESTAMP '2011-01-01 08:00:00';

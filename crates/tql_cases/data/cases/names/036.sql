@@ -1,0 +1,108 @@
+-- cases: pieces
+-- Made at random. The text comes from a rendering of the language that shares nothing with the engine.
+AT TIMESTAMP '2011-01-01 00:00:00';
+CREATE TABLE "x y" ("q""q" DATE, A INTEGER, V INTEGER);
+UPDATE	"x y" SET "q""q"--
+= -- it;s "a"
+("q""q"), A = A-- é
++
+V;
+CREATE TABLE W (OF INTEGER, WITHOUT VARCHAR(65535), V DATE NOT NULL, S TIMESTAMP(6) GENERATED ALWAYS AS ROW START, SYS_E TIMESTAMP(6) WITHOUT TIME ZONE NOT NULL GENERATED ALWAYS AS ROW END, PERIOD FOR SYSTEM_TIME (S, SYS_E)) WITH SYSTEM VERSIONING;
+INSERT--
+into
+"x y" -- it;s "a"
+VALUES--
+(DATE '2011-01-01',
+Null , -- it;s "a"
+2),  (DATE  '2011-01-03', 2, 2);
+INSERT INTO W VALUES (-1, 'a', DATE '2011-01-02'), (2, 'ab', DATE '2011-01-01');
+INSERT INTO W--
+(WITHOUT,--
+OF,  V)
+Values  ('ab',
+2, date '2011-01-06');
+CREATE TABLE U (C1 BIGINT, A VARCHAR(65535));
+CREATE TABLE "t" ("a" VARCHAR(2), Y VARCHAR(2), SYS_S TIMESTAMP(12) GENERATED ALWAYS AS ROW START, SYS_E TIMESTAMP(12) GENERATED ALWAYS AS ROW END, PERIOD FOR SYSTEM_TIME (SYS_S, SYS_E)) WITH SYSTEM VERSIONING;
+INSERT-- é
+INTO-- é
+"x y" VALUES--
+(date
+'2011-01-02',-- é
+ (3), 0),--
+(DATE  '2011-01-06' ,	1, -- it;s "a"
+1),   (DATE '2011-01-06', -- it;s "a"
+9223372036854775807, -- it;s "a"
+-1),  (DATE-- é
+'2011-01-10',
+-1,
+1), (DATE
+'2011-01-01',--
+3, -1),
+((DATE-- é
+'2011-01-05') ,--
+1,
+1);
+Insert--
+Into
+"x y"
+VALUES-- é
+(date  '2011-01-06',   3,
+2 ),-- é
+(DATE	'2011-01-10',-- é
+0,--
+3),  (NULL, 0, -- it;s "a"
+-1);
+AT TIMESTAMP '0001-01-01 00:00:00';
+DELETE FROM W
+WHERE -- it;s "a"
+OF =
+-01	AND	NOT-- é
+v Is
+Not NULL;
+SELECT * FROM U;
+START TRANSACTION;
+DELETE FROM W WHERE V <> V;
+SELECT -- it;s "a"
+v, -- it;s "a"
+"x y"."q""q",	V--
+FROM-- é
+"x y";
+SELECT  Of	as -- it;s "a"
+A,  SYS_E -- it;s "a"
+FROM w
+AS -- it;s "a"
+Q;
+DELETE FROM "x y" WHERE "x y".A = 2 OR V BETWEEN 2 AND 2;
+INSERT INTO W VALUES (3, 'b', DATE '9999-12-30');
+UPDATE W SET V = NULL WHERE V = DATE '2011-01-02' AND 1 = 1 AND DATE '2011-02-30' IS NULL;
+SELECT "x y".V AS C2, "x y".V, V FROM "x y" WHERE 'ab' < '; --';
+COMMIT;
+SELECT nosuch + 'a' FROM NOSUCH;
+delete
+FROM -- it;s "a"
+W--
+where -- it;s "a"
+not OF	IN -- it;s "a"
+(2, -- it;s "a"
+2) AND	OF-- é
+IN	(W.OF, 1);
+DELETE FROM W WHERE WITHOUT IN ('', 'A', 'ab') OR OF + OF <> 1 AND OF = 1;
+INSERT INTO W (V, OF, NOSUCH) VALUES (TIMESTAMP '9999-12-31 23:59:59.999998', TIMESTAMP '2011-01-01T00:00:00', 'b');
+START TRANSACTION;
+SELECT DATE '2011-02-30' FROM NOSUCH WHERE nocol = 1;
+INSERT
+into
+u
+VALUES  (-1,  'A');
+SELECT x FROM t WHERE (((((((((((((((((((((((((((((((((((((((((((((((((((((((((((((((((x))))))))))))))))))))))))))))))))))))))))))))))))))))))))))))))))) = 1;
+COMMIT;
+SELECT * FROM "x y";
+SELECT * FROM W;
+SELECT * FROM W FOR SYSTEM_TIME BETWEEN TIMESTAMP '0001-01-01 00:00:00.0000009' AND TIMESTAMP '9999-12-31 23:59:59.999999999999';
+SELECT * FROM W FOR SYSTEM_TIME AS OF TIMESTAMP '2011-01-01 00:00:00.000004';
+SELECT * FROM W FOR SYSTEM_TIME AS OF TIMESTAMP '2011-01-01 00:00:00.000007';
+SELECT * FROM U;
+SELECT * FROM "t";
+SELECT * FROM "t" FOR SYSTEM_TIME BETWEEN TIMESTAMP '0001-01-01 00:00:00.0000009' AND TIMESTAMP '9999-12-31 23:59:59.999999999999';
+SELECT * FROM "t" FOR SYSTEM_TIME AS OF TIMESTAMP '2011-01-01 00:00:00.000005';
+SELECT * FROM "t" FOR SYSTEM_TIME AS OF TIMESTAMP '2011-01-01 00:00:00';

@@ -1,0 +1,79 @@
+-- cases: pieces
+-- Made at random. The text comes from a rendering of the language that shares nothing with the engine.
+AT TIMESTAMP '2011-01-01 00:00:00';
+CREATE TABLE
+T-- é
+(ACTION	Varchar(2),--
+"a"-- é
+INTEGER);
+CREATE
+TABLE LOG--
+("a"	date,--
+WITHOUT  VARCHAR(10) , -- it;s "a"
+S-- é
+TIMESTAMP	GENERATED	ALWAYS	AS ROW  start,
+SYS_E
+TIMESTAMP(0)
+WITHOUT
+TIME ZONE GENERATED
+always AS ROW
+END,
+Period-- é
+FOR-- é
+System_time
+ (S,
+SYS_E))
+with System--
+VERSIONING;
+START TRANSACTION;
+INSERT INTO LOG VALUES (DATE '2011-01-01', 'b');
+COMMIT WORK;
+CREATE TABLE EMP (E TIMESTAMP WITHOUT TIME ZONE GENERATED ALWAYS AS ROW END, ROW VARCHAR(2), SYS_S TIMESTAMP GENERATED ALWAYS AS ROW START, PERIOD FOR SYSTEM_TIME (SYS_S, E), "q""q" VARCHAR(1)) WITH SYSTEM VERSIONING;
+Select *-- é
+FROM EMP;
+delete
+FROM--
+LOG WHERE-- é
+("a" <>	DATE-- é
+'2011-01-05');
+INSERT INTO T VALUES ('日本', 2);
+SELECT ACTION FROM NOSUCH WHERE ACTION = 'a' AND ACTION = 1 AND 1 = 1;
+INSERT
+Into
+EMP-- é
+VALUES-- é
+('it',	'"'), ('𝄞', 'a'),  (('A'), -- it;s "a"
+'''') ,  ('A', 'A'), ('b',
+'日'),  ( 'b', null);
+Insert--
+INTO-- é
+LOG--
+VALUES
+(DATE--
+'2011-01-01',-- é
+'A');
+SELECT "a", WITHOUT FROM LOG FOR SYSTEM_TIME BETWEEN TIMESTAMP '2011-01-01 00:00:00.000004' AND TIMESTAMP '2011-01-01 05:00:00' AS "z";
+INSERT INTO T ("a") VALUES (2);
+UPDATE EMP SET "q""q" = "q""q" WHERE EMP.E >= SYS_S OR 'zz' <= 'b' AND 'b' < 'a' AND NOT SYS_S >= TIMESTAMP '2011-01-01 08:00:00';
+INSERT INTO	EMP
+VALUES ('ab',  'i');
+INSERT INTO EMP (ROW, "q""q") VALUES ('A', 'b'), ('𝄞', 'z');
+AT
+Timestamp
+'2011-01-02 00:00:00.000008';
+SELECT * FROM LOG Q;
+SELECT WITHOUT FROM LOG WHERE WITHOUT = 'a' AND WITHOUT = TIMESTAMP '2011-01-01 01:00:00' AND 1 = 1;
+SELECT * FROM T AS R WHERE ("a") > "a" AND NOT (R.ACTION) BETWEEN ACTION AND ("a");
+SELECT * FROM LOG FOR SYSTEM_TIME AS OF TIMESTAMP '2011-01-01 00:00:00.000007';
+Insert Into EMP
+("q""q", -- it;s "a"
+row)
+values  ('b', 'b');
+INSERT INTO T ("a", ACTION) VALUES (-1, '; --'), (4294967296, 'b');
+INSERT INTO LOG (WITHOUT) VALUES ('ab'), ('ab'), ('A');
+ROLLBACK;
+UPDATE EMP SET "q""q" = EMP.ROW, ROW = "q""q";
+UPDATE EMP SET ROW = NULL;
+AT TIMESTAMP '2011-13-01 00:00:00';
+START -- it;s "a"
+Transaction;

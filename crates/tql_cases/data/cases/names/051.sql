@@ -1,0 +1,75 @@
+-- cases: pieces
+-- Made at random. The text comes from a rendering of the language that shares nothing with the engine.
+AT TIMESTAMP '2011-01-01 00:00:00';
+create--
+TABLE  LOG (PERIOD for	SYSTEM_TIME (S, -- it;s "a"
+sys_e),
+s-- é
+TIMESTAMP(6)  generated ALWAYS AS  ROW-- é
+START -- it;s "a"
+NOT	NULL, SYS_E-- é
+TIMESTAMP(12)  GENERATED -- it;s "a"
+ALWAYS -- it;s "a"
+AS-- é
+row  END,  b Int)-- é
+with--
+system  VERSIONING;
+CREATE TABLE "t" (START INT, K DATE NOT NULL);
+INSERT
+INTO	"t"-- é
+VALUES
+(2, Date
+'2011-01-01');
+INSERT INTO LOG VALUES (2);
+DELETE FROM
+nosuch WHERE	Q =
+1;
+SELECT * FROM LOG FOR SYSTEM_TIME FROM TIMESTAMP '2011-01-01 00:00:00.000001' TO TIMESTAMP '2011-01-01 08:00:00';
+SELECT * FROM "t" AS B WHERE K NOT IN (K, DATE '2011-1-1', (K)) OR (1) <> START AND DATE '2011-01-02' <> B.START AND B.K < B.K���;
+INSERT INTO LOG VALUES (2);
+INSERT INTO LOG VALUES (3);
+INSERT INTO--
+LOG VALUES	(3);
+INSERT INTO LOG (B) VALUES (3), (0 * 0), (-1);
+SELECT * FROM LOG FOR SYSTEM_TIME AS OF TIMESTAMP '0001-01-01 00:00:00.000001';
+SELECT * FROM "t" WHERE "t".START IS NOT NULL;
+Create--
+TABLE T	(OF timestamp(12)--
+without	TIME -- it;s "a"
+ZONE,  start-- é
+TIMESTAMP(0) ,-- é
+WORK INTEGER);
+INSERT INTO LOG VALUES (-1), (NULL);
+SELECT x FROM t WHERE ((((((((((((((((((((((((((((((((((((((((((((((((((((((((((((((((((x)))))))))))))))))))))))))))))))))))))))))))))))))))))))))))))))))) = 1;
+SELECT (R.START), 'A' FROM "t" AS R WHERE START NOT IN (1, START, 0);
+update "t"
+SET K
+=-- é
+Date
+'9999-12-30';
+INSERT Into  LOG  Values (1);
+UPDATE "t" SET NOCOL = 1 WHERE START = 1;
+AT TIMESTAMP '2011-01-02 00:00:00.000008';
+INSERT INTO-- é
+"t"	VALUES	(1, DATE -- it;s "a"
+'2011-01-08'), (3,
+DATE '2011-01-01');
+UPDATE T SET WORK = 9223372036854775807 * 2 WHERE nocol = 1 AND 9223372036854775807 + 1 > 0;
+DELETE FROM LOG WHERE B IS NOT NULL OR B IN (B);
+INSERT INTO T (WORK, START, WORK)VALUES  TIMESTAMP '2011-01-01 00:00:00.000008',(('a'), TIMESTAMP '2011-01-01 00:00:00.000006');
+INSERT INTO Log
+Values (-1 ),
+(3);
+SELECT B FROM LOG FOR SYSTEM_TIME AS OF TIMESTAMP '2011-01-01 00:00:00.000002' WHERE -(-1) >= B AND NOT B < -(B - 9223372036854775807 - 1);
+UPDATE-- é
+LOG
+SET-- é
+B
+=-- é
+NULL-- é
+WHERE
+B	+	9223372036854775807 >  0 and LOG.B
+=
+2;
+INSERT INTO LOG (B) VALUES (-1);
+SELECT * FROM LOG Q;
