@@ -6,9 +6,13 @@ use Rattle.tql_spec.specs.Syntax.{PortionTree, SetTree, Statement, InsertSelect,
 use Rattle.tql_grammar.specs.Outcome.{Parser, ◌>>=◌, into, keyword, if_front, more, next}
 use Rattle.tql_grammar.specs.ReadingStatements.{assignment_at, where_at, values_at, select_at}
 
+-- UPDATE, behind its assignments
+unfoldable pub update_end : Name → Option PortionTree → SetTree → List SetTree → Parser Statement
+update_end n p first others ts = into (UpdateTree n p first others) (where_at ts)
+
 -- UPDATE, behind its first assignment
-unfoldable pub update_end : Name → Option PortionTree → SetTree → Parser Statement
-update_end n p first ts = more (next assignment_at) [] ts >>= λ others a. into (UpdateTree n p first others) (where_at a)
+unfoldable pub sets_end : Name → Option PortionTree → SetTree → Parser Statement
+sets_end n p first ts = more (next assignment_at) [] ts >>= λ others a. update_end n p first others a
 
 -- DELETE, behind its table and its portion
 unfoldable pub delete_end : Name → Option PortionTree → Parser Statement

@@ -7,7 +7,7 @@ ghost use Rattle.tql_change.specs.ChangeEnds as ends;
 ghost use Rattle.tql_spec.specs.Definition as definition;
 ghost use Rattle.tql_spec.specs.Syntax as tree;
 ghost use Rattle.tql_tree.specs.Expressions.{name_of};
-ghost use Rattle.tql_tree.specs.Statements.{names_of, cell_of, tuple_of, insert_by, assignment_of, point_of, portion_of, statement_of};
+ghost use Rattle.tql_tree.specs.Statements.{names_of, cell_of, tuple_of, insert_by, assignment_of, assignments_of, point_of, portion_of, statement_of};
 
 use tql_condition::periods::period_name;
 use tql_lex::token::Symbol;
@@ -131,7 +131,7 @@ impl<'a> Rule<'a, Memory> for AssignmentRule {
     }
 }
 
-/// What stands behind the first assignment of UPDATE.
+/// What stands behind the assignments of UPDATE.
 #[tactic(auto, unfolding(crate::specs::ChangeEnds::update_end))]
 fn update_end<'a>(
     memory: Memory,
@@ -139,10 +139,10 @@ fn update_end<'a>(
     table: Name<'a>,
     portion: Option<Portion<'a>>,
     first: Assignment<'a>,
+    more: Vec<Assignment<'a>, Memory>,
 ) -> Result<Statement<'a>, ParseError>
-    ensures { Reads statement_of (ends.update_end (name_of table.entry) (option_map portion_of portion.entry) (assignment_of first.entry) tokens.old) result tokens.new }
+    ensures { Reads statement_of (ends.update_end (name_of table.entry) (option_map portion_of portion.entry) (assignment_of first.entry) (assignments_of more.entry) tokens.old) result tokens.new }
 {
-    let more = behind_commas(memory, tokens, &AssignmentRule)?;
     let filter = where_clause(memory, tokens)?;
     let update = Update {
         table,
@@ -155,8 +155,23 @@ fn update_end<'a>(
     Ok(Statement::Update(update))
 }
 
+/// What stands behind the first assignment of UPDATE.
+#[tactic(auto, unfolding(crate::specs::ChangeEnds::sets_end))]
+fn sets_end<'a>(
+    memory: Memory,
+    tokens: &mut Cursor<'_, 'a>,
+    table: Name<'a>,
+    portion: Option<Portion<'a>>,
+    first: Assignment<'a>,
+) -> Result<Statement<'a>, ParseError>
+    ensures { Reads statement_of (ends.sets_end (name_of table.entry) (option_map portion_of portion.entry) (assignment_of first.entry) tokens.old) result tokens.new }
+{
+    let more = behind_commas(memory, tokens, &AssignmentRule)?;
+    update_end(memory, tokens, table, portion, first, more)
+}
+
 /// What stands behind UPDATE.
-#[tactic(auto, unfolding(tql_grammar::specs::ReadingStatements::update_at, crate::specs::ChangeEnds::update_end))]
+#[tactic(auto, unfolding(tql_grammar::specs::ReadingStatements::update_at, crate::specs::ChangeEnds::sets_end, crate::specs::ChangeEnds::update_end))]
 pub fn update<'a>(memory: Memory, tokens: &mut Cursor<'_, 'a>) -> Result<Statement<'a>, ParseError>
     ensures { Reads statement_of (reading.update_at tokens.old) result tokens.new }
 {
@@ -164,7 +179,7 @@ pub fn update<'a>(memory: Memory, tokens: &mut Cursor<'_, 'a>) -> Result<Stateme
     let portion = portion(tokens)?;
     tokens.expect_word("SET")?;
     let first = AssignmentRule.read(memory, tokens)?;
-    update_end(memory, tokens, table, portion, first)
+    sets_end(memory, tokens, table, portion, first)
 }
 
 /// What stands behind the table and the portion of DELETE.

@@ -3,6 +3,7 @@ ghost use Rattle.std.specs.Prelude.{⊤};
 ghost use Rattle.tql_spec.specs.Machine.{State};
 ghost use Rattle.tql_spec.specs.Run.{Checks, finished};
 ghost use Rattle.tql_result.specs.Replies.{answer_of, IsPrintableAnswer};
+ghost use Rattle.tql_run.specs.Hearing.{hearing_change};
 ghost use Rattle.tql_run.specs.Runs.{Runs, source_change, sink_change};
 ghost use Rattle.tql_run.proofs.Faults.{checks_refuse};
 
@@ -11,6 +12,7 @@ use tql_result::answer::Answer;
 use tql_result::reply::Reply;
 use tql_result::sink::Sink;
 use tql_run::device::Source;
+use tql_run::listener::Listener;
 use tql_run::responder::Responder;
 use tql_run::run::{Fault, Summary, run};
 use tql_syntax::text::read_text;
@@ -57,16 +59,18 @@ impl Responder for Checker {
 
 /// Checks a script without running it: reads it from the source to its end, checks its statements one after another,
 /// writes each answer to the sink, and flushes it. A device that fails ends the check as it ends a run, and a refused
-/// statement ends nothing. The summary counts the answers, and the refusals among them.
-pub fn check_script<I: Source, O: Sink>(
+/// statement ends nothing; the listener is told of it. The summary counts the answers, and the refusals among them.
+pub fn check_script<I: Source, O: Sink, L: Listener>(
     memory: Memory,
     source: &mut I,
     sink: &mut O,
+    listener: &mut L,
 ) -> Result<Summary, Fault>
     ensures { (s : State) → Runs Checks s (λ _. ⊤)
         (source_change I.left I.failures I.ended source.old source.new)
-        (sink_change O.written O.failures O.flushed sink.old sink.new) result }
+        (sink_change O.written O.failures O.flushed sink.old sink.new)
+        (hearing_change L.heard listener.old listener.new) result }
 {
     let mut checker = Checker { memory };
-    run(&mut checker, source, sink)
+    run(&mut checker, source, sink, listener)
 }

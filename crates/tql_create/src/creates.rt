@@ -7,7 +7,7 @@ ghost use Rattle.tql_phrase.specs.Parsing.{Reads, nothing, itself};
 ghost use Rattle.tql_spec.specs.Definition as definition;
 ghost use Rattle.tql_spec.specs.Syntax as tree;
 ghost use Rattle.tql_tree.specs.Expressions.{digits_of, name_of};
-ghost use Rattle.tql_tree.specs.Statements.{type_of, generated_of, reflist_of, constraint_of, boxed_constraint_of, element_of, statement_of};
+ghost use Rattle.tql_tree.specs.Statements.{type_of, generated_of, reflist_of, constraint_of, boxed_constraint_of, element_of, elements_of, statement_of};
 
 use tql_condition::conditions::condition_here;
 use tql_condition::periods::period_name;
@@ -437,18 +437,17 @@ fn versioning(tokens: &mut Cursor<'_, '_>) -> Result<bool, ParseError>
     Ok(false)
 }
 
-/// What stands behind the first element of CREATE.
+/// What stands behind the elements of CREATE.
 #[tactic(auto, unfolding(crate::specs::CreateEnds::create_end))]
 fn create_end<'a>(
     memory: Memory,
     tokens: &mut Cursor<'_, 'a>,
     table: Name<'a>,
     first: Element<'a>,
+    more: Vec<Element<'a>, Memory>,
 ) -> Result<Statement<'a>, ParseError>
-    ensures { Reads statement_of (ends.create_end (name_of table.entry) (element_of first.entry) tokens.old) result tokens.new }
+    ensures { Reads statement_of (ends.create_end (name_of table.entry) (element_of first.entry) (elements_of more.entry) tokens.old) result tokens.new }
 {
-    let more = behind_commas(memory, tokens, &ElementRule)?;
-    tokens.expect_symbol(Symbol::Close)?;
     let is_versioned = versioning(tokens)?;
     let create = CreateTree {
         table,
@@ -460,8 +459,23 @@ fn create_end<'a>(
     Ok(Statement::Create(create))
 }
 
+/// What stands behind the first element of CREATE.
+#[tactic(auto, unfolding(crate::specs::CreateEnds::elements_end))]
+fn elements_end<'a>(
+    memory: Memory,
+    tokens: &mut Cursor<'_, 'a>,
+    table: Name<'a>,
+    first: Element<'a>,
+) -> Result<Statement<'a>, ParseError>
+    ensures { Reads statement_of (ends.elements_end (name_of table.entry) (element_of first.entry) tokens.old) result tokens.new }
+{
+    let more = behind_commas(memory, tokens, &ElementRule)?;
+    tokens.expect_symbol(Symbol::Close)?;
+    create_end(memory, tokens, table, first, more)
+}
+
 /// What stands behind CREATE.
-#[tactic(auto, unfolding(tql_grammar::specs::ReadingStatements::create_at, crate::specs::CreateEnds::create_end))]
+#[tactic(auto, unfolding(tql_grammar::specs::ReadingStatements::create_at, crate::specs::CreateEnds::elements_end, crate::specs::CreateEnds::create_end))]
 pub fn create<'a>(memory: Memory, tokens: &mut Cursor<'_, 'a>) -> Result<Statement<'a>, ParseError>
     ensures { Reads statement_of (reading.create_at tokens.old) result tokens.new }
 {
@@ -469,7 +483,7 @@ pub fn create<'a>(memory: Memory, tokens: &mut Cursor<'_, 'a>) -> Result<Stateme
     let table = tokens.name()?;
     tokens.expect_symbol(Symbol::Open)?;
     let first = ElementRule.read(memory, tokens)?;
-    create_end(memory, tokens, table, first)
+    elements_end(memory, tokens, table, first)
 }
 
 /// What stands behind DROP.

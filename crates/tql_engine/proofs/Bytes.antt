@@ -7,6 +7,7 @@ use Rattle.tql_spec.specs.Script.{Piece, statements}
 use Rattle.tql_spec.specs.Text.{reply_text, replies_text, answers_text}
 use Rattle.tql_spec.specs.Run.{Run, RunBy, Replies}
 use Rattle.tql_result.specs.Devices.{Appends, HasFailed}
+use Rattle.tql_run.specs.Hearing.{HearingChange}
 use Rattle.tql_run.specs.Responding.{Standing}
 use Rattle.tql_run.specs.Runs.{Runs, RunsWhole, StopsReading, NothingRun, SourceChange, SinkChange, Gives, MeetsEnd, MissesEnd, Counts, CutsLast, answered, most_pulls}
 use Rattle.tql_run.specs.Runs as run
@@ -78,9 +79,9 @@ grown old new text sink before now a = some_inj new (old ++ text) (sym now ∙ a
 
 -- ---- by the result
 
-module _ (s : State) (after : Standing) (script old new : List ℕ) (source : SourceChange) (sink : SinkChange)
+module _ (s : State) (after : Standing) (script old new : List ℕ) (source : SourceChange) (sink : SinkChange) (hearing : HearingChange)
     (m : InMemory script source) (before : sink.held_old ≡ Some old) (now : sink.held_new ≡ Some new) where
-  whole : (summary : Summary) → RunsWhole Replies s after source sink summary → WritesWhole s after script old new summary
+  whole : (summary : Summary) → RunsWhole Replies s after source sink hearing summary → WritesWhole s after script old new summary
   whole summary r =
       let is = whole_read script r.script source m r.given r.ended in
       let p = replying s (statements r.script) r.answers r.state r.ran in
@@ -93,7 +94,7 @@ module _ (s : State) (after : Standing) (script old new : List ℕ) (source : So
         counts = subst (λ (x : List Answer). Counts summary x) p.all r.counts;
       }
 
-  stopped_at : (r : run.StopsWriting Replies s after source sink) (b : Bool) → source.ended ≡ b → StopsWriting s after script old new
+  stopped_at : (r : run.StopsWriting Replies s after source sink hearing) (b : Bool) → source.ended ≡ b → StopsWriting s after script old new
   stopped_at r true e =
       let meets = subst (λ (b : Bool). MatchBool b (MeetsEnd source) (MissesEnd source r.script)) e r.read in
       let is = whole_read script r.script source m r.given meets in
@@ -120,7 +121,7 @@ module _ (s : State) (after : Standing) (script old new : List ℕ) (source : So
       absurd (ended script r.script source m r.given misses)
 
   -- what a run over memory leaves
-  pub runs_bytes : (result : Result Summary Fault) → Runs Replies s after source sink result → RunsBytes s after script old new result
+  pub runs_bytes : (result : Result Summary Fault) → Runs Replies s after source sink hearing result → RunsBytes s after script old new result
   runs_bytes (Ok summary) r = whole summary r
   runs_bytes (Err Write) r = stopped_at r source.ended refl
   runs_bytes (Err Memory) r = (r.stands, grown old new [] sink before now r.written ∙ append-nil old)

@@ -14,19 +14,31 @@ use Rattle.tql_main.specs.declared.options.CommandLine.{CommandLine}
 abbrev pub check_rule : Rule
 check_rule = record (new_rule (codes "check")) { long = Some (codes "check"); action = Some SetTrue }
 
+-- `--quiet`, or `-q`
+abbrev pub quiet_rule : Rule
+quiet_rule = record (new_rule (codes "quiet")) { long = Some (codes "quiet"); short = Some 113; action = Some SetTrue }
+
+-- the word SCRIPT
+abbrev pub script_rule : Rule
+script_rule = new_rule (codes "SCRIPT")
+
 -- a command that has a version to show
 abbrev pub with_version : App → App
 with_version = on_top (λ s. record s { has_version = true })
 
--- `tql [--check] [SCRIPT]`, with `--version` and, as every command, `--help`
+-- `tql [--check] [--quiet] [SCRIPT]`, with `--version` and, as every command, `--help`
 abbrev pub tql_line : App
-tql_line = with_rule (with_rule (with_version (new_app (codes "tql"))) check_rule) (new_rule (codes "SCRIPT"))
+tql_line = with_rule (with_rule (with_rule (with_version (new_app (codes "tql"))) check_rule) quiet_rule) script_rule
 
 -- whether the script is to be checked, as a text
 abbrev pub check_in : List Text → Option Text
 check_in words = one_of (codes "check") (matches_of tql_line words)
 
--- the word SCRIPT
+-- whether nothing is to be told of refused statements, as a text
+abbrev pub quiet_in : List Text → Option Text
+quiet_in words = one_of (codes "quiet") (matches_of tql_line words)
+
+-- what the word SCRIPT is
 abbrev pub word_in : List Text → Option Text
 word_in words = first_of (codes "SCRIPT") (matches_of tql_line words)
 
@@ -53,9 +65,10 @@ abbrev pub is_plain_word : Text → Bool
 is_plain_word [] = true
 is_plain_word (x ∷ rest) = not (x == 45)
 
--- the line is taken, asks for a check or not, and names this script, unless memory runs out
-abbrev pub TakesScript : Bool → Option Text → Result CommandLine Error → Type 0
-TakesScript check script r = MatchResult r (λ line. (line.check ≡ check) × (option_map (λ s. s.now) line.script ≡ script))
+-- the line is taken, asks for a check or not and for quiet or not, and names this script, unless memory runs out
+abbrev pub TakesScript : Bool → Bool → Option Text → Result CommandLine Error → Type 0
+TakesScript check quiet script r = MatchResult r
+    (λ line. (line.check ≡ check) × (line.quiet ≡ quiet) × (option_map (λ s. s.now) line.script ≡ script))
     (λ e. kind_of e ≡ kind.OutOfMemory)
 
 -- the line is refused for this reason, unless memory runs out
@@ -65,19 +78,29 @@ RefusesLine k r = IsErrAnd r (λ e. (kind_of e ≡ kind.OutOfMemory) ⊎ (kind_o
 -- what lines of the plain forms give; the first word is the program's name
 pub record ReadsLine (words : List Text) (r : Result CommandLine Error) : Type 0 where
   -- no script, so the standard input
-  pub alone : (name : Text) → words ≡ name ∷ [] → TakesScript false None r
+  pub alone : (name : Text) → words ≡ name ∷ [] → TakesScript false false None r
   -- a script
   pub named : (name script : Text) → words ≡ name ∷ script ∷ [] → is_plain_word script ≡ true
-      → TakesScript false (Some script) r
+      → TakesScript false false (Some script) r
   -- a check of the standard input
-  pub checked : (name : Text) → words ≡ name ∷ codes "--check" ∷ [] → TakesScript true None r
+  pub checked : (name : Text) → words ≡ name ∷ codes "--check" ∷ [] → TakesScript true false None r
   -- a check of a script
   pub checked_named : (name script : Text) → words ≡ name ∷ codes "--check" ∷ script ∷ [] → is_plain_word script ≡ true
-      → TakesScript true (Some script) r
+      → TakesScript true false (Some script) r
   -- `-`, so the standard input
-  pub dash : (name : Text) → words ≡ name ∷ codes "-" ∷ [] → TakesScript false None r
+  pub dash : (name : Text) → words ≡ name ∷ codes "-" ∷ [] → TakesScript false false None r
   -- a check of it
-  pub checked_dash : (name : Text) → words ≡ name ∷ codes "--check" ∷ codes "-" ∷ [] → TakesScript true None r
+  pub checked_dash : (name : Text) → words ≡ name ∷ codes "--check" ∷ codes "-" ∷ [] → TakesScript true false None r
+  -- a run that tells nothing of refused statements
+  pub quiet : (name : Text) → words ≡ name ∷ codes "--quiet" ∷ [] → TakesScript false true None r
+  pub short_quiet : (name : Text) → words ≡ name ∷ codes "-q" ∷ [] → TakesScript false true None r
+  -- such a run of a script
+  pub quiet_named : (name script : Text) → words ≡ name ∷ codes "--quiet" ∷ script ∷ [] → is_plain_word script ≡ true
+      → TakesScript false true (Some script) r
+  pub short_quiet_named : (name script : Text) → words ≡ name ∷ codes "-q" ∷ script ∷ [] → is_plain_word script ≡ true
+      → TakesScript false true (Some script) r
+  -- such a check
+  pub quiet_check : (name : Text) → words ≡ name ∷ codes "--check" ∷ codes "--quiet" ∷ [] → TakesScript true true None r
   -- a word too many
   pub several : (name script more : Text) → words ≡ name ∷ script ∷ more ∷ [] → is_plain_word script ≡ true → is_plain_word more ≡ true
       → RefusesLine kind.UnknownArgument r

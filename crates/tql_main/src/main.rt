@@ -1,19 +1,22 @@
 //! The program: `tql [SCRIPT]` runs the script in the file SCRIPT, or on the standard input without it or where it is
 //! `-`, and writes the replies to the standard output. `tql --check [SCRIPT]` only checks each statement by the grammar,
-//! and replies with `OK` or a refusal.
+//! and replies with `OK` or a refusal. For each refused statement a line on the standard error says where it stands, but
+//! not with `--quiet`.
 //!
 //! It exits with 0 where no statement was refused, and after help or the version; with 1 where some statement was
 //! refused; with 2 where the command line is wrong; and with 3 where opening, reading or writing failed, or memory ran
 //! out before the first statement.
 #![tactic(auto)]
 
+mod complaints;
 mod options;
 mod status;
 
+use crate::complaints::Complaints;
 use crate::options::CommandLine;
 use crate::status::{exit_status, line_status};
 use clap::Error;
-use std::io::{self, BufWriter, ErrorKind, Read};
+use std::io::{self, BufWriter, ErrorKind, IsTerminal, Read};
 use std::process::ExitCode;
 use std::{env, fs};
 use tql_check::check::check_script;
@@ -38,7 +41,8 @@ fn complain(rt: &impl Eprint, script: &str, fault: Fault) {
 
 /// Runs a script on a new engine, and prints the replies.
 fn run_script<R: Read + Drop>(
-    rt: &(impl Print + AllocGlobal),
+    rt: &(impl Print + Eprint + AllocGlobal),
+    quiet: bool,
     reader: R,
 ) -> Result<Summary, Fault> {
     let memory = memory(rt.alloc(), u64::MAX).map_err(|_| Fault::Memory)?;
@@ -46,31 +50,32 @@ fn run_script<R: Read + Drop>(
     let mut engine = Engine::new(memory);
     let mut source = StdSource::new(reader);
     let mut sink = StdSink::new(writer);
-    run(&mut engine, &mut source, &mut sink)
+    run(&mut engine, &mut source, &mut sink, &mut Complaints::new(rt, quiet))
 }
 
 /// Checks a script, and prints what each of its statements is answered.
 fn check_only<R: Read + Drop>(
-    rt: &(impl Print + AllocGlobal),
+    rt: &(impl Print + Eprint + AllocGlobal),
+    quiet: bool,
     reader: R,
 ) -> Result<Summary, Fault> {
     let memory = memory(rt.alloc(), u64::MAX).map_err(|_| Fault::Memory)?;
     let writer = BufWriter::new(rt.alloc(), io::writer(rt)).map_err(|_| Fault::Memory)?;
     let mut source = StdSource::new(reader);
     let mut sink = StdSink::new(writer);
-    check_script(memory, &mut source, &mut sink)
+    check_script(memory, &mut source, &mut sink, &mut Complaints::new(rt, quiet))
 }
 
-/// Runs a script, or checks it.
+/// Runs a script, or checks it, as the options say.
 fn answer_script<R: Read + Drop>(
-    rt: &(impl Print + AllocGlobal),
-    check: bool,
+    rt: &(impl Print + Eprint + AllocGlobal),
+    options: &CommandLine<'_>,
     reader: R,
 ) -> Result<Summary, Fault> {
-    if check {
-        check_only(rt, reader)
+    if options.check {
+        check_only(rt, options.quiet, reader)
     } else {
-        run_script(rt, reader)
+        run_script(rt, options.quiet, reader)
     }
 }
 
@@ -98,18 +103,30 @@ fn end_opening(rt: &impl Eprint, path: &str, error: &io::Error) -> u8 {
     }
 }
 
+/// Tells whoever sits at a terminal that a script is awaited, and what ends it.
+fn invite(rt: &impl Eprint, input: &impl IsTerminal) {
+    if input.is_terminal() {
+        let _ = eprintln!(rt;
+            "tql: reading a script from the terminal: a semicolon ends a statement, Ctrl-D the script"
+        );
+    }
+}
+
+/// Runs or checks the script on the standard input, and answers the exit status.
+fn run_input(rt: &HostRuntime, options: &CommandLine<'_>) -> u8 {
+    let input = rt.reader();
+    invite(rt, &input);
+    end_run(rt, STANDARD_INPUT, &answer_script(rt, options, input))
+}
+
 /// Runs or checks the script that the options name, and answers the exit status.
 fn run_options(rt: &HostRuntime, options: &CommandLine<'_>) -> u8 {
     match options.script {
         Some(path) => match fs::open(rt, path) {
-            Ok(file) => end_run(rt, path, &answer_script(rt, options.check, file)),
+            Ok(file) => end_run(rt, path, &answer_script(rt, options, file)),
             Err(error) => end_opening(rt, path, &error),
         },
-        None => end_run(
-            rt,
-            STANDARD_INPUT,
-            &answer_script(rt, options.check, rt.reader()),
-        ),
+        None => run_input(rt, options),
     }
 }
 

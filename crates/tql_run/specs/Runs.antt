@@ -7,7 +7,9 @@ use Rattle.tql_spec.specs.Answer.{Answer, Replied, Accepted}
 use Rattle.tql_spec.specs.Script.{Piece, statements}
 use Rattle.tql_spec.specs.Text.{answer_text, answers_text}
 use Rattle.tql_spec.specs.Run.{Answering, RunBy}
+use Rattle.tql_spec.specs.Lines.{placed_statements}
 use Rattle.tql_result.specs.Devices.{Appends, HasFailed}
+use Rattle.tql_run.specs.Hearing.{Hears, HearingChange, notes_of}
 use Rattle.tql_run.specs.Responding.{Standing}
 use Rattle.tql_run.specs.declared.run.Summary.{Summary}
 use Rattle.tql_run.specs.declared.run.Fault.{Fault}
@@ -116,9 +118,12 @@ answered false script = filter (λ (p : Piece). p.finished) (statements script)
 
 -- ---- what a run did
 
+-- In each case the listener is told of the statements that are refused among those answered, of no others, and of each by its
+-- number and its line.
+
 -- the whole script was read and each of its statements answered, no device failed, and the sink is flushed
 pub record RunsWhole (A : Answering) (s : State) (after : Standing) (source : SourceChange) (sink : SinkChange)
-    (summary : Summary) : Type 0 where
+    (hearing : HearingChange) (summary : Summary) : Type 0 where
   pub script : List ℕ
   pub given : Gives source.left_old script source.left_new
   pub ended : MeetsEnd source
@@ -126,6 +131,7 @@ pub record RunsWhole (A : Answering) (s : State) (after : Standing) (source : So
   pub state : State
   pub ran : RunBy A s (answered true script) answers state
   pub stands : after state
+  pub heard : Hears hearing.heard_old (notes_of (placed_statements script) answers) hearing.heard_new
   pub written : Appends sink.held_old (answers_text answers) sink.held_new
   pub counts : Counts summary answers
   pub writes : sink.failures_new ≡ sink.failures_old
@@ -134,7 +140,7 @@ pub record RunsWhole (A : Answering) (s : State) (after : Standing) (source : So
 -- the end of the input was not met: the statements that are whole in what was read are answered, and the sink is
 -- flushed
 pub record StopsReading (A : Answering) (s : State) (after : Standing) (source : SourceChange) (sink : SinkChange)
-    : Type 0 where
+    (hearing : HearingChange) : Type 0 where
   pub script : List ℕ
   pub given : Gives source.left_old script source.left_new
   pub cut : MissesEnd source script
@@ -142,6 +148,7 @@ pub record StopsReading (A : Answering) (s : State) (after : Standing) (source :
   pub state : State
   pub ran : RunBy A s (answered false script) answers state
   pub stands : after state
+  pub heard : Hears hearing.heard_old (notes_of (placed_statements script) answers) hearing.heard_new
   pub written : Appends sink.held_old (answers_text answers) sink.held_new
   pub writes : sink.failures_new ≡ sink.failures_old
   pub flushed : IsTrue sink.flushed
@@ -159,7 +166,7 @@ pub record CutsLast (answers : List Answer) (text : List ℕ) : Type 0 where
 -- the sink failed, at an answer: the statement of that answer is the last that ran; or at the flush: all of them ran.
 -- The statements are those of the whole script where its end was met, and else those that are whole in what was read
 pub record StopsWriting (A : Answering) (s : State) (after : Standing) (source : SourceChange) (sink : SinkChange)
-    : Type 0 where
+    (hearing : HearingChange) : Type 0 where
   pub script : List ℕ
   pub given : Gives source.left_old script source.left_new
   pub read : MatchBool source.ended (MeetsEnd source) (MissesEnd source script)
@@ -170,21 +177,24 @@ pub record StopsWriting (A : Answering) (s : State) (after : Standing) (source :
   pub state : State
   pub ran : RunBy A s done answers state
   pub stands : after state
+  pub heard : Hears hearing.heard_old (notes_of (placed_statements script) answers) hearing.heard_new
   pub text : List ℕ
   pub reached : CutsLast answers text ⊎ ((rest ≡ []) × (text ≡ answers_text answers))
   pub written : Appends sink.held_old text sink.held_new
   pub cause : HasFailed sink.failures_old sink.failures_new
 
 -- no memory for what a run takes at its start: nothing ran and nothing was written
-pub record NothingRun (A : Answering) (s : State) (after : Standing) (sink : SinkChange) : Type 0 where
+pub record NothingRun (A : Answering) (s : State) (after : Standing) (sink : SinkChange) (hearing : HearingChange)
+    : Type 0 where
   pub stands : after s
+  pub heard : Hears hearing.heard_old [] hearing.heard_new
   pub written : Appends sink.held_old [] sink.held_new
   pub writes : sink.failures_new ≡ sink.failures_old
 
 -- how a run went by its result: the manner of its answers, the state that the responder stood for, and what it
 -- stands for after it
-abbrev pub Runs : Answering → State → Standing → SourceChange → SinkChange → Result Summary Fault → Type 0
-Runs A s after source sink (Ok summary) = RunsWhole A s after source sink summary
-Runs A s after source sink (Err Read) = StopsReading A s after source sink
-Runs A s after source sink (Err Write) = StopsWriting A s after source sink
-Runs A s after source sink (Err Memory) = NothingRun A s after sink
+abbrev pub Runs : Answering → State → Standing → SourceChange → SinkChange → HearingChange → Result Summary Fault → Type 0
+Runs A s after source sink hearing (Ok summary) = RunsWhole A s after source sink hearing summary
+Runs A s after source sink hearing (Err Read) = StopsReading A s after source sink hearing
+Runs A s after source sink hearing (Err Write) = StopsWriting A s after source sink hearing
+Runs A s after source sink hearing (Err Memory) = NothingRun A s after sink hearing

@@ -2,9 +2,13 @@
 #![tactic(auto)]
 
 pub mod device;
+pub mod listener;
+pub mod note;
+pub mod notes;
 mod piece;
 pub mod responder;
 pub mod run;
 mod script;
+pub mod silence;
 pub mod slice_source;
 pub mod std_source;

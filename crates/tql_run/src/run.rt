@@ -1,11 +1,13 @@
 //! A whole run of a script.
-ghost use Rattle.std.specs.Prelude.{◌≡◌, ◌≤◌, ◌<◌, length, IsTrue, OnOk};
+ghost use Rattle.std.specs.Prelude.{◌≡◌, ◌≤◌, ◌<◌, List, length, IsTrue, OnOk};
 ghost use Rattle.tql_spec.specs.Machine.{State};
 ghost use Rattle.tql_result.specs.Replies.{answer_of};
 ghost use Rattle.tql_run.specs.Runs.{Runs, source_change, sink_change, count_of, most_bytes};
+ghost use Rattle.tql_run.specs.Hearing.{Hears, note_of, hearing_change};
 ghost use Rattle.tql_run.specs.Writing.{AnswersNext, WritesAnswers};
 
 use crate::device::Source;
+use crate::listener::Listener;
 use crate::piece::answer_piece;
 use crate::responder::Responder;
 use crate::script::{End, read_script};
@@ -63,23 +65,37 @@ fn answer_next<R: Responder>(responder: &mut R, splitter: &mut Splitter) -> Opti
     }
 }
 
-/// Answers the statements that are left, and writes their answers.
-fn write_answers<R: Responder, O: Sink>(
+/// Tells the listener of the answer to a statement, where it is a refusal.
+fn tell<L: Listener>(listener: &mut L, statement: u64, line: u64, answer: &Answer)
+    ensures { Hears (L.heard listener.old) (note_of statement line (answer_of answer.now)) (L.heard listener.new) }
+{
+    if let Answer::Replied(Reply::Refused(refusal)) = answer {
+        listener.refused(statement, line, *refusal);
+    }
+}
+
+/// Answers the statements that are left, writes their answers, and tells the listener of those that are refused.
+fn write_answers<R: Responder, O: Sink, L: Listener>(
     responder: &mut R,
     splitter: &mut Splitter,
     sink: &mut O,
+    listener: &mut L,
 ) -> Result<Summary, DeviceFault>
-    requires { length splitter.old.left ≤ most_bytes }
+    requires few { length splitter.old.left ≤ most_bytes }
+    requires unread { splitter.old.passed ≡ List.[] }
     ensures { (s : State) → R.stands responder.old s
         → WritesAnswers R.answering result s splitter.old (R.stands responder.new)
-        (O.written sink.old) (O.written sink.new) (O.failures sink.old) (O.failures sink.new) }
+        (O.written sink.old) (O.written sink.new) (O.failures sink.old) (O.failures sink.new)
+        (L.heard listener.old) (L.heard listener.new) }
 {
     let mut summary = Summary {
         statements: 0,
         refused: 0,
     };
     while let Some(answer) = answer_next(responder, splitter) {
-        match write_answer(sink, &answer) {
+        let written = write_answer(sink, &answer);
+        tell(listener, summary.statements + 1, splitter.line(), &answer);
+        match written {
             Ok(()) => summary = counted(summary, &answer),
             Err(fault) => return Err(fault),
         }
@@ -87,19 +103,22 @@ fn write_answers<R: Responder, O: Sink>(
     Ok(summary)
 }
 
-/// Answers the statements that are left, writes their answers, and passes on what the sink may have kept back.
-fn answer_all<R: Responder, O: Sink>(
+/// Answers the statements that are left as `write_answers` does, and passes on what the sink may have kept back.
+fn answer_all<R: Responder, O: Sink, L: Listener>(
     responder: &mut R,
     splitter: &mut Splitter,
     sink: &mut O,
+    listener: &mut L,
 ) -> Result<Summary, DeviceFault>
-    requires { length splitter.old.left ≤ most_bytes }
+    requires few { length splitter.old.left ≤ most_bytes }
+    requires unread { splitter.old.passed ≡ List.[] }
     ensures answers { (s : State) → R.stands responder.old s
         → WritesAnswers R.answering result s splitter.old (R.stands responder.new)
-        (O.written sink.old) (O.written sink.new) (O.failures sink.old) (O.failures sink.new) }
+        (O.written sink.old) (O.written sink.new) (O.failures sink.old) (O.failures sink.new)
+        (L.heard listener.old) (L.heard listener.new) }
     ensures flushed { OnOk result (IsTrue (O.flushed sink.new)) }
 {
-    match write_answers(responder, splitter, sink) {
+    match write_answers(responder, splitter, sink, listener) {
         Ok(summary) => match sink.flush() {
             Ok(()) => Ok(summary),
             Err(fault) => Err(fault),
@@ -111,15 +130,17 @@ fn answer_all<R: Responder, O: Sink>(
 /// Reads a script from the source to its end, then answers its statements one after another, writes each answer to the
 /// sink, and flushes it. Where the source fails, the statements that came whole before that are answered, and the run
 /// says `Read`; where the sink fails, no statement runs behind the one whose answer it did not take, and the run says
-/// `Write`. A refused statement does not stop the run.
-pub fn run<R: Responder, I: Source, O: Sink>(
+/// `Write`. A refused statement does not stop the run; the listener is told of it, behind the push of its answer.
+pub fn run<R: Responder, I: Source, O: Sink, L: Listener>(
     responder: &mut R,
     source: &mut I,
     sink: &mut O,
+    listener: &mut L,
 ) -> Result<Summary, Fault>
     ensures { (s : State) → R.stands responder.old s → Runs R.answering s (R.stands responder.new)
         (source_change I.left I.failures I.ended source.old source.new)
-        (sink_change O.written O.failures O.flushed sink.old sink.new) result }
+        (sink_change O.written O.failures O.flushed sink.old sink.new)
+        (hearing_change L.heard listener.old listener.new) result }
 {
     let mut splitter = Splitter::new(responder.memory());
     let end = match read_script(responder.memory(), source, &mut splitter) {
@@ -129,7 +150,7 @@ pub fn run<R: Responder, I: Source, O: Sink>(
     if end == End::Reached {
         splitter.finish();
     }
-    match answer_all(responder, &mut splitter, sink) {
+    match answer_all(responder, &mut splitter, sink, listener) {
         Err(_) => Err(Fault::Write),
         Ok(summary) => match end {
             End::Reached => Ok(summary),

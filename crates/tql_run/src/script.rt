@@ -34,6 +34,7 @@ fn feed_all<S: Source>(
     requires small { length buffer.old ≤ 65_536 }
     requires opened { IsFalse splitter.old.ended }
     requires empty { splitter.old.left ≡ List.[] }
+    requires unread { splitter.old.passed ≡ List.[] }
     ensures read { IfOk result
         (λ end. Reads end splitter.new (source_change S.left S.failures S.ended source.old source.new)) }
     ensures memory { IfErr result (λ e. e ≡ OutOfMemory) }
@@ -56,6 +57,7 @@ pub fn read_script<S: Source>(
 ) -> Result<End, Refusal>
     requires opened { IsFalse splitter.old.ended }
     requires empty { splitter.old.left ≡ List.[] }
+    requires unread { splitter.old.passed ≡ List.[] }
     ensures read { IfOk result
         (λ end. Reads end splitter.new (source_change S.left S.failures S.ended source.old source.new)) }
     ensures memory { IfErr result (λ e. e ≡ OutOfMemory) }

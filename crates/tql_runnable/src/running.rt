@@ -1,12 +1,14 @@
 //! Which statements run so far, a part of the whole grammar.
 ghost use Rattle.std.specs.Prelude.{◌≡◌, map};
-ghost use Rattle.std.specs.List.{list_all};
-ghost use Rattle.tql_spec.specs.Binding as binding;
+ghost use Rattle.std.specs.List.{list_all, list_any};
+ghost use Rattle.tql_spec.specs.Aggregates.{in_items, in_sum};
 ghost use Rattle.tql_spec.specs.Running as running;
-ghost use Rattle.tql_tree.specs.Statements.{create_of, delete_of, element_of, insert_of, items_of, query_of, select_of, statement_of, update_of};
+ghost use Rattle.tql_tree.specs.Statements.{create_of, delete_of, element_of, insert_of, item_of, items_of, query_of, select_of, statement_of, update_of};
 
+use tql_filter::aggregates::is_in_filter;
+use tql_scope::aggregates::has_aggregate;
 use tql_tree::statement::{
-    CreateTree, Delete, Element, Insert, Items, Query, Rows, Select, Statement, Update,
+    CreateTree, Delete, Element, Insert, Item, Items, Query, Rows, Select, Statement, Update,
 };
 
 /// Whether an element of CREATE is a column or the system period.
@@ -27,28 +29,39 @@ fn are_plain_elements(elements: &[Element<'_>]) -> bool
     elements.iter().all(|element| is_plain_element(element))
 }
 
-/// Whether a select asks for all columns of one table, and for nothing more.
-fn is_whole_table(select: &Select<'_>) -> bool
-    ensures { result ≡ running.is_whole_table (select_of select.now) }
+/// Whether an aggregate stands in one of these items.
+fn is_in_any_item(items: &[Item<'_>]) -> bool
+    ensures { result ≡ list_any (λ item. in_sum item.value) (map item_of items.now) }
 {
-    !select.is_distinct
-        && is_star(&select.items)
-        && select.first.joins.is_empty()
-        && select.first.first.alias.is_none()
-        && select.more.is_empty()
-        && select.filter.is_none()
-        && select.grouping.is_empty()
-        && select.having.is_none()
+    for item in items {
+        if has_aggregate(&item.value) {
+            return true;
+        }
+    }
+    false
 }
 
-/// Whether a select list is `*`.
-fn is_star(items: &Items<'_>) -> bool
-    ensures { result ≡ binding.is_star (items_of items.now) }
+/// Whether an aggregate stands in a select list.
+fn is_in_items(items: &Items<'_>) -> bool
+    ensures { result ≡ in_items (items_of items.now) }
 {
     match items {
-        Items::All => true,
-        Items::These(_, _) => false,
+        Items::All => false,
+        Items::These(first, more) => has_aggregate(&first.value) || is_in_any_item(more),
     }
+}
+
+/// Whether a query is of one table reference, with nothing but items, a clause, an alias and WHERE, and no aggregate.
+fn is_plain_select(select: &Select<'_>) -> bool
+    ensures { result ≡ running.is_plain_select (select_of select.now) }
+{
+    !select.is_distinct
+        && select.first.joins.is_empty()
+        && select.more.is_empty()
+        && select.grouping.is_empty()
+        && select.having.is_none()
+        && !is_in_items(&select.items)
+        && !is_in_filter(&select.filter)
 }
 
 /// Whether CREATE runs.
@@ -86,7 +99,7 @@ fn does_delete_run(delete: &Delete<'_>) -> bool
 fn does_query_run(query: &Query<'_>) -> bool
     ensures { result ≡ running.does_run (query_of query.now) }
 {
-    query.ordering.is_empty() && is_whole_table(&query.select)
+    query.ordering.is_empty() && is_plain_select(&query.select)
 }
 
 /// Whether a statement runs.

@@ -5,7 +5,7 @@ use Rattle.tql_main.proofs.WordLemmas.{reads_error, reads_line}
 use Rattle.tql_main.proofs.options.options.Goals as goal
 
 pub returns-clause-reads : goal.returns-clause-reads
-returns-clause-reads c = reads_line _ _ c.in_ok-line.ensures.check
+returns-clause-reads c = reads_line _ _ c.in_ok-line.ensures.check c.in_ok-line.ensures.quiet
     (c.file_named.ensures ∙ ap file_of c.in_ok-line.ensures.word) c.in_ok-line.ensures.fails
 
 pub returns-in_err-line-clause-reads : goal.returns-in_err-line-clause-reads

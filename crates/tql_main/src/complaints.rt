@@ -1,0 +1,31 @@
+//! What a run tells the standard error of refused statements.
+ghost use Rattle.std.specs.Prelude.{None};
+
+use tql_run::listener::Listener;
+use tql_value::refusal::Refusal;
+
+/// Writes a line to the standard error for each refused statement, unless it is to be quiet. A line that cannot be
+/// written is lost.
+#[derive(Drop)]
+pub struct Complaints<'a, E: Eprint> {
+    rt: &'a E,
+    quiet: bool,
+}
+
+impl<'a, E: Eprint> Complaints<'a, E> {
+    /// Complaints over this standard error.
+    pub fn new(rt: &'a E, quiet: bool) -> Complaints<'a, E> {
+        Complaints { rt, quiet }
+    }
+}
+
+impl<E: Eprint> Listener for Complaints<'_, E> {
+    ghost heard = { λ _. None };
+
+    fn refused(&mut self, statement: u64, line: u64, refusal: Refusal) {
+        if !self.quiet {
+            let text = refusal.text();
+            let _ = eprintln!(self.rt; "tql: statement {statement}, line {line}: {text}");
+        }
+    }
+}

@@ -1,0 +1,16 @@
+//! What is told of the statements that a run refuses.
+ghost use Rattle.std.specs.Prelude.{Option, List, [], ◌∷◌};
+ghost use Rattle.tql_value.specs.Refusals.{refusal_of};
+ghost use Rattle.tql_run.specs.Hearing.{Heard, Hears, note};
+
+use tql_value::refusal::Refusal;
+
+/// What is told of the statements that a run refuses.
+pub trait Listener {
+    /// What it has heard; a listener that does not tell that claims nothing of it.
+    ghost heard: { Self → Option (List Heard) };
+
+    /// Is told that a statement was refused: its number and its line, both counted from 1, and why.
+    fn refused(&mut self, statement: u64, line: u64, refusal: Refusal)
+        ensures { Hears (heard self.old) (note statement line (refusal_of refusal) ∷ []) (heard self.new) };
+}

@@ -1,0 +1,15 @@
+//! A listener that keeps nothing.
+ghost use Rattle.std.specs.Prelude.{None};
+
+use crate::listener::Listener;
+use tql_value::refusal::Refusal;
+
+/// A listener that keeps nothing of what it is told.
+#[derive(Clone, Copy, Debug)]
+pub struct Silence;
+
+impl Listener for Silence {
+    ghost heard = { λ _. None };
+
+    fn refused(&mut self, _statement: u64, _line: u64, _refusal: Refusal) {}
+}

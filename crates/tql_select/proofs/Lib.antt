@@ -1,0 +1,3 @@
+pub mod ReferenceLaws
+pub mod SelectLaws
+pub mod ShownLaws

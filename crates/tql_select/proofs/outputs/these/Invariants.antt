@@ -1,0 +1,12 @@
+use Rattle.std.proofs.Common.{drop, map}
+use Rattle.tql_spec.specs.Syntax.{TheseItems}
+use Rattle.tql_tree.specs.Statements.{item_of}
+use Rattle.tql_scope.specs.Scopes.{scope_of}
+use Rattle.tql_select.specs.Shown.{shown}
+use Rattle.tql_select.proofs.ShownLaws.{ItemsLead}
+use Rattle.tql_select.proofs.outputs.these.Given as goal
+
+-- the items so far and those that are left
+abbrev pub invariant-loop-item : goal.invariant-loop-item
+invariant-loop-item l =
+    ItemsLead (scope_of l.scope) (shown (scope_of l.scope) (TheseItems (item_of l.first) (map item_of l.more))) l.fn.terms l.fn.faults l.terms l.outputs (map item_of (drop l.item-index l.more)) l.faults

@@ -1,0 +1,67 @@
+//! A table reference: which versions it asks for, and how it is known.
+ghost use Rattle.std.specs.Prelude.{◌≡◌, IfOk, is_none, string_bytes};
+ghost use Rattle.tql_spec.specs.Binding as binding;
+ghost use Rattle.tql_spec.specs.Names.{refuse_if};
+ghost use Rattle.tql_spec.specs.Refusal.{FormNotAllowedHere};
+ghost use Rattle.tql_bound.specs.Selections.{when_of};
+ghost use Rattle.tql_tree.specs.Statements.{ref_of, span_of};
+ghost use Rattle.tql_scope.specs.Gathered.{Gathers};
+
+use std::alloc::AllocError;
+use tql_bound::selection::When;
+use tql_catalog::table_def::TableDef;
+use tql_memory::Memory;
+use tql_scope::faults::Faults;
+use tql_scope::moments::moment;
+use tql_scope::texts::meant;
+use tql_tree::statement::{RefTree, Span};
+use tql_value::refusal::Refusal;
+
+/// A fault where the table is not system-versioned.
+fn refuse_unversioned(definition: &TableDef, faults: &mut Faults)
+    ensures { Gathers (refuse_if (is_none definition.now.system) FormNotAllowedHere) faults.old faults.new tt }
+{
+    faults.refuse_if(!definition.is_versioned(), Refusal::FormNotAllowedHere);
+}
+
+/// Which versions a FOR SYSTEM_TIME clause asks for (ISO/IEC 9075-2:2011, 7.6). Faults: the table is not system-versioned; a literal reads
+/// as no moment. The only error is a refused growth.
+pub fn when(
+    memory: Memory,
+    definition: &TableDef,
+    span: Span<'_>,
+    faults: &mut Faults,
+) -> Result<When, AllocError>
+    ensures { IfOk result (λ w. Gathers (binding.when definition.now (span_of span.entry)) faults.old faults.new (when_of w)) }
+{
+    match span {
+        Span::None => Ok(When::Now),
+        Span::AsOf(point) => {
+            refuse_unversioned(definition, faults);
+            let point = moment(memory, point, faults)?;
+            Ok(When::AsOf(point))
+        }
+        Span::FromTo(from, to) => {
+            refuse_unversioned(definition, faults);
+            let from = moment(memory, from, faults)?;
+            let to = moment(memory, to, faults)?;
+            Ok(When::FromTo(from, to))
+        }
+        Span::Between(from, to) => {
+            refuse_unversioned(definition, faults);
+            let from = moment(memory, from, faults)?;
+            let to = moment(memory, to, faults)?;
+            Ok(When::Between(from, to))
+        }
+    }
+}
+
+/// The name by which a reference is known: its alias, or its table's name. The only error is a refused growth.
+pub fn known_as(memory: Memory, reference: RefTree<'_>) -> Result<String<Memory>, AllocError>
+    ensures { IfOk result (λ name. string_bytes name ≡ binding.known_as (ref_of reference.entry) (ref_of reference.entry).alias) }
+{
+    match reference.alias {
+        Some(alias) => meant(memory, alias),
+        None => meant(memory, reference.table),
+    }
+}
