@@ -1,6 +1,4 @@
-pub mod Chains
 pub mod Gathered
-pub mod PartLaws
-pub mod Questions
+pub mod Placed
 pub mod Room
 pub mod RunningTrees

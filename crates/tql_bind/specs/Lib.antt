@@ -1,3 +1,1 @@
 pub mod Bounds
-pub mod Clauses
-pub mod Parts

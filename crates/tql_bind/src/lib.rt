@@ -3,9 +3,5 @@
 
 pub mod bind;
 pub mod bound;
-pub mod drop_table;
-pub mod insert;
-pub mod modify;
-pub mod moment;
-mod names;
-pub mod question;
+mod changes;
+mod drop_table;

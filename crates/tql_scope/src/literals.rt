@@ -17,10 +17,10 @@ ghost use Rattle.tql_scope.specs.Scopes.{scope_of, things_of};
 
 use crate::faults::Faults;
 use crate::names::things;
+use crate::number::signed;
 use crate::scope::{Known, Thing, Typed};
 use crate::texts::unquoted;
 use std::alloc::AllocError;
-use crate::number::signed;
 use tql_expr::terms::Terms;
 use tql_memory::Memory;
 use tql_tree::expression::Named;

@@ -1,5 +1,5 @@
 -- A query of one reference, from its parts.
-use Rattle.std.specs.Prelude.{◌≡◌, refl, ℕ, suc, Bool, true, false, not, ◌&&◌, ◌||◌, IsTrue, List, [], ◌∷◌, ◌++◌, map, length, Option, Some, None, is_none, Result, Ok, Err, IfOk}
+use Rattle.std.specs.Prelude.{◌≡◌, refl, ℕ, suc, Bool, true, false, not, ◌&&◌, ◌||◌, IsTrue, List, [], ◌∷◌, map, length, Option, Some, None, is_none, Result, Ok, Err, IfOk}
 use Rattle.std.specs.List.{list_any}
 use Rattle.std.specs.declared.alloc.AllocError.{AllocError}
 use Rattle.std.proofs.Common.{sym, ap, ◌∙◌, subst, append-nil}
@@ -20,7 +20,6 @@ use Rattle.tql_spec.specs.Words.{is_empty, listed}
 use Rattle.tql_scope.specs.Gathered.{Gathers}
 use Rattle.tql_scope.proofs.AggregateLaws.{sum_as_written}
 use Rattle.tql_scope.proofs.Gathering.{bound}
-use Rattle.tql_filter.proofs.Lists.{conds_kept}
 use Rattle.tql_select.specs.Asked.{asked, asked_of, query_by, source_by}
 use Rattle.tql_select.specs.Shown.{Shown, columns_from, shown}
 use Rattle.tql_select.proofs.ReferenceLaws.{sound_here}

@@ -1,5 +1,5 @@
 -- Output columns that are added one behind another, while the terms of their statement grow.
-use Rattle.std.proofs.Common.{◌≡◌, refl, sym, ap, ◌∙◌, subst, arith, ℕ, suc, ◌+◌, ◌<◌, ◌≤◌, List, [], ◌∷◌, ◌++◌, length, map, All, drop, get_or, append_assoc, append-nil, length-append, drop-cons, add-one, None}
+use Rattle.std.proofs.Common.{◌≡◌, refl, sym, ap, ◌∙◌, subst, arith, ℕ, suc, ◌+◌, ◌<◌, ◌≤◌, List, [], ◌∷◌, ◌++◌, length, map, All, drop, get_or, append_assoc, append-nil, None}
 use Rattle.std.specs.Prelude.{false, Option, string_bytes}
 use Rattle.std.proofs.lemmas.List.{at_drop_more, drop_all, length-map, map-append}
 use Rattle.std.proofs.lemmas.List.Elements.{All-nil, All-cons, All-head, All-tail, All-push}

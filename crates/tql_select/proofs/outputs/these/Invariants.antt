@@ -1,4 +1,4 @@
-use Rattle.std.proofs.Common.{◌∷◌, drop, map}
+use Rattle.std.proofs.Common.{drop, map}
 use Rattle.tql_spec.specs.Syntax.{TheseItems}
 use Rattle.tql_tree.specs.Statements.{item_of}
 use Rattle.tql_scope.specs.Scopes.{scope_of}

@@ -1,4 +1,4 @@
-use Rattle.std.proofs.Common.{[], ◌∷◌, List, map, string_bytes, sym, subst}
+use Rattle.std.proofs.Common.{[], ◌∷◌, List, map, sym, subst}
 use Rattle.tql_spec.specs.Binding as binding
 use Rattle.tql_spec.specs.Expression.{Cond}
 use Rattle.tql_bound.specs.Selections.{reference_of}
