@@ -2,6 +2,7 @@
 mod devices;
 mod indexes;
 mod memories;
+mod notes;
 mod runs;
 mod sinks;
 mod sources;

@@ -6,6 +6,7 @@ use tql_engine::run::{run, run_bytes};
 use tql_memory::{Memory, memory};
 use tql_result::vec_sink::VecSink;
 use tql_run::run::{Fault, Summary};
+use tql_run::silence::Silence;
 use tql_run::slice_source::SliceSource;
 
 /// How a run ended, and what it wrote.
@@ -61,7 +62,7 @@ fn run_pieces(
     let mut engine = Engine::new(memory(alloc, granted)?);
     let mut source = SliceSource::in_pieces(script, size);
     let mut sink = VecSink::new(Vec::new(memory(alloc, u64::MAX)?));
-    let end = run(&mut engine, &mut source, &mut sink);
+    let end = run(&mut engine, &mut source, &mut sink, &mut Silence);
     Ok(Outcome {
         end,
         text: sink.into_bytes(),
@@ -77,7 +78,8 @@ pub fn check_only(
 ) -> Result<Outcome, AllocError> {
     let mut source = SliceSource::in_pieces(script, size);
     let mut sink = VecSink::new(Vec::new(memory(alloc, u64::MAX)?));
-    let end = check_script(memory(alloc, granted)?, &mut source, &mut sink);
+    let memory = memory(alloc, granted)?;
+    let end = check_script(memory, &mut source, &mut sink, &mut Silence);
     Ok(Outcome {
         end,
         text: sink.into_bytes(),

@@ -173,9 +173,9 @@ told_more A s before now after h new summary answer held_old held_new w0 w1 h0 h
     let p = place_of A now after answer h new takes in
     let number : summary.statements + 1 ≡ 1 + length t.answers = let n = t.counts.statements in omega (arith, n) in
     let at : note_of (summary.statements + 1) line (answer_of answer) ≡ note_of (1 + length t.answers) (line_of p) (answer_of answer) =
-      ap (λ (n : ℕ). note_of n line (answer_of answer)) number ∙ ap (λ (l : ℕ). note_of (1 + length t.answers) l (answer_of answer)) (on ∙ takes.given.line) in
+    ap (λ (n : ℕ). note_of n line (answer_of answer)) number ∙ ap (λ (l : ℕ). note_of (1 + length t.answers) l (answer_of answer)) (on ∙ takes.given.line) in
     subst (λ (notes : List Heard). Hears h0 notes h2) (sym (notes_on 1 t.places t.answers p (answer_of answer) t.even))
-      (hears_on h0 h1 h2 (notes_of t.places t.answers) (note_of (1 + length t.answers) (line_of p) (answer_of answer)) t.heard (subst (λ (notes : List Heard). Hears h1 notes h2) at told))
+    (hears_on h0 h1 h2 (notes_of t.places t.answers) (note_of (1 + length t.answers) (line_of p) (answer_of answer)) t.heard (subst (λ (notes : List Heard). Hears h1 notes h2) at told))
 
 -- what was told of all answers is what is told of them in the script
 told_all : (script : List ℕ) (places others : List Placed) (answers : List Answer) (h0 h1 : Option (List Heard)) → placed_statements script ≡ places ++ others → length places ≡ length answers
@@ -224,9 +224,9 @@ wrote_cut A s before now after h new summary answer held_old held_now held_new w
       ran = run_on A s t.state a0.state t.done t.answers takes.piece (answer_of answer) t.ran a0.answers;
       stands = a0.stands;
       heard = told_all before.left (t.places ++ p ∷ []) (placed_in after) (t.answers ++ answer_of answer ∷ []) h0 h2
-        (placed_more A s before now after h new summary answer held_old held_now w0 w1 h0 h1 t takes)
-        (even_more t.places t.answers p (answer_of answer) t.even)
-        (told_more A s before now after h new summary answer held_old held_now w0 w1 h0 h1 h2 line t takes on told);
+          (placed_more A s before now after h new summary answer held_old held_now w0 w1 h0 h1 t takes)
+          (even_more t.places t.answers p (answer_of answer) t.even)
+          (told_more A s before now after h new summary answer held_old held_now w0 w1 h0 h1 h2 line t takes on told);
       text = answers_text t.answers ++ a.front;
       reached = inl (record { earlier = t.answers; last = answer_of answer; all = refl; front = a.front; back = a.back; parts = a.parts; is = refl });
       written = appends_on held_old held_now held_new (answers_text t.answers) a.front t.written a.appends;

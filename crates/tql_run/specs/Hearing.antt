@@ -1,5 +1,5 @@
 -- What a listener is told of a run: which statements were refused, where they stand, and why.
-use Rattle.std.specs.Prelude.{◌≡◌, ◌+◌, ℕ, suc, List, [], ◌∷◌, ◌++◌, map, Bool, Option, Some, None, if◌then◌else◌}
+use Rattle.std.specs.Prelude.{◌≡◌, ℕ, suc, List, [], ◌∷◌, ◌++◌, map, Bool, Option, Some, None, if◌then◌else◌}
 use Rattle.tql_spec.specs.Refusal.{Refusal}
 use Rattle.tql_spec.specs.Machine.{Done, Table, Refused}
 use Rattle.tql_spec.specs.Answer.{Answer, Replied, Accepted}

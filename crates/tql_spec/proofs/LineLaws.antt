@@ -1,11 +1,11 @@
 -- The statements of a script stand where they are said to.
-use Rattle.std.proofs.Common.{◌≡◌, refl, sym, ◌∙◌, ap, ℕ, ◌==◌, Bool, true, false, cond, List, [], ◌∷◌, ◌++◌, append_assoc, append-nil}
+use Rattle.std.proofs.Common.{◌≡◌, refl, sym, ◌∙◌, ap, ℕ, ◌==◌, Bool, true, false, cond, List, [], ◌∷◌, ◌++◌, append_assoc}
 use Rattle.std.specs.Prelude.{◌&&◌, ◌||◌, not, map, filter, if◌then◌else◌}
 use Rattle.std.specs.List.{AllByRecursion}
 use Rattle.std.proofs.lemmas.Bool.{eqb-true, and_parts}
 use Rattle.tql_spec.specs.Words.{is_empty}
 use Rattle.tql_spec.specs.Script.{Place, Outside, Piece, place_after, can_end, with_byte, cut, is_blank, begins_comment, without_lead, trimmed, statements}
-use Rattle.tql_spec.specs.Lines.{Placed, lead, placed_behind, placed_from, placed_statements, StandsIn, StatementsInPlace}
+use Rattle.tql_spec.specs.Lines.{Placed, lead, placed_behind, placed_from, StandsIn, StatementsInPlace}
 
 -- ---- the statements
 

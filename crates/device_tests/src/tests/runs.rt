@@ -5,6 +5,7 @@ use test_devices::{Chunks, Kept};
 use tql_memory::memory;
 use tql_result::std_sink::StdSink;
 use tql_run::run::{Fault, Summary, run};
+use tql_run::silence::Silence;
 use tql_run::std_source::StdSource;
 
 /// What a run of a script meets.
@@ -60,7 +61,7 @@ fn run_script(rt: &impl AllocGlobal, script: &[u8], setting: Setting) -> Result<
         writes_left: setting.writes,
         flushes: setting.flushes,
     });
-    let end = run(&mut lengths, &mut source, &mut sink).map(counts);
+    let end = run(&mut lengths, &mut source, &mut sink, &mut Silence).map(counts);
     Ok(Outcome {
         end,
         text: sink.into_writer().bytes,

@@ -6,6 +6,7 @@ use tql_engine::run::run;
 use tql_memory::memory;
 use tql_result::std_sink::StdSink;
 use tql_run::run::{Fault, Summary};
+use tql_run::silence::Silence;
 use tql_run::std_source::StdSource;
 
 /// What a run of a script meets.
@@ -49,7 +50,7 @@ pub fn run_script(rt: &impl AllocGlobal, script: &[u8], setting: Setting) -> Res
         writes_left: setting.writes,
         flushes: setting.flushes,
     });
-    let end = run(&mut engine, &mut source, &mut sink);
+    let end = run(&mut engine, &mut source, &mut sink, &mut Silence);
     Ok(Outcome {
         end,
         text: sink.into_writer().bytes,
