@@ -1,4 +1,3 @@
--- cases: pieces
 -- Made at random. The text comes from a rendering of the language that shares nothing with the engine.
 AT TIMESTAMP '2011-01-01 00:00:00';
 CREATE TABLE "x y" (SYS_E TIMESTAMP(0) WITHOUT TIME ZONE GENERATED ALWAYS AS ROW END, PERIOD FOR SYSTEM_TIME (SYS_S, SYS_E), "a b" VARCHAR(003), "a" BIGINT, SYS_S TIMESTAMP(12) WITHOUT TIME ZONE GENERATED ALWAYS AS ROW START) WITH SYSTEM VERSIONING;

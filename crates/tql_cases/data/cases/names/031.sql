@@ -1,4 +1,3 @@
--- cases: pieces
 -- Made at random. The text comes from a rendering of the language that shares nothing with the engine.
 AT TIMESTAMP '2011-01-01 00:00:00';
 CREATE TABLE V (X VARCHAR(003) NOT NULL, END DATE, "q""q" INT);

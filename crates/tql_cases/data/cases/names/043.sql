@@ -1,4 +1,3 @@
--- cases: pieces
 -- Made at random. The text comes from a rendering of the language that shares nothing with the engine.
 AT TIMESTAMP '2011-01-01 00:00:00';
 CREATE TABLE LOG (PERIOD FOR SYSTEM_TIME (S, E), "a b" INT, S TIMESTAMP WITHOUT TIME ZONE GENERATED ALWAYS AS ROW START, "SELECT" VARCHAR(003) NOT NULL, E TIMESTAMP(6) NOT NULL GENERATED ALWAYS AS ROW END) WITH SYSTEM VERSIONING;

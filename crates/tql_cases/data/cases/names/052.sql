@@ -1,4 +1,3 @@
--- cases: pieces
 -- Made at random. The text comes from a rendering of the language that shares nothing with the engine.
 AT TIMESTAMP '2011-01-01 00:00:00';
 CREATE TABLE "t" ("SELECT" INTEGER, SYS_S TIMESTAMP(12) GENERATED ALWAYS AS ROW START, SYS_E TIMESTAMP GENERATED ALWAYS AS ROW END, A INT, PERIOD FOR SYSTEM_TIME (SYS_S, SYS_E), START VARCHAR(003)) WITH SYSTEM VERSIONING;
