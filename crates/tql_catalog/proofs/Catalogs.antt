@@ -1,13 +1,21 @@
 -- The place at which a table is found, and what stays true of the tables.
-use Rattle.std.proofs.Common.{◌≡◌, ◌≢◌, refl, ap, sym, ◌∙◌, ℕ, zero, suc, Bool, true, false, List, [], ◌∷◌, ◌++◌, Some, None, ◌+◌, ◌<◌, ◌≤◌, length, map, arith, length-append}
-use Rattle.std.specs.Prelude.{◌||◌, position, if◌then◌else◌, is_some, nat_le, remove, slice_get, slice_index_or, All, Option, option_map}
+use Rattle.std.proofs.Common.{◌≡◌, ◌≢◌, refl, ap, sym, ◌∙◌, ℕ, zero, suc, Bool, true, false, List, [], ◌∷◌, ◌++◌, Some, None, ◌+◌, ◌<◌, length, map, arith, length-append}
+use Rattle.std.specs.Prelude.{◌||◌, String, string_bytes, string_eq, position, if◌then◌else◌, is_some, nat_le, remove, slice_get, All, Option, option_map}
 use Rattle.std.specs.List.{position_from, list_any}
+use Rattle.std.specs.Map.{keys_of, values_of}
+use Rattle.std.specs.Str.{bytes_eq}
 use Rattle.std.proofs.lemmas.Bool.Decides.{nat_tests}
 use Rattle.std.proofs.lemmas.Iterator.Adapters.{position_from-zero}
-use Rattle.std.proofs.lemmas.List.{length-map}
+use Rattle.std.proofs.lemmas.List.{length-map, map-append}
 use Rattle.std.proofs.lemmas.List.Edits.{length-remove}
 use Rattle.std.proofs.lemmas.List.Elements.{All-nil, All-cons}
 use Rattle.std.proofs.lemmas.List.Quantifiers.{all_pairs_push, all_pairs_remove}
+use Rattle.std.proofs.lemmas.Map.Text.{is_eq-slice_cmp}
+use Rattle.std.proofs.lemmas.Option.{slice_get-map}
+use Rattle.indexmap.specs.IndexMap.{IndexMap, values, get, insert_entry}
+use Rattle.indexmap.proofs.CallerLemmas.{insert_entry-new}
+use Rattle.indexmap.proofs.MapLemmas.{some_index}
+use Rattle.indexmap.proofs.SetLemmas.{map-remove}
 use Rattle.tql_spec.specs.Words.{same_text}
 use Rattle.tql_spec.specs.Refusal.{TooManyTablesOrReaders, TableUnknownOrAlreadyThere, first, fault_if}
 use Rattle.tql_spec.specs.Definition.{Name, TableDef, Reference, place_of, next_place, table_at}
@@ -15,11 +23,11 @@ use Rattle.tql_spec.specs.Binding.{is_referenced}
 use Rattle.tql_spec.proofs.Constraints.{same_text-self}
 use Rattle.tql_value.specs.Refusals.{refusal_of}
 use Rattle.tql_value.specs.declared.refusal.Refusal.{Refusal}
-use Rattle.tql_catalog.specs.Tables.{definitions_of, IsFree, IsCatalog, creation_faults}
+use Rattle.tql_catalog.specs.Tables.{definitions_of, IsFree, IsCatalog, IsByName, creation_faults}
 use Rattle.tql_catalog.specs.declared.catalog.Table.{Table}
 
 -- whether this is the table of the name
-abbrev pub is_called : Name → Table → Bool
+abbrev is_called : Name → Table → Bool
 is_called n t = same_text n t.definition.name
 
 next_of : {X : Type 0} (t : X → Bool) (i : ℕ) (xs : List X) → position_from t (i + 1) xs ≡ next_place (position_from t i xs)
@@ -33,9 +41,26 @@ place_from : (n : Name) (tables : List Table) → position_from (is_called n) 0 
 place_from n [] = refl
 place_from n (t ∷ ts) = ap (λ o. if same_text n t.definition.name then Some 0 else o) (next_of (is_called n) 0 ts ∙ ap next_place (place_from n ts))
 
--- the place at which a table is found is that of its definition
-pub place_of-tables : (n : Name) (tables : List Table) → position (is_called n) tables ≡ place_of n (definitions_of tables)
-place_of-tables n tables = position_from-zero (is_called n) tables ∙ place_from n tables
+placed : {X Y : Type 0} (t : X → Bool) (f : Y → X) (i : ℕ) (ys : List Y) → position_from (λ y. t (f y)) i ys ≡ position_from t i (map f ys)
+placed t f i [] = refl
+placed t f i (y ∷ ys) = ap (λ o. if t (f y) then Some i else o) (placed t f (i + 1) ys)
+
+-- the place of a name among those that tables are kept under is that of the definition
+pub place_by_name : {Z : Type 0} (n : Name) (es : List (String Z × Table)) → IsByName es
+    → position (λ k. bytes_eq n (string_bytes k)) (keys_of es) ≡ place_of n (definitions_of (values_of es))
+place_by_name n es by_name =
+    position_from-zero (λ k. bytes_eq n (string_bytes k)) (keys_of es)
+    ∙ sym (placed (λ k. bytes_eq n (string_bytes k)) (λ e. e.0) 0 es)
+    ∙ placed (bytes_eq n) (λ e. string_bytes e.0) 0 es
+    ∙ ap (position_from (bytes_eq n) 0) by_name
+    ∙ sym (placed (bytes_eq n) (λ e. e.1.definition.name) 0 es)
+    ∙ (λ j. position_from (λ e. sym (is_eq-slice_cmp n e.1.definition.name) j) 0 es)
+    ∙ placed (is_called n) (λ e. e.1) 0 es
+    ∙ place_from n (values_of es)
+
+-- the table that is kept at a place
+pub value_at : {Z : Type 0} (es : List (String Z × Table)) (i : ℕ) (k : String Z) (t : Table) → Some (k, t) ≡ slice_get es i → slice_get (values_of es) i ≡ Some t
+value_at es i k t h = slice_get-map (λ e. e.1) es i ∙ ap (option_map (λ e. e.1)) (sym h)
 
 -- the definition at a place is that of its table
 pub definition_at : (tables : List Table) (i : ℕ) (t : Table) → slice_get tables i ≡ Some t → table_at (definitions_of tables) i ≡ t.definition
@@ -99,6 +124,28 @@ one_more tables d id c f free =
       count = omega (arith, few, length-append tables (table ∷ []));
     }
 
+nothing_there : {X : Type 0} (o : Option X) → is_some o ≡ false → o ≡ None
+nothing_there None h = refl
+nothing_there (Some x) h = absurd (cc)
+
+-- where a table shows no fault, nothing is kept under its name, so that it goes behind the others
+pub put_last : {Z S : Type 0} (m : IndexMap (String Z) Table S) (k : String Z) (t : Table) → string_bytes k ≡ t.definition.name → IsByName m.entries
+    → first (creation_faults (definitions_of (values m)) t.definition.name) ≡ None → insert_entry string_eq m.entries k t ≡ m.entries ++ (k, t) ∷ []
+put_last m k t named by_name f =
+    let none = no_fault (is_some (place_of t.definition.name (definitions_of (values m)))) (nat_le 1000 (length (definitions_of (values m)))) f in
+    insert_entry-new string_eq m k t
+    (nothing_there (get string_eq m k)
+    (sym (some_index (string_eq k) m.entries) ∙ ap is_some (place_by_name (string_bytes k) m.entries by_name)
+    ∙ ap (λ (n : Name). is_some (place_of n (definitions_of (values m)))) named ∙ none.0))
+
+-- with a table behind the others
+pub tables_more : {Z : Type 0} (es : List (String Z × Table)) (k : String Z) (t : Table) → values_of (es ++ (k, t) ∷ []) ≡ values_of es ++ t ∷ []
+tables_more es k t = map-append (λ e. e.1) es ((k, t) ∷ [])
+
+pub by_name_more : {Z : Type 0} (es : List (String Z × Table)) (k : String Z) (t : Table) → string_bytes k ≡ t.definition.name → IsByName es → IsByName (es ++ (k, t) ∷ [])
+by_name_more es k t named by_name =
+    map-append (λ e. string_bytes e.0) es ((k, t) ∷ []) ∙ (λ j. by_name j ++ named j ∷ []) ∙ sym (map-append (λ e. e.1.definition.name) es ((k, t) ∷ []))
+
 -- ---- a table taken out
 
 pub one_less : (tables : List Table) (i : ℕ) → i < length tables → IsCatalog tables → IsCatalog (remove tables i)
@@ -107,3 +154,11 @@ one_less tables i l c = record {
   ids = all_pairs_remove (λ (t u : Table). t.id ≢ u.id) tables i l c.ids;
   count = omega (arith, c.count, length-remove tables i l);
 }
+
+-- without the table at a place
+pub tables_less : {Z : Type 0} (es : List (String Z × Table)) (i : ℕ) → values_of (remove es i) ≡ remove (values_of es) i
+tables_less es i = map-remove (λ e. e.1) es i
+
+pub by_name_less : {Z : Type 0} (es : List (String Z × Table)) (i : ℕ) → IsByName es → IsByName (remove es i)
+by_name_less es i by_name =
+    map-remove (λ e. string_bytes e.0) es i ∙ ap (λ (ns : List Name). remove ns i) by_name ∙ sym (map-remove (λ e. e.1.definition.name) es i)

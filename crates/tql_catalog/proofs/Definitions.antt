@@ -1,11 +1,11 @@
 -- What is true of a definition.
-use Rattle.std.specs.Prelude.{◌≡◌, refl, ℕ, Bool, true, false, not, ◌&&◌, ◌==◌, nat_lt, IsTrue, List, map, length, Option, Some, None, slice_index_or}
-use Rattle.std.proofs.Common.{ap, subst, ◌∙◌}
+use Rattle.std.specs.Prelude.{refl, Bool, true, false, not, ◌&&◌, ◌==◌, nat_lt, IsTrue, List, map, length, Option, Some, None, slice_index_or}
+use Rattle.std.proofs.Common.{subst}
 use Rattle.std.proofs.lemmas.List.{length-map}
 use Rattle.tql_spec.specs.Datum.{Kind, Ints, Moments, same_kind}
 use Rattle.tql_spec.specs.Definition.{Name, Column, System, TableDef}
 use Rattle.tql_spec.specs.Creation.{kinds_of, repeats}
-use Rattle.tql_catalog.specs.Defined.{IsDefinition, plain_table, is_definable, is_system_period, is_moment_at}
+use Rattle.tql_catalog.specs.Defined.{IsDefinition, plain_table, is_definable, is_system_period}
 use Rattle.tql_catalog.specs.Rows.{has_system}
 
 and_left : (a b : Bool) → IsTrue (a && b) → IsTrue a

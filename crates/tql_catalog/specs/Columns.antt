@@ -1,11 +1,8 @@
 -- What is told of a table's columns alone.
-use Rattle.std.specs.Prelude.{ℕ, Bool, not, List, map, filter, length}
-use Rattle.std.specs.List.{range_with_len}
+use Rattle.std.specs.Prelude.{List, map}
 use Rattle.tql_spec.specs.Datum.{Kind}
 use Rattle.tql_spec.specs.Definition as spec
 use Rattle.tql_spec.specs.Definition.{Name}
-use Rattle.tql_spec.specs.Creation.{has_number}
-use Rattle.tql_spec.specs.Binding.{generated_columns}
 use Rattle.tql_catalog.specs.Definitions.{column_of}
 use Rattle.tql_catalog.specs.declared.definition.Column.{Column}
 

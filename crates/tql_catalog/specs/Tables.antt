@@ -1,5 +1,5 @@
 -- The tables that are there, in the order of their creation.
-use Rattle.std.specs.Prelude.{◌≡◌, ◌≢◌, ◌≤◌, refl, ℕ, ◌++◌, List, map, length, nat_le, is_some, slice_get, remove, All, Option, Some, None, Result, Ok, Err, ⊤}
+use Rattle.std.specs.Prelude.{◌≡◌, ◌≢◌, ◌≤◌, refl, ℕ, ◌++◌, List, map, length, nat_le, is_some, String, string_bytes, All, Option, Some, None, Result, Ok, Err, ⊤}
 use Rattle.std.specs.List.{AllPairs}
 use Rattle.std.specs.Coded.{Coded, code_by, coded×, coded_ℕ, coded_list}
 use Rattle.tql_spec.specs.Refusal as spec
@@ -31,6 +31,10 @@ pub record IsCatalog (tables : List Table) : Type 0 where
   pub names : AllPairs (λ (t u : Table). t.definition.name ≢ u.definition.name) tables
   pub ids : AllPairs (λ (t u : Table). t.id ≢ u.id) tables
   pub count : length tables ≤ 1000
+
+-- what is kept under a text is the table of this name
+abbrev pub IsByName : {Z : Type 0} → List (String Z × Table) → Type 0
+IsByName entries = map (λ e. string_bytes e.0) entries ≡ map (λ e. e.1.definition.name) entries
 
 -- the faults of a new table of this name that the tables which are there show
 abbrev pub creation_faults : List TableDef → Name → List spec.Refusal

@@ -6,9 +6,10 @@ ghost use Rattle.tql_spec.specs.Definition as spec;
 ghost use Rattle.tql_spec.specs.Refusal.{first};
 ghost use Rattle.tql_value.specs.Refusals.{refusal_of};
 ghost use Rattle.tql_catalog.specs.Tables.{definitions_of, IsFree, IsCatalog, creation_faults, Tells};
-ghost use Rattle.tql_spec.specs.Words.{same_text};
 
 use crate::table_def::TableDef;
+use indexmap::IndexMap;
+use std::hash::{BuildHasherDefault, FoldHasher};
 use std::marker::Model;
 use tql_memory::Memory;
 use tql_value::refusal::Refusal;
@@ -28,10 +29,13 @@ impl Drop for Table {
     }
 }
 
+/// Tables in order, each under its name.
+type Tables = IndexMap<String<Memory>, Table, BuildHasherDefault<FoldHasher>, Memory>;
+
 /// The tables that are there, in the order of their creation: at most 1,000, each of a name and with a number of its own. Contracts see
-/// the list of them.
+/// the list of them. A table is found by its name in a time that on average does not grow with their number.
 pub struct Catalog {
-    tables: Vec<Table, Memory>,
+    tables: Tables,
 }
 
 impl Drop for Catalog {
@@ -44,39 +48,16 @@ impl Drop for Catalog {
 impl Model for Catalog {
     ghost use Rattle.std.specs.Prelude.{List};
     ghost use Rattle.tql_catalog.specs.declared.catalog.Table.{Table};
-    ghost use Rattle.tql_catalog.specs.Tables.{tables_code, IsCatalog};
+    ghost use Rattle.indexmap.specs.IndexMap.{values};
+    ghost use Rattle.tql_catalog.specs.Tables.{tables_code, IsCatalog, IsByName};
 
     ghost Value = { List Table };
 
     ghost coded = { tables_code };
 
-    ghost view = { λ c. c.tables.items };
+    ghost view = { λ c. values c.tables };
 
-    ghost invariant = { λ c. IsCatalog c.tables.items };
-}
-
-/// Whether this is the name of the table.
-fn is_named(table: &Table, name: &str) -> bool
-    ensures { result ≡ same_text name.now table.now.definition.name }
-{
-    name == table.definition.name()
-}
-
-/// The place of the table of this name.
-fn place_in(tables: &[Table], name: &str) -> Option<usize>
-    ensures place { result ≡ spec.place_of name.now (definitions_of tables.now) }
-    ensures within { ForSome result (λ place. place < length tables.now) }
-{
-    tables.iter().position(|table| is_named(table, name))
-}
-
-/// Whether a reference of some of the tables names the table of this name.
-fn are_referring(tables: &[Table], name: &str) -> bool
-    ensures { result ≡ binding.is_referenced name.now (definitions_of tables.now) }
-{
-    tables
-        .iter()
-        .any(|table| table.definition.is_referring_to(name))
+    ghost invariant = { λ c. IsCatalog (values c.tables) × IsByName c.tables.entries };
 }
 
 impl Catalog {
@@ -85,7 +66,7 @@ impl Catalog {
         ensures { result ≡ [] }
     {
         Catalog {
-            tables: Vec::new(memory),
+            tables: IndexMap::new(memory),
         }
     }
 
@@ -102,7 +83,7 @@ impl Catalog {
         ensures place { result ≡ spec.place_of name.now (definitions_of self.now) }
         ensures within { ForSome result (λ place. place < length self.now) }
     {
-        place_in(&self.tables, name)
+        self.tables.get_index_of(name)
     }
 
     /// The table at a place.
@@ -119,8 +100,8 @@ impl Catalog {
         requires { nothing.now ≡ spec.no_table }
         ensures { result.now ≡ spec.table_at (definitions_of self.now) place }
     {
-        match self.tables.get(place) {
-            Some(table) => &table.definition,
+        match self.tables.get_index(place) {
+            Some((_, table)) => &table.definition,
             None => nothing,
         }
     }
@@ -129,7 +110,7 @@ impl Catalog {
     pub fn is_free(&self, id: TableId) -> bool
         ensures { IsTrue result ↔ IsFree id self.now }
     {
-        self.tables.iter().all(|table| table.id != id)
+        self.tables.values().all(|table| table.id != id)
     }
 
     /// The first fault that the tables which are there show of a new table of this name: one of that name is there, or 1,000 are.
@@ -156,8 +137,8 @@ impl Catalog {
         if let Some(fault) = self.creation_fault(definition.name()) {
             return Err(fault);
         }
-        self.tables.reserve(1)?;
-        self.tables.push_reserved(Table { definition, id });
+        let name = String::from_str(*self.tables.allocator(), definition.name())?;
+        self.tables.insert(name, Table { definition, id })?;
         Ok(())
     }
 
@@ -165,7 +146,9 @@ impl Catalog {
     pub fn is_referenced(&self, name: &str) -> bool
         ensures { result ≡ binding.is_referenced name.now (definitions_of self.now) }
     {
-        are_referring(&self.tables, name)
+        self.tables
+            .values()
+            .any(|table| table.definition.is_referring_to(name))
     }
 
     /// Takes the table at a place out; the others stay in their order. Takes no memory.
@@ -174,6 +157,7 @@ impl Catalog {
         ensures taken { slice_get self.old place ≡ Some result }
         ensures others { self.new ≡ remove self.old place }
     {
-        self.tables.remove(place)
+        let (_, table) = self.tables.shift_remove_index(place).unwrap();
+        table
     }
 }

@@ -19,6 +19,7 @@ use Rattle.tql_catalog.specs.Tables.{definitions_of}
 use Rattle.tql_catalog.specs.declared.catalog.Table.{Table}
 use Rattle.tql_catalog.specs.Defined.{IsDefinition}
 use Rattle.tql_catalog.specs.Rows.{IsRowOf}
+use Rattle.tql_expr.proofs.Printing.{generated_prints}
 use Rattle.tql_store.specs.Represents.{seen_by}
 use Rattle.tql_value.specs.Points.{IsPrintable, ArePrintable, IsMoment}
 use Rattle.tql_engine.specs.Fitting.{RowsFit, CopyFits, HistoryFits, WorkingFits}
@@ -26,8 +27,6 @@ use Rattle.tql_engine.specs.Questions.{Answers}
 use Rattle.tql_engine.specs.Stands.{Held, StandsFor, AreSince, IsDated, copies_of, open_moment, working_of}
 use Rattle.tql_engine.proofs.Standing.{some_is, definition_law, defined_law}
 use Rattle.tql_engine.proofs.Copies.{history_found}
-use Rattle.tql_engine.proofs.Columns.{Wide}
-use Rattle.tql_engine.proofs.Widths.{full_width}
 
 -- ---- rows
 
@@ -163,16 +162,6 @@ rows_when s t when = versions (table_at s.definitions t) t when (entries s)
 rows_are : (h : Held) (s : State) (t : ℕ) (p : Table) (when : When) → StandsFor h s → slice_get h.tables t ≡ Some p → rows_when s t when ≡ map (full p.definition) (versions_found s t when)
 rows_are h s t p when f e = ap (λ (d : TableDef). map (full d) (versions_found s t when)) (definition_law h s t p f e)
 
-all_wide : (d : TableDef) → IsDefinition d → (vs : List Version) → VersionsFit d vs → Wide (length d.columns) (map (full d) vs)
-all_wide d k [] f = tt
-all_wide d k (v ∷ vs) f = (full_width d v k f.0.cells.width, all_wide d k vs f.1)
-
--- each has a cell for each column
-pub wide_law : (h : Held) (s : State) (t : ℕ) (p : Table) (when : When) → StandsFor h s → slice_get h.tables t ≡ Some p → Wide (length p.definition.columns) (rows_when s t when)
-wide_law h s t p when f e =
-    subst (Wide (length p.definition.columns)) (sym (rows_are h s t p when f e))
-    (all_wide p.definition (defined_law h s t p f e) (versions_found s t when) (versions_fit h s t p when f e))
-
 -- the copies that the store answers from are those that the machine does
 seen_copies : (tables : List Table) (es : List Entry) (o : Option Entry) (id : ℕ) → seen_by (open_moment o) (copies_of tables es) (working_of tables o) id ≡ copies_of tables (listed o ++ es) id
 seen_copies tables es None id = refl
@@ -196,24 +185,8 @@ asked_law h s t p when found_now f e answers =
 
 -- ---- what can be printed
 
-inserted_prints : (P : Datum → Type 0) (xs : Row) (i : ℕ) (x : Datum) → AllByRecursion P xs → P x → AllByRecursion P (insert xs i x)
-inserted_prints P xs zero x f k = (k, f)
-inserted_prints P [] (suc i) x f k = (k, tt)
-inserted_prints P (y ∷ xs) (suc i) x f k = (f.0, inserted_prints P xs i x f.1 k)
-
-either_prints : (P : Datum → Type 0) (b : Bool) (i j : ℕ) (cells : Row) (v w : Datum) → AllByRecursion P cells → P v → P w
-    → AllByRecursion P (if b then insert (insert cells i v) j w else insert (insert cells j w) i v)
-either_prints P true i j cells v w f a b = inserted_prints P (insert cells i v) j w (inserted_prints P cells i v f a) b
-either_prints P false i j cells v w f a b = inserted_prints P (insert cells j w) i v (inserted_prints P cells j w f b) a
-
-generated_prints : (o : Option System) (cells : Row) (start end : ℤ) → AllByRecursion IsPrintable cells → IsMoment start → IsMoment end → AllByRecursion IsPrintable (with_generated o cells start end)
-generated_prints None cells start end f a b = f
-generated_prints (Some s) cells start end f a b = either_prints IsPrintable (nat_lt s.start s.end) s.start s.end cells (Moment start) (Moment end) f a b
-
 version_prints : (d : TableDef) (v : Version) → VersionFits d v → All IsPrintable (full d v)
-version_prints d v f =
-    All-from_recursion IsPrintable (full d v)
-    (generated_prints d.system v.row.cells v.row.start v.end (recursion_from_All IsPrintable v.row.cells f.cells.printable) f.start f.end)
+version_prints d v f = generated_prints d.system v.row.cells v.row.start v.end f.cells.printable f.start f.end
 
 versions_print : (d : TableDef) (vs : List Version) → VersionsFit d vs → AllByRecursion (All IsPrintable) (map (full d) vs)
 versions_print d [] f = tt
@@ -233,9 +206,12 @@ ordered_all : (P : Row → Type 0) (rows : List Row) → AllByRecursion P rows �
 ordered_all P [] e = tt
 ordered_all P (r ∷ rows) e = placed_all P (row_order []) r (in_order [] rows) e.0 (ordered_all P rows e.1)
 
--- a reply of the rows that a question finds has a text
-pub printable_law : (h : Held) (s : State) (t : ℕ) (p : Table) (when : When) → StandsFor h s → slice_get h.tables t ≡ Some p → ArePrintable (in_order [] (rows_when s t when))
-printable_law h s t p when f e =
-    All-from_recursion (All IsPrintable) (in_order [] (rows_when s t when))
-    (ordered_all (All IsPrintable) (rows_when s t when)
-    (subst (AllByRecursion (All IsPrintable)) (sym (rows_are h s t p when f e)) (versions_print p.definition (versions_found s t when) (versions_fit h s t p when f e))))
+-- rows that have texts have them in the printed order
+pub ordered_prints : (rows : List Row) → All (All IsPrintable) rows → ArePrintable (in_order [] rows)
+ordered_prints rows h = All-from_recursion (All IsPrintable) (in_order [] rows) (ordered_all (All IsPrintable) rows (recursion_from_All (All IsPrintable) rows h))
+
+-- the rows that a question finds have texts
+pub found_print : (h : Held) (s : State) (t : ℕ) (p : Table) (when : When) → StandsFor h s → slice_get h.tables t ≡ Some p → All (All IsPrintable) (rows_when s t when)
+found_print h s t p when f e =
+    subst (All (All IsPrintable)) (sym (rows_are h s t p when f e))
+    (All-from_recursion (All IsPrintable) (map (full p.definition) (versions_found s t when)) (versions_print p.definition (versions_found s t when) (versions_fit h s t p when f e)))

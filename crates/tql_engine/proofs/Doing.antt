@@ -9,12 +9,16 @@ use Rattle.tql_spec.specs.Calendar.{first_moment, high}
 use Rattle.tql_spec.specs.Datum.{Row}
 use Rattle.tql_spec.specs.Definition.{Name, Stamped, TableDef, Version, table_at, full}
 use Rattle.tql_spec.specs.History.{Entry, TableEntry, When, rows_in, table_history, with_end, current, still}
-use Rattle.tql_spec.specs.Query.{in_order}
-use Rattle.tql_spec.specs.Creation.{names_of}
+use Rattle.tql_spec.specs.Query.{answer, in_order}
+use Rattle.tql_spec.specs.QueryLaws.{selected, PlainQueriesSelect, SelectionsKeepNoOrder, SameRows}
 use Rattle.tql_spec.specs.Change.{Outcome, Work, insert}
-use Rattle.tql_spec.specs.Refusal.{Refusal, NotInThisTransactionState, MomentNotAllowed, first}
+use Rattle.tql_spec.specs.Refusal.{Refusal, NotInThisTransactionState, MomentNotAllowed, ValueOutOfRange, first}
 use Rattle.tql_spec.specs.Machine.{State, Reply, Refused, Done, Table, CreatedTable, DroppedTable, ClockSet, Inserted, Deleted, Started, Committed, RolledBack, Change, CreateTable, DropTable, SetClock, Start, Commit, Rollback, Alter, Ask, Modify, step, altered, unless_refused, is_not_later, is_clock_at_end, entries, newest_copy, with_table, without_table, with_commit, working, asked, bag_of}
-use Rattle.tql_bind.specs.Bounds.{whole_table}
+use Rattle.tql_bound.specs.Selections.{when_of, reference_of, selection_of}
+use Rattle.tql_bound.specs.declared.selection.Selection.{Selection}
+use Rattle.tql_expr.specs.Evaluated.{Fails}
+use Rattle.tql_value.specs.declared.refusal.Refusal as r
+use Rattle.tql_value.specs.declared.refusal.Refusal.TheVariants as variant
 use Rattle.tql_catalog.specs.Tables.{definitions_of}
 use Rattle.tql_catalog.specs.declared.catalog.Table.{Table as CatalogTable}
 use Rattle.tql_catalog.specs.Defined.{IsDefinition}
@@ -26,12 +30,11 @@ use Rattle.tql_store.specs.Represents.{BeginCopies, CommitAppends, RollbackResto
 use Rattle.tql_engine.specs.Stands.{Held, StandsFor, copies_of, working_of, open_moment}
 use Rattle.tql_engine.specs.Questions.{Answers}
 use Rattle.tql_engine.specs.Committing.{ChangesRows}
-use Rattle.tql_engine.specs.Effects.{Does, not_later_than}
+use Rattle.tql_engine.specs.Effects.{Does, Refuses, not_later_than}
 use Rattle.tql_engine.proofs.Faults.{refused, create_step, drop_step, clock_step, start_step, commit_step, rollback_step, alter_step}
-use Rattle.tql_engine.proofs.Standing.{closed_law, open_law, last_law, clock_law, definition_of, definition_law}
+use Rattle.tql_engine.proofs.Standing.{closed_law, open_law, last_law, clock_law, definition_law}
 use Rattle.tql_engine.proofs.Copies.{chosen, passed}
-use Rattle.tql_engine.proofs.Columns.{whole_answered}
-use Rattle.tql_engine.proofs.Asked.{rows_when, asked_law, wide_law, seen_law}
+use Rattle.tql_engine.proofs.Asked.{rows_when, asked_law, seen_law}
 use Rattle.tql_engine.proofs.Added.{rows_begun, altered_by, insert_outcome, insert_faults}
 use Rattle.tql_engine.proofs.ChangeKeeps.{working_now, working_rows, with_table_rows, begun_at, AreRowsOf, change_law, only_added, all_removed, none_judged}
 use Rattle.tql_engine.proofs.TransactionKeeps.{begun_law, ended_law, undone_law}
@@ -75,22 +78,12 @@ lacks_law h s st = λ i. idle_law h s st i && int_le high (sym st.clock i)
 
 -- ---- CREATE
 
-pub create_refused : (h : Held) (s : State) (d : TableDef) → StandsFor h s → is_some h.rows.working ≡ true → Does h (Refused NotInThisTransactionState) (step s (CreateTable d))
-create_refused h s d st e =
-    by_step h (Refused NotInThisTransactionState) (step s (CreateTable d)) (refused NotInThisTransactionState s)
-    (create_step s d ∙ chosen (is_some s.transaction) (refused NotInThisTransactionState s) (Done CreatedTable None, with_table d s) (open_law h s st ∙ e)) (refuses h s NotInThisTransactionState st)
-
 pub create_does : (h new : Held) (s : State) (d : TableDef) → StandsFor h s → is_some h.rows.working ≡ false → StandsFor new (with_table d s) → Does new (Done CreatedTable None) (step s (CreateTable d))
 create_does h new s d st e made =
     by_step new (Done CreatedTable None) (step s (CreateTable d)) (Done CreatedTable None, with_table d s)
     (create_step s d ∙ passed (is_some s.transaction) (refused NotInThisTransactionState s) (Done CreatedTable None, with_table d s) (open_law h s st ∙ e)) (record { replies = refl; stands = made })
 
 -- ---- DROP
-
-pub drop_refused : (h : Held) (s : State) (t : ℕ) → StandsFor h s → is_some h.rows.working ≡ true → Does h (Refused NotInThisTransactionState) (step s (DropTable t))
-drop_refused h s t st e =
-    by_step h (Refused NotInThisTransactionState) (step s (DropTable t)) (refused NotInThisTransactionState s)
-    (drop_step s t ∙ chosen (is_some s.transaction) (refused NotInThisTransactionState s) (Done DroppedTable None, without_table t s) (open_law h s st ∙ e)) (refuses h s NotInThisTransactionState st)
 
 pub drop_does : (h new : Held) (s : State) (t : ℕ) → StandsFor h s → is_some h.rows.working ≡ false → StandsFor new (without_table t s) → Does new (Done DroppedTable None) (step s (DropTable t))
 drop_does h new s t st e left =
@@ -105,10 +98,6 @@ set_to m s = (Done ClockSet None, record s { next = m })
 
 abbrev clock_left : ℤ → State → Reply × State
 clock_left m s = if is_not_later m s.history then refused MomentNotAllowed s else set_to m s
-
-pub clock_open : (h : Held) (s : State) (m : ℤ) → StandsFor h s → is_some h.rows.working ≡ true → Does h (Refused NotInThisTransactionState) (step s (SetClock m))
-clock_open h s m st e =
-    by_step h (Refused NotInThisTransactionState) (step s (SetClock m)) (refused NotInThisTransactionState s) (clock_step s m ∙ chosen (is_some s.transaction) (refused NotInThisTransactionState s) (clock_left m s) (open_law h s st ∙ e)) (refuses h s NotInThisTransactionState st)
 
 -- with a moment that is not later than the last commit's
 pub clock_refused : (h : Held) (s : State) (m : ℤ) → StandsFor h s → is_some h.rows.working ≡ false → not_later_than m h.rows.last ≡ true → Does h (Refused MomentNotAllowed) (step s (SetClock m))
@@ -129,34 +118,61 @@ clock_set h s m st c e low up =
 -- ---- SELECT
 
 -- what the machine answers
-pub asked_is : (h : Held) (s : State) (t : ℕ) (p : CatalogTable) (w : When) → StandsFor h s → slice_get h.tables t ≡ Some p
-    → step s (Ask (whole_table (table_at (definitions_of h.tables) t) t w)) ≡ (Table (names_of p.definition) (in_order [] (rows_when s t w)), s)
-asked_is h s t p w st e =
-    ap (λ d. step s (Ask (whole_table d t w))) (definition_of h.tables t p e)
-    ∙ ap (asked s (whole_table p.definition t w)) (whole_answered (bag_of s) p.definition t w (rows_when s t w) refl (wide_law h s t p w st e))
+pub answer_is : PlainQueriesSelect → (s : State) (x : Selection)
+    → (let q = selection_of x in answer (bag_of s) q ≡ selected q.filter q.items (rows_when s x.reference.table (when_of x.reference.when)))
+answer_is plain s x =
+    plain (bag_of s) (selection_of x) (reference_of x.reference) (record { reference = refl; ungrouped = refl; unconditional = refl; all = refl })
 
--- the rows found, sorted, under the names of the columns
-pub asked_does : (h : Held) (s : State) (t : ℕ) (p : CatalogTable) (when : When) (found : List Version) (headings : List Name) (rows : List Row)
-    → StandsFor h s → slice_get h.tables t ≡ Some p → Answers h.rows p.id when found
-    → ((bag : List Row) → SameBag (map (full p.definition) found) bag → rows ≡ in_order [] bag)
-    → headings ≡ names_of p.definition
-    → Does h (Table headings rows) (step s (Ask (whole_table (table_at (definitions_of h.tables) t) t when)))
-asked_does h s t p when found headings rows st e answers sorted heads =
-    let order : rows ≡ in_order [] (rows_when s t when) = sorted (rows_when s t when) (asked_law h s t p when found st e answers) in
-    by_step h (Table headings rows) (step s (Ask (whole_table (table_at (definitions_of h.tables) t) t when))) (Table (names_of p.definition) (in_order [] (rows_when s t when)), s)
-    (asked_is h s t p when st e) (record { replies = λ i. Table (heads i) (order i); stands = st })
+-- what is selected, of rows of one bag
+same_there : (o q : Option (List Row)) (made : List Row) → o ≡ Some made → SameRows o q → (rows : List Row) × ((q ≡ Some rows) × SameBag made rows)
+same_there None q made e k = absurd cc
+same_there (Some xs) None made e k = absurd k
+same_there (Some xs) (Some ys) made e k = let is : xs ≡ made = cc in (ys, (refl, subst (λ (zs : List Row). SameBag zs ys) is k))
+
+none_there_too : (o q : Option (List Row)) → o ≡ None → SameRows o q → q ≡ None
+none_there_too None None e k = refl
+none_there_too None (Some ys) e k = absurd k
+none_there_too (Some xs) q e k = absurd cc
+
+module _ (no_order : SelectionsKeepNoOrder) (plain : PlainQueriesSelect) (h : Held) (s : State) (p : CatalogTable) (x : Selection) (st : StandsFor h s)
+    (there : slice_get h.tables x.reference.table ≡ Some p) (found : List Version) (answers : Answers h.rows p.id (when_of x.reference.when) found) where
+  abbrev of : List Row → Option (List Row)
+  of rows = selected (selection_of x).filter (selection_of x).items rows
+
+  -- the rows that the machine finds
+  abbrev bag : List Row
+  bag = rows_when s x.reference.table (when_of x.reference.when)
+
+  same_selected : SameRows (of (map (full p.definition) found)) (of bag)
+  same_selected =
+      no_order (selection_of x).filter (selection_of x).items (map (full p.definition) found) bag
+      (asked_law h s x.reference.table p (when_of x.reference.when) found st there answers)
+
+  -- the rows selected of those found, sorted, under the headings
+  pub asked_does : (headings : List Name) (made rows : List Row) → of (map (full p.definition) found) ≡ Some made
+      → ((bag : List Row) → SameBag made bag → rows ≡ in_order [] bag) → headings ≡ (selection_of x).headings
+      → Does h (Table headings rows) (step s (Ask (selection_of x)))
+  asked_does headings made rows is sorted heads =
+      let k = same_there (of (map (full p.definition) found)) (of bag) made is same_selected in
+      by_step h (Table headings rows) (step s (Ask (selection_of x))) (Table (selection_of x).headings (in_order [] k.0), s)
+      (ap (asked s (selection_of x)) (answer_is plain s x ∙ k.1.0)) (record { replies = λ i. Table (heads i) (sorted k.0 k.1.1 i); stands = st })
+
+  asked_refused : of (map (full p.definition) found) ≡ None → Does h (Refused ValueOutOfRange) (step s (Ask (selection_of x)))
+  asked_refused is =
+      by_step h (Refused ValueOutOfRange) (step s (Ask (selection_of x))) (refused ValueOutOfRange s)
+      (ap (asked s (selection_of x)) (answer_is plain s x ∙ none_there_too (of (map (full p.definition) found)) (of bag) is same_selected)) (refuses h s ValueOutOfRange st)
+
+  -- an evaluation is out of range, or there is no memory
+  pub asked_errs : (e : r.Refusal) → Fails (of (map (full p.definition) found)) e → Refuses h s e (step s (Ask (selection_of x)))
+  asked_errs variant.OutOfMemory f = st
+  asked_errs variant.ValueOutOfRange f = asked_refused f
+  asked_errs _ f = absurd f
 
 -- ---- changes
 
 -- the definition of each table of the state is right
 pub defined_all : (h : Held) (s : State) → StandsFor h s → AllByRecursion IsDefinition s.definitions
 defined_all h s st = subst (AllByRecursion IsDefinition) (sym st.fits.definitions) st.fits.defined
-
--- a change without a moment
-pub change_refused : (h : Held) (s : State) (c : Change) → StandsFor h s → (is_none h.rows.working && int_le high h.next) ≡ true → Does h (Refused MomentNotAllowed) (step s (Alter c))
-change_refused h s c st e =
-    by_step h (Refused MomentNotAllowed) (step s (Alter c)) (refused MomentNotAllowed s)
-    (alter_step s c ∙ chosen (is_none s.transaction && is_clock_at_end s) (refused MomentNotAllowed s) (altered s c) (lacks_law h s st ∙ e)) (refuses h s MomentNotAllowed st)
 
 -- with one
 no_moment : (w : Option ℤ) (n : ℤ) → (IsNone w → n <ℤ high) → (is_none w && int_le high n) ≡ false
@@ -245,15 +261,6 @@ begun_so s = (Done Started None, record s { transaction = Some (working s None) 
 
 abbrev start_left : State → Reply × State
 start_left s = if is_clock_at_end s then refused MomentNotAllowed s else begun_so s
-
-pub start_open : (h : Held) (s : State) → StandsFor h s → is_some h.rows.working ≡ true → Does h (Refused NotInThisTransactionState) (step s Start)
-start_open h s st e = by_step h (Refused NotInThisTransactionState) (step s Start) (refused NotInThisTransactionState s) (start_step s ∙ chosen (is_some s.transaction) (refused NotInThisTransactionState s) (start_left s) (open_law h s st ∙ e)) (refuses h s NotInThisTransactionState st)
-
-pub start_late : (h : Held) (s : State) → StandsFor h s → is_some h.rows.working ≡ false → int_le high h.next ≡ true → Does h (Refused MomentNotAllowed) (step s Start)
-start_late h s st c e =
-    by_step h (Refused MomentNotAllowed) (step s Start) (refused MomentNotAllowed s)
-    (start_step s ∙ passed (is_some s.transaction) (refused NotInThisTransactionState s) (start_left s) (open_law h s st ∙ c)
-    ∙ chosen (is_clock_at_end s) (refused MomentNotAllowed s) (begun_so s) (ap (int_le high) (sym st.clock) ∙ e)) (refuses h s MomentNotAllowed st)
 
 not_over : (n : ℤ) → n <ℤ high → int_le high n ≡ false
 not_over n below = grind (arith, ints)

@@ -1,7 +1,6 @@
 pub mod Added
 pub mod Asked
 pub mod ChangeKeeps
-pub mod Columns
 pub mod Copies
 pub mod CreateKeeps
 pub mod Creating
@@ -14,11 +13,9 @@ pub mod Modified
 pub mod Modifying
 pub mod MomentFits
 pub mod Printing
-pub mod RowLemmas
 pub mod Standing
 pub mod Swapping
 pub mod TransactionKeeps
-pub mod Widths
 pub mod SenseLaws
 pub mod Stepping
 pub mod Joining

@@ -10,17 +10,17 @@ abbrev pub IsIdle : Held → Type 0
 IsIdle h = IsNone h.rows.working
 
 -- the clock has a moment left
-abbrev pub HasMoment : Held → Type 0
-HasMoment h = h.next <ℤ high
+abbrev pub HasTimeLeft : Held → Type 0
+HasTimeLeft h = h.next <ℤ high
 
 -- a bound statement, but for the moment of AT; COMMIT and ROLLBACK ask for themselves
 abbrev pub IsAllowed : Held → Bound → Type 0
 IsAllowed h (CreateTable d) = IsIdle h
 IsAllowed h (DropTable t) = IsIdle h
-IsAllowed h (Insert x) = IsIdle h → HasMoment h
-IsAllowed h (Modify x) = IsIdle h → HasMoment h
+IsAllowed h (Insert x) = IsIdle h → HasTimeLeft h
+IsAllowed h (Modify x) = IsIdle h → HasTimeLeft h
 IsAllowed h (Ask q) = Unit {0}
 IsAllowed h (SetClock m) = IsIdle h
-IsAllowed h Start = IsIdle h × HasMoment h
+IsAllowed h Start = IsIdle h × HasTimeLeft h
 IsAllowed h Commit = Unit {0}
 IsAllowed h Rollback = Unit {0}

@@ -1,11 +1,7 @@
 -- What a function of the engine does, told by the step of the machine that it makes.
 use Rattle.std.specs.Prelude.{◌≡◌, ℤ, Bool, false, int_le, Option, Some, None, Result, Ok, Err}
 use Rattle.tql_spec.specs.Machine as machine
-use Rattle.tql_spec.specs.Machine.{State, Refused, Manner, SetsClock}
-use Rattle.tql_spec.specs.Refusal as spec
-use Rattle.tql_spec.specs.Refusal.{earlier}
-use Rattle.tql_spec.specs.Syntax.{Statement, AtTree}
-use Rattle.tql_spec.specs.Binding.{manner}
+use Rattle.tql_spec.specs.Machine.{State, Refused, Manner, SetsClock, Ends, Asks}
 use Rattle.tql_value.specs.Refusals.{refusal_of}
 use Rattle.tql_value.specs.declared.refusal.Refusal.{Refusal}
 use Rattle.tql_value.specs.declared.refusal.Refusal.TheVariants.{OutOfMemory}
@@ -38,17 +34,9 @@ abbrev pub reply_by : Result Reply Refusal → machine.Reply
 reply_by (Ok reply) = reply_of reply
 reply_by (Err e) = Refused (refusal_of e)
 
--- what a statement that has a fault of its own does to the transaction and the clock: AT has no moment then
-abbrev pub manner_refused : Statement → Manner
-manner_refused (AtTree m) = SetsClock None
-manner_refused t = manner t
-
--- the first of the state's fault, where there is one, and another
-abbrev pub first_fault : Option spec.Refusal → spec.Refusal → spec.Refusal
-first_fault None e = e
-first_fault (Some a) e = earlier a (Some e)
-
--- the refusal of a statement that was refused for its own fault: want of memory stays, and any other stands behind the state's fault
-abbrev pub RefusedWith : Option spec.Refusal → Refusal → Refusal → Type 0
-RefusedWith o OutOfMemory e = e ≡ OutOfMemory
-RefusedWith o fault e = refusal_of e ≡ first_fault o (refusal_of fault)
+-- what is asked of the transaction and the clock before names are bound: the moment of AT is not read yet, and COMMIT and ROLLBACK ask for
+-- themselves
+abbrev pub asked_first : Manner → Manner
+asked_first (SetsClock m) = SetsClock None
+asked_first Ends = Asks
+asked_first m = m

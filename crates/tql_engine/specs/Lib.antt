@@ -1,6 +1,7 @@
 pub mod Fitting
 pub mod Stands
 pub mod Effects
+pub mod Allowed
 pub mod Committing
 pub mod Questions
 pub mod Sense

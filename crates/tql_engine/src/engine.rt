@@ -17,6 +17,7 @@ use tql_memory::Memory;
 use tql_result::answer::Answer;
 use tql_result::reply::Reply;
 use tql_run::responder::Responder;
+use tql_spec::plain_queries_select;
 use tql_store::store::Store;
 use tql_tree::statement::Statement;
 use tql_value::calendar::FIRST_MOMENT;
@@ -67,6 +68,7 @@ impl Engine {
     ghost use Rattle.tql_catalog.specs.Tables.{definitions_of};
     ghost use Rattle.tql_result.specs.Replies.{reply_of, IsPrintableReply};
     ghost use Rattle.tql_engine.specs.Stands.{StandsFor};
+    ghost use Rattle.tql_engine.specs.Allowed.{IsAllowed};
     ghost use Rattle.tql_engine.specs.Effects.{DoesStep, reply_by};
 
     /// An engine without tables, whose clock stands at the first moment.
@@ -90,19 +92,20 @@ impl Engine {
         self.tables.table(place)
     }
 
-    /// Runs a statement whose names are bound. A refused statement changes nothing.
+    /// Runs a statement whose names are bound, where the transaction and the clock allow it. A refused statement changes nothing.
     pub(crate) fn perform(&mut self, bound: Bound) -> Result<Reply, Refusal>
-        requires { IsSound (definitions_of self.old.tables) bound }
-        ensures { (s : State) → StandsFor self.old s → DoesStep self.new s result (step s (bound_of (definitions_of self.old.tables) bound)) }
+        requires sound { IsSound (definitions_of self.old.tables) bound }
+        requires allowed { IsAllowed self.old bound }
+        ensures { (s : State) → StandsFor self.old s → DoesStep self.new s result (step s (bound_of bound)) }
     {
         match bound {
             Bound::CreateTable(definition) => self.create(definition),
-            Bound::DropTable(place) => self.drop_table(place),
+            Bound::DropTable(place) => Ok(self.drop_table(place)),
             Bound::Insert(insertion) => self.insert(&insertion),
             Bound::Modify(modification) => self.modify(&modification),
-            Bound::Ask(question) => self.ask(question),
+            Bound::Ask(selection) => self.ask(&selection),
             Bound::SetClock(moment) => self.at(moment),
-            Bound::Start => self.start(),
+            Bound::Start => Ok(self.start()),
             Bound::Commit => self.commit(),
             Bound::Rollback => self.rollback(),
         }
@@ -114,9 +117,13 @@ impl Engine {
         ensures answered { (s : State) → StandsFor self.old s → DoesStep self.new s result (respond s (statement_of statement.now)) }
         ensures printable { IfOk result (λ reply. IsPrintableReply (reply_of reply)) }
     {
+        plain_queries_select();
+        if let Some(fault) = self.state_fault(statement) {
+            return Err(fault);
+        }
         match bind(self.memory, &self.tables, statement) {
             Ok(bound) => self.perform(bound),
-            Err(fault) => Err(self.refusal_with(statement, fault)),
+            Err(fault) => Err(fault),
         }
     }
 

@@ -4,7 +4,6 @@
 mod committing;
 pub mod engine;
 mod order;
-mod rows;
 pub mod run;
 mod sense;
 mod when;

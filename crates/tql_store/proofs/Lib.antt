@@ -11,3 +11,4 @@ pub mod SlotLemmas
 pub mod Places
 pub mod Named
 pub mod Judging
+pub mod Lasting

@@ -1,5 +1,6 @@
 -- What a store holds: its tables by their numbers, and the versions of all of them, each in its slot.
 use Rattle.std.specs.Prelude.{ℕ, zero, suc, Bool, true, false, not, ◌&&◌, ◌||◌, List, [], ◌∷◌, map, filter, count_by, slice_index_or, ℤ, int_lt, nat_eq, Option, Some, None}
+use Rattle.std.specs.Ordering.{int_eq}
 use Rattle.tql_spec.specs.Calendar.{high}
 use Rattle.tql_spec.specs.Datum.{Datum}
 use Rattle.tql_spec.specs.Definition.{Version}
@@ -97,6 +98,10 @@ undone_slots m slots = map (λ (s : Slot). record { table = s.table; version = r
 -- whether a commit at a moment leaves a slot: not one whose version holds no moment, nor a closed one of a table that keeps its last copy alone
 abbrev pub is_settled : List Place → ℤ → Slot → Bool
 is_settled places m s = alive s.version && (not (is_brief (place_of places s.table)) || int_lt m s.version.end)
+
+-- whether a commit at any moment leaves a slot: its version holds a moment, and is current where its table keeps its last copy alone
+abbrev pub is_lasting : List Place → Slot → Bool
+is_lasting places s = alive s.version && (not (is_brief (place_of places s.table)) || int_eq s.version.end high)
 
 -- what a commit leaves
 abbrev pub settled : List Place → ℤ → List Slot → List Slot

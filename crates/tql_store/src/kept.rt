@@ -1,5 +1,7 @@
-ghost use Rattle.std.specs.Prelude.{◌≡◌, ◌≤◌, ◌+◌, ◌++◌, ◌<◌, List, [], ◌∷◌, All, IfOk, OnErr, OnOk, map, filter, length, int_lt, vec_len, vec_capacity, slice_get, Some};
-ghost use Rattle.tql_store.specs.Slots.{Slot, closed_slot, closing, fresh_slot, settled, is_settled as left_by_commit, without};
+ghost use Rattle.std.specs.Prelude.{◌≡◌, ◌≤◌, ◌+◌, ◌++◌, ◌<◌, List, [], ◌∷◌, All, IfOk, OnErr, OnOk, map, filter, length, IsTrue, int_lt, ◌<ℤ◌, vec_len, vec_capacity, slice_get, Some};
+ghost use Rattle.std.specs.List.{list_all};
+ghost use Rattle.tql_spec.specs.Calendar.{high};
+ghost use Rattle.tql_store.specs.Slots.{Slot, closed_slot, closing, fresh_slot, settled, is_settled as left_by_commit, is_lasting as lasts, without};
 ghost use Rattle.tql_store.specs.Changes.{reopened};
 ghost use Rattle.tql_store.specs.Views.{slot_of, version_of, Names, NamesOnce};
 ghost use Rattle.tql_store.specs.Asked.{asked, is_answer, answers, places_from};
@@ -122,11 +124,52 @@ fn is_settled(version: &Kept, places: &[Place], moment: i64) -> bool
         && (!place_at(places, version.table).is_brief() || moment < version.end)
 }
 
+/// Whether a commit at any moment leaves the version.
+fn is_lasting(version: &Kept, places: &[Place]) -> bool
+    ensures { result ≡ lasts places.now (slot_of version.now) }
+{
+    version.start < version.end
+        && (!place_at(places, version.table).is_brief() || version.end == HIGH)
+}
+
+/// Whether a commit at any moment leaves each version.
+fn are_lasting(versions: &[Kept], places: &[Place]) -> bool
+    ensures { result ≡ list_all (λ v. lasts places.now (slot_of v)) versions.now }
+{
+    versions.iter().all(|version| is_lasting(version, places))
+}
+
 /// Drops what a commit at the moment does not leave.
-pub fn keep_settled(versions: &mut Vec<Kept, Memory>, places: &[Place], moment: i64)
+fn keep_settled(versions: &mut Vec<Kept, Memory>, places: &[Place], moment: i64)
     ensures { map slot_of versions.new.items ≡ settled places.now moment (map slot_of versions.old.items) }
 {
     versions.retain(|version| is_settled(version, places, moment));
+}
+
+/// Drops what a commit at the moment does not leave. Where a commit at any moment is known to leave each version, none is looked at. Answers
+/// whether that is so of those that are left.
+pub fn settle(
+    versions: &mut Vec<Kept, Memory>,
+    places: &[Place],
+    moment: i64,
+    lasting: bool,
+) -> bool
+    requires { IsTrue lasting → IsTrue (list_all (lasts places.now) (map slot_of versions.old.items)) }
+    ensures slots { map slot_of versions.new.items ≡ settled places.now moment (map slot_of versions.old.items) }
+    ensures lasting { IsTrue result → IsTrue (list_all (lasts places.now) (map slot_of versions.new.items)) }
+{
+    if lasting && moment < HIGH {
+        return true;
+    }
+    keep_settled(versions, places, moment);
+    are_lasting(versions, places)
+}
+
+/// Whether versions of which a commit at any moment leaves each are still such behind a change at the moment: it takes none away.
+pub fn stays_lasting(lasting: bool, removed: &[usize], moment: i64) -> bool
+    ensures { IsTrue result → IsTrue lasting × (removed.now ≡ []) × (moment <ℤ high) }
+{
+    lasting && removed.is_empty() && moment < HIGH
 }
 
 /// Drops the versions that do not begin before the moment.

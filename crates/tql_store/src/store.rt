@@ -11,7 +11,7 @@ ghost use Rattle.tql_value.specs.Views.{datum_of_value};
 ghost use Rattle.tql_value.specs.declared.refusal.Refusal.TheVariants.{OutOfMemory};
 
 use crate::kept::{
-    Kept, When, answers_in, change, keep_before, keep_others, keep_settled, reopen_each,
+    Kept, When, answers_in, change, keep_before, keep_others, reopen_each, settle, stays_lasting,
 };
 use crate::tables::{Place, clear_place, free_table, place_at, put_table, taken_count};
 use crate::version::{HIGH, Version};
@@ -71,6 +71,8 @@ pub struct Store {
     memory: Memory,
     places: Vec<Place, Memory>,
     versions: Vec<Kept, Memory>,
+    /// Where it says so, a commit at any moment leaves each version, and need not look at them.
+    lasts: bool,
     working: Option<i64>,
     last: Option<i64>,
 }
@@ -81,6 +83,7 @@ impl Drop for Store {
             memory: _,
             places,
             versions,
+            lasts: _,
             working: _,
             last: _,
         } = self;
@@ -103,6 +106,12 @@ impl Model for Store {
       working = s.working;
       last = s.last;
     } };
+
+    ghost use Rattle.std.specs.Prelude.{IsTrue};
+    ghost use Rattle.std.specs.List.{list_all};
+    ghost use Rattle.tql_store.specs.Slots.{is_lasting};
+
+    ghost invariant = { λ s. IsTrue s.lasts → IsTrue (list_all (is_lasting s.places.items) (map slot_of s.versions.items)) };
 }
 
 impl Store {
@@ -115,6 +124,7 @@ impl Store {
             memory,
             places: Vec::new(memory),
             versions: Vec::new(memory),
+            lasts: true,
             working: None,
             last: None,
         }
@@ -168,6 +178,7 @@ impl Store {
         ensures err { OnErr result (self.new ≡ self.old) }
         ensures memory { IfErr result (λ e. e ≡ OutOfMemory) }
     {
+        self.lasts = false;
         let table = free_table(&self.places);
         put_table(&mut self.places, table, Place::of_table(versioned))?;
         Ok(table)
@@ -182,6 +193,7 @@ impl Store {
         ensures slots { self.new ≡ (record self.old { tables = self.new.tables; slots = without table self.old.slots }) }
         ensures copies { DropEmpties table self.old self.new }
     {
+        self.lasts = false;
         clear_place(&mut self.places, table);
         keep_others(&mut self.versions, table);
     }
@@ -222,7 +234,9 @@ impl Store {
         ensures memory { IfErr result (λ e. e ≡ OutOfMemory) }
     {
         let moment = self.moment();
+        let lasts = stays_lasting(self.lasts, &delta.removed, moment);
         delta.make(&mut self.versions, moment)?;
+        self.lasts = lasts;
         Ok(())
     }
 
@@ -238,7 +252,7 @@ impl Store {
         ensures copies { CommitAppends self.old self.new }
     {
         let moment = self.moment();
-        keep_settled(&mut self.versions, &self.places, moment);
+        self.lasts = settle(&mut self.versions, &self.places, moment, self.lasts);
         self.last = self.working;
         self.working = None;
     }
@@ -252,6 +266,7 @@ impl Store {
         }) }
         ensures copies { RollbackRestores self.old self.new }
     {
+        self.lasts = false;
         let moment = self.moment();
         keep_before(&mut self.versions, moment);
         reopen_each(&mut self.versions, moment);

@@ -1,6 +1,5 @@
 //! INSERT, UPDATE and DELETE, each in the open transaction, or in one of its own at the clock's moment.
-ghost use Rattle.std.specs.Prelude.{◌≡◌, ◌<◌, ◌<ℤ◌, ◌&&◌, int_le, is_none, IsNone, length, slice_get, Some};
-ghost use Rattle.tql_spec.specs.Calendar.{high};
+ghost use Rattle.std.specs.Prelude.{◌≡◌, ◌<◌, length, slice_get, Some};
 ghost use Rattle.tql_spec.specs.Machine as machine;
 ghost use Rattle.tql_bound.specs.Works.{work_of};
 ghost use Rattle.tql_expr.specs.declared.terms.Terms.{Terms};
@@ -14,7 +13,6 @@ use tql_dml::modification::modify;
 use tql_result::reply::{Reply, Verb};
 use tql_spec::{changes_by_parts, changes_keep_no_order};
 use tql_store::store::Delta;
-use tql_value::calendar::HIGH;
 use tql_value::refusal::Refusal;
 
 /// The word that a change is answered with.
@@ -35,19 +33,13 @@ impl Engine {
     ghost use Rattle.tql_engine.specs.Modifying.{Makes};
     ghost use Rattle.tql_catalog.specs.Tables.{definitions_of};
     ghost use Rattle.tql_engine.specs.Stands.{StandsFor};
+    ghost use Rattle.tql_engine.specs.Allowed.{IsIdle, HasTimeLeft};
     ghost use Rattle.tql_engine.specs.Effects.{DoesStep};
 
-    /// Whether a change would have no moment: no transaction is open, and the clock has none left.
-    fn lacks_moment(&self) -> bool
-        ensures { result ≡ (is_none self.now.rows.working && int_le high self.now.next) }
-    {
-        !self.rows.has_transaction() && self.next >= HIGH
-    }
-
-    /// Adds the rows of an INSERT. They begin at the clock's moment, which is that of an open transaction.
-    fn add_to(&mut self, insertion: &Insertion) -> Result<Reply, Refusal>
-        requires within { insertion.now.table < length self.old.tables }
-        requires below { IsNone self.old.rows.working → self.old.next <ℤ high }
+    /// INSERT of tuples. The rows begin at the clock's moment, which is that of an open transaction.
+    pub(super) fn insert(&mut self, insertion: &Insertion) -> Result<Reply, Refusal>
+        requires within { insertion.now.table < length (definitions_of self.old.tables) }
+        requires below { IsIdle self.old → HasTimeLeft self.old }
         ensures { (s : State) → StandsFor self.old s → DoesStep self.new s result (step s (machine.Alter (insertion_of insertion.now))) }
     {
         let delta = match insert_tuples(self.memory, self.table_at(insertion.table), insertion) {
@@ -64,17 +56,6 @@ impl Engine {
         }
     }
 
-    /// INSERT
-    pub(super) fn insert(&mut self, insertion: &Insertion) -> Result<Reply, Refusal>
-        requires { insertion.now.table < length (definitions_of self.old.tables) }
-        ensures { (s : State) → StandsFor self.old s → DoesStep self.new s result (step s (machine.Alter (insertion_of insertion.now))) }
-    {
-        if self.lacks_moment() {
-            return Err(Refusal::MomentNotAllowed);
-        }
-        self.add_to(insertion)
-    }
-
     /// What the current versions of the table make of an UPDATE or DELETE.
     fn delta_of(&self, modification: &Modification) -> Result<Delta, Refusal>
         requires { modification.now.table < length self.now.tables }
@@ -85,10 +66,10 @@ impl Engine {
         modify(self.memory, table, &found, modification)
     }
 
-    /// Makes the change of an UPDATE or DELETE.
-    fn change_by(&mut self, modification: &Modification) -> Result<Reply, Refusal>
-        requires within { modification.now.table < length self.old.tables }
-        requires below { IsNone self.old.rows.working → self.old.next <ℤ high }
+    /// UPDATE and DELETE.
+    pub(super) fn modify(&mut self, modification: &Modification) -> Result<Reply, Refusal>
+        requires within { modification.now.table < length (definitions_of self.old.tables) }
+        requires below { IsIdle self.old → HasTimeLeft self.old }
         ensures { (s : State) → StandsFor self.old s → DoesStep self.new s result (step s (machine.Alter (modification_of modification.now))) }
     {
         changes_keep_no_order();
@@ -105,16 +86,5 @@ impl Engine {
             }
             Err(refusal) => Err(refusal),
         }
-    }
-
-    /// UPDATE and DELETE
-    pub(super) fn modify(&mut self, modification: &Modification) -> Result<Reply, Refusal>
-        requires { modification.now.table < length (definitions_of self.old.tables) }
-        ensures { (s : State) → StandsFor self.old s → DoesStep self.new s result (step s (machine.Alter (modification_of modification.now))) }
-    {
-        if self.lacks_moment() {
-            return Err(Refusal::MomentNotAllowed);
-        }
-        self.change_by(modification)
     }
 }

@@ -1,5 +1,5 @@
 //! AT: the clock.
-ghost use Rattle.std.specs.Prelude.{◌≡◌, ◌⊎◌, IfErr};
+ghost use Rattle.std.specs.Prelude.{◌≡◌, IfErr};
 
 use crate::engine::Engine;
 use tql_result::reply::{Reply, Verb};
@@ -10,6 +10,7 @@ impl Engine {
     ghost use Rattle.tql_spec.specs.Machine.{State, step};
     ghost use Rattle.tql_value.specs.Points.{IsMoment};
     ghost use Rattle.tql_engine.specs.Stands.{StandsFor};
+    ghost use Rattle.tql_engine.specs.Allowed.{IsIdle};
     ghost use Rattle.tql_engine.specs.Effects.{DoesStep, not_later_than};
 
     /// Whether a moment is not later than the last commit's.
@@ -20,16 +21,15 @@ impl Engine {
         !self.rows.is_later(moment)
     }
 
-    /// AT: sets the clock to a moment that is later than the last commit's, in microseconds since 1970-01-01.
+    /// AT: sets the clock to a moment, in microseconds since 1970-01-01. Refused, with nothing changed, where it is not later than the last
+    /// commit's.
     pub(super) fn at(&mut self, moment: i64) -> Result<Reply, Refusal>
-        requires { IsMoment moment }
+        requires closed { IsIdle self.old }
+        requires moment { IsMoment moment }
         ensures answered { (s : State) → StandsFor self.old s
             → DoesStep self.new s result (step s (machine.SetClock moment)) }
-        ensures reason { IfErr result (λ e. (e ≡ Refusal.NotInThisTransactionState) ⊎ (e ≡ Refusal.MomentNotAllowed)) }
+        ensures reason { IfErr result (λ e. e ≡ Refusal.MomentNotAllowed) }
     {
-        if self.rows.has_transaction() {
-            return Err(Refusal::NotInThisTransactionState);
-        }
         if self.is_not_later(moment) {
             return Err(Refusal::MomentNotAllowed);
         }

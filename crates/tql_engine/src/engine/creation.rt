@@ -1,5 +1,5 @@
 //! CREATE TABLE.
-ghost use Rattle.std.specs.Prelude.{◌≡◌, IsNone, OnOk, OnErr, IfErr};
+ghost use Rattle.std.specs.Prelude.{◌≡◌, OnOk, OnErr, IfErr};
 
 use crate::engine::Engine;
 use tql_catalog::table_def::TableDef;
@@ -13,11 +13,12 @@ impl Engine {
     ghost use Rattle.tql_value.specs.declared.refusal.Refusal.TheVariants.{OutOfMemory};
     ghost use Rattle.tql_bind.specs.Bounds.{IsSoundTable};
     ghost use Rattle.tql_engine.specs.Stands.{StandsFor};
+    ghost use Rattle.tql_engine.specs.Allowed.{IsIdle};
     ghost use Rattle.tql_engine.specs.Effects.{DoesStep};
 
     /// Adds an empty table, or changes nothing that shows where memory is refused.
     fn add_table(&mut self, definition: TableDef) -> Result<(), Refusal>
-        requires closed { IsNone self.old.rows.working }
+        requires closed { IsIdle self.old }
         requires sound { IsSoundTable (definitions_of self.old.tables) definition }
         ensures ok { OnOk result ((s : State) → StandsFor self.old s → StandsFor self.new (with_table definition s)) }
         ensures err { OnErr result ((s : State) → StandsFor self.old s → StandsFor self.new s) }
@@ -33,14 +34,12 @@ impl Engine {
         }
     }
 
-    /// CREATE TABLE
+    /// CREATE TABLE. The only error is a refused growth, with nothing changed that shows.
     pub(super) fn create(&mut self, definition: TableDef) -> Result<Reply, Refusal>
-        requires { IsSoundTable (definitions_of self.old.tables) definition }
+        requires closed { IsIdle self.old }
+        requires sound { IsSoundTable (definitions_of self.old.tables) definition }
         ensures { (s : State) → StandsFor self.old s → DoesStep self.new s result (step s (machine.CreateTable definition)) }
     {
-        if self.rows.has_transaction() {
-            return Err(Refusal::NotInThisTransactionState);
-        }
         match self.add_table(definition) {
             Ok(()) => Ok(Reply::Done(Verb::CreatedTable, None)),
             Err(refusal) => Err(refusal),

@@ -1,4 +1,5 @@
-//! The faults of the transaction and the clock, where a statement has a fault of its own as well.
+//! The faults of the transaction and the clock. They are asked before the names of a statement are bound: in the order of report they stand
+//! before all faults that binding can give.
 ghost use Rattle.std.specs.Prelude.{◌≡◌, option_map, is_some, is_none, ◌&&◌};
 
 use crate::engine::Engine;
@@ -9,10 +10,11 @@ use tql_value::refusal::Refusal;
 impl Engine {
     ghost use Rattle.tql_spec.specs.Machine.{State, Starts, state_faults, is_clock_at_end};
     ghost use Rattle.tql_spec.specs.Refusal.{NotInThisTransactionState, MomentNotAllowed, first, fault_if};
+    ghost use Rattle.tql_spec.specs.Binding.{manner};
     ghost use Rattle.tql_tree.specs.Statements.{statement_of};
     ghost use Rattle.tql_value.specs.Refusals.{refusal_of};
     ghost use Rattle.tql_engine.specs.Stands.{StandsFor};
-    ghost use Rattle.tql_engine.specs.Effects.{RefusedWith, manner_refused};
+    ghost use Rattle.tql_engine.specs.Effects.{asked_first};
 
     /// The fault of a statement that wants no transaction open.
     fn open_fault(&self) -> Option<Refusal>
@@ -23,18 +25,6 @@ impl Engine {
             Some(Refusal::NotInThisTransactionState)
         } else {
             None
-        }
-    }
-
-    /// The fault of a statement that wants one open.
-    fn closed_fault(&self) -> Option<Refusal>
-        ensures { (s : State) → StandsFor self.now s
-            → option_map refusal_of result ≡ first (fault_if (is_none s.transaction) NotInThisTransactionState) }
-    {
-        if self.rows.has_transaction() {
-            None
-        } else {
-            Some(Refusal::NotInThisTransactionState)
         }
     }
 
@@ -63,31 +53,18 @@ impl Engine {
         }
     }
 
-    /// The fault of the transaction or the clock that keeps a statement from running, whatever else is wrong with it.
-    fn state_fault(&self, statement: &Statement<'_>) -> Option<Refusal>
-        ensures { (s : State) → StandsFor self.now s → option_map refusal_of result ≡ first (state_faults s (manner_refused (statement_of statement.now))) }
+    /// The fault of the transaction or the clock that keeps a statement from running, whatever else is wrong with it. AT itself asks
+    /// whether its moment is too early, and COMMIT and ROLLBACK whether a transaction is open.
+    pub(super) fn state_fault(&self, statement: &Statement<'_>) -> Option<Refusal>
+        ensures { (s : State) → StandsFor self.now s
+            → option_map refusal_of result ≡ first (state_faults s (asked_first (manner (statement_of statement.now)))) }
     {
         match statement {
             Statement::Create(_) | Statement::DropTable(_) | Statement::At(_) => self.open_fault(),
             Statement::Insert(_) | Statement::Update(_) | Statement::Delete(_) =>
                 self.undated_fault(),
-            Statement::Query(_) => None,
             Statement::StartTransaction => self.start_fault(),
-            Statement::Commit | Statement::Rollback => self.closed_fault(),
-        }
-    }
-
-    /// The refusal of a statement that was refused for this fault of names, kinds, forms or literals, or for memory. Faults of the
-    /// state come before the others.
-    pub(super) fn refusal_with(&self, statement: &Statement<'_>, fault: Refusal) -> Refusal
-        ensures { (s : State) → StandsFor self.now s → RefusedWith (first (state_faults s (manner_refused (statement_of statement.now)))) fault result }
-    {
-        if fault == Refusal::OutOfMemory {
-            return fault;
-        }
-        match self.state_fault(statement) {
-            Some(state) => state.earlier(fault),
-            None => fault,
+            Statement::Query(_) | Statement::Commit | Statement::Rollback => None,
         }
     }
 }

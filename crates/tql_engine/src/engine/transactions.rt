@@ -1,30 +1,26 @@
 //! START TRANSACTION, COMMIT and ROLLBACK. None of them takes memory, so none is refused for want of it.
-ghost use Rattle.std.specs.Prelude.{◌≡◌, ◌⊎◌, IfErr};
+ghost use Rattle.std.specs.Prelude.{◌≡◌, IfErr};
 
 use crate::engine::Engine;
 use tql_result::reply::{Reply, Verb};
-use tql_value::calendar::HIGH;
 use tql_value::refusal::Refusal;
 
 impl Engine {
     ghost use Rattle.tql_spec.specs.Machine as machine;
     ghost use Rattle.tql_spec.specs.Machine.{State, step};
     ghost use Rattle.tql_engine.specs.Stands.{StandsFor};
-    ghost use Rattle.tql_engine.specs.Effects.{DoesStep};
+    ghost use Rattle.tql_result.specs.Replies.{reply_of};
+    ghost use Rattle.tql_engine.specs.Allowed.{IsIdle, HasTimeLeft};
+    ghost use Rattle.tql_engine.specs.Effects.{Does, DoesStep};
 
     /// START TRANSACTION, at the clock's moment.
-    pub(super) fn start(&mut self) -> Result<Reply, Refusal>
-        ensures answered { (s : State) → StandsFor self.old s → DoesStep self.new s result (step s machine.Start) }
-        ensures reason { IfErr result (λ e. (e ≡ Refusal.NotInThisTransactionState) ⊎ (e ≡ Refusal.MomentNotAllowed)) }
+    pub(super) fn start(&mut self) -> Reply
+        requires closed { IsIdle self.old }
+        requires below { HasTimeLeft self.old }
+        ensures { (s : State) → StandsFor self.old s → Does self.new (reply_of result) (step s machine.Start) }
     {
-        if self.rows.has_transaction() {
-            return Err(Refusal::NotInThisTransactionState);
-        }
-        if self.next >= HIGH {
-            return Err(Refusal::MomentNotAllowed);
-        }
         self.rows.begin(self.next);
-        Ok(Reply::Done(Verb::Started, None))
+        Reply::Done(Verb::Started, None)
     }
 
     /// COMMIT: what the open transaction changed stays, and the clock goes on by a microsecond, also where nothing was

@@ -1,29 +1,24 @@
-use Rattle.std.proofs.Common.{rules, ap, sym, subst, ◌∙◌, ◌≡◌, false}
-use Rattle.std.specs.Prelude.{is_some}
+use Rattle.std.proofs.Common.{rules, sym, subst, ◌≡◌, false}
+use Rattle.std.specs.Prelude.{IsNone}
 use Rattle.std.proofs.Math.Facts.{to_z-of_z}
 use Rattle.tql_spec.specs.Machine.{State, is_not_later}
 use Rattle.tql_engine.specs.Stands.{Held, StandsFor}
 use Rattle.tql_engine.proofs.Standing.{last_law, clock_law}
-use Rattle.tql_engine.proofs.Doing.{clock_open, clock_refused, clock_set}
+use Rattle.tql_engine.proofs.Doing.{clock_refused, clock_set}
 use Rattle.tql_engine.proofs.engine.Engine.at.Goals as goal
 
-pub returns-then-has_transaction-clause-answered : goal.returns-then-has_transaction-clause-answered
-returns-then-has_transaction-clause-answered c s st =
-    clock_open _ s _ st (ap (λ (h : Held). is_some h.rows.working) (sym c.self.view_is) ∙ sym c.has_transaction.ensures ∙ c.if-has_transaction.true)
-
 pub returns-then-is_not_later-clause-answered : goal.returns-then-is_not_later-clause-answered
-returns-then-is_not_later-clause-answered c s st =
-    clock_refused _ s _ st (ap (λ (h : Held). is_some h.rows.working) (sym c.self.view_is) ∙ sym c.has_transaction.ensures ∙ c.if-has_transaction.false) (search rules)
+returns-then-is_not_later-clause-answered c s st = clock_refused _ s _ st c.requires.closed (search rules)
 
 pub returns-clause-answered : goal.returns-clause-answered
 returns-clause-answered c s st =
     let inside = subst (λ h. StandsFor h s) (sym c.self.view_is) st in
-    let closed = sym c.has_transaction.ensures ∙ c.if-has_transaction.false in
-    rw (to_z-of_z c.ranges.moment) (clock_set _ s _ inside closed (search rules) c.requires.0 c.requires.1)
+    let closed = subst (λ (h : Held). IsNone h.rows.working) (sym c.self.view_is) c.requires.closed in
+    rw (to_z-of_z c.ranges.moment) (clock_set _ s _ inside closed (search rules) c.requires.moment.0 c.requires.moment.1)
 
 pub invariant_of-self : goal.invariant_of-self
 invariant_of-self c =
     let s : State = c.self.invariant.state in
-    let closed = sym c.has_transaction.ensures ∙ c.if-has_transaction.false in
+    let closed = subst (λ (h : Held). IsNone h.rows.working) (sym c.self.view_is) c.requires.closed in
     let later : is_not_later c.args.moment s.history ≡ false = rw (last_law _ s c.args.moment c.self.invariant.stands) (search rules) in
-    rw (to_z-of_z c.ranges.moment) (record { state = record s { next = c.args.moment }; stands = clock_law _ s _ c.self.invariant.stands closed later c.requires.0 c.requires.1 })
+    rw (to_z-of_z c.ranges.moment) (record { state = record s { next = c.args.moment }; stands = clock_law _ s _ c.self.invariant.stands closed later c.requires.moment.0 c.requires.moment.1 })

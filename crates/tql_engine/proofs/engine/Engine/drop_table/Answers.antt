@@ -1,15 +1,14 @@
-use Rattle.std.proofs.Common.{◌∙◌, ap, sym, subst}
-use Rattle.std.specs.Prelude.{is_some}
+use Rattle.std.proofs.Common.{sym, subst}
+use Rattle.std.specs.Prelude.{IsNone}
 use Rattle.tql_spec.specs.Machine.{State, without_table}
 use Rattle.tql_engine.specs.Stands.{Held, StandsFor}
 use Rattle.tql_engine.proofs.Standing.{there_law}
 use Rattle.tql_engine.proofs.DropKeeps.{drop_law}
-use Rattle.tql_engine.proofs.Doing.{drop_refused, drop_does}
+use Rattle.tql_engine.proofs.Doing.{drop_does}
 use Rattle.tql_engine.proofs.engine.Engine.drop_table.Goals as goal
 
-pub returns-then-has_transaction-clause-answered : goal.returns-then-has_transaction-clause-answered
-returns-then-has_transaction-clause-answered c s st =
-    drop_refused _ s c.args.place st (ap (λ (h : Held). is_some h.rows.working) (sym c.self.view_is) ∙ sym c.has_transaction.ensures ∙ c.if-has_transaction.true)
+pub drop_table-requires-clause-closed : goal.drop_table-requires-clause-closed
+drop_table-requires-clause-closed c = subst (λ (h : Held). IsNone h.rows.working) (sym c.self.view_is) c.requires.closed
 
 pub drop_table-requires-clause-present : goal.drop_table-requires-clause-present
 drop_table-requires-clause-present c = there_law _ c.self.invariant.state c.args.place c.remove-table.result c.self.invariant.stands c.remove-table.ensures.taken
@@ -17,16 +16,17 @@ drop_table-requires-clause-present c = there_law _ c.self.invariant.state c.args
 pub invariant_of-self : goal.invariant_of-self
 invariant_of-self c =
     let s : State = c.self.invariant.state in
+    let closed = subst (λ (h : Held). IsNone h.rows.working) (sym c.self.view_is) c.requires.closed in
     record {
       state = without_table c.args.place s;
-      stands = drop_law _ s c.args.place c.remove-table.result _ _ c.self.invariant.stands (sym c.has_transaction.ensures ∙ c.if-has_transaction.false) c.remove-table.ensures.taken c.remove-table.ensures.others
+      stands = drop_law _ s c.args.place c.remove-table.result _ _ c.self.invariant.stands closed c.remove-table.ensures.taken c.remove-table.ensures.others
           c.drop_table.ensures.places c.drop_table.ensures.count c.drop_table.ensures.slots c.drop_table.ensures.copies;
     }
 
-pub returns-clause-answered : goal.returns-clause-answered
-returns-clause-answered c s st =
+pub returns : goal.returns
+returns c s st =
     let inside = subst (λ (h : Held). StandsFor h s) (sym c.self.view_is) st in
-    let closed = sym c.has_transaction.ensures ∙ c.if-has_transaction.false in
+    let closed = subst (λ (h : Held). IsNone h.rows.working) (sym c.self.view_is) c.requires.closed in
     drop_does _ _ s c.args.place inside closed
     (drop_law _ s c.args.place c.remove-table.result _ _ inside closed c.remove-table.ensures.taken c.remove-table.ensures.others
     c.drop_table.ensures.places c.drop_table.ensures.count c.drop_table.ensures.slots c.drop_table.ensures.copies)

@@ -1,28 +1,44 @@
-use Rattle.std.proofs.Common.{◌≡◌, ◌∙◌, sym, ap, subst, List, None, Err}
+use Rattle.std.proofs.Common.{◌≡◌, ◌∙◌, sym, ap, subst, List, Some, None, Err}
+use Rattle.std.specs.Prelude.{option_map}
 use Rattle.tql_spec.specs.Binding.{bind}
 use Rattle.tql_spec.specs.Definition.{TableDef}
 use Rattle.tql_spec.specs.Refusal.{first}
 use Rattle.tql_tree.specs.Statements.{statement_of}
+use Rattle.tql_value.specs.Refusals.{refusal_of}
 use Rattle.tql_bind.specs.Bounds.{IsSound, bound_of}
 use Rattle.tql_catalog.specs.Tables.{definitions_of}
 use Rattle.tql_engine.specs.Stands.{Held, StandsFor}
 use Rattle.tql_engine.proofs.Printing.{does_print}
 use Rattle.tql_define.specs.Binds.{Binds}
-use Rattle.tql_engine.proofs.Joining.{bound_does, refusal_does}
+use Rattle.tql_engine.proofs.Joining.{state_does, bound_allowed, bound_does, refusal_does}
 use Rattle.tql_engine.proofs.engine.Engine.execute.Goals as goal
 
-pub perform-requires : goal.perform-requires
-perform-requires c =
+pub returns-in-Some-clause-answered : goal.returns-in-Some-clause-answered
+returns-in-Some-clause-answered c s st =
+    state_does _ s (statement_of c.args.statement.now) c.in-Some.fault st (ap (option_map refusal_of) (sym c.in-Some.is) ∙ c.state_fault.ensures s st)
+
+pub perform-requires-clause-sound : goal.perform-requires-clause-sound
+perform-requires-clause-sound c =
     let tables = ap (λ (h : Held). definitions_of h.tables) (sym c.self.view_is) in
     subst (λ (ds : List TableDef). IsSound ds c.in-Ok.bound) (sym tables) c.in-Ok.ensures.sound
+
+pub perform-requires-clause-allowed : goal.perform-requires-clause-allowed
+perform-requires-clause-allowed c =
+    let s = c.self.invariant.state in
+    let st = c.self.invariant.stands in
+    let back = subst (λ (h : Held). StandsFor h s) c.self.view_is st in
+    let t = statement_of c.args.statement.now in
+    let same = st.fits.definitions in
+    let none = subst (λ (ds : List TableDef). first (bind ds t).faults ≡ None) (sym same) c.in-Ok.ensures.binds.0 in
+    let is = ap (λ (ds : List TableDef). (bind ds t).value) same ∙ c.in-Ok.ensures.binds.1 in
+    bound_allowed c.args.self.now s t c.in-Ok.bound back (ap (option_map refusal_of) (sym c.in_default.is) ∙ c.state_fault.ensures s back) none is
 
 pub returns-in-Ok-clause-answered : goal.returns-in-Ok-clause-answered
 returns-in-Ok-clause-answered c s st =
     let t = statement_of c.args.statement.now in
-    let tables = ap (λ (h : Held). definitions_of h.tables) (sym c.self.view_is) in
-    let same = st.fits.definitions ∙ tables in
+    let same = st.fits.definitions ∙ ap (λ (h : Held). definitions_of h.tables) (sym c.self.view_is) in
     let none = subst (λ (ds : List TableDef). first (bind ds t).faults ≡ None) (sym same) c.in-Ok.ensures.binds.0 in
-    let is = ap (λ (ds : List TableDef). (bind ds t).value) same ∙ c.in-Ok.ensures.binds.1 ∙ ap (λ (ds : List TableDef). bound_of ds c.in-Ok.bound) (sym tables) in
+    let is = ap (λ (ds : List TableDef). (bind ds t).value) same ∙ c.in-Ok.ensures.binds.1 in
     bound_does _ s t _ c.perform.result none is (c.perform.ensures s st)
 
 pub returns-in-Ok-clause-printable : goal.returns-in-Ok-clause-printable
@@ -31,14 +47,11 @@ returns-in-Ok-clause-printable c =
     let st = subst (λ (h : Held). StandsFor h s) c.self.view_is c.self.invariant.stands in
     let tables = ap (λ (h : Held). definitions_of h.tables) (sym c.self.view_is) in
     let sound = subst (λ (ds : List TableDef). IsSound ds c.in-Ok.bound) (sym tables) c.in-Ok.ensures.sound in
-    does_print c.args.self.now _ s st c.in-Ok.bound sound c.perform.result (c.perform.ensures s st)
+    does_print c.plain_queries_select.ensures.selects c.args.self.now _ s st c.in-Ok.bound sound c.perform.result (c.perform.ensures s st)
 
-pub returns-in-Err : goal.returns-in-Err
-returns-in-Err c = record {
-  answered = λ s st.
-      let t = statement_of c.args.statement.now in
-      let tables = ap (λ (h : Held). definitions_of h.tables) (sym c.self.view_is) in
-      let binds = subst (λ (ds : List TableDef). Binds (bound_of (definitions_of c.self.inside.tables)) (bind ds t) (Err c.in-Err.fault)) (sym (st.fits.definitions ∙ tables)) c.in-Err.ensures.binds in
-      refusal_does (bound_of (definitions_of c.self.inside.tables)) c.args.self.now s t c.in-Err.fault c.refusal_with.result st binds (c.refusal_with.ensures s st);
-  printable = tt;
-}
+pub returns-in-Err-clause-answered : goal.returns-in-Err-clause-answered
+returns-in-Err-clause-answered c s st =
+    let t = statement_of c.args.statement.now in
+    let tables = ap (λ (h : Held). definitions_of h.tables) (sym c.self.view_is) in
+    let binds = subst (λ (ds : List TableDef). Binds bound_of (bind ds t) (Err c.in-Err.fault)) (sym (st.fits.definitions ∙ tables)) c.in-Err.ensures.binds in
+    refusal_does bound_of c.args.self.now s t c.in-Err.fault st (ap (option_map refusal_of) (sym c.in_default.is) ∙ c.state_fault.ensures s st) binds

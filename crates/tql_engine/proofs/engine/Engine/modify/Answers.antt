@@ -1,11 +1,108 @@
-use Rattle.std.proofs.Common.{sym, ◌∙◌}
-use Rattle.tql_bound.specs.Changes.{modification_of}
-use Rattle.tql_engine.proofs.Standing.{place_law}
-use Rattle.tql_engine.proofs.Doing.{change_refused}
+use Rattle.std.proofs.Common.{◌≡◌, ◌∙◌, sym, subst, List, Some, None, Ok, ℕ}
+use Rattle.std.specs.Prelude.{IsNone, ◌<ℤ◌, slice_get, IsTrue}
+use Rattle.std.proofs.lemmas.List.Elements.{recursion_from_All}
+use Rattle.tql_spec.specs.Calendar.{high}
+use Rattle.tql_spec.specs.Datum.{Row}
+use Rattle.tql_spec.specs.Change.{modify}
+use Rattle.tql_spec.specs.Machine.{State}
+use Rattle.tql_store.specs.Slots.{has_table}
+use Rattle.tql_catalog.specs.Rows.{IsRowOf}
+use Rattle.tql_bound.specs.Works.{work_of}
+use Rattle.tql_bound.specs.declared.change.Modification.{Modification}
+use Rattle.tql_dml.specs.Alters.{conds_in}
+use Rattle.tql_value.specs.Views.{rows_of}
+use Rattle.tql_catalog.specs.declared.catalog.Table.{Table}
+use Rattle.tql_engine.specs.Committing.{ChangesRows, KeepsRows}
+use Rattle.tql_engine.specs.Modifying.{Makes, Made}
+use Rattle.tql_engine.specs.Stands.{Held, StandsFor}
+use Rattle.tql_engine.proofs.MomentFits.{clock_reads, clock_under, after_reads}
+use Rattle.tql_engine.proofs.Standing.{place_law, there_law}
+use Rattle.tql_engine.proofs.ChangeKeeps.{kept_law, working_now, working_rows, with_table_rows}
+use Rattle.tql_engine.proofs.Modifying.{modify_errs, modify_does, rows_modified, read_fit, table_there, gone_within, gone_judged}
 use Rattle.tql_engine.proofs.engine.Engine.modify.Goals as goal
 
-pub change_by-requires-clause-within : goal.change_by-requires-clause-within
-change_by-requires-clause-within c = place_law c.args.self.now.tables c.args.modification.now.table c.requires
+pub delta_of-requires : goal.delta_of-requires
+delta_of-requires c = place_law c.args.self.now.tables c.args.modification.now.table c.requires.within
 
-pub returns-then-lacks_moment : goal.returns-then-lacks_moment
-returns-then-lacks_moment c s st = change_refused _ s (modification_of c.args.modification.now) st (sym c.lacks_moment.ensures ∙ c.if-lacks_moment.true)
+pub returns-in-Err : goal.returns-in-Err
+returns-in-Err c s st =
+    let x : Modification = c.args.modification.now in
+    let t = table_there c.args.self.now.tables x.table (place_law c.args.self.now.tables x.table c.requires.within) in
+    modify_errs c.changes_keep_no_order.ensures c.changes_by_parts.ensures c.args.self.now s t.0 x st t.1 c.requires.below c.in-Err.refusal (c.in-Err.ensures t.0 t.1)
+
+pub change_rows-requires-clause-later : goal.change_rows-requires-clause-later
+change_rows-requires-clause-later c = clock_under _ c.self.invariant.state c.self.invariant.stands
+
+pub change_rows-requires-clause-present : goal.change_rows-requires-clause-present
+change_rows-requires-clause-present c =
+    let x : Modification = c.args.modification.now in
+    let t = table_there c.args.self.now.tables x.table (place_law c.args.self.now.tables x.table c.requires.within) in
+    let there = subst (λ (h : Held). slice_get h.tables x.table ≡ Some t.0) (sym c.self.view_is) t.1 in
+    let made = c.in-Ok.ensures t.0 t.1 in
+    subst (λ i. IsTrue (has_table c.self.inside.rows i)) (sym made.alters.table) (there_law _ c.self.invariant.state x.table t.0 c.self.invariant.stands there)
+
+pub change_rows-requires-clause-within : goal.change_rows-requires-clause-within
+change_rows-requires-clause-within c =
+    let x : Modification = c.args.modification.now in
+    let t = table_there c.args.self.now.tables x.table (place_law c.args.self.now.tables x.table c.requires.within) in
+    gone_within c.self.inside.rows t.0 x c.in-Ok.delta (subst (λ (h : Held). Made h.rows t.0 x (Ok c.in-Ok.delta)) (sym c.self.view_is) (c.in-Ok.ensures t.0 t.1))
+
+pub invariant_of-self : goal.invariant_of-self
+invariant_of-self c =
+    let s : State = c.self.invariant.state in
+    let st = c.self.invariant.stands in
+    let x : Modification = c.args.modification.now in
+    let t = table_there c.args.self.now.tables x.table (place_law c.args.self.now.tables x.table c.requires.within) in
+    let p : Table = t.0 in
+    let there = subst (λ (h : Held). slice_get h.tables x.table ≡ Some p) (sym c.self.view_is) t.1 in
+    let made : Made c.self.inside.rows p x (Ok c.in-Ok.delta) = subst (λ (h : Held). Made h.rows p x (Ok c.in-Ok.delta)) (sym c.self.view_is) (c.in-Ok.ensures p t.1) in
+    let rows : List Row = rows_of c.in-Ok.delta.added.items in
+    let removed : List ℕ = c.in-Ok.delta.removed.items in
+    let after = c.in-Ok-change_rows.next in
+    let below = subst (λ (h : Held). IsNone h.rows.working → h.next <ℤ high) (sym c.self.view_is) c.requires.below in
+    let fit = recursion_from_All (IsRowOf p.definition) rows (made.fits (read_fit _ s x.table p made.found st there made.answers)) in
+    let old = c.self.inside.rows in
+    let new = c.change_rows.new.store in
+    let m = (working_now s).moment in
+    let clocked = subst (λ n. ChangesRows old.working n after c.in-Ok.delta.table removed rows old new) (clock_reads _ s st) c.in-Ok-change_rows.ensures.ok in
+    let done = subst (λ i. ChangesRows old.working c.self.inside.next after i removed rows old new) made.alters.table clocked in
+    rw (after_reads _ s after p.id removed rows new st below done)
+    (record {
+      state = with_table_rows s x.table (modify p.definition m (working_rows s x.table) None (work_of x.terms x.work) (conds_in x)).rows;
+      stands = rows_modified c.changes_keep_no_order.ensures c.changes_by_parts.ensures _ s p x st there below made.found made.answers rows removed new after fit (gone_judged old p x c.in-Ok.delta made) done made.alters.added made.alters.sound;
+    })
+
+pub invariant_of-self-in-Err-change_rows : goal.invariant_of-self-in-Err-change_rows
+invariant_of-self-in-Err-change_rows c =
+    let s : State = c.self.invariant.state in
+    let st = c.self.invariant.stands in
+    let old = c.self.inside.rows in
+    let kept = subst (λ m. KeepsRows old.working m old c.change_rows.new.store) (clock_reads _ s st) c.in-Err-change_rows.ensures.err in
+    record { state = s; stands = kept_law _ s c.change_rows.new.store st kept }
+
+pub returns-in-Ok-change_rows : goal.returns-in-Ok-change_rows
+returns-in-Ok-change_rows c s st =
+    let back = subst (λ h. StandsFor h s) (sym c.self.view_is) st in
+    let x : Modification = c.args.modification.now in
+    let t = table_there c.args.self.now.tables x.table (place_law c.args.self.now.tables x.table c.requires.within) in
+    let p : Table = t.0 in
+    let there = subst (λ (h : Held). slice_get h.tables x.table ≡ Some p) (sym c.self.view_is) t.1 in
+    let made : Made c.self.inside.rows p x (Ok c.in-Ok.delta) = subst (λ (h : Held). Made h.rows p x (Ok c.in-Ok.delta)) (sym c.self.view_is) (c.in-Ok.ensures p t.1) in
+    let rows : List Row = rows_of c.in-Ok.delta.added.items in
+    let removed : List ℕ = c.in-Ok.delta.removed.items in
+    let after = c.in-Ok-change_rows.next in
+    let below = subst (λ (h : Held). IsNone h.rows.working → h.next <ℤ high) (sym c.self.view_is) c.requires.below in
+    let fit = recursion_from_All (IsRowOf p.definition) rows (made.fits (read_fit _ s x.table p made.found back there made.answers)) in
+    let old = c.self.inside.rows in
+    let new = c.change_rows.new.store in
+    let clocked = subst (λ n. ChangesRows old.working n after c.in-Ok.delta.table removed rows old new) (clock_reads _ s back) c.in-Ok-change_rows.ensures.ok in
+    let done = subst (λ i. ChangesRows old.working c.self.inside.next after i removed rows old new) made.alters.table clocked in
+    rw (after_reads _ s after p.id removed rows new back below done, c.verb_of.ensures x.terms)
+    (modify_does c.changes_keep_no_order.ensures c.changes_by_parts.ensures _ s p x back there below made.found made.answers rows removed new after c.in-Ok.delta.count fit (gone_judged old p x c.in-Ok.delta made) done made.alters.added made.alters.sound made.alters.count)
+
+pub returns-in-Err-change_rows : goal.returns-in-Err-change_rows
+returns-in-Err-change_rows c s st =
+    let back = subst (λ h. StandsFor h s) (sym c.self.view_is) st in
+    let old = c.self.inside.rows in
+    let kept = subst (λ m. KeepsRows old.working m old c.change_rows.new.store) (clock_reads _ s back) c.in-Err-change_rows.ensures.err in
+    rw c.in-Err-change_rows.ensures.memory (kept_law _ s c.change_rows.new.store back kept)
