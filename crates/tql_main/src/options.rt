@@ -13,8 +13,8 @@ static VERSION: &str = "0.1.0, proved with rattle-kit-13b logic dac8208d650f15bf
 
 /// What help tells below the arguments.
 static NOTES: &str =
-    "A statement ends in `;`. Replies go to the standard output. Which statements were refused, with their lines, and why a run
-stopped go to the standard error.
+    "A statement ends in `;`. Replies go to the standard output; which statements were refused, and why a run
+stopped, go to the standard error.
 Nothing is kept when the program ends. The language is described in docs/LANGUAGE.md of the sources.
 
 Exit status:
@@ -105,8 +105,8 @@ fn file_named<'a>(word: Option<&'a str>) -> Option<&'a str>
     }
 }
 
-/// Reads the command line `tql [--check] [--quiet] [SCRIPT]`, of which the first word is the program's name; `-` is the standard
-/// input. An error is help or the version that was asked for, a mistake in the words, or want of memory.
+/// Reads the command line `tql [--check] [--quiet] [SCRIPT]`, of which the first word is the program's name; `-` is the
+/// standard input. An error is help or the version that was asked for, a mistake in the words, or want of memory.
 pub fn options<'a>(alloc: Global, words: &'a [String]) -> Result<CommandLine<'a>, Error>
     ensures check { IfOk result (λ o. TellsFlag (check_in (map string_bytes words.entry.now)) o.check) }
     ensures quiet { IfOk result (λ o. TellsFlag (quiet_in (map string_bytes words.entry.now)) o.quiet) }

@@ -1,0 +1,36 @@
+//! The engine for programs of your own: an in-memory bitemporal table engine, each of its answers proved.
+//!
+//! Make the memory that everything is kept in, and an engine in it; give it a script, or one statement after another, and read the
+//! replies. A run tells a listener which statements were refused, and on which lines. Nothing is kept when the engine is let go.
+//!
+//! ```text
+//! let memory = memory(rt.alloc(), u64::MAX)?;
+//! let mut engine = Engine::new(memory);
+//! let mut output = Vec::new(memory);
+//! let end = run_bytes(&mut engine, b"CREATE TABLE pay (cents INTEGER); INSERT INTO pay VALUES (300000);", &mut output);
+//! if let Reply::Table(rows) = &engine.step(b"SELECT * FROM pay") {
+//!     // rows.headings, and rows.rows: for each row a value for each column
+//! }
+//! ```
+//!
+//! `crates/embedding` is a program that does so. `docs/LANGUAGE.md` is the language; what is proved of each function stands in its contract.
+#![tactic(auto)]
+
+pub use tql_engine::engine::Engine;
+pub use tql_engine::run::{run, run_bytes};
+pub use tql_memory::{Memory, memory};
+pub use tql_result::device::DeviceFault;
+pub use tql_result::reply::{Reply, Verb};
+pub use tql_result::sink::Sink;
+pub use tql_result::std_sink::StdSink;
+pub use tql_result::vec_sink::VecSink;
+pub use tql_run::device::Source;
+pub use tql_run::listener::Listener;
+pub use tql_run::note::Note;
+pub use tql_run::notes::Notes;
+pub use tql_run::run::{Fault, Summary};
+pub use tql_run::silence::Silence;
+pub use tql_run::slice_source::SliceSource;
+pub use tql_run::std_source::StdSource;
+pub use tql_value::refusal::Refusal;
+pub use tql_value::value::{Rows, Value, View};
