@@ -40,15 +40,9 @@ fn over_no_rows<'a>(terms: &Terms, which: Aggregate) -> Result<View<'a>, Range>
 }
 
 /// A row that owns its values, column by column. Up to four values take no memory beside that of their texts.
+#[derive(Drop)]
 pub struct Row {
     cells: SmallVec<Value, 4, Memory>,
-}
-
-impl Drop for Row {
-    fn drop(self) {
-        let Row { cells } = self;
-        drop(cells);
-    }
 }
 
 impl Model for Row {

@@ -54,11 +54,10 @@ impl Terms {
     ghost use Rattle.std.specs.Prelude.{◌≡◌, ◌<◌, [], IsTrue, MatchResult, length};
     ghost use Rattle.tql_spec.specs.Expression as tree;
     ghost use Rattle.tql_value.specs.Views.{datum_of_value, datum_of_view, plain_comparison};
-    ghost use Rattle.tql_spec.specs.Datum.{AtLeast, AtMost};
     ghost use Rattle.tql_period.specs.Relations.{plain_relation};
     ghost use Rattle.tql_expr.specs.Nodes.{reads_before};
     ghost use Rattle.tql_expr.specs.Trees.{node_term, term_in, plain_operation, plain_function};
-    ghost use Rattle.tql_expr.specs.Meaning.{trees, size, expr, cond, datum_at, HasExpr, HasCond, Adds, AddsExpr, AddsCond, BuildsCond};
+    ghost use Rattle.tql_expr.specs.Meaning.{trees, size, expr, cond, datum_at, HasExpr, HasCond, Adds, AddsExpr, AddsCond};
 
     /// No terms yet.
     pub fn new(memory: Memory) -> Terms
@@ -231,20 +230,6 @@ impl Terms {
     {
         let place = self.push(Node::Or(c.place, d.place))?;
         Ok(CondId { place })
-    }
-
-    /// Adds `x BETWEEN low AND up`.
-    pub fn push_between(&mut self, x: ExprId, low: ExprId, up: ExprId) -> Result<CondId, AllocError>
-        requires value { HasExpr self.old x }
-        requires low { HasExpr self.old low }
-        requires up { HasExpr self.old up }
-        ensures { BuildsCond self.old self.new result
-            (tree.And (tree.Compare AtLeast (expr self.old x) (expr self.old low))
-            (tree.Compare AtMost (expr self.old x) (expr self.old up))) }
-    {
-        let above = self.push_compare(Comparison::GreaterOrEqual, x, low)?;
-        let below = self.push_compare(Comparison::LessOrEqual, x, up)?;
-        self.push_and(above, below)
     }
 
     /// The node at a place: it names operands before itself, and what it stands for is made of theirs.
