@@ -163,8 +163,8 @@ past_blank bytes rest n p e z = record {
   parts = cut_in_two (suc n) p.used bytes rest p.parts;
   same = λ more. p.same more ∙ statements_ends rest more n e ∙ ap (λ (o : List Piece). o ++ statements (drop (suc n) rest ++ more)) (one_none (without_lead false (take n rest)) true z);
   placed = λ ahead more. p.placed ahead more ∙ placed_ends (ahead ++ p.used) rest more n e
-    ∙ ap (λ (o : List Placed). o ++ placed_from ((ahead ++ p.used) ++ take n rest ++ 59 ∷ []) (drop (suc n) rest ++ more)) (placed_none ((ahead ++ p.used) ++ lead false (take n rest)) (without_lead false (take n rest)) true z)
-    ∙ ap (λ (q : List ℕ). placed_from q (drop (suc n) rest ++ more)) (passed_on ahead p.used rest n e);
+      ∙ ap (λ (o : List Placed). o ++ placed_from ((ahead ++ p.used) ++ take n rest ++ 59 ∷ []) (drop (suc n) rest ++ more)) (placed_none ((ahead ++ p.used) ++ lead false (take n rest)) (without_lead false (take n rest)) true z)
+      ∙ ap (λ (q : List ℕ). placed_from q (drop (suc n) rest ++ more)) (passed_on ahead p.used rest n e);
 }
 
 -- where so many bytes end a list, what stands before them is taken
@@ -187,9 +187,9 @@ finished_before : (bytes used rest before : List ℕ) (n k : ℕ) → bytes ≡ 
 finished_before bytes used rest before n k e end m is =
     let text = without_lead false (take n rest) in
     let all : bytes ≡ (used ++ lead false (take n rest)) ++ ((text ++ 59 ∷ []) ++ drop (suc n) rest) =
-      cut_in_two (suc n) used bytes rest e
-      ∙ ap (λ (z : List ℕ). z ++ drop (suc n) rest) (finished_parts used rest n end ∙ append_assoc (used ++ lead false (take n rest)) text (59 ∷ []))
-      ∙ append_assoc (used ++ lead false (take n rest)) (text ++ 59 ∷ []) (drop (suc n) rest) in
+    cut_in_two (suc n) used bytes rest e
+    ∙ ap (λ (z : List ℕ). z ++ drop (suc n) rest) (finished_parts used rest n end ∙ append_assoc (used ++ lead false (take n rest)) text (59 ∷ []))
+    ∙ append_assoc (used ++ lead false (take n rest)) (text ++ 59 ∷ []) (drop (suc n) rest) in
     let count : length text + k ≡ length ((text ++ 59 ∷ []) ++ drop (suc n) rest) = omega (arith, m, length-append (text ++ 59 ∷ []) (drop (suc n) rest), length-append text (59 ∷ [])) in
     is ∙ before_end bytes (used ++ lead false (take n rest)) ((text ++ 59 ∷ []) ++ drop (suc n) rest) (length text + k) all count
 
@@ -203,9 +203,9 @@ begins bytes rest before n k p e z m is =
       parts = cut_in_two (suc n) p.used bytes rest p.parts;
       is = finished_parts p.used rest n e ∙ ap (λ (q : List ℕ). q ++ text ++ 59 ∷ []) (sym at);
       placed = λ ahead more. p.placed ahead more ∙ placed_ends (ahead ++ p.used) rest more n e
-        ∙ ap (λ (o : List Placed). o ++ placed_from ((ahead ++ p.used) ++ take n rest ++ 59 ∷ []) (drop (suc n) rest ++ more)) (placed_some ((ahead ++ p.used) ++ lead false (take n rest)) text true z)
-        ∙ ap (λ (q : List ℕ). record { before = (ahead ++ p.used) ++ lead false (take n rest); piece = finished_piece text } ∷ placed_from q (drop (suc n) rest ++ more)) (passed_on ahead p.used rest n e)
-        ∙ ap (λ (q : List ℕ). record { before = q; piece = finished_piece text } ∷ placed_from (ahead ++ (p.used ++ take (suc n) rest)) (drop (suc n) rest ++ more)) (append_assoc ahead p.used (lead false (take n rest)) ∙ ap (λ (q : List ℕ). ahead ++ q) (sym at));
+          ∙ ap (λ (o : List Placed). o ++ placed_from ((ahead ++ p.used) ++ take n rest ++ 59 ∷ []) (drop (suc n) rest ++ more)) (placed_some ((ahead ++ p.used) ++ lead false (take n rest)) text true z)
+          ∙ ap (λ (q : List ℕ). record { before = (ahead ++ p.used) ++ lead false (take n rest); piece = finished_piece text } ∷ placed_from q (drop (suc n) rest ++ more)) (passed_on ahead p.used rest n e)
+          ∙ ap (λ (q : List ℕ). record { before = q; piece = finished_piece text } ∷ placed_from (ahead ++ (p.used ++ take (suc n) rest)) (drop (suc n) rest ++ more)) (append_assoc ahead p.used (lead false (take n rest)) ∙ ap (λ (q : List ℕ). ahead ++ q) (sym at));
       given = λ more. p.same more ∙ statements_ends rest more n e ∙ ap (λ (o : List Piece). o ++ statements (drop (suc n) rest ++ more)) (one_some text true z);
     }
 
@@ -231,8 +231,8 @@ holds_unfinished bytes rest before p e z is =
       is = all ∙ ap (λ (q : List ℕ). q ++ text) (sym at);
       filled = z;
       placed = λ ahead. placed_now bytes rest ahead p ∙ placed_never (ahead ++ p.used) rest e
-        ∙ placed_some ((ahead ++ p.used) ++ lead false rest) text false z
-        ∙ ap (λ (q : List ℕ). record { before = q; piece = unfinished_piece text } ∷ []) (append_assoc ahead p.used (lead false rest) ∙ ap (λ (q : List ℕ). ahead ++ q) (sym at));
+          ∙ placed_some ((ahead ++ p.used) ++ lead false rest) text false z
+          ∙ ap (λ (q : List ℕ). record { before = q; piece = unfinished_piece text } ∷ []) (append_assoc ahead p.used (lead false rest) ∙ ap (λ (q : List ℕ). ahead ++ q) (sym at));
       given = same_now bytes rest p ∙ statements_never rest e ∙ one_some text false z;
     }
 
@@ -384,10 +384,10 @@ gives_first old items bytes left before text rest start last line finished ended
       passed = passed;
       before = take start items ++ before;
       placed = ap (λ (z : List ℕ). placed_from z old.left) (sym ahead)
-        ∙ ap (placed_from (take start items)) (sym was)
-        ∙ first_placed finished left before text rest (take start items) b
-        ∙ ap (λ (z : List ℕ). record { before = take start items ++ before; piece = record { text = text; finished = finished } } ∷ placed_from z rest) (sym taken)
-        ∙ ap (λ (z : List ℕ). record { before = take start items ++ before; piece = record { text = text; finished = finished } } ∷ placed_from (take (length bytes - length rest) items) z) (sym kept);
+          ∙ ap (placed_from (take start items)) (sym was)
+          ∙ first_placed finished left before text rest (take start items) b
+          ∙ ap (λ (z : List ℕ). record { before = take start items ++ before; piece = record { text = text; finished = finished } } ∷ placed_from z rest) (sym taken)
+          ∙ ap (λ (z : List ℕ). record { before = take start items ++ before; piece = record { text = text; finished = finished } } ∷ placed_from (take (length bytes - length rest) items) z) (sym kept);
       line = omega (arith, on, above);
       coming = λ more still. ap (λ (z : List ℕ). statements (z ++ more)) (sym was) ∙ first_coming finished left before text rest b (λ f. let no : false ≡ true = sym (sym open_still ∙ still) ∙ due f in cc) more ∙ ap (λ (z : List ℕ). record { text = text; finished = finished } ∷ statements (z ++ more)) (sym kept);
     }

@@ -43,7 +43,11 @@ impl Model for Splitter {
     ghost Value = { Stream };
 
     ghost view = { λ s. record {
-        left = drop s.start s.bytes.items; ended = s.ended; passed = take s.start s.bytes.items; line = s.line } };
+      left = drop s.start s.bytes.items;
+      ended = s.ended;
+      passed = take s.start s.bytes.items;
+      line = s.line;
+    } };
 
     ghost invariant = { λ s. (s.start ≤ vec_len s.bytes) × (s.feeds ≡ lines.line_feeds (take s.start s.bytes.items)) };
 }

@@ -50,7 +50,12 @@ fn run_script<R: Read + Drop>(
     let mut engine = Engine::new(memory);
     let mut source = StdSource::new(reader);
     let mut sink = StdSink::new(writer);
-    run(&mut engine, &mut source, &mut sink, &mut Complaints::new(rt, quiet))
+    run(
+        &mut engine,
+        &mut source,
+        &mut sink,
+        &mut Complaints::new(rt, quiet),
+    )
 }
 
 /// Checks a script, and prints what each of its statements is answered.
@@ -63,7 +68,12 @@ fn check_only<R: Read + Drop>(
     let writer = BufWriter::new(rt.alloc(), io::writer(rt)).map_err(|_| Fault::Memory)?;
     let mut source = StdSource::new(reader);
     let mut sink = StdSink::new(writer);
-    check_script(memory, &mut source, &mut sink, &mut Complaints::new(rt, quiet))
+    check_script(
+        memory,
+        &mut source,
+        &mut sink,
+        &mut Complaints::new(rt, quiet),
+    )
 }
 
 /// Runs a script, or checks it, as the options say.

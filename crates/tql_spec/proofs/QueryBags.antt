@@ -165,7 +165,7 @@ as_it_is (Some out) = refl
 -- what is left of it behind the filter
 kept_then : (items : List Expr) (o : Option (List Row))
     → (o >>= λ rows. filter_all (λ (s : Scope). passes s.group s.row []) (map alone rows) >>= λ kept.
-      map_all (λ (s : Scope). map_all (eval s.group s.row) items) kept >>= λ out. Some (if_distinct false out))
+    map_all (λ (s : Scope). map_all (eval s.group s.row) items) kept >>= λ out. Some (if_distinct false out))
     ≡ (o >>= λ rows. map_all (λ r. map_all (eval [] r) items) rows)
 kept_then items None = refl
 kept_then items (Some rows) =
@@ -177,5 +177,5 @@ pub plain : PlainQueriesSelect
 plain bag q r p =
     (λ i. answer_of bag (p.reference i) q.filter (p.ungrouped i) (p.unconditional i) q.items (p.all i))
     ∙ ap (λ rows. keep q.filter rows >>= λ rows. filter_all (λ (s : Scope). passes s.group s.row []) (map alone rows) >>= λ kept.
-      map_all (λ (s : Scope). map_all (eval s.group s.row) q.items) kept >>= λ out. Some (if_distinct false out)) (product_is (bag r))
+    map_all (λ (s : Scope). map_all (eval s.group s.row) q.items) kept >>= λ out. Some (if_distinct false out)) (product_is (bag r))
     ∙ kept_then q.items (keep q.filter (bag r))

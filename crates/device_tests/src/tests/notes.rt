@@ -62,7 +62,10 @@ fn notes_of(rt: &impl AllocGlobal, script: &[u8], setting: Setting) -> Result<No
 fn tells_where_refused_statements_stand(rt: HostRuntime) -> Result<(), Fail> {
     for size in [1, 3, usize::MAX] {
         let notes = notes_of(&rt, SCRIPT, Setting { size, ..SOUND })?;
-        assert!(rt; notes.is_whole && notes.kept.as_slice() == NOTES.as_slice(), "reads of {size}");
+        assert!(rt;
+            notes.is_whole && notes.kept.as_slice() == NOTES.as_slice(),
+            "reads of {size}"
+        );
     }
     Ok(())
 }
