@@ -18,6 +18,7 @@ fn changed_engine(memory: Memory) -> Option<Engine> {
         "START TRANSACTION",
         "DELETE FROM log",
         "INSERT INTO log VALUES ('two')",
+        "UPDATE log SET x = 'six' WHERE x = 'two'",
     ] {
         if !matches!(&engine.step(text.as_bytes()), Reply::Done(_, _)) {
             return None;
