@@ -1,3 +1,4 @@
+-- cases: growths
 -- Each new row is tested, of an UPDATE too: a text too long anywhere comes before NULL anywhere; a row that is not touched is not tested. By hand from docs/LANGUAGE.md.
 CREATE TABLE v (x INTEGER NOT NULL, c VARCHAR(2));
 INSERT INTO v VALUES (NULL, 'a'), (9223372036854775807 + 1, 'b');

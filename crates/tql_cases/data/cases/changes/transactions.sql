@@ -1,3 +1,4 @@
+-- cases: growths
 -- UPDATEs in a transaction that is rolled back, and in one that is committed: only its last row stays. By hand from docs/LANGUAGE.md.
 CREATE TABLE log (x INTEGER, s TIMESTAMP GENERATED ALWAYS AS ROW START, e TIMESTAMP GENERATED ALWAYS AS ROW END,
   PERIOD FOR SYSTEM_TIME (s, e)) WITH SYSTEM VERSIONING;
