@@ -1,18 +1,16 @@
 -- A change of rows by what it does to each: it does not see their order.
-use Rattle.std.proofs.Common.{◌≡◌, ◌≤◌, ◌<◌, ℕ, suc, ◌+◌, Bool, true, false, cond, List, [], ◌∷◌, ◌++◌, filter, flat_map, refl, sym, ap, subst, ◌∙◌, arith, inl, inr}
-use Rattle.std.specs.Prelude.{not, length, ℤ, Option, Some, None}
+use Rattle.std.proofs.Common.{◌≡◌, ℕ, ◌+◌, cond, List, [], ◌∷◌, ◌++◌, filter, flat_map, refl, sym, ap, ◌∙◌, arith}
+use Rattle.std.specs.Prelude.{not, Option, Some, None}
 use Rattle.std.specs.List.{sum_by}
 use Rattle.std.proofs.lemmas.List.Sums.{sum_by-cons, sum_by-append}
-use Rattle.tql_spec.specs.Words.{map_all, with_front}
+use Rattle.tql_spec.specs.Words.{map_all}
 use Rattle.tql_spec.specs.Bag.{SameBag}
-use Rattle.tql_spec.specs.Period.{Period}
-use Rattle.tql_spec.specs.Refusal.{Refusal, first}
-use Rattle.tql_spec.specs.Expression.{Cond}
 use Rattle.tql_spec.specs.Definition.{TableDef, Stamped, shown}
-use Rattle.tql_spec.specs.Change.{Outcome, Fate, Untouched, Replaced, after_fates, new_rows, touched_count, row_faults, Work, fate, outcome_of}
+use Rattle.tql_spec.specs.Change.{Fate, Untouched, Replaced, after_fates, new_rows, touched_count, row_faults, fate, outcome_of}
 use Rattle.tql_spec.specs.ChangeLaws.{SameOutcome, ChangesKeepNoOrder, goes, ChangesByParts}
-use Rattle.tql_spec.proofs.Bags.{sum-filter, sum-both, sum-same, same-flat_map, same-refl}
+use Rattle.tql_spec.proofs.Bags.{sum-filter, same-flat_map, same-refl}
 use Rattle.tql_spec.proofs.FaultBags.{first_by_bag}
+use Rattle.tql_spec.proofs.MappedBags.{lack_of, none_lacks, some_lacks}
 use Rattle.tql_spec.proofs.Steady.{front_is}
 
 -- ---- what is weighed of one row
@@ -32,11 +30,6 @@ new_of w (Some (Replaced new)) = sum_by w new
 -- one for a row that is touched
 abbrev touch_of : Option Fate → ℕ
 touch_of o = cond (goes o) 1 0
-
--- one for a row whose fate is out of range
-abbrev lack_of : Option Fate → ℕ
-lack_of None = 1
-lack_of (Some y) = 0
 
 module _ (f : Stamped → Option Fate) where
   -- what is weighed of the rows after a change is weighed of each row
@@ -88,31 +81,6 @@ module _ (f : Stamped → Option Fate) where
       by_fate Untouched ys ih = omega (arith, ih)
       by_fate (Replaced new) ys ih = omega (arith, ih)
 
-  -- where there are all fates none is out of range
-  none_lacks : (rows : List Stamped) (fates : List Fate) → map_all f rows ≡ Some fates
-      → sum_by (λ r. lack_of (f r)) rows ≡ 0
-  none_lacks [] fates e = refl
-  none_lacks (x ∷ rows) fates e =
-      let k = front_is (f x) (map_all f rows) fates e in
-      let later = none_lacks rows k.tail k.more in
-      let here : lack_of (f x) ≡ 0 = ap lack_of k.one in
-      omega (arith, sum_by-cons (λ r. lack_of (f r)) x rows, here, later)
-
-  -- else some is
-  by_front : (x : Stamped) (rows : List Stamped) (o : Option Fate) (rest : Option (List Fate)) → f x ≡ o → map_all f rows ≡ rest → map_all f (x ∷ rows) ≡ None
-      → (map_all f rows ≡ None → 0 < sum_by (λ r. lack_of (f r)) rows) → 0 < sum_by (λ r. lack_of (f r)) (x ∷ rows)
-  by_front x rows None rest p q e later =
-      let lack : lack_of (f x) ≡ 1 = ap lack_of p in
-      omega (arith, sum_by-cons (λ r. lack_of (f r)) x rows, lack)
-  by_front x rows (Some y) None p q e later =
-      let more = later q in
-      omega (arith, sum_by-cons (λ r. lack_of (f r)) x rows, more)
-  by_front x rows (Some y) (Some ys) p q e later = absurd (cc)
-
-  some_lacks : (rows : List Stamped) → map_all f rows ≡ None → 0 < sum_by (λ r. lack_of (f r)) rows
-  some_lacks [] e = absurd (cc)
-  some_lacks (x ∷ rows) e = by_front x rows (f x) (map_all f rows) refl refl e (λ q. some_lacks rows q)
-
   -- ---- rows in another order
 
   -- the outcomes of two orders are the same
@@ -120,9 +88,9 @@ module _ (f : Stamped → Option Fate) where
       → map_all f rows ≡ o → map_all f others ≡ p → SameOutcome (outcome_of d rows o) (outcome_of d others p)
   same_outcome d rows others h None None e k = record { rows = h; count = refl; fault = refl }
   same_outcome d rows others h None (Some fates) e k =
-      absurd (omega (arith, some_lacks rows e, h.totals (λ r. lack_of (f r)), none_lacks others fates k))
+      absurd (omega (arith, some_lacks f rows e, h.totals (λ r. lack_of (f r)), none_lacks f others fates k))
   same_outcome d rows others h (Some fates) None e k =
-      absurd (omega (arith, some_lacks others k, h.totals (λ r. lack_of (f r)), none_lacks rows fates e))
+      absurd (omega (arith, some_lacks f others k, h.totals (λ r. lack_of (f r)), none_lacks f rows fates e))
   same_outcome d rows others h (Some fates) (Some gates) e k = record {
     rows = record {
       totals = λ w. left_total w rows fates e ∙ h.totals (λ r. left_of w r (f r)) ∙ sym (left_total w others gates k);

@@ -1,11 +1,10 @@
 -- The first fault depends on which faults are there alone.
-use Rattle.std.proofs.Common.{◌≡◌, ◌≤◌, ◌<◌, ℕ, suc, ◌+◌, Bool, true, false, cond, List, [], ◌∷◌, refl, sym, ap, subst, ◌∙◌, arith, inl, inr}
-use Rattle.std.specs.Prelude.{◌⊎◌, nat_lt, Option, Some, None, slice_get, if◌then◌else◌}
+use Rattle.std.proofs.Common.{◌≡◌, ◌≤◌, ◌<◌, ℕ, Bool, true, false, cond, List, [], ◌∷◌, refl, sym, ap, subst, ◌∙◌, arith, inl, inr}
+use Rattle.std.specs.Prelude.{nat_lt, Option, Some, None, slice_get, if◌then◌else◌}
 use Rattle.std.specs.List.{sum_by}
 use Rattle.std.proofs.lemmas.Bool.Decides.{nat_tests}
-use Rattle.std.proofs.lemmas.List.Sums.{sum_by-cons}
 use Rattle.tql_spec.specs.Bag.{SameBag, In}
-use Rattle.tql_spec.specs.Refusal.{Refusal, StatementTooLong, NotUtf8, UnfinishedStatement, NestedTooDeep, NotAStatement, TooManyColumnsOrTables, NotInThisTransactionState, MomentNotAllowed, ReadersAreOpen, TableUnknownOrAlreadyThere, NameUnknownAmbiguousOrRepeated, TypesDoNotFit, FormNotAllowedHere, TableIsReferenced, TooManyTablesOrReaders, BeforeTheHorizon, ReaderNotUsable, ValueOutOfRange, PortionNotRising, NullNotAllowed, PeriodNotRising, CheckFailed, DuplicateKey, ReferenceNotMet, OutOfMemory, place, earlier, first}
+use Rattle.tql_spec.specs.Refusal.{Refusal, StatementTooLong, NotUtf8, UnfinishedStatement, NestedTooDeep, NotAStatement, TooManyColumnsOrTables, NotInThisTransactionState, MomentNotAllowed, ReadersAreOpen, TableUnknownOrAlreadyThere, NameUnknownAmbiguousOrRepeated, TypesDoNotFit, FormNotAllowedHere, TableIsReferenced, TooManyTablesOrReaders, BeforeTheHorizon, ReaderNotUsable, ValueOutOfRange, PortionNotRising, NullNotAllowed, PeriodNotRising, CheckFailed, DuplicateKey, ReferenceNotMet, OutOfMemory, place, first}
 use Rattle.tql_spec.proofs.Members.{by_bool, sum-zero, sum-least}
 use Rattle.tql_spec.proofs.FirstFaults.{none_first}
 

@@ -28,5 +28,6 @@ pub mod FirstFaults
 pub mod LateNames
 pub mod LateFaults
 mod FaultBags
+mod MappedBags
 mod ChangeBags
 mod QueryBags

@@ -1,63 +1,18 @@
 -- A query of one table reference selects from its rows, and does not see their order.
-use Rattle.std.proofs.Common.{◌≡◌, ◌≤◌, ◌<◌, ℕ, ◌+◌, Bool, true, false, cond, List, [], ◌∷◌, ◌++◌, map, flat_map, refl, sym, ap, subst, ◌∙◌, arith}
+use Rattle.std.proofs.Common.{◌≡◌, ℕ, Bool, true, false, List, [], ◌∷◌, ◌++◌, map, flat_map, refl, sym, ap, subst, ◌∙◌, arith}
 use Rattle.std.specs.Prelude.{Option, Some, None}
-use Rattle.std.specs.List.{sum_by}
-use Rattle.std.proofs.lemmas.List.Sums.{sum_by-cons}
 use Rattle.std.proofs.lemmas.List.{append-nil}
 use Rattle.std.proofs.lemmas.List.Concat.{flat_map-cons}
 use Rattle.tql_spec.specs.Words.{◌>>=◌, map_all, filter_all, with_front, kept_if}
 use Rattle.tql_spec.specs.Bag.{SameBag}
 use Rattle.tql_spec.specs.Datum.{Row}
 use Rattle.tql_spec.specs.Expression.{Expr, Cond, eval, passes}
-use Rattle.tql_spec.specs.Query.{Query, Chain, Ref, Scope, pairs, product, chain_rows, keep, scopes, alone, if_distinct, answer}
-use Rattle.tql_spec.specs.QueryLaws.{selected, IsPlain, SameRows, PlainQueriesSelect, SelectionsKeepNoOrder}
+use Rattle.tql_spec.specs.Query.{Chain, Ref, Scope, pairs, product, chain_rows, keep, scopes, alone, if_distinct}
+use Rattle.tql_spec.specs.QueryLaws.{selected, SameRows, PlainQueriesSelect, SelectionsKeepNoOrder}
 use Rattle.tql_spec.proofs.Bags.{same-flat_map, same-refl}
-use Rattle.tql_spec.proofs.Steady.{front_is}
+use Rattle.tql_spec.proofs.MappedBags.{lack_of, weight_of, all_total, none_lacks, some_lacks}
 
 -- ---- what each row gives
-
-module _ {A B : Type 0} (f : A → Option B) where
-  -- one for a row that gives nothing
-  abbrev lack_of : Option B → ℕ
-  lack_of None = 1
-  lack_of (Some y) = 0
-
-  abbrev weight_of : (B → ℕ) → Option B → ℕ
-  weight_of w None = 0
-  weight_of w (Some y) = w y
-
-  -- what is weighed of all is weighed of each
-  all_total : (w : B → ℕ) (xs : List A) (ys : List B) → map_all f xs ≡ Some ys → sum_by w ys ≡ sum_by (λ x. weight_of w (f x)) xs
-  all_total w [] ys e = let q : [] ≡ ys = cc in ap (sum_by w) (sym q)
-  all_total w (x ∷ xs) ys e =
-      let k = front_is (f x) (map_all f xs) ys e in
-      ap (sum_by w) k.whole
-      ∙ sum_by-cons w k.head k.tail
-      ∙ ap (λ n. w k.head + n) (all_total w xs k.tail k.more)
-      ∙ ap (λ o. weight_of w o + sum_by (λ z. weight_of w (f z)) xs) (sym k.one)
-      ∙ sym (sum_by-cons (λ z. weight_of w (f z)) x xs)
-
-  none_lacks : (xs : List A) (ys : List B) → map_all f xs ≡ Some ys → sum_by (λ x. lack_of (f x)) xs ≡ 0
-  none_lacks [] ys e = refl
-  none_lacks (x ∷ xs) ys e =
-      let k = front_is (f x) (map_all f xs) ys e in
-      let later = none_lacks xs k.tail k.more in
-      let here : lack_of (f x) ≡ 0 = ap lack_of k.one in
-      omega (arith, sum_by-cons (λ z. lack_of (f z)) x xs, here, later)
-
-  by_front : (x : A) (xs : List A) (o : Option B) (rest : Option (List B)) → f x ≡ o → map_all f xs ≡ rest → map_all f (x ∷ xs) ≡ None
-      → (map_all f xs ≡ None → 0 < sum_by (λ z. lack_of (f z)) xs) → 0 < sum_by (λ z. lack_of (f z)) (x ∷ xs)
-  by_front x xs None rest p q e later =
-      let lack : lack_of (f x) ≡ 1 = ap lack_of p in
-      omega (arith, sum_by-cons (λ z. lack_of (f z)) x xs, lack)
-  by_front x xs (Some y) None p q e later =
-      let more = later q in
-      omega (arith, sum_by-cons (λ z. lack_of (f z)) x xs, more)
-  by_front x xs (Some y) (Some ys) p q e later = absurd (cc)
-
-  some_lacks : (xs : List A) → map_all f xs ≡ None → 0 < sum_by (λ x. lack_of (f x)) xs
-  some_lacks [] e = absurd (cc)
-  some_lacks (x ∷ xs) e = by_front x xs (f x) (map_all f xs) refl refl e (λ q. some_lacks xs q)
 
 -- both are none, or the bags are the same
 abbrev Same : {B : Type 0} → Option (List B) → Option (List B) → Type 0
@@ -69,10 +24,10 @@ Same (Some xs) None = ⊥
 mapped_same : {A B : Type 0} (f : A → Option B) (xs others : List A) → SameBag xs others → (o p : Option (List B))
     → map_all f xs ≡ o → map_all f others ≡ p → Same o p
 mapped_same f xs others h None None e k = tt
-mapped_same f xs others h None (Some ys) e k = absurd (omega (arith, some_lacks f xs e, h.totals (λ x. lack_of f (f x)), none_lacks f others ys k))
-mapped_same f xs others h (Some ys) None e k = absurd (omega (arith, some_lacks f others k, h.totals (λ x. lack_of f (f x)), none_lacks f xs ys e))
+mapped_same f xs others h None (Some ys) e k = absurd (omega (arith, some_lacks f xs e, h.totals (λ x. lack_of (f x)), none_lacks f others ys k))
+mapped_same f xs others h (Some ys) None e k = absurd (omega (arith, some_lacks f others k, h.totals (λ x. lack_of (f x)), none_lacks f xs ys e))
 mapped_same f xs others h (Some ys) (Some zs) e k = record {
-  totals = λ w. all_total f w xs ys e ∙ h.totals (λ x. weight_of f w (f x)) ∙ sym (all_total f w others zs k);
+  totals = λ w. all_total f w xs ys e ∙ h.totals (λ x. weight_of w (f x)) ∙ sym (all_total f w others zs k);
 }
 
 -- ---- rows that are kept are rows that give themselves
