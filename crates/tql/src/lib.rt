@@ -17,7 +17,7 @@
 #![tactic(auto)]
 
 pub use tql_engine::engine::Engine;
-pub use tql_engine::run::{run, run_bytes};
+pub use tql_engine::runner::{run, run_bytes};
 pub use tql_memory::{Memory, memory};
 pub use tql_result::device::DeviceFault;
 pub use tql_result::reply::{Reply, Verb};
@@ -28,7 +28,7 @@ pub use tql_run::device::Source;
 pub use tql_run::listener::Listener;
 pub use tql_run::note::Note;
 pub use tql_run::notes::Notes;
-pub use tql_run::run::{Fault, Summary};
+pub use tql_run::runner::{Fault, Summary};
 pub use tql_run::silence::Silence;
 pub use tql_run::slice_source::SliceSource;
 pub use tql_run::std_source::StdSource;

@@ -9,7 +9,7 @@ use tql_lex::splitter::{Piece, Splitter};
 use tql_memory::{Memory, memory};
 use tql_result::print::write_reply;
 use tql_result::std_sink::StdSink;
-use tql_run::run::Fault;
+use tql_run::runner::Fault;
 
 /// What a statement is answered that finds no memory.
 const NO_MEMORY: &[u8] = b"REFUSED E01 out of memory\n";

@@ -2,10 +2,10 @@
 use std::alloc::{AllocError, Global};
 use tql_check::check::check_script;
 use tql_engine::engine::Engine;
-use tql_engine::run::{run, run_bytes};
+use tql_engine::runner::{run, run_bytes};
 use tql_memory::{Memory, memory};
 use tql_result::vec_sink::VecSink;
-use tql_run::run::{Fault, Summary};
+use tql_run::runner::{Fault, Summary};
 use tql_run::silence::Silence;
 use tql_run::slice_source::SliceSource;
 

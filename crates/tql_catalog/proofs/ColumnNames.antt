@@ -1,6 +1,6 @@
 -- Columns by name and by number.
-use Rattle.std.proofs.Common.{◌≡◌, refl, ap, sym, ◌∙◌, ℕ, zero, suc, Bool, true, List, [], ◌∷◌, map, ◌<◌, length, arith}
-use Rattle.std.specs.Prelude.{slice_index_or, string_bytes, ◌||◌, ◌&&◌, nat_lt}
+use Rattle.std.proofs.Common.{◌≡◌, refl, ap, sym, ◌∙◌, ℕ, zero, suc, Bool, true, false, List, [], ◌∷◌, map, ◌<◌, length, arith, Bor, Option, Some}
+use Rattle.std.specs.Prelude.{slice_index_or, string_bytes, option_map, ◌||◌, ◌&&◌, nat_lt}
 use Rattle.std.specs.List.{list_any}
 use Rattle.std.proofs.lemmas.Bool.Decides.{nat_tests}
 use Rattle.std.proofs.lemmas.List.{length-map}
@@ -8,12 +8,17 @@ use Rattle.tql_spec.specs.Words.{same_text}
 use Rattle.tql_spec.specs.Datum.{Kind, Ints, Moments, same_kind}
 use Rattle.tql_spec.specs.Definition as spec
 use Rattle.tql_spec.specs.Definition.{Name}
-use Rattle.tql_spec.specs.Creation.{has_name}
+use Rattle.tql_spec.specs.Creation.{has_name, are_ends, application_name}
 use Rattle.tql_value.specs.Views.{plain_kind}
-use Rattle.tql_catalog.specs.Columns.{names_in, kinds_in}
-use Rattle.tql_catalog.specs.Defined.{is_moment_at}
-use Rattle.tql_catalog.specs.Definitions.{column_of}
+use Rattle.tql_catalog.specs.Columns.{names_in, kinds_in, required_in}
+use Rattle.tql_catalog.specs.Defined.{is_moment_at, is_required_at}
+use Rattle.tql_catalog.specs.Definitions.{column_of, application_of}
 use Rattle.tql_catalog.specs.declared.definition.Column.{Column}
+use Rattle.tql_catalog.specs.declared.definition.Application.{Application}
+
+or_false : (b : Bool) → b || false ≡ b
+or_false true = refl
+or_false false = refl
 
 -- whether this is the column of the name
 abbrev pub is_called : Name → Column → Bool
@@ -47,3 +52,33 @@ moment_there columns i c h e =
     let within : nat_lt i (length (kinds_in columns)) ≡ true = there i (length (kinds_in columns)) (length columns) h (kind_count columns) in
     ap (λ (k : Kind). same_kind k Moments) (kind_there columns i c h e)
     ∙ sym (ap (λ (b : Bool). b && same_kind (slice_index_or (kinds_in columns) i Ints) Moments) within)
+
+-- whether the column that is there takes no null
+required_at : (columns : List Column) (i : ℕ) (c : Column) → i < length columns → (slice_index_or columns i c).is_required ≡ slice_index_or (required_in columns) i false
+required_at [] i c h = absurd (omega (arith, h))
+required_at (x ∷ xs) zero c h = refl
+required_at (x ∷ xs) (suc i) c h = required_at xs i c (omega (arith, h))
+
+-- there are as many of these as columns
+pub required_count : (columns : List Column) → length (required_in columns) ≡ length columns
+required_count columns = length-map (map column_of columns) (λ (c : spec.Column). c.required) ∙ length-map columns column_of
+
+pub required_there : (columns : List Column) (i : ℕ) (c : Column) → i < length columns → c ≡ slice_index_or columns i c → c.is_required ≡ is_required_at (required_in columns) i
+required_there columns i c h e =
+    let within : nat_lt i (length (required_in columns)) ≡ true = there i (length (required_in columns)) (length columns) h (required_count columns) in
+    ap (λ (k : Column). k.is_required) e ∙ required_at columns i c h
+    ∙ sym (ap (λ (b : Bool). b && slice_index_or (required_in columns) i false) within)
+
+-- two columns that are there both hold days, or moments, where their kinds are theirs
+pub ends_there : (columns : List Column) (i j : ℕ) (c d : Column) → i < length columns → j < length columns
+    → are_ends (plain_kind (slice_index_or columns i c).kind) (plain_kind (slice_index_or columns j d).kind)
+    ≡ are_ends (slice_index_or (kinds_in columns) i Ints) (slice_index_or (kinds_in columns) j Ints)
+ends_there columns i j c d h k = λ m. are_ends (kind_at columns i c h m) (kind_at columns j d k m)
+
+-- whether the application period has this name, where it is its name
+pub period_called : (n : Name) (o : Option (Bor Application)) (a : Bor Application) → o ≡ Some a
+    → same_text n (string_bytes a.now.name) ≡ has_name n (application_name (option_map (λ (b : Bor Application). application_of b.now) o))
+period_called n o a e = sym (
+    ap (λ (p : Option (Bor Application)). has_name n (application_name (option_map (λ (b : Bor Application). application_of b.now) p))) e
+    ∙ or_false (same_text n (string_bytes a.now.name))
+    )

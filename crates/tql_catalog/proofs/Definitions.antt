@@ -1,11 +1,11 @@
 -- What is true of a definition.
-use Rattle.std.specs.Prelude.{refl, Bool, true, false, not, ◌&&◌, ◌==◌, nat_lt, IsTrue, List, map, length, Option, Some, None, slice_index_or}
+use Rattle.std.specs.Prelude.{refl, Bool, true, false, not, ◌&&◌, ◌++◌, ◌==◌, nat_lt, IsTrue, List, map, length, Option, Some, None, slice_index_or}
 use Rattle.std.proofs.Common.{subst}
 use Rattle.std.proofs.lemmas.List.{length-map}
 use Rattle.tql_spec.specs.Datum.{Kind, Ints, Moments, same_kind}
-use Rattle.tql_spec.specs.Definition.{Name, Column, System, TableDef}
-use Rattle.tql_spec.specs.Creation.{kinds_of, repeats}
-use Rattle.tql_catalog.specs.Defined.{IsDefinition, plain_table, is_definable, is_system_period}
+use Rattle.tql_spec.specs.Definition.{Name, Column, System, Application, TableDef}
+use Rattle.tql_spec.specs.Creation.{kinds_of, repeats, application_name}
+use Rattle.tql_catalog.specs.Defined.{IsDefinition, table_of_parts, is_definable, is_system_period, is_application_period}
 use Rattle.tql_catalog.specs.Rows.{has_system}
 
 and_left : (a b : Bool) → IsTrue (a && b) → IsTrue a
@@ -16,15 +16,16 @@ and_right : (a b : Bool) → IsTrue (a && b) → IsTrue b
 and_right true b h = h
 and_right false b h = absurd (cc)
 
--- columns and a system period that can be those of a table are
-pub right : (n : Name) (cs : List Column) (s : Option System) → IsTrue (is_definable cs s) → IsDefinition (plain_table n cs s)
-right n cs s h =
-    let names : Bool = not (repeats (map (λ (c : Column). c.name) cs)) in
-    let period : Bool = is_system_period (map (λ (c : Column). c.kind) cs) s in
+-- columns and periods that can be those of a table are
+pub right : (n : Name) (cs : List Column) (s : Option System) (a : Option Application) → IsTrue (is_definable cs s a) → IsDefinition (table_of_parts n cs s a)
+right n cs s a h =
+    let names : Bool = not (repeats (map (λ (c : Column). c.name) cs ++ application_name a)) in
+    let system : Bool = is_system_period (map (λ (c : Column). c.kind) cs) s in
+    let application : Bool = is_application_period cs s a in
     record {
-      columns = and_left names period h;
-      system = and_right names period h;
-      application = refl;
+      columns = and_left names system (and_left (names && system) application h);
+      system = and_right names system (and_left (names && system) application h);
+      application = and_right (names && system) application h;
       keys = refl;
       references = refl;
       checks = refl;

@@ -1,5 +1,5 @@
 -- What is told of a table's columns alone.
-use Rattle.std.specs.Prelude.{List, map}
+use Rattle.std.specs.Prelude.{Bool, List, map}
 use Rattle.tql_spec.specs.Datum.{Kind}
 use Rattle.tql_spec.specs.Definition as spec
 use Rattle.tql_spec.specs.Definition.{Name}
@@ -13,3 +13,7 @@ names_in columns = map (λ (c : spec.Column). c.name) (map column_of columns)
 -- their kinds
 abbrev pub kinds_in : List Column → List Kind
 kinds_in columns = map (λ (c : spec.Column). c.kind) (map column_of columns)
+
+-- whether they take no null
+abbrev pub required_in : List Column → List Bool
+required_in columns = map (λ (c : spec.Column). c.required) (map column_of columns)

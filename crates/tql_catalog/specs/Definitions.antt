@@ -4,6 +4,7 @@ use Rattle.tql_spec.specs.Definition as spec
 use Rattle.tql_value.specs.Views.{plain_kind}
 use Rattle.tql_catalog.specs.declared.definition.Column.{Column}
 use Rattle.tql_catalog.specs.declared.definition.System.{System}
+use Rattle.tql_catalog.specs.declared.definition.Application.{Application}
 
 -- the column
 abbrev pub column_of : Column → spec.Column
@@ -12,3 +13,7 @@ column_of c = record { name = string_bytes c.name; kind = plain_kind c.kind; lim
 -- the generated columns
 abbrev pub system_of : System → spec.System
 system_of s = record { start = s.start; end = s.end }
+
+-- the application period
+abbrev pub application_of : Application → spec.Application
+application_of a = record { name = string_bytes a.name; start = a.start; end = a.end }

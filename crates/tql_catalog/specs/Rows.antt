@@ -1,8 +1,9 @@
 -- The columns that may be given values, and the values of rows.
-use Rattle.std.specs.Prelude.{◌≡◌, ℕ, Bool, true, not, ◌&&◌, ◌==◌, ◌||◌, false, nat_lt, List, [], ◌∷◌, length, All, Option, Some, None}
+use Rattle.std.specs.Prelude.{◌≡◌, ℕ, ℤ, Bool, true, not, ◌&&◌, ◌==◌, ◌||◌, false, nat_lt, IsTrue, List, [], ◌∷◌, length, All, Option, Some, None}
 use Rattle.std.specs.List.{list_all}
-use Rattle.tql_spec.specs.Datum.{Row}
-use Rattle.tql_spec.specs.Definition.{TableDef, System}
+use Rattle.tql_spec.specs.Datum.{Row, is_null}
+use Rattle.tql_spec.specs.Period.{rises}
+use Rattle.tql_spec.specs.Definition.{TableDef, System, Application, cell, period_between, with_generated}
 use Rattle.tql_spec.specs.Creation.{has_number}
 use Rattle.tql_spec.specs.Binding.{all_assignable, is_generated}
 use Rattle.tql_value.specs.Points.{IsPrintable}
@@ -16,14 +17,26 @@ has_system (Some s) width = nat_lt s.start width && nat_lt s.end width && not (s
 abbrev pub stored_width : TableDef → ℕ
 stored_width d = length (all_assignable d)
 
--- so many values, each of which has a text
-pub record IsTupleOf (n : ℕ) (cells : Row) : Type 0 where
-  pub width : length cells ≡ n
-  pub printable : All IsPrintable cells
+-- neither end of this period is null in the row, and its points rise
+pub record RisesIn (row : Row) (a : Application) : Type 0 where
+  pub start : is_null (cell row a.start) ≡ false
+  pub end : is_null (cell row a.end) ≡ false
+  pub rising : IsTrue (rises (period_between row a.start a.end))
 
--- the values of a row of the table: those of the columns that are not generated
-abbrev pub IsRowOf : TableDef → Row → Type 0
-IsRowOf d = IsTupleOf (stored_width d)
+-- so does the application period of a row, if its table has one
+abbrev pub RisesBy : Option Application → Row → Type 0
+RisesBy None row = Unit {0}
+RisesBy (Some a) row = RisesIn row a
+
+-- and that of cells that are stored, whichever moments stand in the generated columns
+abbrev pub HasRisingPeriod : TableDef → Row → Type 0
+HasRisingPeriod d cells = (start end : ℤ) → RisesBy d.application (with_generated d.system cells start end)
+
+-- the values of a row of the table: those of the columns that are not generated. Each has a text, and the row's application period rises
+pub record IsRowOf (d : TableDef) (cells : Row) : Type 0 where
+  pub width : length cells ≡ stored_width d
+  pub printable : All IsPrintable cells
+  pub rising : HasRisingPeriod d cells
 
 -- whether some number stands twice
 abbrev pub numbers_repeat : List ℕ → Bool

@@ -1,14 +1,15 @@
-//! Which columns and which system period can be those of a table.
-ghost use Rattle.std.specs.Prelude.{◌≡◌, ◌<◌, ◌&&◌, ◌==◌, not, length, map, option_map, string_bytes, false};
-ghost use Rattle.tql_spec.specs.Creation.{has_name, repeats};
-ghost use Rattle.tql_spec.specs.Datum.{Moments, same_kind};
+//! Which columns and which periods can be those of a table.
+ghost use Rattle.std.specs.Prelude.{◌≡◌, ◌<◌, ◌&&◌, ◌||◌, ◌==◌, ◌++◌, not, length, map, option_map, slice_index_or, string_bytes, false};
+ghost use Rattle.tql_spec.specs.Creation.{has_name, repeats, are_ends, application_name};
+ghost use Rattle.tql_spec.specs.Datum.{Ints, Moments, same_kind};
 ghost use Rattle.tql_spec.specs.Words.{same_text};
 ghost use Rattle.tql_value.specs.Views.{plain_kind};
-ghost use Rattle.tql_catalog.specs.Columns.{names_in, kinds_in};
+ghost use Rattle.tql_catalog.specs.Columns.{names_in, kinds_in, required_in};
 ghost use Rattle.tql_catalog.specs.Defined as defined;
-ghost use Rattle.tql_catalog.specs.Definitions.{column_of, system_of};
+ghost use Rattle.tql_catalog.specs.Definitions.{column_of, system_of, application_of};
 
-use crate::definition::{Column, System};
+use crate::assignable::is_generated;
+use crate::definition::{Application, Column, System};
 use tql_value::value::Kind;
 
 /// Whether this is the name of the column.
@@ -25,13 +26,30 @@ fn has_column(columns: &[Column], name: &str) -> bool
     columns.iter().any(|column| is_named(column, name))
 }
 
-/// Whether two columns have one name.
-fn has_repeated_name(columns: &[Column]) -> bool
-    ensures { result ≡ repeats (names_in columns.now) }
+/// Whether this is the name of the application period.
+fn is_period_name(application: Option<&Application>, name: &str) -> bool
+    ensures { result ≡ has_name name.now (application_name (option_map (λ a. application_of a.now) application.entry)) }
+{
+    match application {
+        Some(application) => name == application.name.as_str(),
+        None => false,
+    }
+}
+
+/// Whether a column or the application period has this name.
+fn is_taken(columns: &[Column], application: Option<&Application>, name: &str) -> bool
+    ensures { result ≡ has_name name.now (names_in columns.now ++ application_name (option_map (λ a. application_of a.now) application.entry)) }
+{
+    has_column(columns, name) || is_period_name(application, name)
+}
+
+/// Whether a name stands twice among those of the columns and that of the application period.
+fn has_repeated_name(columns: &[Column], application: Option<&Application>) -> bool
+    ensures { result ≡ repeats (names_in columns.now ++ application_name (option_map (λ a. application_of a.now) application.entry)) }
 {
     let mut left = columns;
     while let [column, others @ ..] = left {
-        if has_column(others, column.name.as_str()) {
+        if is_taken(others, application, column.name.as_str()) {
             return true;
         }
         left = others;
@@ -67,10 +85,80 @@ fn is_system_period(columns: &[Column], system: Option<System>) -> bool
     }
 }
 
-/// Whether columns and a system period can be those of one table: no name stands twice, and the generated columns are two of the columns
-/// and hold moments.
-pub fn is_definable(columns: &[Column], system: Option<System>) -> bool
-    ensures { result ≡ defined.is_definable (map column_of columns.now) (option_map system_of system) }
+/// Whether the column takes no null.
+fn is_required(column: &Column) -> bool
+    ensures { result ≡ (column_of column.now).required }
 {
-    !has_repeated_name(columns) && is_system_period(columns, system)
+    column.is_required
+}
+
+/// Whether a column of this number is there and takes no null.
+fn is_required_at(columns: &[Column], number: usize) -> bool
+    ensures { result ≡ defined.is_required_at (required_in columns.now) number }
+{
+    number < columns.len() && is_required(&columns[number])
+}
+
+/// Whether a column of this number can end a period that users write: it is there, takes no null, and is not generated.
+fn is_end_at(columns: &[Column], system: Option<System>, number: usize) -> bool
+    ensures { result ≡ defined.is_end_at (required_in columns.now) (option_map system_of system) number }
+{
+    is_required_at(columns, number) && !is_generated(system, number)
+}
+
+/// Whether both kinds are those of days, or of moments.
+fn are_ends(start: Kind, end: Kind) -> bool
+    ensures { result ≡ are_ends (plain_kind start) (plain_kind end) }
+{
+    matches!(
+        (start, end),
+        (Kind::Day, Kind::Day) | (Kind::Moment, Kind::Moment)
+    )
+}
+
+/// Whether the columns of these numbers both hold days, or moments.
+fn are_ends_at(columns: &[Column], start: usize, end: usize) -> bool
+    requires start { start < length columns.now }
+    requires end { end < length columns.now }
+    ensures { result ≡ are_ends (slice_index_or (kinds_in columns.now) start Ints) (slice_index_or (kinds_in columns.now) end Ints) }
+{
+    are_ends(columns[start].kind, columns[end].kind)
+}
+
+/// Whether the application period, where there is one, is of two columns that can end it and hold points of one kind.
+fn is_application_period(
+    columns: &[Column],
+    system: Option<System>,
+    application: Option<&Application>,
+) -> bool
+    ensures { result ≡ defined.is_application_period (map column_of columns.now) (option_map system_of system)
+        (option_map (λ a. application_of a.now) application.entry) }
+{
+    match application {
+        None => true,
+        Some(application) => {
+            let start = application.start;
+            let end = application.end;
+            is_end_at(columns, system, start)
+                && is_end_at(columns, system, end)
+                && are_ends_at(columns, start, end)
+                && start != end
+        }
+    }
+}
+
+/// Whether columns and periods can be those of one table: no name stands twice among those of the columns and that of the application
+/// period, the generated columns are two of the columns and hold moments, and those of the application period are two others that take no
+/// null and hold days, or moments.
+pub fn is_definable(
+    columns: &[Column],
+    system: Option<System>,
+    application: Option<&Application>,
+) -> bool
+    ensures { result ≡ defined.is_definable (map column_of columns.now) (option_map system_of system)
+        (option_map (λ a. application_of a.now) application.entry) }
+{
+    !has_repeated_name(columns, application)
+        && is_system_period(columns, system)
+        && is_application_period(columns, system, application)
 }

@@ -20,6 +20,26 @@ pub struct System {
     pub end: usize,
 }
 
+/// The application period of a table: its name, and its columns by their numbers from 0. Both hold days, or both moments.
+pub struct Application {
+    pub name: String<Memory>,
+    /// The column of the first point of a row's period.
+    pub start: usize,
+    /// The column of the point at which a row's period has ended.
+    pub end: usize,
+}
+
+impl Drop for Application {
+    fn drop(self) {
+        let Application {
+            name,
+            start: _,
+            end: _,
+        } = self;
+        drop(name);
+    }
+}
+
 impl Drop for Column {
     fn drop(self) {
         let Column {

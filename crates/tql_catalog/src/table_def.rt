@@ -7,23 +7,25 @@ ghost use Rattle.tql_spec.specs.Definition.{no_table};
 ghost use Rattle.tql_spec.specs.Words.{same_text};
 ghost use Rattle.tql_catalog.specs.Columns.{names_in};
 ghost use Rattle.tql_catalog.specs.Defined as defined;
-ghost use Rattle.tql_catalog.specs.Defined.{IsDefinition, plain_table};
-ghost use Rattle.tql_catalog.specs.Definitions.{column_of, system_of};
+ghost use Rattle.tql_catalog.specs.Defined.{IsDefinition, table_of_parts};
+ghost use Rattle.tql_catalog.specs.Definitions.{column_of, system_of, application_of};
 ghost use Rattle.tql_catalog.specs.Rows as rows;
 
 use crate::assignable::{are_open, assignable_numbers, has_repeated, is_generated};
 use crate::definable::is_definable;
-use crate::definition::{Column, System};
+use crate::definition::{Application, Column, System};
 use std::alloc::AllocError;
 use std::marker::Model;
 use tql_memory::Memory;
 
-/// The definition of a table: its name, its columns, and its system period where it is system-versioned. No two columns have one name,
-/// and the generated columns are two columns of the table that hold moments.
+/// The definition of a table: its name, its columns, its system period where it is system-versioned, and its application period where it
+/// has one. No name stands twice among those of the columns and that of the application period; the generated columns are two columns of
+/// the table that hold moments; those of the application period are two others, which take no null and hold days, or moments.
 pub struct TableDef {
     name: String<Memory>,
     columns: Vec<Column, Memory>,
     system: Option<System>,
+    application: Option<Application>,
     assignable: Vec<usize, Memory>,
 }
 
@@ -33,10 +35,12 @@ impl Drop for TableDef {
             name,
             columns,
             system: _,
+            application,
             assignable,
         } = self;
         drop(name);
         drop(columns);
+        drop(application);
         drop(assignable);
     }
 }
@@ -46,17 +50,19 @@ impl Model for TableDef {
     ghost use Rattle.tql_spec.specs.Binding.{all_assignable};
     ghost use Rattle.tql_spec.specs.Definition as spec;
     ghost use Rattle.tql_catalog.specs.Codes.{table_def_code};
-    ghost use Rattle.tql_catalog.specs.Defined.{IsDefinition, plain_table};
-    ghost use Rattle.tql_catalog.specs.Definitions.{column_of, system_of};
+    ghost use Rattle.tql_catalog.specs.Defined.{IsDefinition, table_of_parts};
+    ghost use Rattle.tql_catalog.specs.Definitions.{column_of, system_of, application_of};
 
     ghost Value = { spec.TableDef };
 
     ghost coded = { table_def_code };
 
-    ghost view = { λ d. plain_table (string_bytes d.name) (map column_of d.columns.items) (option_map system_of d.system) };
+    ghost view = { λ d. table_of_parts (string_bytes d.name) (map column_of d.columns.items) (option_map system_of d.system)
+        (option_map application_of d.application) };
 
     ghost invariant = { λ d.
-        let table = plain_table (string_bytes d.name) (map column_of d.columns.items) (option_map system_of d.system) in
+        let table = table_of_parts (string_bytes d.name) (map column_of d.columns.items) (option_map system_of d.system)
+        (option_map application_of d.application) in
         IsDefinition table × (d.assignable.items ≡ all_assignable table) };
 }
 
@@ -72,29 +78,38 @@ fn names(memory: Memory, columns: &[Column]) -> Result<Vec<String<Memory>, Memor
 }
 
 impl TableDef {
-    /// Whether columns and a system period can be those of one table: no name stands twice, and the generated columns are two of the
-    /// columns and hold moments.
-    pub fn is_definable(columns: &[Column], system: Option<System>) -> bool
-        ensures { result ≡ defined.is_definable (map column_of columns.now) (option_map system_of system) }
+    /// Whether columns and periods can be those of one table: no name stands twice among those of the columns and that of the application
+    /// period, the generated columns are two of the columns and hold moments, and those of the application period are two others that take
+    /// no null and hold days, or moments.
+    pub fn is_definable(
+        columns: &[Column],
+        system: Option<System>,
+        application: Option<&Application>,
+    ) -> bool
+        ensures { result ≡ defined.is_definable (map column_of columns.now) (option_map system_of system)
+            (option_map (λ a. application_of a.now) application.entry) }
     {
-        is_definable(columns, system)
+        is_definable(columns, system, application)
     }
 
-    /// The definition of a table, where its columns and its system period can be those of one table.
+    /// The definition of a table, where its columns and its periods can be those of one table.
     pub fn new(
         memory: Memory,
         name: String<Memory>,
         columns: Vec<Column, Memory>,
         system: Option<System>,
+        application: Option<Application>,
     ) -> Result<TableDef, AllocError>
-        requires { IsTrue (defined.is_definable (map column_of columns.items) (option_map system_of system)) }
-        ensures { IfOk result (λ d. d ≡ plain_table (string_bytes name.entry) (map column_of columns.entry.items) (option_map system_of system)) }
+        requires { IsTrue (defined.is_definable (map column_of columns.items) (option_map system_of system) (option_map application_of application)) }
+        ensures { IfOk result (λ d. d ≡ table_of_parts (string_bytes name.entry) (map column_of columns.entry.items) (option_map system_of system)
+            (option_map application_of application)) }
     {
         let assignable = assignable_numbers(memory, columns.len(), system)?;
         Ok(TableDef {
             name,
             columns,
             system,
+            application,
             assignable,
         })
     }
@@ -107,6 +122,7 @@ impl TableDef {
             name: String::new(memory),
             columns: Vec::new(memory),
             system: None,
+            application: None,
             assignable: Vec::new(memory),
         }
     }
@@ -141,6 +157,14 @@ impl TableDef {
         ensures right { IsDefinition self.now }
     {
         self.system
+    }
+
+    /// The application period; none where the table has none.
+    pub fn application(&self) -> Option<&Application>
+        ensures application { option_map (λ a. application_of a.now) result ≡ self.now.application }
+        ensures right { IsDefinition self.now }
+    {
+        self.application.as_ref()
     }
 
     /// Whether the table is system-versioned.

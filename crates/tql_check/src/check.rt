@@ -14,7 +14,7 @@ use tql_result::sink::Sink;
 use tql_run::device::Source;
 use tql_run::listener::Listener;
 use tql_run::responder::Responder;
-use tql_run::run::{Fault, Summary, run};
+use tql_run::runner::{Fault, Summary, run};
 use tql_syntax::text::read_text;
 use tql_tree::width::is_too_wide;
 use tql_value::refusal::Refusal;

@@ -1,5 +1,5 @@
 -- Columns by name and by number.
-use Rattle.std.proofs.Common.{◌≡◌, refl, ap, sym, ◌∙◌, ℕ, zero, suc, Bool, true, false, List, [], ◌∷◌, map, Some, None, ◌+◌, ◌<◌, arith, eqb-true, subst, get_or}
+use Rattle.std.proofs.Common.{◌≡◌, refl, ap, sym, ◌∙◌, ℕ, zero, suc, Bool, true, false, List, [], ◌∷◌, map, Some, None, ◌+◌, ◌<◌, ◌≤◌, arith, get_or}
 use Rattle.std.proofs.lemmas.List.{get_or-map, length-map}
 use Rattle.std.proofs.lemmas.Bool.Decides.{nat_tests}
 use Rattle.std.specs.Prelude.{position, string_bytes, if◌then◌else◌, ◌||◌, ◌++◌, ◌==◌, is_some, Option, option_map, ◌&&◌, filter, length}
@@ -9,11 +9,11 @@ use Rattle.tql_spec.specs.Words.{same_text}
 use Rattle.tql_spec.specs.Definition.{Name, next_place}
 use Rattle.tql_spec.specs.Syntax as tree
 use Rattle.tql_spec.specs.Syntax.{ColumnTree}
-use Rattle.tql_spec.specs.Creation.{number_in, has_name, has_number, numbers_where, has_bad_number, is_row_start, is_row_end, kind_of_type}
+use Rattle.tql_spec.specs.Creation.{number_in, has_name, has_number, numbers_where, has_bad_number, kind_of_type}
 use Rattle.tql_spec.specs.Datum.{Ints}
 use Rattle.tql_tree.specs.Statements.{type_of, generated_of}
 use Rattle.tql_tree.specs.declared.statement.Generated.{Generated}
-use Rattle.tql_define.specs.NewTables.{column_of, names_in, starts_in, stops_in, kind_in}
+use Rattle.tql_define.specs.NewTables.{column_of, names_in, kind_in}
 use Rattle.tql_define.specs.declared.draft.NewColumn.{NewColumn}
 
 -- ---- by name
@@ -134,6 +134,20 @@ number_holds q j k (suc i) (c ∷ cs) d e h =
     ∙ (λ m. (q c && is_other_than j k (omega (arith, e)) m) || number_holds q j (suc k) i cs d (omega (arith, e)) (omega (arith, h)) m)
     ∙ ap (λ (b : Bool). b || q (get_or cs i d)) (and_false (q c))
 
+-- no number is behind the last
+none_behind : (q : ColumnTree → Bool) (j k : ℕ) (cs : List ColumnTree) → k + length cs ≤ j → has_number j (numbers_where q k cs) ≡ false
+none_behind q j k [] h = refl
+none_behind q j k (c ∷ cs) h =
+    head_number (q c) j k (numbers_where q (suc k) cs)
+    ∙ (λ i. (q c && is_other_than j k (omega (arith, h)) i) || none_behind q j (suc k) cs (omega (arith, h)) i)
+    ∙ ap (λ (b : Bool). b || false) (and_false (q c))
+
+-- where no column is, none is generated
+pub not_generated : (q : ColumnTree → Bool) (cs : List NewColumn) (i : ℕ) → length cs ≤ i → false ≡ has_number i (numbers_where q 0 (map column_of cs))
+not_generated q cs i h =
+    let e : length (map column_of cs) ≡ length cs = length-map cs column_of in
+    sym (none_behind q i 0 (map column_of cs) (omega (arith, h, e)))
+
 -- the column of a number is generated so where its number is among those
 pub generated_at : (p : Option tree.Generated → Bool) (cs : List NewColumn) (i : ℕ) (c : NewColumn) → i < length cs → c ≡ get_or cs i c
     → p (column_of c).generated ≡ has_number i (numbers_where (λ c. p c.generated) 0 (map column_of cs))
@@ -145,34 +159,10 @@ generated_at p cs i c h e =
     )
 
 -- the kind of the column of a number
-pub kind_at : (cs : List NewColumn) (i : ℕ) (c : NewColumn) → i < length cs → c ≡ get_or cs i c → kind_of_type (type_of c.type_name) ≡ kind_in (map column_of cs) i
-kind_at cs i c h e =
+pub kind_there : (cs : List NewColumn) (i : ℕ) (c : NewColumn) → i < length cs → c ≡ get_or cs i c → kind_of_type (type_of c.type_name) ≡ kind_in (map column_of cs) i
+kind_there cs i c h e =
     ap (λ (c : NewColumn). kind_of_type (type_of c.type_name)) e
     ∙ sym (
     get_or-map (λ (t : ColumnTree). kind_of_type t.type_name) (map column_of cs) i (column_of c) Ints (within cs i h)
     ∙ ap (λ (t : ColumnTree). kind_of_type t.type_name) (get_or-map column_of cs i c (column_of c) h)
     )
-
--- a ROW START is not a ROW END
-one_of_both : (g : Option tree.Generated) → is_row_start g ≡ true → is_row_end g ≡ true → ⊥
-one_of_both None s e = cc
-one_of_both (Some tree.RowStart) s e = cc
-one_of_both (Some tree.RowEnd) s e = cc
-
--- so they have two numbers
-pub two_numbers : (cs : List NewColumn) (s e : ℕ) → s < length cs → e < length cs → has_number s (starts_in (map column_of cs)) ≡ true → has_number e (stops_in (map column_of cs)) ≡ true
-    → (s == e) ≡ false
-two_numbers cs s e h k b f = cases (s == e) refl
-  where
-    d : ColumnTree
-    d = record { name = []; type_name = tree.IntegerType; required = false; generated = None }
-
-    start : is_row_start (get_or (map column_of cs) s d).generated ≡ true
-    start = sym (number_holds (λ (c : ColumnTree). is_row_start c.generated) s 0 s (map column_of cs) d (omega arith) (within cs s h)) ∙ b
-
-    end : is_row_end (get_or (map column_of cs) e d).generated ≡ true
-    end = sym (number_holds (λ (c : ColumnTree). is_row_end c.generated) e 0 e (map column_of cs) d (omega arith) (within cs e k)) ∙ f
-
-    cases : (x : Bool) → (s == e) ≡ x → (s == e) ≡ false
-    cases true p = absurd (one_of_both (get_or (map column_of cs) e d).generated (subst (λ i. is_row_start (get_or (map column_of cs) i d).generated ≡ true) (eqb-true s e p) start) end)
-    cases false p = p

@@ -1,151 +1,107 @@
--- A CREATE of columns and system periods, by its parts.
-use Rattle.std.specs.Prelude.{◌≡◌, refl, ℕ, Bool, true, false, not, ◌||◌, ◌==◌, nat_le, nat_lt, List, [], ◌∷◌, ◌++◌, map, length, Option, Some, None, is_some, if◌then◌else◌}
+-- A CREATE of columns and periods, by its parts.
+use Rattle.std.specs.Prelude.{◌≡◌, refl, Bool, true, not, ◌||◌, ◌==◌, nat_le, nat_lt, List, [], ◌∷◌, ◌++◌, map, length, Option, is_some, if◌then◌else◌}
 use Rattle.std.specs.List.{flat_map, list_any, list_all}
-use Rattle.std.proofs.Common.{ap, ◌∙◌, sym, append-nil, eqb-true, subst}
-use Rattle.tql_spec.specs.Words.{listed}
-use Rattle.tql_spec.specs.Refusal.{Refusal, first}
+use Rattle.std.proofs.Common.{◌∙◌, sym, append-nil, subst}
+use Rattle.tql_spec.specs.Refusal.{Refusal, TooManyTablesOrReaders, TableUnknownOrAlreadyThere, NameUnknownAmbiguousOrRepeated, TypesDoNotFit, FormNotAllowedHere, fault_if}
 use Rattle.tql_spec.specs.Expression.{Cond}
 use Rattle.tql_spec.specs.Definition as D
 use Rattle.tql_spec.specs.Definition.{Name, TableDef, Application, System, Key, Reference, place_of}
 use Rattle.tql_spec.specs.Names.{Checked, ◌>>=◌, sound, refuse_for, check_each}
 use Rattle.tql_spec.specs.Syntax.{ColumnTree, Element, ColumnElement, PeriodElement, ConstraintElement, Constraint}
-use Rattle.tql_spec.specs.Creation.{PeriodPart, columns_of, application_parts, system_parts, constraints_of, application_period, several, first_of, keys, references, checks, column, part_names, primary_names, primary_count, has_bad_number, repeats, create}
-use Rattle.tql_spec.specs.Running.{is_plain_element}
-use Rattle.tql_define.specs.NewTables.{names_in, starts_in, stops_in, system_in, sooner, whole_fault, periods_fault, new_fault}
-use Rattle.tql_spec.proofs.FirstFaults.{first_append}
-use Rattle.tql_define.proofs.ColumnLaws.{or_false}
-use Rattle.tql_define.proofs.FirstFault.{whole, whole_first}
+use Rattle.tql_spec.specs.Creation.{PeriodPart, columns_of, column_names, period_names, starts, stops, application_parts, system_parts, constraints_of, application_period, system_period, several, first_of, keys, references, checks, column, part_names, primary_names, primary_count, has_bad_number, repeats, create}
+use Rattle.tql_spec.specs.Binding.{bind}
+use Rattle.tql_spec.specs.Machine.{Bound, CreateTable}
+use Rattle.tql_spec.specs.Running.{is_plain_element, does_run}
+use Rattle.tql_catalog.specs.Defined.{table_of_parts}
+use Rattle.tql_scope.specs.Gathered.{Gathers}
+use Rattle.tql_scope.proofs.Gathering.{bound}
+use Rattle.tql_tree.specs.Expressions.{name_of}
+use Rattle.tql_tree.specs.Statements.{create_of}
+use Rattle.tql_tree.specs.declared.statement.CreateTree.{CreateTree}
+use Rattle.tql_define.specs.NewTables.{elements_in, application_in, system_in, implied_in, whole_in, create_in}
+use Rattle.tql_define.proofs.Gathered.{sound_here}
 
--- ---- elements that are columns and system periods
+-- ---- elements that are columns and periods
 
-pub no_application : (es : List Element) → list_all is_plain_element es ≡ true → application_parts es ≡ []
-no_application [] h = refl
-no_application (ColumnElement c ∷ es) h = no_application es h
-no_application (PeriodElement None s e ∷ es) h = no_application es h
-no_application (PeriodElement (Some n) s e ∷ es) h = absurd (cc)
-no_application (ConstraintElement c ∷ es) h = absurd (cc)
-
-pub no_constraint : (es : List Element) → list_all is_plain_element es ≡ true → constraints_of es ≡ []
+no_constraint : (es : List Element) → list_all is_plain_element es ≡ true → constraints_of es ≡ []
 no_constraint [] h = refl
 no_constraint (ColumnElement c ∷ es) h = no_constraint es h
-no_constraint (PeriodElement None s e ∷ es) h = no_constraint es h
-no_constraint (PeriodElement (Some n) s e ∷ es) h = absurd (cc)
+no_constraint (PeriodElement n s e ∷ es) h = no_constraint es h
 no_constraint (ConstraintElement c ∷ es) h = absurd (cc)
-
--- ---- how many periods, starts and ends
-
-or_true : (b : Bool) → b || true ≡ true
-or_true true = refl
-or_true false = refl
-
-one_if : (b : Bool) → nat_lt 1 (if b then 1 else 0) ≡ false
-one_if true = refl
-one_if false = refl
-
--- as many as are wanted are not several, and the starts and the ends are then counted against what is wanted
-counted : (i s e w : ℕ) → nat_lt 1 w ≡ false
-    → (nat_lt 1 i || (not (i == w) || ((not (s == i) || not (e == i)) || (false || false)))) ≡ (not (i == w) || (not (s == w) || not (e == w)))
-counted i s e w h = cases (i == w) refl
-  where
-    Same : ℕ → Type 0
-    Same k = (nat_lt 1 k || (not (k == w) || ((not (s == k) || not (e == k)) || (false || false)))) ≡ (not (k == w) || (not (s == w) || not (e == w)))
-
-    at_wanted : Same w
-    at_wanted =
-        ap (λ (b : Bool). b || (not (w == w) || ((not (s == w) || not (e == w)) || (false || false)))) h
-        ∙ ap (λ (b : Bool). not (w == w) || b) (or_false (not (s == w) || not (e == w)))
-
-    cases : (b : Bool) → (i == w) ≡ b → Same i
-    cases true p = subst Same (sym (eqb-true i w p)) at_wanted
-    cases false p =
-        (λ j. nat_lt 1 i || (not (p j) || ((not (s == i) || not (e == i)) || (false || false))))
-        ∙ or_true (nat_lt 1 i)
-        ∙ (λ j. not (sym p j) || (not (s == w) || not (e == w)))
-
--- ---- the definition by its parts
 
 -- a table by its parts
 abbrev table : Name → List D.Column → Option Application → Option System → List Key → List Reference → List Cond → TableDef
 table n columns a s ks fs bs = record { name = n; columns = columns; system = s; application = a; keys = ks; references = fs; checks = bs }
 
--- the table, where these are its faults as a whole, its periods, its constraints and its columns
-abbrev create_by : List TableDef → Name → List Element → List Refusal → List PeriodPart → Checked (List System) → List Constraint → List D.Column → Checked TableDef
-create_by defs n es faults applications systems cs columns = do
+-- the table, where these are its faults as a whole, its constraints and the names that take no null
+abbrev create_by : List TableDef → Name → List Element → List Refusal → List Constraint → List Name → Checked TableDef
+create_by defs n es faults cs implied = do
   u ← refuse_for faults
-  as' ← check_each (application_period es) applications
-  ss ← systems
+  as' ← check_each (application_period es) (application_parts es)
+  ss ← check_each (system_period es) (system_parts es)
   ks ← keys es as' cs
   fs ← references defs es as' cs
-  bs ← checks es as' (table n columns (first_of as') (first_of ss) ks fs []) cs
-  sound (table n columns (first_of as') (first_of ss) ks fs bs)
+  bs ← checks es as' (table n (map (column implied) (columns_of es)) (first_of as') (first_of ss) ks fs []) cs
+  sound (table n (map (column implied) (columns_of es)) (first_of as') (first_of ss) ks fs bs)
 
 module _ (defs : List TableDef) (n : Name) (es : List Element) (versioned : Bool) (plain : list_all is_plain_element es ≡ true) where
-  abbrev cs : List ColumnTree
-  cs = columns_of es
+  -- the faults of the table as a whole but that of its keys and that of too many tables
+  abbrev others : List Refusal
+  others =
+      fault_if (is_some (place_of n defs)) TableUnknownOrAlreadyThere
+      ++ fault_if (repeats (column_names es ++ period_names es)) NameUnknownAmbiguousOrRepeated
+      ++ fault_if (list_any (λ (c : ColumnTree). has_bad_number c.type_name) (columns_of es)) TypesDoNotFit
+      ++ fault_if (list_all (λ (c : ColumnTree). is_some c.generated) (columns_of es)) FormNotAllowedHere
+      ++ fault_if (several (application_parts es) || several (system_parts es)) FormNotAllowedHere
+      ++ fault_if (not (length (system_parts es) == (if versioned then 1 else 0))) FormNotAllowedHere
+      ++ fault_if (not (length (starts es) == length (system_parts es)) || not (length (stops es) == length (system_parts es))) FormNotAllowedHere
 
-  abbrev ps : List PeriodPart
-  ps = system_parts es
+  abbrev many : List Refusal
+  many = fault_if (nat_le 1000 (length defs)) TooManyTablesOrReaders
 
-  abbrev wanted : ℕ
-  wanted = if versioned then 1 else 0
-
-  abbrev there : Bool
-  there = is_some (place_of n defs)
-
-  abbrev misfit : Bool
-  misfit = list_any (λ (c : ColumnTree). has_bad_number c.type_name) cs
-
-  abbrev generated : Bool
-  generated = list_all (λ (c : ColumnTree). is_some c.generated) cs
-
-  abbrev ends : Bool
-  ends = not (length (starts_in cs) == length ps) || not (length (stops_in cs) == length ps)
-
-  abbrev many : Bool
-  many = nat_le 1000 (length defs)
-
-  -- the faults of the table as a whole
-  abbrev faults : List Refusal
-  faults = whole there (repeats (names_in cs ++ [])) misfit generated (several ps) (not (length ps == wanted)) ends false many
-
-  -- the system periods
-  abbrev systems : Checked (List System)
-  systems = check_each (system_in cs) ps
-
-  by_parts : create defs n es versioned ≡ create_by defs n es faults [] systems [] (map (column []) cs)
-  by_parts = λ j. create_by defs n es
-      (whole there
-      (repeats (names_in cs ++ flat_map (λ (p : PeriodPart). listed p.name) (no_application es plain j)))
-      misfit
-      generated
-      (several (no_application es plain j) || several ps)
-      (not (length ps == wanted))
-      ends
-      (nat_lt 1 (primary_count (no_constraint es plain j)))
-      many)
-      (no_application es plain j)
-      systems
+  unconstrained : create defs n es versioned
+      ≡ create_by defs n es (others ++ [] ++ many) [] (implied_in (application_parts es) ++ [])
+  unconstrained = λ j. create_by defs n es
+      (others ++ fault_if (nat_lt 1 (primary_count (no_constraint es plain j))) FormNotAllowedHere ++ many)
       (no_constraint es plain j)
-      (map (column (flat_map part_names (no_application es plain j) ++ primary_names (no_constraint es plain j))) cs)
+      (flat_map part_names (application_parts es) ++ primary_names (no_constraint es plain j))
 
-  -- the definition that it gives
-  pub value_is : (create defs n es versioned).value ≡ table n (map (column []) cs) None (first_of systems.value) [] [] []
-  value_is = ap (λ (c : Checked TableDef). c.value) by_parts
+  -- the definition of columns and periods
+  by_parts : create defs n es versioned ≡ create_in defs n (columns_of es) (application_parts es) (system_parts es) versioned
+  by_parts = unconstrained ∙ (λ j. create_by defs n es (append-nil others j ++ many) [] (append-nil (implied_in (application_parts es)) j))
 
-  fault_by_parts : first (create defs n es versioned).faults ≡ sooner (first faults) (first systems.faults)
-  fault_by_parts =
-      ap (λ (c : Checked TableDef). first c.faults) by_parts
-      ∙ first_append faults (systems.faults ++ [])
-      ∙ ap (λ (fs : List Refusal). sooner (first faults) (first fs)) (append-nil systems.faults)
+-- ---- what is read of the statement
 
-  one_at_most : nat_lt 1 wanted ≡ false
-  one_at_most = one_if versioned
+-- the name, the columns and the periods are those of the statement
+pub record IsDraft (c : CreateTree) (n : Name) (cs : List ColumnTree) (ps qs : List PeriodPart) : Type 0 where
+  pub name : n ≡ name_of c.table
+  pub columns : cs ≡ columns_of (elements_in c)
+  pub applications : ps ≡ application_parts (elements_in c)
+  pub systems : qs ≡ system_parts (elements_in c)
 
-  pub fault_is : first (create defs n es versioned).faults ≡ new_fault defs n cs ps versioned
-  fault_is =
-      fault_by_parts
-      ∙ ap (λ (o : Option Refusal). sooner o (periods_fault cs ps)) (
-      whole_first there (repeats (names_in cs ++ [])) misfit generated (several ps) (not (length ps == wanted)) ends false many
-      ∙ (λ j. whole_fault there (repeats (append-nil (names_in cs) j)) misfit
-      (generated || counted (length ps) (length (starts_in cs)) (length (stops_in cs)) wanted one_at_most j) many)
-      )
+-- the definition of the draft is that of the statement
+created : (defs : List TableDef) (c : CreateTree) (n : Name) (cs : List ColumnTree) (applications systems : List PeriodPart) → does_run (create_of c) ≡ true → IsDraft c n cs applications systems
+    → create_in defs n cs applications systems c.is_versioned ≡ create defs (name_of c.table) (elements_in c) c.is_versioned
+created defs c n cs applications systems h is =
+    (λ i. create_in defs (is.name i) (is.columns i) (is.applications i) (is.systems i) c.is_versioned) ∙ sym (by_parts defs (name_of c.table) (elements_in c) c.is_versioned h)
+
+-- the faults of the draft, gathered part by part, are those of the definition
+pub draft_gathered : (defs : List TableDef) (n : Name) (cs : List ColumnTree) (applications systems : List PeriodPart) (v : Bool) (old m1 m2 new : Option Refusal) (as' : List Application) (ss : List System)
+    → Gathers (refuse_for (whole_in defs n cs applications systems v)) old m1 tt → Gathers (check_each (application_in cs) applications) m1 m2 as' → Gathers (check_each (system_in cs) systems) m2 new ss
+    → Gathers (create_in defs n cs applications systems v) old new (table_of_parts n (map (column (implied_in applications)) cs) (first_of ss) (first_of as'))
+draft_gathered defs n cs applications systems v old m1 m2 new as' ss whole first second =
+    let made : List Application → List System → TableDef = λ xs ys. table_of_parts n (map (column (implied_in applications)) cs) (first_of ys) (first_of xs) in
+    let d = made as' ss in
+    let last = bound (check_each (system_in cs) systems) (λ ys. sound (made as' ys)) m2 new new ss d second (sound_here d new) in
+    let middle = bound (check_each (application_in cs) applications) (λ xs. check_each (system_in cs) systems >>= λ ys. sound (made xs ys)) m1 m2 new as' d first last in
+    bound (refuse_for (whole_in defs n cs applications systems v))
+    (λ u. check_each (application_in cs) applications >>= λ xs. check_each (system_in cs) systems >>= λ ys. sound (made xs ys)) old m1 new tt d whole middle
+
+-- and those of the statement
+pub bind_gathered : (defs : List TableDef) (c : CreateTree) (n : Name) (cs : List ColumnTree) (applications systems : List PeriodPart) (old new : Option Refusal) (d : TableDef)
+    → does_run (create_of c) ≡ true → IsDraft c n cs applications systems → Gathers (create_in defs n cs applications systems c.is_versioned) old new d
+    → Gathers (bind defs (create_of c)) old new (CreateTable d)
+bind_gathered defs c n cs applications systems old new d h is g =
+    let made : TableDef → Checked Bound = λ t. sound (CreateTable t) in
+    bound (create defs (name_of c.table) (elements_in c) c.is_versioned) made old new new d (CreateTable d)
+    (subst (λ (k : Checked TableDef). Gathers k old new d) (created defs c n cs applications systems h is) g) (sound_here (CreateTable d) new)

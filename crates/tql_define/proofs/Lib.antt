@@ -1,6 +1,6 @@
 pub mod Drafts
-pub mod FirstFault
-pub mod Creations
 pub mod ColumnLaws
-pub mod Periods
-pub mod Definitions
+pub mod ColumnNumbers
+pub mod Gathered
+pub mod Creations
+pub mod Definable

@@ -1,15 +1,13 @@
 //! What is asked of the columns of a new table.
-ghost use Rattle.std.specs.Prelude.{◌≡◌, ◌<◌, length, map, is_some, Some, None, if◌then◌else◌, string_bytes};
+ghost use Rattle.std.specs.Prelude.{◌≡◌, ◌||◌, length, map, is_some, Some, None, if◌then◌else◌, string_bytes};
 ghost use Rattle.std.specs.List.{list_any, list_all};
-ghost use Rattle.std.specs.Option.{ForSome};
 ghost use Rattle.tql_spec.specs.Calendar.{number_of};
 ghost use Rattle.tql_spec.specs.Creation as spec;
-ghost use Rattle.tql_spec.specs.Datum.{Moments, same_kind};
 ghost use Rattle.tql_spec.specs.Syntax as tree;
 ghost use Rattle.tql_spec.specs.Words.{same_text};
 ghost use Rattle.tql_tree.specs.Statements.{type_of};
 ghost use Rattle.tql_value.specs.Views.{plain_kind};
-ghost use Rattle.tql_define.specs.NewTables.{column_of, names_in, starts_in, stops_in, kind_in};
+ghost use Rattle.tql_define.specs.NewTables.{column_of, names_in, starts_in, stops_in, kind_in, is_generated_in};
 
 use crate::draft::NewColumn;
 use tql_scope::number::unsigned;
@@ -32,32 +30,17 @@ fn is_named(column: &NewColumn<'_>, name: &str) -> bool
 
 /// The number of the column of this name, from 0.
 pub fn number_in(columns: &[NewColumn<'_>], name: &str) -> Option<usize>
-    ensures number { result ≡ spec.number_in name.now (names_in (map column_of columns.now)) }
-    ensures within { ForSome result (λ number. number < length columns.now) }
+    ensures { result ≡ spec.number_in name.now (names_in (map column_of columns.now)) }
 {
     columns.iter().position(|column| is_named(column, name))
 }
 
 /// Whether a column has this name.
 #[tactic(auto, using(crate::proofs::ColumnLaws::known_is))]
-fn has_column(columns: &[NewColumn<'_>], name: &str) -> bool
+pub fn has_column(columns: &[NewColumn<'_>], name: &str) -> bool
     ensures { result ≡ spec.has_name name.now (names_in (map column_of columns.now)) }
 {
     number_in(columns, name).is_some()
-}
-
-/// Whether two columns have one name.
-pub fn has_repeated_name(columns: &[NewColumn<'_>]) -> bool
-    ensures { result ≡ spec.repeats (names_in (map column_of columns.now)) }
-{
-    let mut left = columns;
-    while let [column, others @ ..] = left {
-        if has_column(others, &column.name) {
-            return true;
-        }
-        left = others;
-    }
-    false
 }
 
 /// The length of a VARCHAR, from 1 to 65,535 characters, where it is allowed.
@@ -124,11 +107,14 @@ pub fn are_all_generated(columns: &[NewColumn<'_>]) -> bool
     columns.iter().all(|column| column.generated.is_some())
 }
 
-/// Whether the column is a TIMESTAMP.
-fn is_moment(column: &NewColumn<'_>) -> bool
-    ensures { result ≡ same_kind (spec.kind_of_type (type_of column.now.type_name)) Moments }
+/// The kind of the column of this number; where there is none, that of integers stands for it.
+pub fn kind_at(columns: &[NewColumn<'_>], number: usize) -> Kind
+    ensures { plain_kind result ≡ kind_in (map column_of columns.now) number }
 {
-    matches!(column.type_name, TypeName::Timestamp(_))
+    match columns.get(number) {
+        Some(column) => kind_of(column.type_name),
+        None => Kind::Int,
+    }
 }
 
 /// Whether the column is ROW START.
@@ -159,26 +145,29 @@ pub fn end_count(columns: &[NewColumn<'_>]) -> usize
     columns.iter().filter(|column| is_row_end(column)).count()
 }
 
-/// Whether the column of this number is a TIMESTAMP.
-pub fn is_moment_at(columns: &[NewColumn<'_>], number: usize) -> bool
-    requires { number < length columns.now }
-    ensures { result ≡ same_kind (kind_in (map column_of columns.now) number) Moments }
-{
-    is_moment(&columns[number])
-}
-
-/// Whether the column of this number is ROW START.
+/// Whether a column of this number is there and is ROW START.
 pub fn is_start_at(columns: &[NewColumn<'_>], number: usize) -> bool
-    requires { number < length columns.now }
     ensures { result ≡ spec.has_number number (starts_in (map column_of columns.now)) }
 {
-    is_row_start(&columns[number])
+    match columns.get(number) {
+        Some(column) => is_row_start(column),
+        None => false,
+    }
 }
 
-/// Whether the column of this number is ROW END.
+/// Whether a column of this number is there and is ROW END.
 pub fn is_end_at(columns: &[NewColumn<'_>], number: usize) -> bool
-    requires { number < length columns.now }
     ensures { result ≡ spec.has_number number (stops_in (map column_of columns.now)) }
 {
-    is_row_end(&columns[number])
+    match columns.get(number) {
+        Some(column) => is_row_end(column),
+        None => false,
+    }
+}
+
+/// Whether a column of this number is there and is generated.
+pub fn is_generated_at(columns: &[NewColumn<'_>], number: usize) -> bool
+    ensures { result ≡ is_generated_in (map column_of columns.now) number }
+{
+    is_start_at(columns, number) || is_end_at(columns, number)
 }

@@ -1,14 +1,15 @@
-//! The columns and the system periods of a new table, under the names that are meant.
-ghost use Rattle.std.specs.Prelude.{◌≡◌, ◌++◌, ◌∷◌, [], None, IfOk, IfErr, OnOk};
-ghost use Rattle.tql_spec.specs.Creation.{columns_of, system_parts};
+//! The columns and the periods of a new table, under the names that are meant.
+ghost use Rattle.std.specs.Prelude.{◌≡◌, ◌++◌, ◌∷◌, [], Some, None, IfOk, OnOk};
+ghost use Rattle.tql_spec.specs.Creation.{columns_of, application_parts, system_parts};
 ghost use Rattle.tql_tree.specs.Expressions.{name_of};
 ghost use Rattle.tql_tree.specs.Statements as tree;
-ghost use Rattle.tql_define.specs.NewTables.{column_of, part_of, columns_in, parts_in, elements_in};
-ghost use Rattle.tql_value.specs.declared.refusal.Refusal.TheVariants.{OutOfMemory};
+ghost use Rattle.tql_define.specs.NewTables.{column_of, application_part, system_part, columns_in, applications_in, systems_in, elements_in};
 
+use std::alloc::AllocError;
 use tql_memory::Memory;
+use tql_scope::texts::meant;
+use tql_tree::expression::Name;
 use tql_tree::statement::{ColumnTree, CreateTree, Element, Generated, PeriodTree, TypeName};
-use tql_value::refusal::Refusal;
 
 /// A column as it is written, under the name that is meant.
 #[derive(Drop)]
@@ -19,72 +20,109 @@ pub struct NewColumn<'a> {
     pub generated: Option<Generated>,
 }
 
-/// A system period as it is written, under the names that are meant.
+/// An application period as it is written, under the names that are meant.
 #[derive(Drop)]
-pub struct NewPeriod {
+pub struct NewApplication {
+    pub name: String<Memory>,
     pub start: String<Memory>,
     pub end: String<Memory>,
 }
 
-/// The columns and the system periods of a new table, in the order of the statement.
+/// A system period as it is written, under the names that are meant.
+#[derive(Drop)]
+pub struct NewSystem {
+    pub start: String<Memory>,
+    pub end: String<Memory>,
+}
+
+/// The columns and the periods of a new table, in the order of the statement.
 #[derive(Drop)]
 pub struct Draft<'a> {
     pub columns: Vec<NewColumn<'a>, Memory>,
-    pub periods: Vec<NewPeriod, Memory>,
+    pub applications: Vec<NewApplication, Memory>,
+    pub systems: Vec<NewSystem, Memory>,
 }
 
 /// The column under the name that is meant.
-fn new_column<'a>(memory: Memory, column: ColumnTree<'a>) -> Result<NewColumn<'a>, Refusal>
-    ensures column { IfOk result (λ c. column_of c ≡ tree.column_of column.entry) }
-    ensures memory { IfErr result (λ e. e ≡ OutOfMemory) }
+fn new_column<'a>(memory: Memory, column: ColumnTree<'a>) -> Result<NewColumn<'a>, AllocError>
+    ensures { IfOk result (λ c. column_of c ≡ tree.column_of column.entry) }
 {
     Ok(NewColumn {
-        name: column.name.meant(memory)?,
+        name: meant(memory, column.name)?,
         type_name: column.type_name,
         is_required: column.is_required,
         generated: column.generated,
     })
 }
 
-/// The system period under the names that are meant.
-fn new_period(memory: Memory, period: PeriodTree<'_>) -> Result<NewPeriod, Refusal>
-    ensures period { IfOk result (λ p. part_of p ≡ record { name = None; start = name_of period.entry.start; end = name_of period.entry.end }) }
-    ensures memory { IfErr result (λ e. e ≡ OutOfMemory) }
+/// The application period of this name under the names that are meant.
+fn new_application(
+    memory: Memory,
+    name: Name<'_>,
+    period: PeriodTree<'_>,
+) -> Result<NewApplication, AllocError>
+    ensures { IfOk result (λ p. application_part p
+        ≡ record { name = Some (name_of name.entry); start = name_of period.entry.start; end = name_of period.entry.end }) }
 {
-    Ok(NewPeriod {
-        start: period.start.meant(memory)?,
-        end: period.end.meant(memory)?,
+    Ok(NewApplication {
+        name: meant(memory, name)?,
+        start: meant(memory, period.start)?,
+        end: meant(memory, period.end)?,
+    })
+}
+
+/// The system period under the names that are meant.
+fn new_system(memory: Memory, period: PeriodTree<'_>) -> Result<NewSystem, AllocError>
+    ensures { IfOk result (λ p. system_part p ≡ record { name = None; start = name_of period.entry.start; end = name_of period.entry.end }) }
+{
+    Ok(NewSystem {
+        start: meant(memory, period.start)?,
+        end: meant(memory, period.end)?,
     })
 }
 
 impl<'a> Draft<'a> {
-    /// Adds the element, where it is a column or a system period.
-    fn add(&mut self, memory: Memory, element: &Element<'a>) -> Result<(), Refusal>
+    /// Adds the period, where it has a name as an application period.
+    fn add_period(&mut self, memory: Memory, period: PeriodTree<'_>) -> Result<(), AllocError>
+        ensures columns { OnOk result (columns_in self.new ≡ columns_in self.old) }
+        ensures applications { OnOk result (applications_in self.new ≡ applications_in self.old ++ application_parts (tree.period_of period.entry ∷ [])) }
+        ensures systems { OnOk result (systems_in self.new ≡ systems_in self.old ++ system_parts (tree.period_of period.entry ∷ [])) }
+    {
+        match period.name {
+            Some(name) => self
+                .applications
+                .push(new_application(memory, name, period)?)?,
+            None => self.systems.push(new_system(memory, period)?)?,
+        }
+        Ok(())
+    }
+
+    /// Adds the element, where it is a column or a period.
+    fn add(&mut self, memory: Memory, element: &Element<'a>) -> Result<(), AllocError>
         ensures columns { OnOk result (columns_in self.new ≡ columns_in self.old ++ columns_of (tree.element_of element.now ∷ [])) }
-        ensures periods { OnOk result (parts_in self.new ≡ parts_in self.old ++ system_parts (tree.element_of element.now ∷ [])) }
-        ensures memory { IfErr result (λ e. e ≡ OutOfMemory) }
+        ensures applications { OnOk result (applications_in self.new ≡ applications_in self.old ++ application_parts (tree.element_of element.now ∷ [])) }
+        ensures systems { OnOk result (systems_in self.new ≡ systems_in self.old ++ system_parts (tree.element_of element.now ∷ [])) }
     {
         match element {
             Element::Column(column) => self.columns.push(new_column(memory, *column)?)?,
-            Element::Period(period) if period.name.is_none() => {
-                self.periods.push(new_period(memory, *period)?)?;
-            }
-            Element::Period(_) | Element::Constraint(_) => {}
+            Element::Period(period) => self.add_period(memory, *period)?,
+            Element::Constraint(_) => {}
         }
         Ok(())
     }
 }
 
-/// The columns and the system periods of the statement. The only error is a refused growth.
-#[tactic(auto, using(crate::proofs::Drafts::columns_more, crate::proofs::Drafts::parts_more))]
-pub fn draft_of<'a>(memory: Memory, create: &CreateTree<'a>) -> Result<Draft<'a>, Refusal>
+/// The columns and the periods of the statement. The only error is a refused growth.
+#[tactic(auto, using(crate::proofs::Drafts::columns_more, crate::proofs::Drafts::applications_more, crate::proofs::Drafts::systems_more))]
+pub fn draft_of<'a>(memory: Memory, create: &CreateTree<'a>) -> Result<Draft<'a>, AllocError>
     ensures columns { IfOk result (λ d. columns_in d ≡ columns_of (elements_in create.now)) }
-    ensures periods { IfOk result (λ d. parts_in d ≡ system_parts (elements_in create.now)) }
-    ensures memory { IfErr result (λ e. e ≡ OutOfMemory) }
+    ensures applications { IfOk result (λ d. applications_in d ≡ application_parts (elements_in create.now)) }
+    ensures systems { IfOk result (λ d. systems_in d ≡ system_parts (elements_in create.now)) }
 {
     let mut draft = Draft {
         columns: Vec::new(memory),
-        periods: Vec::new(memory),
+        applications: Vec::new(memory),
+        systems: Vec::new(memory),
     };
     draft.add(memory, &create.first)?;
     for element in &create.more {

@@ -4,3 +4,5 @@
 mod columns;
 pub mod create;
 mod draft;
+mod names;
+mod periods;

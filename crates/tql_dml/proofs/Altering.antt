@@ -1,5 +1,5 @@
 -- What the changes make, from what their parts make.
-use Rattle.std.specs.Prelude.{◌≡◌, ℕ, ℤ, List, [], map, length, All, Option, Some, None, Ok, Err, Result, IsErr, IsErrAnd, pos}
+use Rattle.std.specs.Prelude.{◌≡◌, ℕ, ℤ, List, [], map, length, slice_index_or, All, Option, Some, None, Ok, Err, Result, IsErr, IsErrAnd, pos}
 use Rattle.std.proofs.Common.{sym, ap, subst, ◌∙◌}
 use Rattle.std.proofs.lemmas.List.{length-map}
 use Rattle.std.proofs.lemmas.List.Elements.{All-map, All-weaker}
@@ -10,24 +10,25 @@ use Rattle.tql_spec.specs.Definition.{TableDef, Stamped}
 use Rattle.tql_spec.specs.Change.{Outcome, Fate, outcome_of}
 use Rattle.tql_spec.specs.Change as change
 use Rattle.tql_catalog.specs.Defined.{IsDefinition}
-use Rattle.tql_catalog.specs.Rows.{IsRowOf}
+use Rattle.tql_catalog.specs.Rows.{IsRowOf, stored_width}
 use Rattle.tql_bound.specs.Works.{work_of}
 use Rattle.tql_bound.specs.declared.change.Insertion.{Insertion}
 use Rattle.tql_bound.specs.declared.change.Modification.{Modification}
 use Rattle.tql_store.specs.declared.store.Delta.{Delta}
-use Rattle.tql_store.specs.declared.version.Version.{Version}
+use Rattle.tql_rows.specs.declared.version.Version.{Version}
 use Rattle.tql_value.specs.Points.{IsPrintable}
 use Rattle.tql_value.specs.Refusals.{refusal_of}
 use Rattle.tql_value.specs.declared.refusal.Refusal.{Refusal}
 use Rattle.tql_value.specs.declared.refusal.Refusal.TheVariants as r
 use Rattle.tql_dml.specs.Alters.{Gives, Alters, inserted, tuples_in, rows_in, conds_in, modified, fates, coming, gone, IsVersionOf}
-use Rattle.tql_dml.specs.Cells.{stored_columns, stored_cells, rows_faults}
+use Rattle.tql_dml.specs.Cells.{stored_cells, rows_faults}
 use Rattle.tql_expr.specs.Evaluated.{Fails}
 use Rattle.tql_value.specs.Views.{rows_of}
 use Rattle.tql_dml.specs.Parts.{Parts, parts}
 use Rattle.tql_dml.proofs.Fates.{Told, agreed, disagreed, fates_agree}
 use Rattle.tql_dml.proofs.Rows.{Fit, PartsFit, AreRows, parts_fit, stored_faults}
-use Rattle.tql_dml.proofs.Filling.{stored_fits}
+use Rattle.tql_dml.proofs.Filling.{length-stored, stored_prints}
+use Rattle.tql_dml.proofs.Rising.{rows_fit}
 use Rattle.tql_expr.proofs.Printing.{RowsPrint}
 use Rattle.tql_dml.proofs.Texts.{tuples_print, coming_fit}
 use Rattle.tql_dml.proofs.Inserting.{new_cells, first_of}
@@ -45,12 +46,12 @@ valued d x tuples m e = ap (change.insert d m [] x.columns.items) e
 
 -- the first fault of the new rows
 insert_faults : (d : TableDef) (x : Insertion) (tuples rows : List Row) (o : Option spec.Refusal) (m : ℤ) → IsDefinition d → tuples_in x ≡ Some tuples
-    → rows ≡ map (stored_cells d x.columns.items) tuples → o ≡ first (rows_faults (stored_columns d) rows) → first (inserted d x m).faults ≡ o
+    → rows ≡ map (stored_cells d x.columns.items) tuples → o ≡ first (rows_faults d rows) → first (inserted d x m).faults ≡ o
 insert_faults d x tuples rows o m s v e f = ap (λ (y : Outcome). first y.faults) (valued d x tuples m v) ∙ first_of d m x.columns.items tuples rows o s e f
 
 -- rows that have a fault are refused
 pub insert_refused : (d : TableDef) (id : ℕ) (x : Insertion) (tuples rows : List Row) (e : Refusal) → IsDefinition d → tuples_in x ≡ Some tuples
-    → rows ≡ map (stored_cells d x.columns.items) tuples → Some (refusal_of e) ≡ first (rows_faults (stored_columns d) rows)
+    → rows ≡ map (stored_cells d x.columns.items) tuples → Some (refusal_of e) ≡ first (rows_faults d rows)
     → Alters id [] (λ m. (inserted d x m).rows) (inserted d x) (Err e)
 insert_refused d id x tuples rows e s v is f =
     tells id [] (λ m. (inserted d x m).rows) (inserted d x) e (λ m. insert_faults d x tuples rows (Some (refusal_of e)) m s v is f)
@@ -58,7 +59,7 @@ insert_refused d id x tuples rows e s v is f =
 -- rows without a fault are added
 pub insert_adds : (d : TableDef) (id : ℕ) (x : Insertion) (tuples : List Row) (delta : Delta) → IsDefinition d → tuples_in x ≡ Some tuples → delta.table ≡ id → delta.removed.items ≡ []
     → rows_of delta.added.items ≡ map (stored_cells d x.columns.items) tuples → delta.count ≡ length delta.added.items
-    → None ≡ first (rows_faults (stored_columns d) (rows_of delta.added.items)) → Gives id [] (λ m. (inserted d x m).rows) (inserted d x) delta
+    → None ≡ first (rows_faults d (rows_of delta.added.items)) → Gives id [] (λ m. (inserted d x m).rows) (inserted d x) delta
 insert_adds d id x tuples delta s v table removed rows count faults =
     let js = x.columns.items in
     record {
@@ -70,11 +71,16 @@ insert_adds d id x tuples delta s v table removed rows count faults =
     }
 
 -- what is added fits the table
-pub insert_fits : (d : TableDef) (x : Insertion) (tuples rows : List Row) → IsDefinition d → tuples_in x ≡ Some tuples → rows ≡ map (stored_cells d x.columns.items) tuples → All (IsRowOf d) rows
-insert_fits d x tuples rows s v is =
+pub insert_fits : (d : TableDef) (x : Insertion) (tuples rows : List Row) → IsDefinition d → tuples_in x ≡ Some tuples → rows ≡ map (stored_cells d x.columns.items) tuples
+    → None ≡ first (rows_faults d rows) → All (IsRowOf d) rows
+insert_fits d x tuples rows s v is none =
+    let js = x.columns.items in
     let prints : RowsPrint (Some tuples) = subst RowsPrint v (tuples_print x.terms x.tuples.items) in
-    subst (All (IsRowOf d)) (sym is) (All-map (IsRowOf d) (stored_cells d x.columns.items) tuples
-    (All-weaker (All IsPrintable) (λ vs. IsRowOf d (stored_cells d x.columns.items vs)) (λ vs h. stored_fits d x.columns.items vs s h) tuples prints))
+    let wide : Fit d (map (stored_cells d js) tuples) =
+    All-map (λ (cells : Row). length cells ≡ stored_width d) (stored_cells d js) tuples (λ k z l. length-stored d js (slice_index_or tuples k z) s) in
+    let texts : All (All IsPrintable) (map (stored_cells d js) tuples) =
+    All-map (All IsPrintable) (stored_cells d js) tuples (All-weaker (All IsPrintable) (λ vs. All IsPrintable (stored_cells d js vs)) (λ vs h. stored_prints d js vs s h) tuples prints) in
+    rows_fit d rows s (subst (Fit d) (sym is) wide) (subst (All (All IsPrintable)) (sym is) texts) none
 
 -- ---- UPDATE and DELETE
 
@@ -107,18 +113,18 @@ modify_fails d id found x e (Err why) h f = modify_ends d id found x why (subst 
 
 -- the first fault of the rows that come
 modify_faults : (d : TableDef) (found : List Version) (x : Modification) (p : Parts) (o : Option spec.Refusal) (m : ℤ) → IsDefinition d → AreRows d found → parts_of d found x ≡ Some p
-    → o ≡ first (rows_faults (stored_columns d) p.come) → first (modified d found x m).faults ≡ o
+    → o ≡ first (rows_faults d p.come) → first (modified d found x m).faults ≡ o
 modify_faults d found x p o m s h e f =
     let t = told d found x p m e in
     let fits : PartsFit d (Some p) = subst (PartsFit d) e (parts_fit d (work_of x.terms x.work) (conds_in x) found s h) in
     let cells : map (λ (r : Stamped). r.cells) (change.new_rows t.0) ≡ p.come = t.1.1.come in
     ap (λ (y : Outcome). first y.faults) (outcome_is d found x t.0 m t.1.0)
     ∙ ap first (stored_faults d (change.new_rows t.0) s (subst (Fit d) (sym cells) fits))
-    ∙ ap (λ rows. first (rows_faults (stored_columns d) rows)) cells ∙ sym f
+    ∙ ap (λ rows. first (rows_faults d rows)) cells ∙ sym f
 
 -- rows that have a fault are refused
 pub modify_refused : (d : TableDef) (id : ℕ) (found : List Version) (x : Modification) (p : Parts) (e : Refusal) → IsDefinition d → AreRows d found → parts_of d found x ≡ Some p
-    → Some (refusal_of e) ≡ first (rows_faults (stored_columns d) p.come)
+    → Some (refusal_of e) ≡ first (rows_faults d p.come)
     → Alters id (gone d x found) (λ m. coming (fates d found x m)) (modified d found x) (Err e)
 modify_refused d id found x p e s h v f =
     tells id (gone d x found) (λ m. coming (fates d found x m)) (modified d found x) e (λ m. modify_faults d found x p (Some (refusal_of e)) m s h v f)
@@ -126,7 +132,7 @@ modify_refused d id found x p e s h v f =
 -- rows without a fault come
 pub modify_gives : (d : TableDef) (id : ℕ) (found : List Version) (x : Modification) (p : Parts) (delta : Delta) → IsDefinition d → AreRows d found → parts_of d found x ≡ Some p
     → delta.table ≡ id → delta.removed.items ≡ p.gone → rows_of delta.added.items ≡ p.come → delta.count ≡ length p.gone
-    → None ≡ first (rows_faults (stored_columns d) p.come) → Gives id (gone d x found) (λ m. coming (fates d found x m)) (modified d found x) delta
+    → None ≡ first (rows_faults d p.come) → Gives id (gone d x found) (λ m. coming (fates d found x m)) (modified d found x) delta
 modify_gives d id found x p delta s h v table removed rows count faults = record {
   table = table;
   removed = removed ∙ sym (told d found x p (pos 0) v).1.1.gone;
@@ -141,5 +147,5 @@ modify_gives d id found x p delta s h v table removed rows count faults = record
 
 -- what comes fits the table
 pub modify_fits : (d : TableDef) (found : List Version) (x : Modification) (p : Parts) (rows : List Row) → IsDefinition d → AreRows d found → parts_of d found x ≡ Some p → rows ≡ p.come
-    → All (IsVersionOf d) found → All (IsRowOf d) rows
-modify_fits d found x p rows s h v is f = subst (All (IsRowOf d)) (sym is) (coming_fit d x.terms x.work (conds_in x) found p s h v f)
+    → None ≡ first (rows_faults d p.come) → All (IsVersionOf d) found → All (IsRowOf d) rows
+modify_fits d found x p rows s h v is none f = subst (All (IsRowOf d)) (sym is) (coming_fit d x.terms x.work (conds_in x) found p s h v none f)

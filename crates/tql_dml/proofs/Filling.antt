@@ -12,7 +12,7 @@ use Rattle.tql_spec.specs.Creation.{has_number}
 use Rattle.tql_spec.specs.Binding.{all_assignable, is_generated, generated_columns}
 use Rattle.tql_catalog.specs.Defined.{IsDefinition}
 use Rattle.tql_catalog.proofs.Definitions.{has_its_system}
-use Rattle.tql_catalog.specs.Rows.{IsRowOf, has_system, numbers_repeat, are_assignable}
+use Rattle.tql_catalog.specs.Rows.{has_system, numbers_repeat, are_assignable}
 use Rattle.tql_value.specs.Points.{IsPrintable}
 use Rattle.tql_expr.proofs.Printing.{printable_cell}
 use Rattle.tql_value.specs.Views.{datum_of_value, row_of, rows_of}
@@ -100,15 +100,12 @@ printable_filled row (j ∷ js) [] p q = p
 printable_filled row (j ∷ js) (v ∷ vs) p q =
     printable_filled (slice_set row j v) js vs (All-set IsPrintable row j v (All-head IsPrintable v vs q) p) (All-tail IsPrintable v vs q)
 
--- what is stored is a row of the table
-pub stored_fits : (d : TableDef) (js : List ℕ) (vs : Row) → IsDefinition d → All IsPrintable vs → IsRowOf d (stored_cells d js vs)
-stored_fits d js vs s h =
+-- what is stored
+pub stored_prints : (d : TableDef) (js : List ℕ) (vs : Row) → IsDefinition d → All IsPrintable vs → All IsPrintable (stored_cells d js vs)
+stored_prints d js vs s h =
     let row = new_row d js vs in
     let printable : All IsPrintable row = printable_filled (replicate (length d.columns) Null) js vs (All-replicate IsPrintable (length d.columns) Null tt) h in
-    record {
-      width = length-stored d js vs s;
-      printable = subst (All IsPrintable) (sym (stored_law d js vs s)) (All-map IsPrintable (cell row) (all_assignable d) (λ k i l. printable_cell row (slice_index_or (all_assignable d) k i) printable));
-    }
+    subst (All IsPrintable) (sym (stored_law d js vs s)) (All-map IsPrintable (cell row) (all_assignable d) (λ k i l. printable_cell row (slice_index_or (all_assignable d) k i) printable))
 
 -- new rows whose values are given for all columns in order
 pub usual_rows : {A : Type 0} (d : TableDef) (js : List ℕ) (tuples : List (Vec Value A)) → IsDefinition d → js ≡ all_assignable d → are_assignable d js ≡ true

@@ -5,13 +5,13 @@ use Rattle.std.proofs.Common.{sym, ap, ◌∙◌}
 use Rattle.std.proofs.lemmas.List.{length-map}
 use Rattle.tql_spec.specs.Datum.{Row}
 use Rattle.tql_spec.specs.Refusal as spec
-use Rattle.tql_spec.specs.Refusal.{first}
-use Rattle.tql_spec.specs.Definition.{TableDef, Column, Stamped, stamped, shown}
+use Rattle.tql_spec.specs.Refusal.{PeriodNotRising, first, fault_if}
+use Rattle.tql_spec.specs.Definition.{TableDef, Stamped, stamped, shown}
 use Rattle.tql_spec.specs.Change.{row_faults, new_row, cell_faults}
 use Rattle.tql_spec.specs.Binding.{all_assignable}
 use Rattle.tql_catalog.specs.Defined.{IsDefinition}
 use Rattle.tql_catalog.proofs.Definitions.{has_its_system}
-use Rattle.tql_dml.specs.Cells.{no_column, columns_at, stored_columns, stored_cells, rows_faults}
+use Rattle.tql_dml.specs.Cells.{no_column, stored_columns, stored_cells, has_falling_period, stored_faults, rows_faults}
 use Rattle.tql_dml.proofs.Kept.{kept, kept_law}
 use Rattle.tql_dml.proofs.FaultLaws.{plain_faults}
 use Rattle.tql_dml.proofs.Filling.{length-stored}
@@ -35,21 +35,17 @@ kept_columns d s = kept_law no_column d.system d.columns (has_its_system d s)
 
 -- the faults of a new row
 one_row : (d : TableDef) (m : ℤ) (js : List ℕ) (vs : Row) → IsDefinition d
-    → row_faults d (shown d (stamped d m (new_row d js vs))) ≡ cell_faults (stored_columns d) (stored_cells d js vs)
+    → row_faults d (shown d (stamped d m (new_row d js vs))) ≡ stored_faults d (stored_cells d js vs)
 one_row d m js vs s =
     let wide : length (stored_cells d js vs) ≡ length (kept d.system d.columns) = length-stored d js vs s ∙ sym (length-map (all_assignable d) _) ∙ ap length (sym (kept_columns d s)) in
-    plain_faults d (stamped d m (new_row d js vs)) s wide ∙ ap (λ cs. cell_faults cs (stored_cells d js vs)) (kept_columns d s)
+    plain_faults d (stamped d m (new_row d js vs)) s wide
+    ∙ ap (λ cs. cell_faults cs (stored_cells d js vs) ++ fault_if (has_falling_period d (stored_cells d js vs)) PeriodNotRising) (kept_columns d s)
 
-faults_are : (d : TableDef) (m : ℤ) (js : List ℕ) (tuples : List Row) → IsDefinition d → new_faults d m js tuples ≡ rows_faults (stored_columns d) (map (stored_cells d js) tuples)
+faults_are : (d : TableDef) (m : ℤ) (js : List ℕ) (tuples : List Row) → IsDefinition d → new_faults d m js tuples ≡ rows_faults d (map (stored_cells d js) tuples)
 faults_are d m js [] s = refl
 faults_are d m js (vs ∷ tuples) s = λ i. one_row d m js vs s i ++ faults_are d m js tuples s i
 
 -- the first fault of the new rows, from that of what is stored
 pub first_of : (d : TableDef) (m : ℤ) (js : List ℕ) (tuples rows : List Row) (o : Option spec.Refusal) → IsDefinition d → rows ≡ map (stored_cells d js) tuples
-    → o ≡ first (rows_faults (stored_columns d) rows) → first (new_faults d m js tuples) ≡ o
-first_of d m js tuples rows o s e f = ap first (faults_are d m js tuples s ∙ ap (rows_faults (stored_columns d)) (sym e)) ∙ sym f
-
--- the columns and rows that are read are those that are stored
-pub first_read : (d : TableDef) (cs : List Column) (is : List ℕ) (rows read : List Row) (o : Option spec.Refusal) → cs ≡ d.columns → is ≡ all_assignable d → read ≡ rows
-    → o ≡ first (rows_faults (columns_at cs is) read) → o ≡ first (rows_faults (stored_columns d) rows)
-first_read d cs is rows read o p q r e = e ∙ (λ i. first (rows_faults (columns_at (p i) (q i)) (r i)))
+    → o ≡ first (rows_faults d rows) → first (new_faults d m js tuples) ≡ o
+first_of d m js tuples rows o s e f = ap first (faults_are d m js tuples s ∙ ap (rows_faults d) (sym e)) ∙ sym f

@@ -2,6 +2,7 @@
 use Rattle.std.specs.Prelude.{◌≡◌, refl, ℕ, zero, suc, ◌+◌, ◌<◌, ◌≤◌, ◌≢◌, Bool, true, false, not, cond, ◌&&◌, ◌||◌, ◌==◌, nat_lt, List, [], ◌∷◌, map, filter, length, remove, slice_index_or, Option, Some, None, if◌then◌else◌}
 use Rattle.std.specs.List.{range_with_len}
 use Rattle.std.proofs.Common.{sym, ap, ◌∙◌, arith, eq-eqb, ne_eqb}
+use Rattle.std.proofs.lemmas.List.Edits.{length-remove}
 use borrow.Author.Tests.{ltb-true, ltb-false}
 use Rattle.tql_spec.specs.Definition.{System}
 use Rattle.tql_spec.specs.Creation.{has_number}
@@ -126,3 +127,16 @@ kept_law z None xs h =
 kept_law z (Some s) xs h =
     kept_of s xs (nat_lt s.start s.end) refl (within s (length xs) h)
     ∙ sym (picked (λ i. has_number i (generated_columns (Some s))) (λ i. slice_index_or xs i z) z 0 xs (λ k l. ap (λ i. slice_index_or xs i z) (omega arith)))
+
+-- two of the places are generated
+pub two_less : {X : Type 0} (s : System) (xs : List X) (b : Bool) → nat_lt s.start s.end ≡ b → Within s (length xs)
+    → length (if b then remove (remove xs s.end) s.start else remove (remove xs s.start) s.end) + 2 ≡ length xs
+two_less s xs true h w =
+    let l : s.start < s.end = ltb-true s.start s.end h in
+    let n = length-remove xs s.end w.end in
+    let o = length-remove (remove xs s.end) s.start (omega arith) in omega arith
+two_less s xs false h w =
+    let most : s.end ≤ s.start = ltb-false s.start s.end h in
+    let apart : s.start ≢ s.end = w.apart in
+    let n = length-remove xs s.start w.start in
+    let o = length-remove (remove xs s.start) s.end (omega arith) in omega arith

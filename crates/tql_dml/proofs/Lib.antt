@@ -1,9 +1,11 @@
 pub mod Kept
+pub mod Unstamped
 pub mod FaultLaws
 pub mod Filling
 pub mod Removals
 pub mod Inserting
 pub mod Altering
 pub mod Rows
+pub mod Rising
 pub mod Fates
 pub mod Texts

@@ -11,23 +11,24 @@ use Rattle.tql_spec.specs.Datum.{Row, Moment}
 use Rattle.tql_spec.specs.Calendar.{high}
 use Rattle.tql_spec.specs.Definition.{Column, System, TableDef, Stamped, with_generated, without_generated, shown, cell}
 use Rattle.tql_spec.specs.Expression.{Cond, eval}
+use Rattle.tql_spec.specs.Refusal.{PeriodNotRising, fault_if}
 use Rattle.tql_spec.specs.Change.{Assignment, Work, Set, Remove, assigned, is_touched, row_faults, cell_faults}
 use Rattle.tql_spec.specs.Binding.{all_assignable}
 use Rattle.tql_catalog.specs.Defined.{IsDefinition}
 use Rattle.tql_catalog.specs.Rows.{has_system, stored_width}
 use Rattle.tql_catalog.proofs.Definitions.{has_its_system}
-use Rattle.tql_store.specs.Views.{version_of}
-use Rattle.tql_store.specs.declared.version.Version.{Version}
+use Rattle.tql_rows.specs.Readings.{version_shown as version_of}
+use Rattle.tql_rows.specs.declared.version.Version.{Version}
 use Rattle.tql_value.specs.Views.{datum_of_value}
-use Rattle.tql_dml.specs.Cells.{stored_columns, rows_faults}
+use Rattle.tql_dml.specs.Cells.{stored_columns, has_falling_period, stored_faults as faults_of, rows_faults}
 use Rattle.tql_dml.specs.Parts.{Parts, before, touched_part, part_where, part_of, parts}
-use Rattle.tql_dml.proofs.FaultLaws.{plain_faults, two_less}
+use Rattle.tql_dml.proofs.FaultLaws.{plain_faults}
 use Rattle.tql_dml.proofs.Filling.{kept_cells}
 use Rattle.tql_dml.proofs.Inserting.{kept_columns}
-use Rattle.tql_dml.proofs.Kept.{kept, Within, within}
+use Rattle.tql_dml.proofs.Kept.{kept, Within, within, two_less}
 
 -- so many columns are stored
-kept_width : (d : TableDef) → IsDefinition d → length (kept d.system d.columns) ≡ stored_width d
+pub kept_width : (d : TableDef) → IsDefinition d → length (kept d.system d.columns) ≡ stored_width d
 kept_width d s = ap length (kept_columns d s) ∙ length-map (all_assignable d) _
 
 -- ---- rows as they are shown
@@ -55,7 +56,7 @@ generated_width (Some s) cs cells m e h k =
     two_inserted s cells (length cs) m e (nat_lt s.start s.end) refl w (omega arith)
 
 -- a row as it is shown has all columns
-shown_width : (d : TableDef) (r : Stamped) → IsDefinition d → length r.cells ≡ stored_width d → length (shown d r) ≡ length d.columns
+pub shown_width : (d : TableDef) (r : Stamped) → IsDefinition d → length r.cells ≡ stored_width d → length (shown d r) ≡ length d.columns
 shown_width d r s k = generated_width d.system d.columns r.cells r.start high (has_its_system d s) (k ∙ sym (kept_width d s))
 
 -- and without the generated ones it is stored
@@ -123,9 +124,10 @@ parts_fit d work conds (v ∷ vs) s h =
 
 -- the faults of rows of their width are those of what is stored
 pub stored_faults : (d : TableDef) (rs : List Stamped) → IsDefinition d → Fit d (map (λ (r : Stamped). r.cells) rs)
-    → flat_map (λ r. row_faults d (shown d r)) rs ≡ rows_faults (stored_columns d) (map (λ (r : Stamped). r.cells) rs)
+    → flat_map (λ r. row_faults d (shown d r)) rs ≡ rows_faults d (map (λ (r : Stamped). r.cells) rs)
 stored_faults d [] s h = refl
 stored_faults d (r ∷ rs) s h =
     let wide : length r.cells ≡ length (kept d.system d.columns) = All-head (λ (cells : Row). length cells ≡ stored_width d) r.cells _ h ∙ sym (kept_width d s) in
-    let here : row_faults d (shown d r) ≡ cell_faults (stored_columns d) r.cells = plain_faults d r s wide ∙ ap (λ cs. cell_faults cs r.cells) (kept_columns d s) in
+    let here : row_faults d (shown d r) ≡ faults_of d r.cells =
+    plain_faults d r s wide ∙ ap (λ cs. cell_faults cs r.cells ++ fault_if (has_falling_period d r.cells) PeriodNotRising) (kept_columns d s) in
     λ i. here i ++ stored_faults d rs s (All-tail (λ (cells : Row). length cells ≡ stored_width d) r.cells _ h) i

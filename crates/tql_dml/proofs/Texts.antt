@@ -9,6 +9,7 @@ use Rattle.tql_spec.specs.Calendar.{high}
 use Rattle.tql_spec.specs.Definition.{System, TableDef, without_generated, shown}
 use Rattle.tql_spec.specs.Expression.{Cond, eval}
 use Rattle.tql_spec.specs.Change.{assigned, is_touched}
+use Rattle.tql_spec.specs.Refusal.{first}
 use Rattle.tql_bound.specs.Changes.{tuple_of}
 use Rattle.tql_bound.specs.Works.{assignment_of, work_of}
 use Rattle.tql_bound.specs.declared.change.Assignment.{Assignment}
@@ -19,12 +20,14 @@ use Rattle.tql_catalog.specs.Rows.{IsRowOf}
 use Rattle.tql_expr.specs.Meaning.{expr}
 use Rattle.tql_expr.specs.declared.terms.ExprId.{ExprId}
 use Rattle.tql_expr.specs.declared.terms.Terms.{Terms}
-use Rattle.tql_store.specs.Views.{version_of}
-use Rattle.tql_store.specs.declared.version.Version.{Version}
+use Rattle.tql_rows.specs.Readings.{version_shown as version_of}
+use Rattle.tql_rows.specs.declared.version.Version.{Version}
 use Rattle.tql_value.specs.Points.{IsPrintable, IsMoment}
 use Rattle.tql_dml.specs.Alters.{IsVersionOf}
+use Rattle.tql_dml.specs.Cells.{rows_faults}
 use Rattle.tql_dml.specs.Parts.{Parts, before, touched_part, part_where, part_of, parts}
 use Rattle.tql_expr.proofs.Printing.{OptionPrints, RowPrints, RowsPrint, expr_prints, eval_prints, values_print, rows_front_print, generated_prints}
+use Rattle.tql_dml.proofs.Rising.{rows_fit}
 use Rattle.tql_dml.proofs.Rows.{AreRows, PartsFit, parts_fit}
 
 -- ---- INSERT
@@ -97,8 +100,8 @@ parts_print d t w conds (v ∷ vs) h =
 
 -- the rows that come fit the table where those that go do
 pub coming_fit : (d : TableDef) (t : Terms) (w : code.Work) (conds : List Cond) (found : List Version) (p : Parts) → IsDefinition d → AreRows d found → parts d (work_of t w) conds found ≡ Some p
-    → All (IsVersionOf d) found → All (IsRowOf d) p.come
-coming_fit d t w conds found p s r e h =
+    → None ≡ first (rows_faults d p.come) → All (IsVersionOf d) found → All (IsRowOf d) p.come
+coming_fit d t w conds found p s r e none h =
     let wide : PartsFit d (Some p) = subst (PartsFit d) e (parts_fit d (work_of t w) conds found s r) in
     let prints : PartsPrint (Some p) = subst PartsPrint e (parts_print d t w conds found h) in
-    λ k z l. record { width = wide k z l; printable = prints k z l }
+    rows_fit d p.come s wide prints none

@@ -1,9 +1,10 @@
 -- The cells of new rows, and their faults.
-use Rattle.std.specs.Prelude.{ℕ, Bool, false, ◌&&◌, ◌||◌, List, [], ◌∷◌, map, slice_index_or, None}
+use Rattle.std.specs.Prelude.{ℕ, Bool, false, not, ◌&&◌, ◌||◌, List, [], ◌∷◌, ◌++◌, map, slice_index_or, pos, int_lt, Option, Some, None}
 use Rattle.std.specs.List.{flat_map}
-use Rattle.tql_spec.specs.Datum.{Row, Ints, is_null}
-use Rattle.tql_spec.specs.Refusal.{Refusal}
-use Rattle.tql_spec.specs.Definition.{TableDef, Column, without_generated}
+use Rattle.tql_spec.specs.Calendar.{high}
+use Rattle.tql_spec.specs.Datum.{Datum, Row, Ints, is_null}
+use Rattle.tql_spec.specs.Refusal.{Refusal, PeriodNotRising, fault_if}
+use Rattle.tql_spec.specs.Definition.{TableDef, Column, Application, without_generated, with_generated, point_of, cell}
 use Rattle.tql_spec.specs.Change.{is_too_long, cell_faults, new_row}
 use Rattle.tql_spec.specs.Binding.{all_assignable}
 
@@ -35,6 +36,23 @@ lacks_a_value [] row = false
 lacks_a_value (c ∷ cs) [] = false
 lacks_a_value (c ∷ cs) (v ∷ vs) = (c.required && is_null v) || lacks_a_value cs vs
 
--- the faults of rows of these columns
-abbrev pub rows_faults : List Column → List Row → List Refusal
-rows_faults cs rows = flat_map (cell_faults cs) rows
+-- whether two points are there, and the first is not before the second
+abbrev pub falls : Datum → Datum → Bool
+falls s e = not (is_null s) && not (is_null e) && not (int_lt (point_of s) (point_of e))
+
+-- so for the application period of a row, if its table has one
+abbrev pub falls_by : Option Application → Row → Bool
+falls_by None row = false
+falls_by (Some a) row = falls (cell row a.start) (cell row a.end)
+
+-- and for that of cells that are stored; no end of it is generated, so any moments may stand in the generated columns
+abbrev pub has_falling_period : TableDef → Row → Bool
+has_falling_period d cells = falls_by d.application (with_generated d.system cells (pos 0) high)
+
+-- the faults of a row by its stored cells
+abbrev pub stored_faults : TableDef → Row → List Refusal
+stored_faults d cells = cell_faults (stored_columns d) cells ++ fault_if (has_falling_period d cells) PeriodNotRising
+
+-- the faults of rows
+abbrev pub rows_faults : TableDef → List Row → List Refusal
+rows_faults d rows = flat_map (stored_faults d) rows

@@ -1,18 +1,28 @@
-ghost use Rattle.std.specs.Prelude.{◌≡◌, ◌&&◌, map, option_map, slice_index_or};
+//! The tests of new rows.
+ghost use Rattle.std.specs.Prelude.{◌≡◌, ◌&&◌, map, option_map, slice_index_or, pos, Some};
 ghost use Rattle.std.specs.List.{list_any};
+ghost use Rattle.tql_spec.specs.Calendar.{high};
 ghost use Rattle.tql_spec.specs.Datum.{is_null};
+ghost use Rattle.tql_spec.specs.Definition.{with_generated, point_of};
 ghost use Rattle.tql_spec.specs.Refusal.{first};
 ghost use Rattle.tql_spec.specs.Change.{is_too_long as too_long};
-ghost use Rattle.tql_catalog.specs.Definitions.{column_of};
+ghost use Rattle.tql_catalog.specs.Defined.{IsDefinition};
+ghost use Rattle.tql_catalog.specs.Definitions.{column_of, application_of};
 ghost use Rattle.tql_value.specs.Refusals.{refusal_of};
-ghost use Rattle.tql_value.specs.Views.{datum_of_value, row_of, rows_of};
+ghost use Rattle.tql_value.specs.Views.{datum_of_value, datum_of_view, row_of, rows_of};
 ghost use Rattle.tql_dml.specs.Cells.{no_column, columns_at, rows_faults, has_long_text as long_in, lacks_a_value as lacking_in};
+ghost use Rattle.tql_dml.specs.Cells.{falls as falling, falls_by, has_falling_period as falling_in};
 
-use tql_catalog::definition::Column;
+use crate::generated::generated_places;
+use tql_catalog::definition::{Application, Column};
+use tql_catalog::table_def::TableDef;
+use tql_expr::columns::Columns;
+use tql_expr::row::StoredRow;
 use tql_memory::Memory;
+use tql_rows::version::HIGH;
 use tql_value::refusal::Refusal;
 use tql_value::text::characters;
-use tql_value::value::Value;
+use tql_value::value::{Value, View};
 
 /// Whether a value is a text of more characters than its column takes.
 fn is_too_long(column: &Column, value: &Value) -> bool
@@ -71,20 +81,68 @@ fn lacks_a_value(columns: &[Column], stored: &[usize], row: &[Value]) -> bool
         .any(|(number, value)| is_lacking_at(columns, *number, value))
 }
 
-/// The first fault of rows, in the order of report: a text that is too long in any of them, and then NULL in a column that takes none. The rows
-/// have the cells of the columns with these numbers.
-pub fn first_fault(
-    columns: &[Column],
-    stored: &[usize],
-    rows: &[Vec<Value, Memory>],
-) -> Option<Refusal>
-    ensures { option_map refusal_of result ≡ first (rows_faults (columns_at (map column_of columns.now) stored.now) (rows_of rows.now)) }
+/// The point that a value is, in days or microseconds since 1970-01-01; 0 for what is none.
+fn point(value: View<'_>) -> i64
+    ensures { result ≡ point_of (datum_of_view value.entry) }
 {
+    match value {
+        View::Day(day) => day,
+        View::Moment(moment) => moment,
+        View::Null | View::Int(_) | View::Text(_) => 0,
+    }
+}
+
+/// Whether two points are there, and the first is not before the second.
+fn falls(start: View<'_>, end: View<'_>) -> bool
+    ensures { result ≡ falling (datum_of_view start.entry) (datum_of_view end.entry) }
+{
+    !start.is_null() && !end.is_null() && point(end) <= point(start)
+}
+
+/// Whether a row's application period is without NULL and does not rise. The row has the cells of the columns that are
+/// not generated.
+fn has_falling_period(definition: &TableDef, application: &Application, cells: &[Value]) -> bool
+    ensures { result ≡ falls_by (Some (application_of application.now))
+        (with_generated definition.now.system (row_of cells.now) (pos 0) high) }
+{
+    let row = StoredRow {
+        cells,
+        system: generated_places(definition),
+        start: 0,
+        end: HIGH,
+    };
+    falls(row.column(application.start), row.column(application.end))
+}
+
+/// Whether the table has an application period, and it does not rise in some row where neither of its ends is NULL.
+fn some_period_falls(definition: &TableDef, rows: &[Vec<Value, Memory>]) -> bool
+    ensures { result ≡ list_any (falling_in definition.now) (rows_of rows.now) }
+{
+    match definition.application() {
+        None => false,
+        Some(application) => rows
+            .iter()
+            .any(|row| has_falling_period(definition, application, row)),
+    }
+}
+
+/// The first fault of rows of a table, in the order of report: a text that is too long in any of them, then NULL in a
+/// column that takes none, and then an application period that does not rise. The rows have the cells of the columns
+/// that are not generated.
+pub fn first_fault(definition: &TableDef, rows: &[Vec<Value, Memory>]) -> Option<Refusal>
+    ensures fault { option_map refusal_of result ≡ first (rows_faults definition.now (rows_of rows.now)) }
+    ensures right { IsDefinition definition.now }
+{
+    let columns = definition.columns();
+    let stored = definition.assignable();
     if rows.iter().any(|row| has_long_text(columns, stored, row)) {
         return Some(Refusal::ValueOutOfRange);
     }
     if rows.iter().any(|row| lacks_a_value(columns, stored, row)) {
         return Some(Refusal::NullNotAllowed);
+    }
+    if some_period_falls(definition, rows) {
+        return Some(Refusal::PeriodNotRising);
     }
     None
 }

@@ -15,7 +15,8 @@ use tql_value::refusal::Refusal;
 
 /// The change that adds a row for each tuple: its values in the columns that are given values, and NULL in the others.
 /// Refused, the first of them over all rows: an evaluation out of range, a text longer than its column takes, a NULL in
-/// a column that takes none; memory. Nothing is changed. The rows that come fit the table.
+/// a column that takes none, an application period that does not rise; memory. Nothing is changed. The rows that come
+/// fit the table.
 pub fn insert_tuples(memory: Memory, table: &Table, insertion: &Insertion) -> Result<Delta, Refusal>
     ensures alters { Alters table.now.id [] (λ m. (inserted table.now.definition insertion.now m).rows)
         (inserted table.now.definition insertion.now) result }
@@ -24,7 +25,7 @@ pub fn insert_tuples(memory: Memory, table: &Table, insertion: &Insertion) -> Re
     let definition = &table.definition;
     let tuples = tuples_of(memory, &insertion.terms, &insertion.tuples)?;
     let added = new_rows(memory, definition, &insertion.columns, tuples)?;
-    match first_fault(definition.columns(), definition.assignable(), &added) {
+    match first_fault(definition, &added) {
         Some(refusal) => Err(refusal),
         None => Ok(Delta {
             table: table.id,

@@ -3,6 +3,7 @@
 
 mod assignment;
 mod faults;
+mod generated;
 pub mod insertion;
 pub mod modification;
 mod spread;

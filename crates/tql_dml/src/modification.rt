@@ -2,7 +2,7 @@
 ghost use Rattle.std.specs.Prelude.{◌≡◌, All, length, IfOk};
 ghost use Rattle.tql_spec.specs.Definition.{shown};
 ghost use Rattle.tql_catalog.specs.Rows.{IsRowOf, stored_width};
-ghost use Rattle.tql_store.specs.Views.{version_of};
+ghost use Rattle.tql_rows.specs.Readings.{version_shown as version_of};
 ghost use Rattle.tql_dml.specs.Alters.{Alters, modified, fates, coming, gone, work_in, conds_in, IsVersionOf};
 ghost use Rattle.tql_expr.specs.Evaluated.{Evaluated};
 ghost use Rattle.tql_expr.specs.Shown.{shown_by};
@@ -11,13 +11,14 @@ ghost use Rattle.tql_dml.specs.Parts.{before, touched_part, part_of, parts, part
 
 use crate::assignment::changed_row;
 use crate::faults::first_fault;
+use crate::generated::generated_places;
 use tql_bound::change::{Modification, Work};
 use tql_catalog::catalog::Table;
 use tql_catalog::table_def::TableDef;
 use tql_expr::row::StoredRow;
 use tql_memory::Memory;
+use tql_rows::version::{HIGH, Version};
 use tql_store::store::Delta;
-use tql_store::version::{HIGH, Version};
 use tql_value::refusal::Refusal;
 use tql_value::table::TableId;
 use tql_value::value::Value;
@@ -59,13 +60,9 @@ impl Changed {
 fn shown_row<'a>(definition: &TableDef, version: Version<'a>) -> StoredRow<'a>
     ensures { shown_by result ≡ shown definition.now (version_of version.entry).row }
 {
-    let system = match definition.system() {
-        Some(system) => Some((system.start, system.end)),
-        None => None,
-    };
     StoredRow {
         cells: version.row,
-        system,
+        system: generated_places(definition),
         start: version.start,
         end: HIGH,
     }
@@ -135,8 +132,8 @@ fn changes(
 
 /// The change that UPDATE or DELETE makes of these versions, the current ones of the table: those whose row is touched
 /// go, and under UPDATE the row that each becomes comes. Refused, the first of them over all rows: an evaluation out of
-/// range, a text longer than its column takes, a NULL in a column that takes none; memory. Nothing is changed. Where
-/// the versions are rows of the table, so are those that come.
+/// range, a text longer than its column takes, a NULL in a column that takes none, an application period that does not
+/// rise; memory. Nothing is changed. Where the versions are rows of the table, so are those that come.
 pub fn modify(
     memory: Memory,
     table: &Table,
@@ -152,11 +149,7 @@ pub fn modify(
 {
     let definition = &table.definition;
     let changed = changes(memory, definition, modification, found)?;
-    match first_fault(
-        definition.columns(),
-        definition.assignable(),
-        &changed.added,
-    ) {
+    match first_fault(definition, &changed.added) {
         Some(refusal) => Err(refusal),
         None => Ok(changed.of_table(table.id)),
     }

@@ -11,9 +11,9 @@ use Rattle.tql_run.specs.Hearing.{HearingChange}
 use Rattle.tql_run.specs.Responding.{Standing}
 use Rattle.tql_run.specs.Runs.{Runs, RunsWhole, StopsReading, NothingRun, SourceChange, SinkChange, Gives, MeetsEnd, MissesEnd, Counts, CutsLast, answered, most_pulls}
 use Rattle.tql_run.specs.Runs as run
-use Rattle.tql_run.specs.declared.run.Summary.{Summary}
-use Rattle.tql_run.specs.declared.run.Fault.{Fault}
-use Rattle.tql_run.specs.declared.run.Fault.TheVariants.{Read, Write, Memory}
+use Rattle.tql_run.specs.declared.runner.Summary.{Summary}
+use Rattle.tql_run.specs.declared.runner.Fault.{Fault}
+use Rattle.tql_run.specs.declared.runner.Fault.TheVariants.{Read, Write, Memory}
 use Rattle.tql_engine.specs.Bytes.{WritesWhole, StopsWriting, RunsBytes}
 
 -- ---- replies

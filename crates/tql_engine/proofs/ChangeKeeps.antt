@@ -9,13 +9,14 @@ use Rattle.tql_spec.specs.Datum.{Row}
 use Rattle.tql_spec.specs.Definition.{Stamped, TableDef}
 use Rattle.tql_spec.specs.History.{Copy, Entry, rows_in}
 use Rattle.tql_spec.specs.Machine.{State, newest_copy, working, with_working}
-use Rattle.tql_store.specs.Slots as store
-use Rattle.tql_store.specs.Slots.{Slot}
-use Rattle.tql_store.specs.Stands.{is_current}
-use Rattle.tql_store.specs.Changes.{alive, last_rows, rows_after}
+use Rattle.tql_store.specs.Held as store
+use Rattle.tql_rows.specs.Changes.{is_current}
+use Rattle.tql_rows.specs.Changes.{alive}
+use Rattle.tql_store.specs.Changes.{last_rows, rows_after}
 use Rattle.tql_store.specs.Represents as represents
 use Rattle.tql_store.specs.Represents.{Copies, Working, Represents, BeginCopies, ChangeReplaces, RollbackRestores, Judged}
 use Rattle.tql_store.specs.declared.tables.Place.{Place}
+use Rattle.tql_store.proofs.Judging.{still-judged}
 use Rattle.tql_catalog.specs.Tables.{definitions_of}
 use Rattle.tql_catalog.specs.declared.catalog.Table.{Table}
 use Rattle.tql_catalog.specs.Rows.{IsRowOf}
@@ -112,7 +113,7 @@ module _ (rows : store.Held) (ps : List Table) (placed : ArePlaced rows ps) (t :
 
   -- what stands for the copy stands for the one after the change
   pub replaced_stands : (r1 r2 : store.Held) (copies : Copies) (copy : Copy) (m : ℤ) (gone : Stamped → Bool) (removed : List ℕ) (added : List Row)
-      → CopyFits (definitions_of ps) copy → r1.working ≡ Some m → Judged p.id gone removed r1.slots → ChangeReplaces p.id removed added r1 r2
+      → CopyFits (definitions_of ps) copy → r1.working ≡ Some m → Judged r1 p.id gone removed → ChangeReplaces p.id removed added r1 r2
       → Represents r1 copies (rows_of_id ps copy) → Represents r2 copies (rows_of_id ps (replaced_copy m gone added copy t))
   replaced_stands r1 r2 copies copy m gone removed added fits is1 judged changes r =
       same_working r2 copies _ (rows_of_id ps (replaced_copy m gone added copy t)) (replaced_found m gone added copy fits)
@@ -149,13 +150,13 @@ module _ (h : Held) (defs : List TableDef) (es : List Entry) (next : ℤ) where
   idle = record { definitions = defs; history = es; next = next; transaction = None }
 
   own_changed : (t : ℕ) (p : Table) (gone : Stamped → Bool) (removed : List ℕ) (added : List Row) (r : store.Held) → StandsFor h idle → slice_get h.tables t ≡ Some p → next <ℤ high
-      → AreRowsOf p.definition added → Judged p.id gone removed h.rows.slots → CommitsRows next p.id removed added h.rows r
+      → AreRowsOf p.definition added → Judged h.rows p.id gone removed → CommitsRows next p.id removed added h.rows r
       → StandsFor (record { tables = h.tables; rows = r; next = next +ℤ pos 1 }) (with_table_rows idle t (rows_after next gone added (working_rows idle t)))
   own_changed t p gone removed added r f there below ok judged c =
       let copy : Copy = newest_copy defs es in
       let fits : CopyFits (definitions_of h.tables) copy = last_fits (definitions_of h.tables) defs es f.fits.definitions f.fits.rows in
       let opened : Represents c.opened (copies_of h.tables es) (rows_of_id h.tables copy) = begun_stands h.tables defs es h.rows c.opened c.begins f.stands in
-      let judged1 : Judged p.id gone removed c.opened.slots = subst (λ (ss : List Slot). Judged p.id gone removed ss) (sym c.same_slots) judged in
+      let judged1 : Judged c.opened p.id gone removed = still-judged h.rows c.opened p.id gone removed (c.same_names p.id) judged in
       let changed : Represents c.changed (copies_of h.tables es) (rows_of_id h.tables (replaced_copy next gone added copy t)) =
       replaced_stands h.rows h.tables f.placed t p there c.opened c.changed (copies_of h.tables es) copy next gone removed added fits c.is_open judged1 c.changes opened in
       let from = f.not_before in
@@ -197,7 +198,7 @@ module _ (h : Held) (defs : List TableDef) (es : List Entry) (next : ℤ) where
   within e = record { definitions = defs; history = es; next = next; transaction = Some e }
 
   within_changed : (e : Entry) (t : ℕ) (p : Table) (gone : Stamped → Bool) (removed : List ℕ) (added : List Row) (r : store.Held) → StandsFor h (within e) → slice_get h.tables t ≡ Some p
-      → AreRowsOf p.definition added → Judged p.id gone removed h.rows.slots → ReplacesRows e.moment p.id removed added h.rows r
+      → AreRowsOf p.definition added → Judged h.rows p.id gone removed → ReplacesRows e.moment p.id removed added h.rows r
       → StandsFor (record { tables = h.tables; rows = r; next = next }) (with_table_rows (within e) t (rows_after e.moment gone added (working_rows (within e) t)))
   within_changed e t p gone removed added r f there ok judged c =
       let from = f.not_before in
@@ -225,7 +226,7 @@ module _ (h : Held) (defs : List TableDef) (es : List Entry) (next : ℤ) where
   changed_by : (o : Option Entry) (t : ℕ) (p : Table) (gone : Stamped → Bool) (removed : List ℕ) (added : List Row) (r : store.Held) (after : ℤ)
       → (let s : State = record { definitions = defs; history = es; next = next; transaction = o } in
       StandsFor h s → slice_get h.tables t ≡ Some p → (IsNone h.rows.working → next <ℤ high)
-      → AreRowsOf p.definition added → Judged p.id gone removed h.rows.slots → ChangesRows h.rows.working next after p.id removed added h.rows r
+      → AreRowsOf p.definition added → Judged h.rows p.id gone removed → ChangesRows h.rows.working next after p.id removed added h.rows r
       → StandsFor (record { tables = h.tables; rows = r; next = after }) (with_table_rows s t (rows_after (working_now s).moment gone added (working_rows s t))))
   changed_by None t p gone removed added r after f there below ok judged c =
       let d = subst (λ w. ChangesRows w next after p.id removed added h.rows r) f.opened c in
@@ -245,7 +246,7 @@ module _ (h : Held) (defs : List TableDef) (es : List Entry) (next : ℤ) where
 
 -- rows replaced, in the open transaction or in one of their own
 pub change_law : (h : Held) (s : State) (t : ℕ) (p : Table) (gone : Stamped → Bool) (removed : List ℕ) (added : List Row) (r : store.Held) (after : ℤ) → StandsFor h s
-    → slice_get h.tables t ≡ Some p → (IsNone h.rows.working → h.next <ℤ high) → AreRowsOf p.definition added → Judged p.id gone removed h.rows.slots
+    → slice_get h.tables t ≡ Some p → (IsNone h.rows.working → h.next <ℤ high) → AreRowsOf p.definition added → Judged h.rows p.id gone removed
     → ChangesRows h.rows.working h.next after p.id removed added h.rows r
     → StandsFor (record { tables = h.tables; rows = r; next = after }) (with_table_rows s t (rows_after (working_now s).moment gone added (working_rows s t)))
 change_law h s t p gone removed added r after f there below ok judged c =
@@ -274,12 +275,11 @@ only_added m added rows = ap (λ (xs : List Stamped). xs ++ begun_at m added) (a
 pub all_removed : (m : ℤ) (rows : List Stamped) → rows_after m (λ (r : Stamped). true) [] rows ≡ []
 all_removed m rows = ap (λ (xs : List Stamped). xs ++ begun_at m []) (none_stays rows)
 
--- no slot is taken away
-none_goes : (a b c : Bool) → false ≡ (a && (b && (c && false)))
-none_goes false b c = refl
-none_goes true false c = refl
-none_goes true true false = refl
-none_goes true true true = refl
+-- no version is taken away
+none_goes : (b c : Bool) → false ≡ (b && (c && false))
+none_goes false c = refl
+none_goes true false = refl
+none_goes true true = refl
 
-pub none_judged : (id : ℕ) (slots : List Slot) → Judged id (λ (r : Stamped). false) [] slots
-none_judged id slots = λ i s e. none_goes (nat_eq s.table id) (alive s.version) (is_current s.version)
+pub none_judged : (h : store.Held) (id : ℕ) → Judged h id (λ (r : Stamped). false) []
+none_judged h id = λ i v e. none_goes (alive v) (is_current v)

@@ -5,9 +5,10 @@ use Rattle.std.proofs.lemmas.Bool.Decides.{nat_tests}
 use Rattle.tql_spec.proofs.Members.{both, by_bool}
 use Rattle.tql_spec.specs.Definition.{Stamped, TableDef}
 use Rattle.tql_spec.specs.History.{Copy, Entry, rows_in, table_history}
-use Rattle.tql_store.specs.Slots as store
+use Rattle.tql_store.specs.Held as store
+use Rattle.tql_store.specs.Places.{place_of, is_taken, is_kept}
 use Rattle.tql_store.specs.Represents.{Copies, Working, horizon_of, StandsWith, Represents}
-use Rattle.tql_store.specs.Slots.{live}
+use Rattle.tql_store.specs.Held.{live}
 use Rattle.tql_catalog.specs.declared.catalog.Table.{Table}
 use Rattle.tql_engine.specs.Fitting.{CopyFits}
 use Rattle.tql_engine.specs.Stands.{ArePlaced, is_free, rows_of_id, copies_of}
@@ -114,8 +115,8 @@ same_working h copies working others e r = subst (λ (w : Working). Represents h
 pub any_working : (h : store.Held) (copies : Copies) (working others : Working) → h.working ≡ None → Represents h copies working → Represents h copies others
 any_working h copies working others idle r = record {
   dated = r.dated;
-  stands = λ t. subst (λ o. StandsWith (horizon_of h.tables h.last t) o (live t h.slots) (copies t) (others t)) (sym idle)
-      (subst (λ o. StandsWith (horizon_of h.tables h.last t) o (live t h.slots) (copies t) (working t)) idle (r.stands t));
+  stands = λ t. subst (λ o. StandsWith (horizon_of h.tables h.last t) o (live h t) (copies t) (others t)) (sym idle)
+      (subst (λ o. StandsWith (horizon_of h.tables h.last t) o (live h t) (copies t) (working t)) idle (r.stands t));
 }
 
 -- ---- tables at their numbers
@@ -126,8 +127,8 @@ same_places old new [] e a = tt
 same_places old new (p ∷ ps) e a = (
   a.0,
   record {
-    there = ap (λ places. store.is_taken (store.place_of places p.id)) e ∙ a.1.there;
-    versioned = ap (λ places. store.is_kept (store.place_of places p.id)) e ∙ a.1.versioned;
+    there = ap (λ places. is_taken (place_of places p.id)) e ∙ a.1.there;
+    versioned = ap (λ places. is_kept (place_of places p.id)) e ∙ a.1.versioned;
   },
   same_places old new ps e a.2,
 )

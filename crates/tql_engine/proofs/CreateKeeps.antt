@@ -8,8 +8,9 @@ use Rattle.tql_spec.proofs.Members.{both, by_bool}
 use Rattle.tql_spec.specs.Definition.{TableDef}
 use Rattle.tql_spec.specs.History.{Copy, Entry, FallingFrom}
 use Rattle.tql_spec.specs.Machine.{State, with_table}
-use Rattle.tql_store.specs.Slots as store
-use Rattle.tql_store.specs.Slots.{is_kept, is_taken, has_table, place_for, table_count}
+use Rattle.tql_store.specs.Held as store
+use Rattle.tql_store.specs.Held.{has_table, table_count}
+use Rattle.tql_store.specs.Places.{is_kept, is_taken, place_for, place_of}
 use Rattle.tql_store.specs.Represents.{AddsTable, AddKeepsCopies}
 use Rattle.tql_store.specs.declared.tables.Place.{Place}
 use Rattle.tql_store.specs.declared.tables.Place.TheVariants.{Free}
@@ -80,7 +81,7 @@ module _ (old new : store.Held) (q : Table) (a : AddsTable (is_some q.definition
   -- a table that is there stands at another number
   pub other_number : (p : Table) → IsTrue (has_table old p.id) → nat_eq p.id q.id ≡ false
   other_number p v = by_bool (nat_eq p.id q.id)
-      (λ same. absurd (never (sym (ap is_taken (ap (store.place_of old.tables) (decided p.id q.id same) ∙ a.free)) ∙ v)))
+      (λ same. absurd (never (sym (ap is_taken (ap (place_of old.tables) (decided p.id q.id same) ∙ a.free)) ∙ v)))
       (λ other. other)
     where
       decided : (n m : ℕ) → nat_eq n m ≡ true → n ≡ m
@@ -91,14 +92,14 @@ module _ (old new : store.Held) (q : Table) (a : AddsTable (is_some q.definition
 
   still_kept : (p : Table) → IsKept old p → IsKept new p
   still_kept p k =
-      let same : store.place_of new.tables p.id ≡ store.place_of old.tables p.id =
-      a.takes.places p.id ∙ ap (λ (b : Bool). if b then put else store.place_of old.tables p.id) (other_number p k.there) in
+      let same : place_of new.tables p.id ≡ place_of old.tables p.id =
+      a.takes.places p.id ∙ ap (λ (b : Bool). if b then put else place_of old.tables p.id) (other_number p k.there) in
       record { there = ap is_taken same ∙ k.there; versioned = ap is_kept same ∙ k.versioned }
 
   pub new_kept : IsKept new q
   new_kept =
-      let here : store.place_of new.tables q.id ≡ put =
-      a.takes.places q.id ∙ ap (λ (b : Bool). if b then put else store.place_of old.tables q.id) (self q.id) in
+      let here : place_of new.tables q.id ≡ put =
+      a.takes.places q.id ∙ ap (λ (b : Bool). if b then put else place_of old.tables q.id) (self q.id) in
       record { there = ap is_taken here ∙ taken_for (is_some q.definition.system); versioned = ap is_kept here ∙ kept_for (is_some q.definition.system) }
     where
       self : (n : ℕ) → nat_eq n n ≡ true
@@ -115,7 +116,7 @@ pub create_law : (h : Held) (s : State) (q : Table) (r : store.Held) → StandsF
     → StandsFor (record { tables = h.tables ++ q ∷ []; rows = r; next = h.next }) (with_table q.definition s)
 create_law h s q r f closed right a keeps =
     let none : s.transaction ≡ None = closed_law h s f closed in
-    let idle : r.working ≡ None = ap (λ (x : store.Held). x.working) a.rest ∙ f.opened ∙ ap open_moment none in
+    let idle : r.working ≡ None = a.working ∙ f.opened ∙ ap open_moment none in
     let d : TableDef = q.definition in
     let more : definitions_of (h.tables ++ q ∷ []) ≡ definitions_of h.tables ++ d ∷ [] = map-append (λ (t : Table). t.definition) h.tables (q ∷ []) in
     record {
@@ -130,7 +131,7 @@ create_law h s q r f closed right a keeps =
       not_after = f.not_after;
       falls = falls_more s.next s.history f.falls;
       since = since_more _ s.history f.since;
-      opened = ap (λ (x : store.Held). x.working) a.rest ∙ f.opened;
+      opened = a.working ∙ f.opened;
       dated = f.dated;
       stands = same_copies r (copies_of h.tables s.history) (copies_of (h.tables ++ q ∷ []) (entries_more s.history)) (working_of (h.tables ++ q ∷ []) s.transaction) (λ u. copies_more h.tables q s.history u f.fits.rows)
           (any_working r (copies_of h.tables s.history) (working_of h.tables s.transaction) (working_of (h.tables ++ q ∷ []) s.transaction) idle

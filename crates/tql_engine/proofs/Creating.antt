@@ -1,23 +1,24 @@
 -- An engine with a new table, and one whose new table was given up.
 use Rattle.std.proofs.Common.{◌≡◌, ◌≢◌, ◌<◌, ℕ, ◌+◌, Bool, true, false, List, [], ◌∷◌, ◌++◌, length, refl, sym, ap, subst, ◌∙◌, arith, None}
-use Rattle.std.specs.Prelude.{ℤ, nat_eq, nat_le, is_some, IsNone, IsTrue, All, if◌then◌else◌}
+use Rattle.std.specs.Prelude.{ℤ, nat_eq, nat_le, is_some, IsNone, IsTrue, if◌then◌else◌}
 use Rattle.std.proofs.lemmas.Bool.Decides.{nat_tests}
 use Rattle.std.proofs.lemmas.List.Elements.{All-nil, All-cons, All-head, All-tail}
 use Rattle.tql_spec.proofs.Members.{by_bool}
 use Rattle.tql_spec.specs.Refusal.{TableUnknownOrAlreadyThere, TooManyTablesOrReaders, first, fault_if}
-use Rattle.tql_spec.specs.Definition.{TableDef, Stamped}
+use Rattle.tql_spec.specs.Definition.{TableDef}
 use Rattle.tql_spec.specs.History.{Copy, Entry}
 use Rattle.tql_spec.specs.Machine.{State, with_table}
-use Rattle.tql_store.specs.Slots as store
-use Rattle.tql_store.specs.Slots.{has_table, is_kept, is_taken, table_count, without}
+use Rattle.tql_store.specs.Held as store
+use Rattle.tql_store.specs.Held.{has_table, table_count}
+use Rattle.tql_store.specs.Places.{is_kept, is_taken, place_of, place_for}
 use Rattle.tql_store.specs.Changes.{emptied}
-use Rattle.tql_store.specs.Represents.{Represents, Takes, AddsTable, AddKeepsCopies, DropEmpties, copies_without}
+use Rattle.tql_store.specs.Represents.{Takes, AddsTable, AddKeepsCopies, DropEmpties, copies_without}
 use Rattle.tql_store.specs.declared.tables.Place.TheVariants.{Free}
 use Rattle.tql_catalog.specs.Defined.{IsDefinition}
 use Rattle.tql_catalog.specs.Tables.{IsFree, creation_faults}
 use Rattle.tql_catalog.specs.declared.catalog.Table.{Table}
 use Rattle.tql_bind.specs.Bounds.{IsSoundTable}
-use Rattle.tql_engine.specs.Stands.{Held, StandsFor, ArePlaced, IsKept, rows_of_id, copies_of, working_of}
+use Rattle.tql_engine.specs.Stands.{StandsFor, ArePlaced, rows_of_id, copies_of, working_of}
 use Rattle.tql_engine.proofs.Copies.{passed, same_copies}
 use Rattle.tql_engine.proofs.CreateKeeps.{create_law, other_number, new_kept}
 
@@ -83,12 +84,12 @@ without_none ps id f es u = by_bool (nat_eq u id)
 -- the new table is dropped from the store
 module _ (old mid new : store.Held) (q : Table) (a : AddsTable (is_some q.definition.system) q.id old mid)
     (places : Takes q.id Free mid.tables new.tables) (count : table_count new + 1 ≡ table_count mid)
-    (slots : new ≡ record mid { tables = new.tables; slots = without q.id mid.slots }) (copies : DropEmpties q.id mid new) where
-  same_place : (p : Table) → IsTrue (has_table old p.id) → store.place_of new.tables p.id ≡ store.place_of old.tables p.id
+    (working_same : new.working ≡ mid.working) (copies : DropEmpties q.id mid new) where
+  same_place : (p : Table) → IsTrue (has_table old p.id) → place_of new.tables p.id ≡ place_of old.tables p.id
   same_place p there =
       let other : nat_eq p.id q.id ≡ false = other_number old mid q a p there in
-      places.places p.id ∙ passed (nat_eq p.id q.id) Free (store.place_of mid.tables p.id) other
-      ∙ a.takes.places p.id ∙ passed (nat_eq p.id q.id) (store.place_for (is_some q.definition.system)) (store.place_of old.tables p.id) other
+      places.places p.id ∙ passed (nat_eq p.id q.id) Free (place_of mid.tables p.id) other
+      ∙ a.takes.places p.id ∙ passed (nat_eq p.id q.id) (place_for (is_some q.definition.system)) (place_of old.tables p.id) other
 
   placed_still : (ps : List Table) → ArePlaced old ps → ArePlaced new ps
   placed_still [] k = tt
@@ -113,7 +114,7 @@ module _ (old mid new : store.Held) (q : Table) (a : AddsTable (is_some q.defini
         not_after = f.not_after;
         falls = f.falls;
         since = f.since;
-        opened = ap (λ (h : store.Held). h.working) slots ∙ ap (λ (h : store.Held). h.working) a.rest ∙ f.opened;
+        opened = working_same ∙ a.working ∙ f.opened;
         dated = f.dated;
         stands = same_copies new (copies_without q.id (copies_of tables s.history)) (copies_of tables s.history) working
             (without_none tables q.id (free_number old mid q a tables f.placed) s.history)

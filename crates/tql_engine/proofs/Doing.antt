@@ -1,42 +1,40 @@
 -- Each statement's step, from what the code has tested.
-use Rattle.std.proofs.Common.{◌≡◌, refl, sym, ap, subst, ◌∙◌, arith, ℕ, zero, suc, Bool, true, false, List, [], ◌∷◌, ◌++◌, map, length, Some, None, Option}
+use Rattle.std.proofs.Common.{◌≡◌, refl, sym, ap, subst, ◌∙◌, arith, ℕ, zero, suc, Bool, true, false, List, [], ◌∷◌, ◌++◌, map, Some, None, Option}
 use Rattle.std.specs.Prelude.{ℤ, pos, ◌≤ℤ◌, ◌<ℤ◌, ◌+ℤ◌, ◌&&◌, int_le, is_some, is_none, IsNone, IsSome, slice_get, if◌then◌else◌}
 use Rattle.std.specs.List.{AllByRecursion}
 use Rattle.std.proofs.lemmas.Int.{ints}
-use Rattle.std.proofs.lemmas.List.{length-map}
 use Rattle.tql_spec.specs.Bag.{SameBag}
 use Rattle.tql_spec.specs.Calendar.{first_moment, high}
 use Rattle.tql_spec.specs.Datum.{Row}
-use Rattle.tql_spec.specs.Definition.{Name, Stamped, TableDef, Version, table_at, full}
-use Rattle.tql_spec.specs.History.{Entry, TableEntry, When, rows_in, table_history, with_end, current, still}
+use Rattle.tql_spec.specs.Definition.{Name, Stamped, TableDef, Version, full}
+use Rattle.tql_spec.specs.History.{Entry, rows_in}
 use Rattle.tql_spec.specs.Query.{answer, in_order}
 use Rattle.tql_spec.specs.QueryLaws.{selected, PlainQueriesSelect, SelectionsKeepNoOrder, SameRows}
-use Rattle.tql_spec.specs.Change.{Outcome, Work, insert}
+use Rattle.tql_spec.specs.Change.{Outcome, insert}
 use Rattle.tql_spec.specs.Refusal.{Refusal, NotInThisTransactionState, MomentNotAllowed, ValueOutOfRange, first}
-use Rattle.tql_spec.specs.Machine.{State, Reply, Refused, Done, Table, CreatedTable, DroppedTable, ClockSet, Inserted, Deleted, Started, Committed, RolledBack, Change, CreateTable, DropTable, SetClock, Start, Commit, Rollback, Alter, Ask, Modify, step, altered, unless_refused, is_not_later, is_clock_at_end, entries, newest_copy, with_table, without_table, with_commit, working, asked, bag_of}
+use Rattle.tql_spec.specs.Machine.{State, Reply, Refused, Done, Table, CreatedTable, DroppedTable, ClockSet, Inserted, Started, Committed, RolledBack, Change, CreateTable, DropTable, SetClock, Start, Commit, Rollback, Alter, Ask, step, altered, unless_refused, is_not_later, is_clock_at_end, with_table, without_table, with_commit, working, asked, bag_of}
 use Rattle.tql_bound.specs.Selections.{when_of, reference_of, selection_of}
 use Rattle.tql_bound.specs.declared.selection.Selection.{Selection}
 use Rattle.tql_expr.specs.Evaluated.{Fails}
 use Rattle.tql_value.specs.declared.refusal.Refusal as r
 use Rattle.tql_value.specs.declared.refusal.Refusal.TheVariants as variant
-use Rattle.tql_catalog.specs.Tables.{definitions_of}
 use Rattle.tql_catalog.specs.declared.catalog.Table.{Table as CatalogTable}
 use Rattle.tql_catalog.specs.Defined.{IsDefinition}
 use Rattle.tql_bound.specs.Changes.{insertion_of}
 use Rattle.tql_bound.specs.declared.change.Insertion.{Insertion}
 use Rattle.tql_dml.specs.Alters.{tuples_in, inserted}
-use Rattle.tql_store.specs.Slots as store
-use Rattle.tql_store.specs.Represents.{BeginCopies, CommitAppends, RollbackRestores, Judged}
-use Rattle.tql_engine.specs.Stands.{Held, StandsFor, copies_of, working_of, open_moment}
+use Rattle.tql_store.specs.Held as store
+use Rattle.tql_store.specs.Represents.{BeginCopies, CommitAppends, RollbackRestores}
+use Rattle.tql_engine.specs.Stands.{Held, StandsFor, open_moment}
 use Rattle.tql_engine.specs.Questions.{Answers}
 use Rattle.tql_engine.specs.Committing.{ChangesRows}
 use Rattle.tql_engine.specs.Effects.{Does, Refuses, not_later_than}
 use Rattle.tql_engine.proofs.Faults.{refused, create_step, drop_step, clock_step, start_step, commit_step, rollback_step, alter_step}
 use Rattle.tql_engine.proofs.Standing.{closed_law, open_law, last_law, clock_law, definition_law}
 use Rattle.tql_engine.proofs.Copies.{chosen, passed}
-use Rattle.tql_engine.proofs.Asked.{rows_when, asked_law, seen_law}
+use Rattle.tql_engine.proofs.Asked.{rows_when, asked_law}
 use Rattle.tql_engine.proofs.Added.{rows_begun, altered_by, insert_outcome, insert_faults}
-use Rattle.tql_engine.proofs.ChangeKeeps.{working_now, working_rows, with_table_rows, begun_at, AreRowsOf, change_law, only_added, all_removed, none_judged}
+use Rattle.tql_engine.proofs.ChangeKeeps.{working_now, working_rows, with_table_rows, begun_at, AreRowsOf, change_law, only_added, none_judged}
 use Rattle.tql_engine.proofs.TransactionKeeps.{begun_law, ended_law, undone_law}
 
 -- ---- what is done, by an equal step
@@ -217,7 +215,7 @@ pub rows_added : (h : Held) (s : State) (t : ℕ) (p : CatalogTable) (rows : Lis
     → StandsFor (record { tables = h.tables; rows = r; next = after }) (with_rows_added s t rows)
 rows_added h s t p rows removed r after st e below fit none c =
     subst (λ (xs : List Stamped). StandsFor (record { tables = h.tables; rows = r; next = after }) (with_table_rows s t xs)) (only_added (working_now s).moment rows (working_rows s t))
-    (change_law h s t p (λ (x : Stamped). false) [] rows r after st e below fit (none_judged p.id h.rows.slots)
+    (change_law h s t p (λ (x : Stamped). false) [] rows r after st e below fit (none_judged h.rows p.id)
     (subst (λ is. ChangesRows h.rows.working h.next after p.id is rows h.rows r) none c))
 
 -- what the machine does where there is no fault

@@ -9,8 +9,9 @@ use Rattle.tql_spec.proofs.Members.{both, by_bool}
 use Rattle.tql_spec.specs.Definition.{TableDef, Stamped}
 use Rattle.tql_spec.specs.History.{Copy, Entry, FallingFrom}
 use Rattle.tql_spec.specs.Machine.{State, without_table}
-use Rattle.tql_store.specs.Slots as store
-use Rattle.tql_store.specs.Slots.{is_kept, is_taken, table_count, without}
+use Rattle.tql_store.specs.Held as store
+use Rattle.tql_store.specs.Held.{table_count}
+use Rattle.tql_store.specs.Places.{is_kept, is_taken, place_of}
 use Rattle.tql_store.specs.Changes.{emptied}
 use Rattle.tql_store.specs.Represents.{Takes, DropEmpties, copies_without}
 use Rattle.tql_store.specs.declared.tables.Place.TheVariants.{Free}
@@ -114,8 +115,8 @@ module _ (old new : store.Held) (q : Table) (places : Takes q.id Free old.tables
   -- a table at another number is kept
   still_kept : (p : Table) → nat_eq p.id q.id ≡ false → IsKept old p → IsKept new p
   still_kept p other k =
-      let same : store.place_of new.tables p.id ≡ store.place_of old.tables p.id =
-      places.places p.id ∙ passed (nat_eq p.id q.id) Free (store.place_of old.tables p.id) other in
+      let same : place_of new.tables p.id ≡ place_of old.tables p.id =
+      places.places p.id ∙ passed (nat_eq p.id q.id) Free (place_of old.tables p.id) other in
       record { there = ap is_taken same ∙ k.there; versioned = ap is_kept same ∙ k.versioned }
 
   placed_rest : (ps : List Table) → IsTrue (is_free q.id ps) → ArePlaced old ps → ArePlaced new ps
@@ -155,9 +156,9 @@ copies_less h ps t p a e es f id = by_bool (nat_eq id p.id)
 
 pub drop_law : (h : Held) (s : State) (t : ℕ) (p : Table) (tables : List Table) (r : store.Held) → StandsFor h s → IsNone h.rows.working → slice_get h.tables t ≡ Some p
     → tables ≡ remove h.tables t → Takes p.id Free h.rows.tables r.tables → table_count r + 1 ≡ table_count h.rows
-    → r ≡ record h.rows { tables = r.tables; slots = without p.id h.rows.slots } → DropEmpties p.id h.rows r
+    → r.working ≡ h.rows.working → DropEmpties p.id h.rows r
     → StandsFor (record { tables = tables; rows = r; next = h.next }) (without_table t s)
-drop_law h s t p tables r f closed there left places count slots copies =
+drop_law h s t p tables r f closed there left places count same_working copies =
     subst (λ (ts : List Table). StandsFor (record { tables = ts; rows = r; next = h.next }) (without_table t s)) (sym left)
     (record {
       fits = record {
@@ -187,9 +188,6 @@ drop_law h s t p tables r f closed there left places count slots copies =
 
     less : definitions_of (remove h.tables t) ≡ remove (definitions_of h.tables) t
     less = definitions_less h.tables t
-
-    same_working : r.working ≡ h.rows.working
-    same_working = ap (λ (x : store.Held). x.working) slots
 
     fewer : (n m k l : ℕ) → n + 1 ≡ m → m ≡ k → l + 1 ≡ k → n ≡ l
     fewer n m k l e g j = omega arith

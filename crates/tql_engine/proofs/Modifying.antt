@@ -1,43 +1,42 @@
 -- UPDATE and DELETE, from what was made of the versions that the table has now.
-use Rattle.std.proofs.Common.{◌≡◌, ◌<◌, refl, ap, sym, subst, ◌∙◌, arith, ℕ, Bool, true, false, List, [], ◌∷◌, ◌++◌, map, filter, length, Option, Some, None, Ok, Err}
-use Rattle.std.specs.Prelude.{ℤ, ◌≤ℤ◌, ◌<ℤ◌, not, IsNone, All, slice_get, IfOk, Result}
+use Rattle.std.proofs.Common.{◌≡◌, ◌<◌, refl, ap, sym, subst, ◌∙◌, arith, ℕ, Bool, List, [], ◌∷◌, map, filter, length, Option, Some, None, Ok, Err}
+use Rattle.std.specs.Prelude.{ℤ, ◌≤ℤ◌, ◌<ℤ◌, not, IsNone, All, slice_get, Result}
 use Rattle.std.specs.List.{AllByRecursion}
 use Rattle.std.proofs.lemmas.Int.{ints}
-use Rattle.std.proofs.lemmas.List.Elements.{All-from_recursion, recursion_from_All}
+use Rattle.std.proofs.lemmas.List.Elements.{All-from_recursion}
 use Rattle.tql_spec.specs.Bag.{SameBag}
-use Rattle.tql_spec.proofs.Bags.{same-map, same-sym, same-trans}
+use Rattle.tql_spec.proofs.Bags.{same-map, same-sym}
 use Rattle.tql_spec.specs.Calendar.{first_moment, high}
 use Rattle.tql_spec.specs.Datum.{Row}
-use Rattle.tql_spec.specs.Definition.{Stamped, TableDef, Version, shown}
-use Rattle.tql_spec.specs.History.{Entry, TableEntry, current, still, completed, table_history, rows_in}
+use Rattle.tql_spec.specs.Definition.{Stamped, TableDef, Version}
+use Rattle.tql_spec.specs.History.{Entry, current, still, completed, table_history, rows_in}
 use Rattle.tql_spec.specs.Change as change
 use Rattle.tql_spec.specs.Change.{Outcome, modify}
 use Rattle.tql_spec.specs.ChangeLaws.{SameOutcome, ChangesKeepNoOrder, ChangesByParts}
 use Rattle.tql_spec.specs.Refusal as spec
 use Rattle.tql_spec.specs.Refusal.{first}
-use Rattle.tql_spec.specs.Machine.{State, Reply, Done, Refused, Alter, step, unless_refused, entries, newest_copy, verb_of_work}
+use Rattle.tql_spec.specs.Machine.{State, Done, Refused, Alter, step, unless_refused, entries, newest_copy, verb_of_work}
 use Rattle.tql_bound.specs.Changes.{modification_of}
 use Rattle.tql_bound.specs.Works.{work_of}
 use Rattle.tql_bound.specs.declared.change.Modification.{Modification}
 use Rattle.tql_catalog.specs.Tables.{definitions_of}
-use Rattle.tql_catalog.specs.Rows.{IsRowOf, stored_width}
 use Rattle.tql_catalog.specs.declared.catalog.Table.{Table}
 use Rattle.tql_dml.specs.Alters.{Alters, Gives, gone, fates, coming, modified, conds_in, IsVersionOf}
 use Rattle.tql_dml.specs.Alters as dml
-use Rattle.tql_store.specs.Slots as store
+use Rattle.tql_store.specs.Held as store
+use Rattle.tql_store.specs.Held.{AreRemovable}
 use Rattle.tql_store.specs.Changes.{rows_after}
 use Rattle.tql_store.specs.Represents.{AnswersNow, Judged}
-use Rattle.tql_store.specs.Views.{version_of}
+use Rattle.tql_rows.specs.Readings.{version_shown as version_of}
 use Rattle.tql_store.specs.declared.store.Delta.{Delta}
-use Rattle.tql_store.specs.declared.version.Version as code
-use Rattle.tql_store.proofs.Judging.{judged, ids-within}
-use Rattle.tql_value.specs.Points.{IsMoment}
+use Rattle.tql_rows.specs.declared.version.Version as code
+use Rattle.tql_store.proofs.Judging.{judged, removable}
 use Rattle.tql_value.specs.Refusals.{refusal_of}
 use Rattle.tql_value.specs.declared.refusal.Refusal.{Refusal}
 use Rattle.tql_value.specs.declared.refusal.Refusal.TheVariants as r
 use Rattle.tql_engine.specs.Committing.{ChangesRows}
 use Rattle.tql_engine.specs.Effects.{Does, Refuses}
-use Rattle.tql_engine.specs.Fitting.{RowFits, RowsFit, CopyFits}
+use Rattle.tql_engine.specs.Fitting.{RowsFit, CopyFits}
 use Rattle.tql_engine.specs.Modifying.{Made, Makes}
 use Rattle.tql_engine.specs.Stands.{Held, StandsFor, copies_of, working_of}
 use Rattle.tql_engine.proofs.Asked.{rows_fit, seen_law}
@@ -146,7 +145,7 @@ module _ (no_order : ChangesKeepNoOrder) (by_parts : ChangesByParts) (h : Held) 
         (modify_is ∙ ap (λ q. unless_refused q s (Done (verb_of_work work) (Some outcome.count)) (with_table_rows s x.table outcome.rows)) (sym same.fault ∙ k moment)) (refuses h s f st)
 
     -- the state after it
-    pub rows_modified : (added : List Row) (removed : List ℕ) (r : store.Held) (after : ℤ) → AreRowsOf p.definition added → Judged p.id (touches p.definition (conds_in x)) removed h.rows.slots
+    pub rows_modified : (added : List Row) (removed : List ℕ) (r : store.Held) (after : ℤ) → AreRowsOf p.definition added → Judged h.rows p.id (touches p.definition (conds_in x)) removed
         → ChangesRows h.rows.working h.next after p.id removed added h.rows r
         → ((m : ℤ) → map (λ (y : Stamped). y.cells) (coming (fates p.definition found x m)) ≡ added) → ((m : ℤ) → first (modified p.definition found x m).faults ≡ None)
         → StandsFor (record { tables = h.tables; rows = r; next = after }) (with_table_rows s x.table outcome.rows)
@@ -166,7 +165,7 @@ module _ (no_order : ChangesKeepNoOrder) (by_parts : ChangesByParts) (h : Held) 
         dated = moment_dated h s st below
 
     -- and the reply
-    pub modify_does : (added : List Row) (removed : List ℕ) (r : store.Held) (after : ℤ) (count : ℕ) → AreRowsOf p.definition added → Judged p.id (touches p.definition (conds_in x)) removed h.rows.slots
+    pub modify_does : (added : List Row) (removed : List ℕ) (r : store.Held) (after : ℤ) (count : ℕ) → AreRowsOf p.definition added → Judged h.rows p.id (touches p.definition (conds_in x)) removed
         → ChangesRows h.rows.working h.next after p.id removed added h.rows r
         → ((m : ℤ) → map (λ (y : Stamped). y.cells) (coming (fates p.definition found x m)) ≡ added) → ((m : ℤ) → first (modified p.definition found x m).faults ≡ None)
         → ((m : ℤ) → count ≡ (modified p.definition found x m).count)
@@ -221,11 +220,11 @@ table_there (q ∷ ps) ℕ.zero l = (q, refl)
 table_there (q ∷ ps) (ℕ.suc t) l = table_there ps t (omega (arith, l))
 
 -- the ids of the versions that go
-pub gone_within : (h : store.Held) (p : Table) (x : Modification) (delta : Delta) → Made h p x (Ok delta) → All (λ i. i < length h.slots) delta.removed.items
-gone_within h p x delta k =
-    subst (All (λ i. i < length h.slots)) (sym k.alters.removed) (ids-within p.id (touches p.definition (conds_in x)) h.slots k.found k.names)
+pub gone_removable : (h : store.Held) (p : Table) (x : Modification) (delta : Delta) → Made h p x (Ok delta) → AreRemovable h p.id delta.removed.items
+gone_removable h p x delta k =
+    subst (AreRemovable h p.id) (sym k.alters.removed) (removable h p.id (λ (v : code.Version). touches p.definition (conds_in x) (version_of v).row) k.found k.names k.once)
 
-pub gone_judged : (h : store.Held) (p : Table) (x : Modification) (delta : Delta) → Made h p x (Ok delta) → Judged p.id (touches p.definition (conds_in x)) delta.removed.items h.slots
+pub gone_judged : (h : store.Held) (p : Table) (x : Modification) (delta : Delta) → Made h p x (Ok delta) → Judged h p.id (touches p.definition (conds_in x)) delta.removed.items
 gone_judged h p x delta k =
-    subst (λ is. Judged p.id (touches p.definition (conds_in x)) is h.slots) (sym k.alters.removed)
-    (judged p.id (touches p.definition (conds_in x)) h.slots k.found k.names k.once)
+    subst (Judged h p.id (touches p.definition (conds_in x))) (sym k.alters.removed)
+    (judged h p.id (touches p.definition (conds_in x)) k.found k.names k.once)

@@ -6,8 +6,8 @@ use Rattle.std.proofs.Math.Facts.{to_z-of_z}
 use Rattle.tql_spec.specs.Calendar.{first_moment, high}
 use Rattle.tql_spec.specs.Machine.{State}
 use Rattle.tql_spec.specs.Datum.{Row}
-use Rattle.tql_store.specs.Slots as store
-use Rattle.tql_store.specs.Stands.{Under}
+use Rattle.tql_store.specs.Held as store
+use Rattle.tql_rows.specs.Changes.{Under}
 use Rattle.tql_engine.specs.Committing.{ChangesRows}
 use Rattle.tql_engine.specs.Stands.{Held, StandsFor}
 use Rattle.tql_engine.proofs.Standing.{under_law}

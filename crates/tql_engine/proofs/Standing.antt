@@ -1,5 +1,5 @@
 -- What an engine that stands for a state has in common with it, and how a new one and the clock keep that.
-use Rattle.std.proofs.Common.{◌≡◌, ◌<◌, ℕ, zero, suc, true, false, List, [], ◌∷◌, map, length, refl, sym, ap, subst, ◌∙◌}
+use Rattle.std.proofs.Common.{◌≡◌, ◌<◌, ℕ, zero, suc, true, false, List, [], ◌∷◌, length, refl, sym, ap, subst, ◌∙◌}
 use Rattle.std.specs.Prelude.{ℤ, ◌≤ℤ◌, slice_get, IsTrue, IsNone, is_some, Option, Some, None}
 use Rattle.std.specs.List.{AllByRecursion}
 use Rattle.std.proofs.lemmas.Int.{ints}
@@ -12,11 +12,11 @@ use Rattle.tql_spec.specs.Machine.{State, new_state, is_not_later}
 use Rattle.tql_catalog.specs.Tables.{definitions_of}
 use Rattle.tql_catalog.specs.declared.catalog.Table.{Table}
 use Rattle.tql_catalog.specs.Defined.{IsDefinition}
-use Rattle.tql_store.specs.Slots as store
-use Rattle.tql_store.specs.Slots.{is_versioned, has_table, table_count}
+use Rattle.tql_store.specs.Held as store
+use Rattle.tql_store.specs.Held.{is_versioned, has_table, table_count}
 use Rattle.tql_store.specs.Changes.{newest}
 use Rattle.tql_store.specs.Represents.{Represents}
-use Rattle.tql_store.specs.Stands.{Under}
+use Rattle.tql_rows.specs.Changes.{Under}
 use Rattle.tql_engine.specs.Effects.{not_later_than}
 use Rattle.tql_engine.specs.Stands.{Held, StandsFor, ArePlaced, IsKept, IsDated, copies_of, open_moment}
 

@@ -1,18 +1,17 @@
 -- A state stands as well with the rows of a table in another order.
-use Rattle.std.proofs.Common.{◌≡◌, ◌<◌, cond, refl, ap, sym, subst, ◌∙◌, arith, ℕ, Bool, true, false, List, [], ◌∷◌, map, length, Option, Some, None, inl, inr}
-use Rattle.std.specs.Prelude.{ℤ, pos, ◌+ℤ◌, ◌⊎◌, nat_eq, slice_get, slice_set, if◌then◌else◌}
+use Rattle.std.proofs.Common.{◌≡◌, ◌<◌, cond, refl, sym, subst, ◌∙◌, ℕ, Bool, true, false, List, [], ◌∷◌, length, Option, Some, None, inl, inr}
+use Rattle.std.specs.Prelude.{ℤ, ◌⊎◌, nat_eq, slice_get, slice_set, if◌then◌else◌}
 use Rattle.std.specs.List.{AllByRecursion}
 use Rattle.std.proofs.lemmas.List.{length-map}
 use Rattle.tql_spec.specs.Bag.{SameBag, In}
 use Rattle.tql_spec.specs.Calendar.{high}
 use Rattle.tql_spec.proofs.Bags.{same-refl, same-sym, same-trans}
-use Rattle.tql_spec.proofs.Members.{by_bool}
 use Rattle.tql_spec.proofs.MemberLists.{times_some, there_if}
 use Rattle.tql_spec.specs.Definition.{Stamped, TableDef, Version, same_stamped}
 use Rattle.tql_spec.specs.History.{Copy, Entry, TableEntry}
 use Rattle.tql_spec.specs.Machine.{State, newest_copy}
-use Rattle.tql_store.specs.Slots as store
-use Rattle.tql_store.specs.Slots.{live}
+use Rattle.tql_store.specs.Held as store
+use Rattle.tql_store.specs.Held.{live}
 use Rattle.tql_store.specs.Stands.{Told, Fits, StandsFor as StandFor}
 use Rattle.tql_store.specs.Changes.{InTransaction}
 use Rattle.tql_store.specs.Represents.{Copies, Working, Represents, StandsWith, horizon_of}
@@ -20,7 +19,7 @@ use Rattle.tql_catalog.specs.Tables.{definitions_of}
 use Rattle.tql_catalog.specs.declared.catalog.Table.{Table}
 use Rattle.tql_engine.specs.Fitting.{RowFits, RowsFit, CopyFits}
 use Rattle.tql_engine.specs.Stands.{Held, StandsFor, ArePlaced, rows_of_id, copies_of, working_of}
-use Rattle.tql_engine.proofs.Copies.{chosen, passed, rows_set, fits_length}
+use Rattle.tql_engine.proofs.Copies.{rows_set, fits_length}
 use Rattle.tql_engine.proofs.ChangeKeeps.{working_now, with_table_rows, set_fits}
 
 -- ---- rows that fit
@@ -73,25 +72,25 @@ pub copies_same : (r : store.Held) (m : ℤ) (xs ys : Working) (older : Copies) 
     → Represents r (λ t. record { moment = m; rows = xs t } ∷ older t) working → Represents r (λ t. record { moment = m; rows = ys t } ∷ older t) working
 copies_same r m xs ys older working idle b f = record {
   dated = f.dated;
-  stands = λ t. subst (λ o. StandsWith (horizon_of r.tables r.last t) o (live t r.slots) (record { moment = m; rows = ys t } ∷ older t) (working t)) (sym idle)
-      (stands_same (horizon_of r.tables r.last t) (live t r.slots) m (xs t) (ys t) (older t) (b t)
-      (subst (λ o. StandsWith (horizon_of r.tables r.last t) o (live t r.slots) (record { moment = m; rows = xs t } ∷ older t) (working t)) idle (f.stands t)));
+  stands = λ t. subst (λ o. StandsWith (horizon_of r.tables r.last t) o (live r t) (record { moment = m; rows = ys t } ∷ older t) (working t)) (sym idle)
+      (stands_same (horizon_of r.tables r.last t) (live r t) m (xs t) (ys t) (older t) (b t)
+      (subst (λ o. StandsWith (horizon_of r.tables r.last t) o (live r t) (record { moment = m; rows = xs t } ∷ older t) (working t)) idle (f.stands t)));
 }
 
 -- in the working copy of an open transaction
 pub working_same : (r : store.Held) (m : ℤ) (xs ys : Working) (copies : Copies) → r.working ≡ Some m → ((t : ℕ) → SameBag (xs t) (ys t)) → Represents r copies xs → Represents r copies ys
 working_same r m xs ys copies is_open b f = record {
   dated = f.dated;
-  stands = λ t. subst (λ o. StandsWith (horizon_of r.tables r.last t) o (live t r.slots) (copies t) (ys t)) (sym is_open)
-      (within t (subst (λ o. StandsWith (horizon_of r.tables r.last t) o (live t r.slots) (copies t) (xs t)) is_open (f.stands t)));
+  stands = λ t. subst (λ o. StandsWith (horizon_of r.tables r.last t) o (live r t) (copies t) (ys t)) (sym is_open)
+      (within t (subst (λ o. StandsWith (horizon_of r.tables r.last t) o (live r t) (copies t) (xs t)) is_open (f.stands t)));
 }
   where
-    within : (t : ℕ) → InTransaction (horizon_of r.tables r.last t) (live t r.slots) (record { moment = m; rows = xs t }) (copies t)
-        → InTransaction (horizon_of r.tables r.last t) (live t r.slots) (record { moment = m; rows = ys t }) (copies t)
+    within : (t : ℕ) → InTransaction (horizon_of r.tables r.last t) (live r t) (record { moment = m; rows = xs t }) (copies t)
+        → InTransaction (horizon_of r.tables r.last t) (live r t) (record { moment = m; rows = ys t }) (copies t)
     within t k = record {
       since = k.since;
       below = k.below;
-      now = stands_same (horizon_of r.tables r.last t) (live t r.slots) m (xs t) (ys t) (copies t) (b t) k.now;
+      now = stands_same (horizon_of r.tables r.last t) (live r t) m (xs t) (ys t) (copies t) (b t) k.now;
       before = k.before;
     }
 

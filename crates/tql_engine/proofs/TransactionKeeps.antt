@@ -6,7 +6,7 @@ use Rattle.tql_spec.specs.Calendar.{first_moment, high}
 use Rattle.tql_spec.specs.Definition.{TableDef}
 use Rattle.tql_spec.specs.History.{Entry, FallingFrom}
 use Rattle.tql_spec.specs.Machine.{State, working, committed}
-use Rattle.tql_store.specs.Slots as store
+use Rattle.tql_store.specs.Held as store
 use Rattle.tql_store.specs.Represents.{BeginCopies, CommitAppends, RollbackRestores}
 use Rattle.tql_catalog.specs.Tables.{definitions_of}
 use Rattle.tql_engine.specs.Stands.{Held, StandsFor, copies_of, working_of}

@@ -7,9 +7,9 @@ use Rattle.tql_spec.specs.Text.{replies_text}
 use Rattle.tql_spec.specs.Run.{Run, Writes}
 use Rattle.tql_run.specs.Responding.{Standing}
 use Rattle.tql_run.specs.Runs.{Counts, CutsLast}
-use Rattle.tql_run.specs.declared.run.Summary.{Summary}
-use Rattle.tql_run.specs.declared.run.Fault.{Fault}
-use Rattle.tql_run.specs.declared.run.Fault.TheVariants.{Read, Write, Memory}
+use Rattle.tql_run.specs.declared.runner.Summary.{Summary}
+use Rattle.tql_run.specs.declared.runner.Fault.{Fault}
+use Rattle.tql_run.specs.declared.runner.Fault.TheVariants.{Read, Write, Memory}
 
 -- the whole script ran: the output is what it was, and behind it what the script writes
 pub record WritesWhole (s : State) (after : Standing) (script old new : List ℕ) (summary : Summary) : Type 0 where

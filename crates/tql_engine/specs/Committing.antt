@@ -1,7 +1,7 @@
 -- What a change does to the store: in the open transaction, or in one of its own.
 use Rattle.std.specs.Prelude.{◌≡◌, ◌+ℤ◌, ℕ, ℤ, pos, List, Option, Some, None}
 use Rattle.tql_spec.specs.Datum.{Row}
-use Rattle.tql_store.specs.Slots.{Held}
+use Rattle.tql_store.specs.Held.{Held, named}
 use Rattle.tql_store.specs.Represents.{BeginCopies, ChangeReplaces, CommitAppends, RollbackRestores}
 
 -- begun at the moment, changed, and committed
@@ -10,7 +10,7 @@ pub record CommitsRows (m : ℤ) (t : ℕ) (removed : List ℕ) (rows : List Row
   pub changed : Held
   pub begins : BeginCopies old opened
   pub is_open : opened.working ≡ Some m
-  pub same_slots : opened.slots ≡ old.slots
+  pub same_names : (u id : ℕ) → named opened u id ≡ named old u id
   pub changes : ChangeReplaces t removed rows opened changed
   pub still_open : changed.working ≡ Some m
   pub commits : CommitAppends changed new

@@ -6,19 +6,20 @@ use Rattle.tql_catalog.specs.declared.catalog.Table.{Table}
 use Rattle.tql_dml.specs.Alters.{Alters, gone, fates, coming, modified, IsVersionOf}
 use Rattle.tql_value.specs.Views.{rows_of}
 use Rattle.tql_store.specs.Represents.{AnswersNow}
-use Rattle.tql_store.specs.Slots.{Held}
-use Rattle.tql_store.specs.Stands.{is_current}
-use Rattle.tql_store.specs.Views.{version_of, Names, NamesOnce}
+use Rattle.tql_store.specs.Held.{Held}
+use Rattle.tql_rows.specs.Changes.{is_current}
+use Rattle.tql_rows.specs.Readings.{version_shown as version_of}
+use Rattle.tql_store.specs.Views.{Names, NamesOnce}
 use Rattle.tql_store.specs.declared.store.Delta.{Delta}
-use Rattle.tql_store.specs.declared.version.Version.{Version}
+use Rattle.tql_rows.specs.declared.version.Version.{Version}
 use Rattle.tql_value.specs.declared.refusal.Refusal.{Refusal}
 use Rattle.tql_value.specs.declared.refusal.Refusal.TheVariants.{OutOfMemory}
 
 -- the change, or its fault, by the versions that the store answered
 pub record Made (h : Held) (p : Table) (x : Modification) (result : Result Delta Refusal) : Type 0 where
   pub found : List Version
-  pub names : All (Names p.id h.slots) found
-  pub once : NamesOnce p.id is_current h.slots found
+  pub names : All (Names h p.id) found
+  pub once : NamesOnce h p.id is_current found
   pub answers : AnswersNow h p.id (map version_of found)
   pub alters : Alters p.id (gone p.definition x found) (λ m. coming (fates p.definition found x m)) (modified p.definition found x) result
   pub fits : All (IsVersionOf p.definition) found → IfOk result (λ delta. All (IsRowOf p.definition) (rows_of delta.added.items))

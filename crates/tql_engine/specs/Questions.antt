@@ -4,7 +4,7 @@ use Rattle.tql_spec.specs.Bag.{SameBag}
 use Rattle.tql_spec.specs.Definition.{Version}
 use Rattle.tql_spec.specs.History as history
 use Rattle.tql_spec.specs.History.{found}
-use Rattle.tql_store.specs.Slots.{Held}
+use Rattle.tql_store.specs.Held.{Held}
 use Rattle.tql_store.specs.Represents.{Copies, Working, Represents, seen_by}
 
 -- what a reading answers: what the definitions find in the copies

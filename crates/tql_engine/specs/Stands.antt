@@ -8,8 +8,8 @@ use Rattle.tql_spec.specs.History.{Copy, Entry, FallingFrom}
 use Rattle.tql_spec.specs.Machine.{State}
 use Rattle.tql_catalog.specs.Tables.{definitions_of, tables_code}
 use Rattle.tql_catalog.specs.declared.catalog.Table.{Table}
-use Rattle.tql_store.specs.Slots as store
-use Rattle.tql_store.specs.Slots.{has_table, is_versioned, table_count}
+use Rattle.tql_store.specs.Held as store
+use Rattle.tql_store.specs.Held.{has_table, is_versioned, table_count}
 use Rattle.tql_store.specs.Represents.{Copies, Represents}
 use Rattle.tql_engine.specs.Fitting.{StateFits}
 

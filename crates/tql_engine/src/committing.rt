@@ -1,13 +1,14 @@
 //! Changes of the store, in the open transaction or in one of their own.
-ghost use Rattle.std.specs.Prelude.{◌≡◌, ◌<◌, ◌<ℤ◌, All, length, map, IsNone, IsTrue, IfOk, OnOk, OnErr, IfErr};
+ghost use Rattle.std.specs.Prelude.{◌≡◌, ◌<ℤ◌, map, IsNone, IsTrue, IfOk, OnOk, OnErr, IfErr};
 ghost use Rattle.tql_spec.specs.Calendar.{high};
-ghost use Rattle.tql_store.specs.Slots.{has_table};
-ghost use Rattle.tql_store.specs.Stands.{Under};
+ghost use Rattle.tql_store.specs.Held.{has_table, AreRemovable};
+ghost use Rattle.tql_rows.specs.Changes.{Under};
 ghost use Rattle.tql_value.specs.Views.{datum_of_value};
 ghost use Rattle.tql_value.specs.declared.refusal.Refusal.TheVariants.{OutOfMemory};
 ghost use Rattle.tql_engine.specs.Committing.{CommitsRows, Undoes, ChangesRows, KeepsRows};
 
-use tql_store::store::{Delta, Store};
+use crate::store::Store;
+use tql_store::store::Delta;
 use tql_value::refusal::Refusal;
 
 /// Makes a change in a transaction of the moment, or leaves the store as it was.
@@ -16,7 +17,7 @@ fn commit_rows(store: &mut Store, moment: i64, delta: Delta) -> Result<(), Refus
     requires later { Under store.old.last moment }
     requires below { moment <ℤ high }
     requires present { IsTrue (has_table store.old delta.table) }
-    requires within { All (λ i. i < length store.old.slots) delta.removed.items }
+    requires removable { AreRemovable store.old delta.table delta.removed.items }
     ensures ok { OnOk result (CommitsRows moment delta.table delta.removed.items (map (λ row. map datum_of_value row.items) delta.added.items) store.old store.new) }
     ensures err { OnErr result (Undoes moment store.old store.new) }
     ensures memory { IfErr result (λ e. e ≡ OutOfMemory) }
@@ -40,7 +41,7 @@ pub fn change_rows(store: &mut Store, clock: i64, delta: Delta) -> Result<i64, R
     requires later { Under store.old.last clock }
     requires below { IsNone store.old.working → clock <ℤ high }
     requires present { IsTrue (has_table store.old delta.table) }
-    requires within { All (λ i. i < length store.old.slots) delta.removed.items }
+    requires removable { AreRemovable store.old delta.table delta.removed.items }
     ensures ok { IfOk result (λ next. ChangesRows store.old.working clock next delta.table delta.removed.items (map (λ row. map datum_of_value row.items) delta.added.items) store.old store.new) }
     ensures err { OnErr result (KeepsRows store.old.working clock store.old store.new) }
     ensures memory { IfErr result (λ e. e ≡ OutOfMemory) }

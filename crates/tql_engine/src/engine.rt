@@ -9,8 +9,9 @@ mod questions;
 mod transactions;
 
 use crate::sense::read_statement;
+use crate::store::Store;
 use std::marker::Model;
-use tql_bind::bind::bind;
+use tql_bind::binder::bind;
 use tql_bind::bound::Bound;
 use tql_catalog::catalog::{Catalog, Table};
 use tql_memory::Memory;
@@ -18,7 +19,6 @@ use tql_result::answer::Answer;
 use tql_result::reply::Reply;
 use tql_run::responder::Responder;
 use tql_spec::plain_queries_select;
-use tql_store::store::Store;
 use tql_tree::statement::Statement;
 use tql_value::calendar::FIRST_MOMENT;
 use tql_value::refusal::Refusal;
@@ -46,12 +46,14 @@ impl Drop for Engine {
 }
 
 impl Model for Engine {
+    ghost use Rattle.tql_index.specs.contracts.tree_index.TreeIndex.{the_row as tree_row};
+    ghost use Rattle.tql_index.specs.contracts.tree_index.TreeIndexIntervalIndex.TheImpl.{ghosts};
     ghost use Rattle.tql_store.specs.contracts.store.Store.{the_row};
     ghost use Rattle.tql_engine.specs.Stands.{Held, held_code, IsSound};
 
     ghost Value = { Held };
 
-    ghost coded = { held_code the_row.coded };
+    ghost coded = { held_code (the_row tree_row ghosts).coded };
 
     ghost view = { λ e. record { tables = e.tables; rows = e.rows; next = e.next } };
 

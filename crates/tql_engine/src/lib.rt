@@ -4,6 +4,7 @@
 mod committing;
 pub mod engine;
 mod order;
-pub mod run;
+pub mod runner;
 mod sense;
+mod store;
 mod when;

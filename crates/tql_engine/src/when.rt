@@ -1,15 +1,15 @@
 //! What the store has of a table, at the moments that a question asks for.
 ghost use Rattle.std.specs.Prelude.{◌≡◌, ◌||◌, map, IsTrue, IfOk, IfErr};
 ghost use Rattle.tql_bound.specs.Selections.{when_of, is_now};
-ghost use Rattle.tql_store.specs.Slots.{has_table, is_versioned};
-ghost use Rattle.tql_store.specs.Views.{version_of};
+ghost use Rattle.tql_store.specs.Held.{has_table, is_versioned};
+ghost use Rattle.tql_rows.specs.Readings.{version_shown as version_of};
 ghost use Rattle.tql_value.specs.declared.refusal.Refusal.TheVariants.{OutOfMemory};
 ghost use Rattle.tql_engine.specs.Questions.{Answers};
 
+use crate::store::Store;
 use tql_bound::selection::When;
 use tql_memory::Memory;
-use tql_store::store::Store;
-use tql_store::version::Version;
+use tql_rows::version::Version;
 use tql_value::refusal::Refusal;
 use tql_value::table::TableId;
 

@@ -3,5 +3,6 @@ pub mod Inserted
 pub mod Judged
 pub mod Laws
 pub mod Nesting
+pub mod PeriodSets
 pub mod Places
 pub mod Printing

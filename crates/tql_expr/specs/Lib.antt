@@ -3,4 +3,5 @@ pub mod Trees
 pub mod Meaning
 pub mod Rows
 pub mod Evaluated
+pub mod Sets
 pub mod Shown

@@ -1,10 +1,12 @@
 // The value of an expression and the truth of a condition, on a row.
 ghost use Rattle.std.specs.Prelude.{◌≡◌, ◌<◌, ◌≤◌, ◌-◌, IsTrue, IsOk, All, map};
+ghost use Rattle.tql_spec.specs.Datum.{Day, Moment};
 ghost use Rattle.tql_spec.specs.Expression as tree;
 ghost use Rattle.tql_value.specs.Views.{outcome, plain_comparison};
 ghost use Rattle.tql_period.specs.Relations.{plain_relation};
 ghost use Rattle.tql_expr.specs.Trees.{expr_of, cond_of, term_in};
 ghost use Rattle.tql_expr.specs.Meaning.{trees, size, expr, cond, HasExpr, HasCond, judged, tested};
+ghost use Rattle.tql_expr.specs.Sets.{SaysOfPeriods, SaysOfHolding};
 
 use crate::columns::Columns;
 use crate::node::Node;
@@ -229,8 +231,15 @@ impl Terms {
         ensures truth { judged result
             ≡ tree.judge (C.group columns.now) (C.values columns.now) (cond self.now c) }
         ensures safe { IsTrue (tree.is_safe (cond self.now c)) → IsOk result }
+
+        // What it says of periods as sets of points, where their ends are days, and where they are moments.
+        ensures days { SaysOfPeriods Day (C.group columns.now) (C.values columns.now) (cond self.now c) (judged result) }
+        ensures moments { SaysOfPeriods Moment (C.group columns.now) (C.values columns.now) (cond self.now c) (judged result) }
+        ensures day { SaysOfHolding Day (C.group columns.now) (C.values columns.now) (cond self.now c) (judged result) }
+        ensures moment { SaysOfHolding Moment (C.group columns.now) (C.values columns.now) (cond self.now c) (judged result) }
     {
         tql_spec::safe_conditions();
+        tql_spec::predicates_on_points();
         self.holds_at(c.place, columns)
     }
 

@@ -1,11 +1,11 @@
 -- The ends of periods.
-use Rattle.std.proofs.Common.{◌≡◌, refl, Bool, true, ◌||◌, ◌≤◌, ◌<◌, arith, length, get_or, List, [], ◌∷◌, Option, option_map, Result, Ok, Err, IfOk, sym, ap, subst}
+use Rattle.std.proofs.Common.{◌≡◌, refl, Bool, true, ◌||◌, ◌≤◌, ◌<◌, arith, length, get_or, List, [], ◌∷◌, Option, Some, None, option_map, Result, Ok, Err, IfOk, sym, ap, subst}
 use Rattle.std.specs.declared.alloc.AllocError.{AllocError}
 use Rattle.tql_spec.specs.Names as names
-use Rattle.tql_spec.specs.Names.{Checked, ◌>>=◌, unless, refuse_if, Known, one_period, no_ends, is_no_point, differ, marked, related, contained_point, contained_named}
+use Rattle.tql_spec.specs.Names.{Checked, ◌>>=◌, sound, unless, refuse_if, Known, one_period, no_ends, is_no_point, differ, marked, related, contained_point, contained_named}
 use Rattle.tql_spec.specs.Expression.{Expr, Cond, ContainsPoint}
 use Rattle.tql_spec.specs.Datum.{Kind}
-use Rattle.tql_spec.specs.Period.{Relation}
+use Rattle.tql_spec.specs.Period.{Relation, Includes}
 use Rattle.tql_spec.specs.Refusal.{Refusal, TypesDoNotFit, NameUnknownAmbiguousOrRepeated}
 use Rattle.tql_spec.specs.Syntax as tree
 use Rattle.tql_value.specs.Views.{plain_kind}
@@ -13,12 +13,10 @@ use Rattle.tql_expr.specs.Meaning.{Stays, HasExpr, expr}
 use Rattle.tql_expr.specs.declared.terms.Terms.{Terms}
 use Rattle.tql_scope.specs.Bounds.{typed_of}
 use Rattle.tql_scope.specs.Gathered.{Gathers}
-use Rattle.tql_scope.specs.Scopes.{things_of}
-use Rattle.tql_scope.specs.declared.scope.Thing.{Thing}
 use Rattle.tql_scope.specs.declared.scope.Typed as code
 use Rattle.tql_scope.proofs.Arena.{expr_kept, expr_there}
 use Rattle.tql_scope.proofs.Gathering.{bound, bound_ok, unless_asked}
-use Rattle.tql_filter.specs.Ends.{ends_of, HasEnds}
+use Rattle.tql_filter.specs.Ends.{ends_of, HasEnds, sole_period}
 use Rattle.tql_filter.specs.declared.periods.Ends.{Ends}
 
 -- ends that are there stay there, and stay what they are
@@ -31,18 +29,28 @@ ends_kept s x h =
     let end = expr_kept s x.end h.end in
     λ i. record { start = start i; end = end i; kind = option_map plain_kind x.kind }
 
--- a name that stands for columns alone is no period
-columns_alone : (found : List Thing) → one_period (things_of found) ≡ unless true NameUnknownAmbiguousOrRepeated no_ends
-columns_alone [] = refl
-columns_alone (x ∷ []) = refl
-columns_alone (x ∷ y ∷ ys) = refl
+-- a name that stands for a period and nothing else, and one that does not
+pub a_period : (found : List names.Thing) (x : names.Ends) → sole_period found ≡ Some x → one_period found ≡ sound x
+a_period (names.APeriod s e k ∷ []) x is = let same : names.ends_at s e k ≡ x = cc in ap (λ (y : names.Ends). sound y) same
+a_period [] x is = absurd (cc)
+a_period (names.AColumn i c ∷ []) x is = absurd (cc)
+a_period (names.AColumn i c ∷ y ∷ ys) x is = absurd (cc)
+a_period (names.APeriod s e k ∷ y ∷ ys) x is = absurd (cc)
 
-pub no_period_is : (u : Terms) (r : Result Ends AllocError) (old now : Option Refusal)
+pub no_period : (found : List names.Thing) → sole_period found ≡ None → one_period found ≡ unless true NameUnknownAmbiguousOrRepeated no_ends
+no_period (names.APeriod s e k ∷ []) is = absurd (cc)
+no_period [] is = refl
+no_period (names.AColumn i c ∷ []) is = refl
+no_period (names.AColumn i c ∷ y ∷ ys) is = refl
+no_period (names.APeriod s e k ∷ y ∷ ys) is = refl
+
+-- where no period is found
+pub no_period_is : (u : Terms) (r : Result Ends AllocError) (found : List names.Thing) (old now : Option Refusal) → sole_period found ≡ None
     → Gathers (refuse_if true NameUnknownAmbiguousOrRepeated) old now tt → IfOk r (λ x. ends_of u x ≡ no_ends)
-    → IfOk r (λ x. (found : List Thing) → Gathers (one_period (things_of found)) old now (ends_of u x))
-no_period_is u (Ok x) old now g h = λ found.
-    subst (λ (c : Checked names.Ends). Gathers c old now (ends_of u x)) (sym (columns_alone found)) (record { value = h; least = g.least })
-no_period_is u (Err e) old now g h = tt
+    → IfOk r (λ x. Gathers (one_period found) old now (ends_of u x))
+no_period_is u (Ok x) found old now none g h =
+    subst (λ (c : Checked names.Ends). Gathers c old now (ends_of u x)) (sym (no_period found none)) (record { value = h; least = g.least })
+no_period_is u (Err e) found old now none g h = tt
 
 -- the period of these ends
 abbrev pub ends_by : Expr → Expr → Option Kind → names.Ends
@@ -97,8 +105,17 @@ contained_point_is s e t u x point old mid now b stays held g asked h =
     (bound (names.expr s e) (λ p. unless (differ (option_map plain_kind x.kind) p.kind) TypesDoNotFit (ContainsPoint (expr t x.start) (expr t x.end) p.expr)) old mid now (typed_of u point) value g
     (unless_asked b misfit TypesDoNotFit value mid now asked h))
 
--- a name that stands for columns alone is a point
-pub contained_named_is : (s : List Known) (x : names.Ends) (e : tree.Sum) (found : List Thing) → contained_named s x e (things_of found) ≡ contained_point s x e
-contained_named_is s x e [] = refl
-contained_named_is s x e (y ∷ []) = refl
-contained_named_is s x e (y ∷ z ∷ zs) = refl
+-- a name that stands for a period and nothing else, and one that is a point
+pub named_period_is : (s : List Known) (x : names.Ends) (e : tree.Sum) (found : List names.Thing) (y : names.Ends) → sole_period found ≡ Some y → contained_named s x e found ≡ related Includes x y
+named_period_is s x e (names.APeriod p q k ∷ []) y is = let same : names.ends_at p q k ≡ y = cc in ap (related Includes x) same
+named_period_is s x e [] y is = absurd (cc)
+named_period_is s x e (names.AColumn i c ∷ []) y is = absurd (cc)
+named_period_is s x e (names.AColumn i c ∷ z ∷ zs) y is = absurd (cc)
+named_period_is s x e (names.APeriod p q k ∷ z ∷ zs) y is = absurd (cc)
+
+pub named_point_is : (s : List Known) (x : names.Ends) (e : tree.Sum) (found : List names.Thing) → sole_period found ≡ None → contained_named s x e found ≡ contained_point s x e
+named_point_is s x e (names.APeriod p q k ∷ []) is = absurd (cc)
+named_point_is s x e [] is = refl
+named_point_is s x e (names.AColumn i c ∷ []) is = refl
+named_point_is s x e (names.AColumn i c ∷ z ∷ zs) is = refl
+named_point_is s x e (names.APeriod p q k ∷ z ∷ zs) is = refl

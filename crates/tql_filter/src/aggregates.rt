@@ -19,13 +19,6 @@ fn is_in_two(first: &Expr<'_>, second: &Expr<'_>) -> bool
     has_aggregate(first) || has_aggregate(second)
 }
 
-/// Whether an aggregate stands in one of three expressions.
-fn is_in_three(first: &Expr<'_>, second: &Expr<'_>, third: &Expr<'_>) -> bool
-    ensures { result ≡ (in_sum (expr_of first.now) || in_sum (expr_of second.now) || in_sum (expr_of third.now)) }
-{
-    has_aggregate(first) || is_in_two(second, third)
-}
-
 /// Whether an aggregate stands in one of these expressions.
 fn is_in_any(exprs: &[Box<Expr<'_>, Memory>]) -> bool
     ensures { result ≡ list_any in_sum (map boxed_expr_of exprs.now) }
@@ -135,7 +128,7 @@ fn is_in_test(test: &Test<'_>) -> bool
         Test::Grouped(inner) => is_in_condition(inner),
         Test::Compared(_, left, right) => is_in_two(left, right),
         Test::Null(_, operand) => has_aggregate(operand),
-        Test::Between(_, operand, low, high) => is_in_three(operand, low, high),
+        Test::Between(_, operand, low, high) => has_aggregate(operand) || is_in_two(low, high),
         Test::In(_, operand, first, more) => is_in_list(operand, first, more),
         Test::Related(left, _, right) => is_in_operands(left, right),
         Test::ContainsPeriod(left, right) => is_in_periods(left, right),

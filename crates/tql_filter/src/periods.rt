@@ -1,5 +1,5 @@
 //! Periods as operands.
-ghost use Rattle.std.specs.Prelude.{◌≡◌, ◌++◌, ◌||◌, IfOk, List, option_map};
+ghost use Rattle.std.specs.Prelude.{◌≡◌, ◌∷◌, [], ◌++◌, ◌||◌, IfOk, option_map};
 ghost use Rattle.tql_spec.specs.Names as names;
 ghost use Rattle.tql_spec.specs.Syntax as tree;
 ghost use Rattle.tql_expr.specs.Meaning.{Stays};
@@ -7,9 +7,8 @@ ghost use Rattle.tql_tree.specs.Conditions.{marked_of, operand_of};
 ghost use Rattle.tql_tree.specs.Expressions.{name_of, named_of, expr_of};
 ghost use Rattle.tql_value.specs.Views.{plain_kind};
 ghost use Rattle.tql_scope.specs.Gathered.{Gathers};
-ghost use Rattle.tql_scope.specs.Scopes.{text_of, known_of, scope_of, things_of};
-ghost use Rattle.tql_scope.specs.declared.scope.Thing.{Thing};
-ghost use Rattle.tql_filter.specs.Ends.{ends_of, HasEnds, periods_of};
+ghost use Rattle.tql_scope.specs.Scopes.{text_of, known_of, scope_of, thing_of, things_of};
+ghost use Rattle.tql_filter.specs.Ends.{ends_of, HasEnds, periods_of, period_of, sole_period};
 
 use std::alloc::AllocError;
 use tql_catalog::definition::System;
@@ -19,7 +18,7 @@ use tql_scope::expressions::sum;
 use tql_scope::faults::Faults;
 use tql_scope::kinds::differ;
 use tql_scope::names::{is_meant, things};
-use tql_scope::scope::Known;
+use tql_scope::scope::{Known, Thing};
 use tql_scope::texts::meant;
 use tql_tree::condition::{Marked, Operand};
 use tql_tree::expression::{Expr, Name, Named};
@@ -49,7 +48,12 @@ fn no_ends(terms: &mut Terms) -> Result<Ends, AllocError>
 }
 
 /// The period of these two columns.
-fn ends_at(start: usize, end: usize, kind: Kind, terms: &mut Terms) -> Result<Ends, AllocError>
+pub(crate) fn ends_at(
+    start: usize,
+    end: usize,
+    kind: Kind,
+    terms: &mut Terms,
+) -> Result<Ends, AllocError>
     ensures bound { IfOk result (λ x. ends_of terms.new x ≡ names.ends_at start end (plain_kind kind)) }
     ensures stays { Stays terms.old terms.new }
     ensures held { IfOk result (λ x. HasEnds terms.new x) }
@@ -63,17 +67,40 @@ fn ends_at(start: usize, end: usize, kind: Kind, terms: &mut Terms) -> Result<En
     })
 }
 
-/// What a name stands for is never a period, since it is a column.
-fn no_period(terms: &mut Terms, faults: &mut Faults) -> Result<Ends, AllocError>
-    ensures bound { IfOk result (λ x. (found : List Thing) → Gathers (names.one_period (things_of found)) faults.old faults.new (ends_of terms.new x)) }
-    ensures stays { Stays terms.old terms.new }
-    ensures held { IfOk result (λ x. HasEnds terms.new x) }
+/// The columns of the period that a thing is, and the kind of its points.
+fn as_period(thing: Thing<'_>) -> Option<(usize, usize, Kind)>
+    ensures { option_map period_of result ≡ sole_period (thing_of thing.entry ∷ []) }
 {
-    faults.refuse_if(true, Refusal::NameUnknownAmbiguousOrRepeated);
-    no_ends(terms)
+    match thing {
+        Thing::Column(_, _) => None,
+        Thing::Period(start, end, kind) => Some((start, end, kind)),
+    }
 }
 
-/// A period by its name. No table has an application period yet, so a name stands for columns alone.
+/// The columns of the period that a name stands for, where it stands for one and nothing else.
+fn sole_period(found: &[Thing<'_>]) -> Option<(usize, usize, Kind)>
+    ensures { option_map period_of result ≡ sole_period (things_of found.now) }
+{
+    match found {
+        [thing] => as_period(*thing),
+        _ => None,
+    }
+}
+
+/// The period that a name stands for, where it stands for one and nothing else.
+pub(crate) fn named_period(
+    memory: Memory,
+    scope: &[Known<'_>],
+    named: Named<'_>,
+) -> Result<Option<(usize, usize, Kind)>, AllocError>
+    ensures { IfOk result (λ p. option_map period_of p ≡ sole_period (names.things (scope_of scope.now) (named_of named.entry))) }
+{
+    let found = things(memory, scope, named)?;
+    Ok(sole_period(&found))
+}
+
+/// A period by its name.
+#[tactic(auto, using(tql_scope::proofs::Gathering::gathering))]
 fn one_period(
     memory: Memory,
     scope: &[Known<'_>],
@@ -85,8 +112,14 @@ fn one_period(
     ensures stays { Stays terms.old terms.new }
     ensures held { IfOk result (λ x. HasEnds terms.new x) }
 {
-    let _columns = things(memory, scope, named)?;
-    no_period(terms, faults)
+    let found = named_period(memory, scope, named)?;
+    match found {
+        Some((start, end, kind)) => ends_at(start, end, kind, terms),
+        None => {
+            faults.refuse_if(true, Refusal::NameUnknownAmbiguousOrRepeated);
+            no_ends(terms)
+        }
+    }
 }
 
 /// Adds the system period of a reference, if it has one.

@@ -1,16 +1,18 @@
 //! Tests of periods: the relations of two, and CONTAINS.
 ghost use Rattle.std.specs.Prelude.{IfOk};
 ghost use Rattle.tql_spec.specs.Names as names;
+ghost use Rattle.tql_spec.specs.Period.{Includes};
 ghost use Rattle.tql_spec.specs.Syntax as tree;
 ghost use Rattle.tql_expr.specs.Meaning.{cond, HasCond, Stays};
 ghost use Rattle.tql_period.specs.Relations.{plain_relation};
 ghost use Rattle.tql_tree.specs.Conditions.{marked_of, operand_of, relation_of};
 ghost use Rattle.tql_tree.specs.Expressions.{expr_of, named_of};
+ghost use Rattle.tql_value.specs.Views.{plain_kind};
 ghost use Rattle.tql_scope.specs.Gathered.{Gathers};
 ghost use Rattle.tql_scope.specs.Scopes.{scope_of};
 ghost use Rattle.tql_filter.specs.Ends.{ends_of, HasEnds};
 
-use crate::periods::{Ends, marked, operand};
+use crate::periods::{Ends, ends_at, marked, named_period, operand};
 use crate::signs::relation;
 use crate::sole_names::sole_name;
 use std::alloc::AllocError;
@@ -20,12 +22,12 @@ use tql_period::predicates::Relation;
 use tql_scope::expressions::sum;
 use tql_scope::faults::Faults;
 use tql_scope::kinds::differ;
-use tql_scope::names::things;
 use tql_scope::scope::Known;
 use tql_tree::condition as written;
 use tql_tree::condition::{Marked, Operand};
 use tql_tree::expression::{Expr, Named};
 use tql_value::refusal::Refusal;
+use tql_value::value::Kind;
 
 /// Two periods of one kind in a relation.
 fn related(
@@ -101,8 +103,25 @@ fn contained_point(
     terms.push_contains_point((period.start, period.end), point.expr)
 }
 
-/// CONTAINS with a name: a period's, or a point's. No table has an application period yet, so a name stands for columns
-/// alone.
+/// CONTAINS with the application period of these two columns.
+fn contained_period(
+    period: Ends,
+    start: usize,
+    end: usize,
+    kind: Kind,
+    terms: &mut Terms,
+    faults: &mut Faults,
+) -> Result<CondId, AllocError>
+    requires { HasEnds terms.old period }
+    ensures bound { IfOk result (λ c. Gathers (names.related Includes (ends_of terms.old period) (names.ends_at start end (plain_kind kind))) faults.old faults.new (cond terms.new c)) }
+    ensures stays { Stays terms.old terms.new }
+    ensures held { IfOk result (λ c. HasCond terms.new c) }
+{
+    let right = ends_at(start, end, kind, terms)?;
+    related(Relation::Contains, period, right, terms, faults)
+}
+
+/// CONTAINS with a name: an application period's, or a point's.
 fn contained_named(
     memory: Memory,
     scope: &[Known<'_>],
@@ -117,8 +136,11 @@ fn contained_named(
     ensures stays { Stays terms.old terms.new }
     ensures held { IfOk result (λ c. HasCond terms.new c) }
 {
-    let _columns = things(memory, scope, named)?;
-    contained_point(memory, scope, period, right, terms, faults)
+    let found = named_period(memory, scope, named)?;
+    match found {
+        Some((start, end, kind)) => contained_period(period, start, end, kind, terms, faults),
+        None => contained_point(memory, scope, period, right, terms, faults),
+    }
 }
 
 /// CONTAINS with an expression: a period where it is the name of one, and else a point.

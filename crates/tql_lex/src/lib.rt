@@ -8,4 +8,4 @@ mod reserved;
 mod scan;
 pub mod splitter;
 pub mod token;
-pub mod tokens;
+pub mod tokenizer;

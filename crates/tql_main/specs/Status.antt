@@ -1,7 +1,7 @@
 -- The exit status.
 use Rattle.std.specs.Prelude.{◌≡◌, ◌≢◌, ℕ, Result, MatchResult}
-use Rattle.tql_run.specs.declared.run.Summary.{Summary}
-use Rattle.tql_run.specs.declared.run.Fault.{Fault}
+use Rattle.tql_run.specs.declared.runner.Summary.{Summary}
+use Rattle.tql_run.specs.declared.runner.Fault.{Fault}
 use Rattle.clap.specs.declared.error.kind.ErrorKind.{ErrorKind}
 use Rattle.clap.specs.declared.error.kind.ErrorKind.TheVariants as kind
 

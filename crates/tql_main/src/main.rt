@@ -21,10 +21,10 @@ use std::process::ExitCode;
 use std::{env, fs};
 use tql_check::check::check_script;
 use tql_engine::engine::Engine;
-use tql_engine::run::run;
+use tql_engine::runner::run;
 use tql_memory::memory;
 use tql_result::std_sink::StdSink;
-use tql_run::run::{Fault, Summary};
+use tql_run::runner::{Fault, Summary};
 use tql_run::std_source::StdSource;
 
 /// What a script is called that is read from the standard input.
@@ -177,7 +177,7 @@ fn run_words(rt: &HostRuntime) -> u8 {
         Ok(words) => words,
         Err(error) => return end_words(rt, &error),
     };
-    match options::options(rt.alloc(), &words) {
+    match options::command_line(rt.alloc(), &words) {
         Ok(options) => run_options(rt, &options),
         Err(error) => end_line(rt, &error),
     }

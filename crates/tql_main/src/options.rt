@@ -107,7 +107,7 @@ fn file_named<'a>(word: Option<&'a str>) -> Option<&'a str>
 
 /// Reads the command line `tql [--check] [--quiet] [SCRIPT]`, of which the first word is the program's name; `-` is the
 /// standard input. An error is help or the version that was asked for, a mistake in the words, or want of memory.
-pub fn options<'a>(alloc: Global, words: &'a [String]) -> Result<CommandLine<'a>, Error>
+pub fn command_line<'a>(alloc: Global, words: &'a [String]) -> Result<CommandLine<'a>, Error>
     ensures check { IfOk result (λ o. TellsFlag (check_in (map string_bytes words.entry.now)) o.check) }
     ensures quiet { IfOk result (λ o. TellsFlag (quiet_in (map string_bytes words.entry.now)) o.quiet) }
     ensures script { IfOk result (λ o. option_map (λ s. s.now) o.script ≡ script_in (map string_bytes words.entry.now)) }

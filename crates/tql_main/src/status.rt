@@ -5,7 +5,7 @@ ghost use Rattle.tql_main.specs.Status.{IsExitStatus, status_of_line};
 
 use clap::Error;
 use clap::error::ErrorKind;
-use tql_run::run::{Fault, Summary};
+use tql_run::runner::{Fault, Summary};
 
 /// The exit status after a run: 0 where no statement was refused, 1 where some statement was, and 3 where the run
 /// stopped because a device failed or memory ran out.

@@ -17,7 +17,7 @@ use Rattle.tql_run.specs.Hearing.{Heard, Hears, note_of, notes_from, notes_of}
 use Rattle.tql_run.specs.Responding.{Standing}
 use Rattle.tql_run.specs.Runs.{answered, count_of, is_refused, most_bytes}
 use Rattle.tql_run.specs.Writing.{asked, placed_in, AnswersFirst, AnswersNext, WroteSoFar, WroteAll, SinkFailed}
-use Rattle.tql_run.specs.declared.run.Summary.{Summary}
+use Rattle.tql_run.specs.declared.runner.Summary.{Summary}
 
 -- ---- lists
 

@@ -11,9 +11,9 @@ use Rattle.tql_spec.specs.Lines.{placed_statements}
 use Rattle.tql_result.specs.Devices.{Appends, HasFailed}
 use Rattle.tql_run.specs.Hearing.{Hears, HearingChange, notes_of}
 use Rattle.tql_run.specs.Responding.{Standing}
-use Rattle.tql_run.specs.declared.run.Summary.{Summary}
-use Rattle.tql_run.specs.declared.run.Fault.{Fault}
-use Rattle.tql_run.specs.declared.run.Fault.TheVariants.{Read, Write, Memory}
+use Rattle.tql_run.specs.declared.runner.Summary.{Summary}
+use Rattle.tql_run.specs.declared.runner.Fault.{Fault}
+use Rattle.tql_run.specs.declared.runner.Fault.TheVariants.{Read, Write, Memory}
 
 -- ---- sources
 

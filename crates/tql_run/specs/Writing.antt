@@ -14,7 +14,7 @@ use Rattle.tql_result.specs.declared.answer.Answer as code
 use Rattle.tql_run.specs.Hearing.{Heard, Hears, notes_of}
 use Rattle.tql_run.specs.Responding.{Answered, Standing}
 use Rattle.tql_run.specs.Runs.{Counts, CutsLast, answered}
-use Rattle.tql_run.specs.declared.run.Summary.{Summary}
+use Rattle.tql_run.specs.declared.runner.Summary.{Summary}
 
 -- the statements of a stream that are answered
 abbrev pub asked : Stream → List Piece

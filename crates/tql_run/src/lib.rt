@@ -7,7 +7,7 @@ pub mod note;
 pub mod notes;
 mod piece;
 pub mod responder;
-pub mod run;
+pub mod runner;
 mod script;
 pub mod silence;
 pub mod slice_source;

@@ -11,18 +11,17 @@ use tql_tree::statement::{
     CreateTree, Delete, Element, Insert, Item, Items, Query, Rows, Select, Statement, Update,
 };
 
-/// Whether an element of CREATE is a column or the system period.
+/// Whether an element of CREATE is a column or a period.
 fn is_plain_element(element: &Element<'_>) -> bool
     ensures { result ≡ running.is_plain_element (element_of element.now) }
 {
     match element {
-        Element::Column(_) => true,
-        Element::Period(period) => period.name.is_none(),
+        Element::Column(_) | Element::Period(_) => true,
         Element::Constraint(_) => false,
     }
 }
 
-/// Whether each element of CREATE is a column or the system period.
+/// Whether each element of CREATE is a column or a period.
 fn are_plain_elements(elements: &[Element<'_>]) -> bool
     ensures { result ≡ list_all running.is_plain_element (map element_of elements.now) }
 {

@@ -4,8 +4,10 @@ use denote.Ref.{Bor}
 use Rattle.tql_spec.specs.Names as names
 use Rattle.tql_spec.specs.Words.{listed}
 use Rattle.tql_catalog.specs.Definitions.{column_of}
+use Rattle.tql_value.specs.Views.{plain_kind}
 use Rattle.tql_scope.specs.declared.scope.Known.{Known}
 use Rattle.tql_scope.specs.declared.scope.Thing.{Thing}
+use Rattle.tql_scope.specs.declared.scope.Thing.TheVariants.{Column, Period}
 
 -- the bytes of a text
 abbrev pub text_of : Bor (List ℕ) → List ℕ
@@ -21,7 +23,8 @@ scope_of ks = map known_of ks
 
 -- what a name stands for
 abbrev pub thing_of : Thing → names.Thing
-thing_of t = names.AColumn t.number (column_of t.column.now)
+thing_of (Column n c) = names.AColumn n (column_of c.now)
+thing_of (Period s e k) = names.APeriod s e (plain_kind k)
 
 abbrev pub things_of : List Thing → List names.Thing
 things_of ts = map thing_of ts

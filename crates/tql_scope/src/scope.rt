@@ -15,11 +15,13 @@ pub struct Known<'a> {
     ghost numbered: { offset + length table.now.columns < 2 ^ 64 },
 }
 
-/// What a name can stand for: a column, with its number.
+/// What a name can stand for, by the numbers of columns.
 #[derive(Clone, Copy)]
-pub struct Thing<'a> {
-    pub number: usize,
-    pub column: &'a Column,
+pub enum Thing<'a> {
+    /// A column, with its number.
+    Column(usize, &'a Column),
+    /// An application period: the columns of its start and of its end, and the kind of its points.
+    Period(usize, usize, Kind),
 }
 
 /// An expression among the terms of its statement, with its kind, which is missing where it is not known.

@@ -8,8 +8,8 @@ use Rattle.tql_spec.specs.Definition.{TableDef, full}
 use Rattle.tql_spec.specs.Expression.{Expr, Cond, eval, passes}
 use Rattle.tql_spec.specs.QueryLaws.{selected}
 use Rattle.tql_expr.specs.Evaluated.{behind}
-use Rattle.tql_store.specs.Views.{version_of}
-use Rattle.tql_store.specs.declared.version.Version.{Version}
+use Rattle.tql_rows.specs.Readings.{version_shown as version_of}
+use Rattle.tql_rows.specs.declared.version.Version.{Version}
 
 -- the value of a row that is kept comes before those of the rest
 kept_first : (v : Option Row) (rest : Option (List Row)) → with_front v rest ≡ with_front v (Some []) >>= λ xs. behind xs rest

@@ -5,7 +5,7 @@ ghost use Rattle.tql_spec.specs.QueryLaws.{selected};
 ghost use Rattle.tql_bound.specs.Selections.{selection_of};
 ghost use Rattle.tql_expr.specs.Evaluated.{Evaluated, behind};
 ghost use Rattle.tql_expr.specs.Shown.{shown_by};
-ghost use Rattle.tql_store.specs.Views.{version_of};
+ghost use Rattle.tql_rows.specs.Readings.{version_shown as version_of};
 ghost use Rattle.tql_value.specs.Views.{rows_of};
 
 use tql_bound::selection::Selection;
@@ -13,7 +13,7 @@ use tql_catalog::table_def::TableDef;
 use tql_expr::row::StoredRow;
 use tql_expr::values::values_on;
 use tql_memory::Memory;
-use tql_store::version::Version;
+use tql_rows::version::Version;
 use tql_value::refusal::Refusal;
 use tql_value::value::Value;
 

@@ -9,10 +9,10 @@ use Rattle.tql_spec.specs.Aggregates.{in_items, in_filter}
 
 -- ---- statements
 
--- a column, or the system period
+-- a column or a period
 abbrev pub is_plain_element : Element → Bool
 is_plain_element (ColumnElement c) = true
-is_plain_element (PeriodElement None start end) = true
+is_plain_element (PeriodElement n start end) = true
 is_plain_element _ = false
 
 -- a query of one table reference, with nothing but items, a clause, an alias and WHERE, and no aggregate

@@ -13,7 +13,8 @@ use Rattle.tql_spec.specs.History.{TableEntry, with_end, completed, still, curre
 use Rattle.tql_store.proofs.Ranges.{reached, says-reached, Meets, meets-says, found-is}
 use Rattle.tql_store.proofs.Readings.{beyond, stands_tells, sum-picked, Known, stands_still, as_of-is}
 use Rattle.tql_store.specs.Changes.{begun, newest}
-use Rattle.tql_store.specs.Stands.{Under, Within, stands_at, Outside, Fits, Told, Proper, StandsFor, is_current, holds}
+use Rattle.tql_rows.specs.Changes.{Under, is_current, holds}
+use Rattle.tql_store.specs.Stands.{Within, stands_at, Outside, Fits, Told, Proper, StandsFor}
 
 pub eq_tells : (a b : ℤ) → ((int_eq a b ≡ true) × (a ≡ b)) ⊎ ((int_eq a b ≡ false) × ((a <ℤ b) ⊎ (b <ℤ a)))
 eq_tells a b = by_bool (int_eq a b) (λ e. inl (e, (Decides-int_eq a b).0 e)) (λ e. inr (

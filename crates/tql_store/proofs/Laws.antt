@@ -18,8 +18,10 @@ use Rattle.tql_store.proofs.Begin.{eq_tells, first_fits, begin-stands}
 use Rattle.tql_store.proofs.Ranges.{plus}
 use Rattle.tql_store.proofs.Prune.{prune-stands}
 use Rattle.tql_store.proofs.Readings.{beyond, stands_tells, sum-picked}
-use Rattle.tql_store.specs.Changes.{alive, starting, fresh, closed_if, replaced, reopened, undone, begun, rows_after, pruned, newest, InTransaction, last_rows}
-use Rattle.tql_store.specs.Stands.{stands_at, Under, Within, Fits, Told, Proper, StandsFor}
+use Rattle.tql_rows.specs.Changes.{alive, fresh, closed_if, replaced, reopened, undone, pruned}
+use Rattle.tql_store.specs.Changes.{starting, begun, rows_after, newest, InTransaction, last_rows}
+use Rattle.tql_rows.specs.Changes.{Under}
+use Rattle.tql_store.specs.Stands.{stands_at, Within, Fits, Told, Proper, StandsFor}
 
 -- a turn, of versions that stand for copies of which the newest is of the moment
 abbrev turn_of : (horizon : Option ℤ) {versions older : List _} {c : List Stamped} (m : ℤ) (gone : Stamped → Bool) → m <ℤ high → StandsFor horizon versions (record { moment = m; rows = c } ∷ older) → Turn
@@ -37,7 +39,7 @@ turn_of horizon m gone below s = record {
 same-replaced : (m : ℤ) (gone : Stamped → Bool) (added : List (List Datum)) {xs ys : List Version} → SameBag xs ys → SameBag (replaced m gone added xs) (replaced m gone added ys)
 same-replaced m gone added h = same-append (same-filter alive (same-map (closed_if m gone) h)) (same-refl (map (fresh m) added))
 
-same-undone : (m : ℤ) {xs ys : List Version} → SameBag xs ys → SameBag (undone m xs) (undone m ys)
+pub same-undone : (m : ℤ) {xs ys : List Version} → SameBag xs ys → SameBag (undone m xs) (undone m ys)
 same-undone m h = same-map (reopened m) (same-filter (λ v. int_lt v.row.start m) h)
 
 -- the new copy is the rows that stand

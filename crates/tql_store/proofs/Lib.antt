@@ -4,11 +4,12 @@ pub mod Begin
 pub mod Apply
 pub mod Prune
 pub mod Laws
-pub mod SlotLaws
 pub mod StoreLaws
 pub mod TableLaws
-pub mod SlotLemmas
 pub mod Places
-pub mod Named
 pub mod Judging
-pub mod Lasting
+pub mod Numbers
+pub mod Turning
+pub mod Removing
+pub mod Storing
+pub mod Making

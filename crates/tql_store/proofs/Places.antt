@@ -4,7 +4,8 @@ use Rattle.std.specs.Prelude.{count_by, nat_eq, if◌then◌else◌}
 use Rattle.std.proofs.lemmas.Bool.Decides.{nat_tests}
 use Rattle.std.proofs.lemmas.List.Sums.{sum_by-cons}
 use Rattle.tql_store.specs.Represents.{Takes, AddsTable}
-use Rattle.tql_store.specs.Slots.{Held, place_of, place_for, is_taken}
+use Rattle.tql_store.specs.Held.{Held, live}
+use Rattle.tql_store.specs.Places.{place_of, place_for, is_taken}
 use Rattle.tql_store.specs.declared.tables.Place.{Place}
 use Rattle.tql_store.specs.declared.tables.Place.TheVariants.{Free, Versioned, Unversioned}
 
@@ -84,12 +85,15 @@ one_for true = refl
 one_for false = refl
 
 -- a table more
-pub adds : (versioned : Bool) (t : ℕ) (old new : Held) → place_of old.tables t ≡ Free → Takes t (place_for versioned) old.tables new.tables → new ≡ record old { tables = new.tables } → AddsTable versioned t old new
-adds versioned t old new free takes rest = record {
+pub adds : (versioned : Bool) (t : ℕ) (old new : Held) → place_of old.tables t ≡ Free → Takes t (place_for versioned) old.tables new.tables → new.working ≡ old.working → new.last ≡ old.last → ((u : ℕ) → live new u ≡ live old u)
+    → AddsTable versioned t old new
+adds versioned t old new free takes working last versions = record {
   free = free;
   takes = takes;
   count = let counts = takes-count t (place_for versioned) old.tables new.tables takes.places in let gone : one (place_of old.tables t) ≡ 0 = ap one free in let come = one_for versioned in omega arith;
-  rest = rest;
+  working = working;
+  last = last;
+  versions = versions;
 }
 
 -- a table less

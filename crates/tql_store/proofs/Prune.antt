@@ -10,8 +10,9 @@ use Rattle.tql_spec.specs.Calendar.{high}
 use Rattle.tql_spec.specs.History.{TableEntry, with_end}
 use Rattle.tql_store.proofs.Apply.{in-filter, lt_true}
 use Rattle.tql_store.proofs.Readings.{stands_tells, sum-picked}
-use Rattle.tql_store.specs.Changes.{pruned}
-use Rattle.tql_store.specs.Stands.{stands_at, Within, Past, Fits, Told, StandsFor}
+use Rattle.tql_rows.specs.Changes.{pruned}
+use Rattle.tql_rows.specs.Changes.{Past}
+use Rattle.tql_store.specs.Stands.{stands_at, Within, Fits, Told, StandsFor}
 
 -- what was past a horizon is past a later one
 later : (horizon : Option ℤ) {h until : ℤ} → Within horizon h → Past horizon until → until ≤ℤ h

@@ -1,6 +1,6 @@
 -- A store stands for the copies through beginnings, changes, commits and rollbacks, and its readings find what they have.
-use Rattle.std.proofs.Common.{◌≡◌, ℕ, Bool, true, false, map, filter, List, [], ◌∷◌, ◌++◌, arith, inl, inr, refl, sym, ap, subst, ◌∙◌}
-use Rattle.std.specs.Prelude.{ℤ, pos, ◌+ℤ◌, ◌<ℤ◌, ◌&&◌, cond, int_lt, int_le, nat_eq, if◌then◌else◌, Option, Some, None}
+use Rattle.std.proofs.Common.{◌≡◌, ℕ, Bool, true, false, filter, List, [], ◌∷◌, arith, inl, inr, refl, sym, ap, subst, ◌∙◌}
+use Rattle.std.specs.Prelude.{ℤ, pos, ◌+ℤ◌, ◌<ℤ◌, ◌&&◌, cond, int_lt, int_le, nat_eq, slice_index_or, if◌then◌else◌, Option, Some, None}
 use Rattle.std.proofs.lemmas.Bool.Decides.{nat_tests}
 use Rattle.std.proofs.lemmas.Int.{ints}
 use Rattle.tql_spec.proofs.Bags.{same-refl, same-sym, same-trans}
@@ -9,19 +9,21 @@ use Rattle.tql_spec.specs.Bag.{SameBag}
 use Rattle.tql_spec.specs.Calendar.{high}
 use Rattle.tql_spec.specs.Datum.{Datum}
 use Rattle.tql_spec.specs.Definition.{Stamped, Version}
-use Rattle.tql_spec.specs.History.{meets}
+use Rattle.tql_spec.specs.History.{TableEntry, meets}
 use Rattle.tql_store.proofs.Apply.{lt_true, lt_false}
 use Rattle.tql_store.proofs.Begin.{new-stands, as_of-stands, from_to-stands, current-stands}
-use Rattle.tql_store.proofs.Laws.{commit-law, brief-commit-law, rollback-law, begin-law, apply-law}
-use Rattle.tql_store.proofs.SlotLaws.{live-settled, live-settled_brief, live-undone, live-changed, live-others}
-use Rattle.tql_store.specs.Asked.{asked, answers}
-use Rattle.tql_store.specs.Changes.{InTransaction, last_rows, rows_after, alive}
-use Rattle.tql_store.specs.Represents.{Copies, Working, horizon_of, StandsWith, Represents, appended, CommitAppends, RollbackRestores, BeginCopies, ChangeReplaces, Judged, with_rows, seen_by, AnswersAsOf, AnswersFromTo, AnswersNow}
-use Rattle.tql_store.specs.Slots.{Slot, Held, place_of, is_kept, is_brief, is_versioned, live, moment_or_high, settled, undone_slots, closing, fresh_slot}
-use Rattle.tql_store.specs.Stands.{Under, Within, StandsFor, holds, is_current}
+use Rattle.tql_store.proofs.Laws.{commit-law, brief-commit-law, rollback-law, begin-law, apply-law, same-stands, same-undone}
+use Rattle.tql_rows.specs.Readings.{asked}
+use Rattle.tql_rows.specs.Changes.{alive, undone, pruned, replaced}
+use Rattle.tql_store.specs.Changes.{InTransaction, last_rows, rows_after}
+use Rattle.tql_store.specs.Held.{Held, is_versioned, live}
+use Rattle.tql_store.specs.Places.{place_of, is_kept, is_brief}
+use Rattle.tql_store.specs.Represents.{Copies, Working, horizon_of, StandsWith, Represents, CommitAppends, RollbackRestores, BeginCopies, ChangeReplaces, ReplacesVersions, with_rows, seen_by, AnswersAsOf, AnswersFromTo, AnswersNow}
+use Rattle.tql_rows.specs.Changes.{Under, holds, is_current}
+use Rattle.tql_store.specs.Stands.{Within, StandsFor}
 use Rattle.tql_store.specs.declared.tables.Place.{Place}
 use Rattle.tql_store.specs.declared.tables.Place.TheVariants.{Free, Versioned, Unversioned}
-use Rattle.tql_store.specs.declared.kept.When.TheVariants.{FromTo, Between}
+use Rattle.tql_rows.specs.declared.readings.When.TheVariants.{FromTo, Between}
 
 pub same-list : {X : Type 0} {xs ys : List X} → xs ≡ ys → SameBag xs ys
 same-list {X} {xs} {ys} e = subst (SameBag xs) e (same-refl xs)
@@ -48,31 +50,42 @@ versioned-within h t m e = subst (λ (g : Option ℤ). Within g m) (sym (no_hori
 -- ---- transactions
 
 -- what is known of a store in a transaction
-in_turn : (old : Held) (copies : Copies) (working : Working) (m : ℤ) → old.working ≡ Some m → Represents old copies working → (t : ℕ) → InTransaction (horizon_of old.tables old.last t) (live t old.slots) (record { moment = m; rows = working t }) (copies t)
-in_turn old copies working m e r t = subst (λ (o : Option ℤ). StandsWith (horizon_of old.tables old.last t) o (live t old.slots) (copies t) (working t)) e (r.stands t)
+in_turn : (old : Held) (copies : Copies) (working : Working) (m : ℤ) → old.working ≡ Some m → Represents old copies working → (t : ℕ) → InTransaction (horizon_of old.tables old.last t) (live old t) (record { moment = m; rows = working t }) (copies t)
+in_turn old copies working m e r t = subst (λ (o : Option ℤ). StandsWith (horizon_of old.tables old.last t) o (live old t) (copies t) (working t)) e (r.stands t)
 
 -- what is known of a store without one
-pub at_rest : (old : Held) (copies : Copies) (working : Working) → old.working ≡ None → Represents old copies working → (t : ℕ) → StandsFor (horizon_of old.tables old.last t) (live t old.slots) (copies t)
-at_rest old copies working e r t = subst (λ (o : Option ℤ). StandsWith (horizon_of old.tables old.last t) o (live t old.slots) (copies t) (working t)) e (r.stands t)
+pub at_rest : (old : Held) (copies : Copies) (working : Working) → old.working ≡ None → Represents old copies working → (t : ℕ) → StandsFor (horizon_of old.tables old.last t) (live old t) (copies t)
+at_rest old copies working e r t = subst (λ (o : Option ℤ). StandsWith (horizon_of old.tables old.last t) o (live old t) (copies t) (working t)) e (r.stands t)
 
-pub commit-appends : (old new : Held) → new ≡ record { tables = old.tables; slots = settled old.tables (moment_or_high old.working) old.slots; working = None; last = old.working } → CommitAppends old new
-commit-appends old new e = λ copies working m is r. subst (λ (h : Held). Represents h (appended m working copies) working) (sym e) (record {
-  dated = λ t. sym is;
-  stands = λ t. subst (λ (o : Option ℤ). StandsFor (horizon_of old.tables o t) (live t (settled old.tables (moment_or_high o) old.slots)) (record { moment = m; rows = working t } ∷ copies t)) (sym is)
+-- a store stands for copies by its parts
+pub of_parts : (versions : List Version) (entries : List TableEntry) (rows : List Stamped) {places : List Place} {last o : Option ℤ} (h : Held) → h.tables ≡ places → h.last ≡ last → h.working ≡ o → (t : ℕ)
+    → StandsWith (horizon_of places last t) o versions entries rows → StandsWith (horizon_of h.tables h.last t) h.working versions entries rows
+of_parts versions entries rows {places} {last} {o} h tables dates opened t s =
+    subst (λ (ps : List Place). StandsWith (horizon_of ps h.last t) h.working versions entries rows) (sym tables)
+    (subst (λ (l : Option ℤ). StandsWith (horizon_of places l t) h.working versions entries rows) (sym dates)
+    (subst (λ (w : Option ℤ). StandsWith (horizon_of places last t) w versions entries rows) (sym opened) s))
+
+pub commit-appends : (old new : Held) → new.tables ≡ old.tables → new.working ≡ None → new.last ≡ old.working
+    → ((t : ℕ) (m : ℤ) → old.working ≡ Some m → SameBag (live new t) (if is_brief (place_of old.tables t) then pruned m (live old t) else live old t)) → CommitAppends old new
+commit-appends old new tables closed last versions = λ copies working m is r. record {
+  dated = λ t. sym (last ∙ is);
+  stands = λ t. of_parts _ _ _ new tables (last ∙ is) closed t
       (by_bool (is_brief (place_of old.tables t))
-      (λ brief. subst (λ (g : Option ℤ). StandsFor g (live t (settled old.tables m old.slots)) (record { moment = m; rows = working t } ∷ copies t)) (sym (last_horizon old.tables (Some m) t brief))
-      (brief-commit-law _ (live t old.slots) _ (record { moment = m; rows = working t }) (copies t) (in_turn old copies working m is r t) (same-list (live-settled_brief old.tables t m old.slots brief))))
-      (λ kept. subst (λ (g : Option ℤ). StandsFor g (live t (settled old.tables m old.slots)) (record { moment = m; rows = working t } ∷ copies t)) (no_horizon old.tables old.last t kept ∙ sym (no_horizon old.tables (Some m) t kept))
-      (commit-law _ (live t old.slots) _ (record { moment = m; rows = working t }) (copies t) (in_turn old copies working m is r t) (same-list (live-settled old.tables t m old.slots kept)))));
-})
+      (λ brief. subst (λ (g : Option ℤ). StandsFor g (live new t) (record { moment = m; rows = working t } ∷ copies t)) (sym (last_horizon old.tables (Some m) t brief))
+      (brief-commit-law _ (live old t) _ (record { moment = m; rows = working t }) (copies t) (in_turn old copies working m is r t) (chosen t m is true brief)))
+      (λ kept. subst (λ (g : Option ℤ). StandsFor g (live new t) (record { moment = m; rows = working t } ∷ copies t)) (no_horizon old.tables old.last t kept ∙ sym (no_horizon old.tables (Some m) t kept))
+      (commit-law _ (live old t) _ (record { moment = m; rows = working t }) (copies t) (in_turn old copies working m is r t) (chosen t m is false kept))));
+}
+  where
+    chosen : (t : ℕ) (m : ℤ) → old.working ≡ Some m → (b : Bool) → is_brief (place_of old.tables t) ≡ b → SameBag (live new t) (if b then pruned m (live old t) else live old t)
+    chosen t m is b e = subst (λ (c : Bool). SameBag (live new t) (if c then pruned m (live old t) else live old t)) e (versions t m is)
 
-pub rollback-restores : (old new : Held) → new ≡ record old { slots = undone_slots (moment_or_high old.working) old.slots; working = None } → RollbackRestores old new
-rollback-restores old new e = λ copies working m is r. subst (λ (h : Held). Represents h copies working) (sym e) (record {
-  dated = r.dated;
-  stands = λ t. let turn = in_turn old copies working m is r t in
-      rollback-law _ (live t old.slots) (live t (undone_slots (moment_or_high old.working) old.slots)) _ _ turn
-      (same-list (ap (λ (o : Option ℤ). live t (undone_slots (moment_or_high o) old.slots)) is ∙ live-undone t m old.slots turn.below));
-})
+pub rollback-restores : (old new : Held) → new.tables ≡ old.tables → new.working ≡ None → new.last ≡ old.last
+    → ((t : ℕ) (m : ℤ) → old.working ≡ Some m → SameBag (live new t) (undone m (live old t))) → RollbackRestores old new
+rollback-restores old new tables closed last versions = λ copies working m is r. record {
+  dated = λ t. r.dated t ∙ sym last;
+  stands = λ t. of_parts _ _ _ new tables last closed t (rollback-law _ (live old t) (live new t) _ _ (in_turn old copies working m is r t) (versions t m is));
+}
 
 -- the horizon lies before a moment that is later than the last commit
 horizon_under : (places : List Place) (last : Option ℤ) (t : ℕ) (m : ℤ) → Under last m → Under (horizon_of places last t) m
@@ -80,12 +93,15 @@ horizon_under places last t m later = by_bool (is_brief (place_of places t))
     (λ brief. subst (λ (g : Option ℤ). Under g m) (sym (last_horizon places last t brief)) later)
     (λ kept. subst (λ (g : Option ℤ). Under g m) (sym (no_horizon places last t kept)) tt)
 
-pub begin-copies : (m : ℤ) (old new : Held) → old.working ≡ None → Under old.last m → m <ℤ high → new ≡ record old { working = Some m } → BeginCopies old new
-begin-copies m old new is later below e = λ copies working r. subst (λ (h : Held). Represents h copies (λ t. last_rows (copies t))) (sym e) (record {
-  dated = r.dated;
-  stands = λ t. begin-law _ (live t old.slots) (copies t) m (at_rest old copies working is r t) (horizon_under old.tables old.last t m later)
-      (subst (λ (o : Option ℤ). Under o m) (sym (r.dated t)) later) below;
-})
+pub begin-copies : (m : ℤ) (old new : Held) → old.working ≡ None → Under old.last m → m <ℤ high → new.tables ≡ old.tables → new.working ≡ Some m → new.last ≡ old.last → ((t : ℕ) → live new t ≡ live old t)
+    → BeginCopies old new
+begin-copies m old new is later below tables opened last versions = λ copies working r. record {
+  dated = λ t. r.dated t ∙ sym last;
+  stands = λ t. of_parts _ _ _ new tables last opened t
+      (subst (λ (vs : List Version). InTransaction (horizon_of old.tables old.last t) vs (record { moment = m; rows = last_rows (copies t) }) (copies t)) (sym (versions t))
+      (begin-law _ (live old t) (copies t) m (at_rest old copies working is r t) (horizon_under old.tables old.last t m later)
+      (subst (λ (o : Option ℤ). Under o m) (sym (r.dated t)) later) below));
+}
 
 -- ---- readings
 
@@ -94,60 +110,56 @@ stands_seen : (horizon o : Option ℤ) (versions : List Version) (copies : Copie
 stands_seen horizon None versions copies working t s = s
 stands_seen horizon (Some m) versions copies working t s = s.now
 
-stands_now : (h : Held) (copies : Copies) (working : Working) (t : ℕ) → Represents h copies working → StandsFor (horizon_of h.tables h.last t) (live t h.slots) (seen_by h.working copies working t)
-stands_now h copies working t r = stands_seen _ h.working (live t h.slots) copies working t (r.stands t)
+stands_now : (h : Held) (copies : Copies) (working : Working) (t : ℕ) → Represents h copies working → StandsFor (horizon_of h.tables h.last t) (live h t) (seen_by h.working copies working t)
+stands_now h copies working t r = stands_seen _ h.working (live h t) copies working t (r.stands t)
 
-pub answers-as_of : (h : Held) (t : ℕ) (m : ℤ) (found : List Version) → is_versioned h t ≡ true → found ≡ filter (holds m) (live t h.slots) → AnswersAsOf h t m found
-answers-as_of h t m found kept e = λ copies working r. same-trans (same-list e) (same-sym (as_of-stands _ _ _ m (stands_now h copies working t r) (versioned-within h t m kept)))
+pub answers-as_of : (h : Held) (t : ℕ) (m : ℤ) (found : List Version) → is_versioned h t ≡ true → SameBag found (filter (holds m) (live h t)) → AnswersAsOf h t m found
+answers-as_of h t m found kept e = λ copies working r. same-trans e (same-sym (as_of-stands _ _ _ m (stands_now h copies working t r) (versioned-within h t m kept)))
 
-pub answers-from_to : (h : Held) (t : ℕ) (a b : ℤ) (found : List Version) → is_versioned h t ≡ true → found ≡ filter (λ v. meets a b v.row.start v.end) (live t h.slots) → AnswersFromTo h t a b found
-answers-from_to h t a b found kept e = λ copies working r. same-trans (same-list e) (same-sym (from_to-stands _ _ _ a b (stands_now h copies working t r) (versioned-within h t a kept)))
+pub answers-from_to : (h : Held) (t : ℕ) (a b : ℤ) (found : List Version) → is_versioned h t ≡ true → SameBag found (filter (λ v. meets a b v.row.start v.end) (live h t)) → AnswersFromTo h t a b found
+answers-from_to h t a b found kept e = λ copies working r. same-trans e (same-sym (from_to-stands _ _ _ a b (stands_now h copies working t r) (versioned-within h t a kept)))
 
-pub answers-now : (h : Held) (t : ℕ) (found : List Version) → found ≡ filter is_current (live t h.slots) → AnswersNow h t found
-answers-now h t found e = λ copies working r. same-trans (same-list e) (same-sym (current-stands _ _ _ (stands_now h copies working t r)))
+pub answers-now : (h : Held) (t : ℕ) (found : List Version) → SameBag found (filter is_current (live h t)) → AnswersNow h t found
+answers-now h t found e = λ copies working r. same-trans e (same-sym (current-stands _ _ _ (stands_now h copies working t r)))
 
 -- ---- changes
 
-pub change-replaces : (t : ℕ) (removed : List ℕ) (added : List (List Datum)) (old new : Held) → new ≡ record old { slots = closing (moment_or_high old.working) removed old.slots ++ map (fresh_slot t (moment_or_high old.working)) added } → ChangeReplaces t removed added old new
-change-replaces t removed added old new e = λ copies working m gone is j r.
-    subst (λ (h : Held). Represents h copies (with_rows t (rows_after m gone added (working t)) working)) (sym e) (record {
-      dated = r.dated;
-      stands = λ u. subst (λ (o : Option ℤ). StandsWith (horizon_of old.tables old.last u) o (live u (closing (moment_or_high o) removed old.slots ++ map (fresh_slot t (moment_or_high o)) added)) (copies u) (with_rows t (rows_after m gone added (working t)) working u)) (sym is)
-          (let turn = in_turn old copies working m is r in by_bool (nat_eq u t)
-          (λ same. at_table copies working m gone j turn u (decided u t same))
-          (λ other. subst (λ (vs : List Version). InTransaction (horizon_of old.tables old.last u) vs (record { moment = m; rows = with_rows t (rows_after m gone added (working t)) working u }) (copies u)) (sym (live-others t u gone m removed added old.slots other j))
-          (subst (λ (b : Bool). InTransaction (horizon_of old.tables old.last u) (live u old.slots) (record { moment = m; rows = if b then rows_after m gone added (working t) else working u }) (copies u)) (sym other) (turn u))));
-    })
+pub change-replaces : (t : ℕ) (removed : List ℕ) (added : List (List Datum)) (old new : Held) → ReplacesVersions t removed added old new → ChangeReplaces t removed added old new
+change-replaces t removed added old new e = λ copies working m gone is j r. record {
+  dated = λ u. r.dated u ∙ sym e.last;
+  stands = λ u. let turn = in_turn old copies working m is r in
+      of_parts _ _ _ new e.tables e.last (e.working ∙ is) u
+      (by_bool (nat_eq u t)
+      (λ same. at_table copies working m gone (e.versions m gone is j) turn u (decided u t same))
+      (λ other. subst (λ (b : Bool). InTransaction (horizon_of old.tables old.last u) (live new u) (record { moment = m; rows = if b then rows_after m gone added (working t) else working u }) (copies u)) (sym other)
+      (same-turn (e.others u other) (turn u))));
+}
   where
     decided : (u t : ℕ) → nat_eq u t ≡ true → t ≡ u
     decided u t e = grind (arith, nat_tests)
 
-    at_table : (copies : Copies) (working : Working) (m : ℤ) (gone : Stamped → Bool) → Judged t gone removed old.slots → ((u : ℕ) → InTransaction (horizon_of old.tables old.last u) (live u old.slots) (record { moment = m; rows = working u }) (copies u)) → (u : ℕ) → t ≡ u
-        → InTransaction (horizon_of old.tables old.last u) (live u (closing m removed old.slots ++ map (fresh_slot t m) added)) (record { moment = m; rows = with_rows t (rows_after m gone added (working t)) working u }) (copies u)
-    at_table copies working m gone j turn u e = subst (λ (n : ℕ). InTransaction (horizon_of old.tables old.last n) (live n (closing m removed old.slots ++ map (fresh_slot t m) added)) (record { moment = m; rows = with_rows t (rows_after m gone added (working t)) working n }) (copies n)) e
+    same-turn : {horizon : Option ℤ} {versions others : List Version} {working : TableEntry} {older : List TableEntry} → SameBag others versions → InTransaction horizon versions working older → InTransaction horizon others working older
+    same-turn {horizon} {versions} {others} {working} {older} h t = record { since = t.since; below = t.below; now = same-stands h t.now; before = same-stands (same-undone working.moment h) t.before }
+
+    at_table : (copies : Copies) (working : Working) (m : ℤ) (gone : Stamped → Bool) → SameBag (live new t) (replaced m gone added (live old t))
+        → ((u : ℕ) → InTransaction (horizon_of old.tables old.last u) (live old u) (record { moment = m; rows = working u }) (copies u)) → (u : ℕ) → t ≡ u
+        → InTransaction (horizon_of old.tables old.last u) (live new u) (record { moment = m; rows = with_rows t (rows_after m gone added (working t)) working u }) (copies u)
+    at_table copies working m gone bag turn u e = subst (λ (n : ℕ). InTransaction (horizon_of old.tables old.last n) (live new n) (record { moment = m; rows = with_rows t (rows_after m gone added (working t)) working n }) (copies n)) e
         (let self : nat_eq t t ≡ true = grind (arith, nat_tests) in
-        apply-law _ m gone added (live t old.slots) _ (working t) _ (copies t) (turn t) (same-list (live-changed t gone m removed added old.slots (turn t).below j))
+        apply-law _ m gone added (live old t) _ (working t) _ (copies t) (turn t) bag
         (same-list (ap (λ (b : Bool). if b then rows_after m gone added (working t) else working t) self)))
-
-map-both : {X Y Z : Type 0} (f : X → Y) (g : Y → Z) (xs : List X) → map (λ x. g (f x)) xs ≡ map g (map f xs)
-map-both f g [] = refl
-map-both f g (x ∷ xs) = ap (λ zs. g (f x) ∷ zs) (map-both f g xs)
-
-pub change-of : {X : Type 0} (cells : X → List Datum) (rows : List X) (t : ℕ) (removed : List ℕ) (old new : Held) → new ≡ record old { slots = closing (moment_or_high old.working) removed old.slots ++ map (λ x. fresh_slot t (moment_or_high old.working) (cells x)) rows } → ChangeReplaces t removed (map cells rows) old new
-change-of cells rows t removed old new e = change-replaces t removed (map cells rows) old new
-    (e ∙ ap (λ (ss : List Slot). record old { slots = closing (moment_or_high old.working) removed old.slots ++ ss }) (map-both cells (fresh_slot t (moment_or_high old.working)) rows))
 
 -- ---- the ranges as the store tests them
 
-alive-live : (t : ℕ) (slots : List Slot) → filter alive (live t slots) ≡ live t slots
-alive-live t [] = refl
-alive-live t (s ∷ ss) = chosen (nat_eq s.table t) (alive s.version) refl (alive-live t ss)
-  where
-    chosen : (b a : Bool) → alive s.version ≡ a → filter alive (live t ss) ≡ live t ss → filter alive (map (λ (x : Slot). x.version) (cond (b && a) (s ∷ filter (λ x. nat_eq x.table t && alive x.version) ss) (filter (λ x. nat_eq x.table t && alive x.version) ss)))
-        ≡ map (λ (x : Slot). x.version) (cond (b && a) (s ∷ filter (λ x. nat_eq x.table t && alive x.version) ss) (filter (λ x. nat_eq x.table t && alive x.version) ss))
-    chosen true true e h = rw e (ap (λ vs. s.version ∷ vs) h)
-    chosen true false e h = h
-    chosen false a e h = h
+-- all of them hold a moment
+filter-twice : (p : Version → Bool) (vs : List Version) → filter p (filter p vs) ≡ filter p vs
+filter-twice p [] = refl
+filter-twice p (v ∷ vs) = by_bool (p v)
+    (λ e. rw e (rw e (ap (λ us. v ∷ us) (filter-twice p vs))))
+    (λ e. rw e (filter-twice p vs))
+
+alive-live : (h : Held) (t : ℕ) → filter alive (live h t) ≡ live h t
+alive-live h t = filter-twice alive (slice_index_or h.versions t [])
 
 -- tests that agree on what is alive
 filter-alive : (p q : Version → Bool) → ((v : Version) → alive v ≡ true → p v ≡ q v) → (vs : List Version) → filter p (filter alive vs) ≡ filter q (filter alive vs)
@@ -156,8 +168,8 @@ filter-alive p q h (v ∷ vs) = by_bool (alive v)
     (λ e. rw e (ap (λ b. cond b (v ∷ filter p (filter alive vs)) (filter p (filter alive vs))) (h v e) ∙ ap (λ us. cond (q v) (v ∷ us) us) (filter-alive p q h vs)))
     (λ e. rw e (filter-alive p q h vs))
 
-filter-live : (p q : Version → Bool) → ((v : Version) → alive v ≡ true → p v ≡ q v) → (t : ℕ) (slots : List Slot) → filter p (live t slots) ≡ filter q (live t slots)
-filter-live p q h t slots = ap (filter p) (sym (alive-live t slots)) ∙ filter-alive p q h (live t slots) ∙ ap (filter q) (alive-live t slots)
+filter-live : (p q : Version → Bool) → ((v : Version) → alive v ≡ true → p v ≡ q v) → (h : Held) (t : ℕ) → filter p (live h t) ≡ filter q (live h t)
+filter-live p q same h t = ap (filter p) (sym (alive-live h t)) ∙ filter-alive p q same (live h t) ∙ ap (filter q) (alive-live h t)
 
 as_meets : (a b : ℤ) (v : Version) → alive v ≡ true → (int_lt a b && (int_lt v.row.start b && int_lt a v.end)) ≡ meets a b v.row.start v.end
 as_meets a b v e = rw e (shift (int_lt a b) _)
@@ -172,15 +184,27 @@ below_next x b = elim (le_tells x b) as (λ y. int_le x b ≡ int_lt x (b +ℤ p
   | inr s ↦ s.0 ∙ sym (lt_false {a = x} {b = b +ℤ pos 1} (let t = s.1 in omega (arith, ints)))
 ]
 
-pub answers-range : (h : Held) (t : ℕ) (a b : ℤ) (found : List Version) → is_versioned h t ≡ true → found ≡ answers t (FromTo a b) h.slots → AnswersFromTo h t a b found
-answers-range h t a b found kept e = answers-from_to h t a b found kept (e ∙ filter-live (asked (FromTo a b)) (λ v. meets a b v.row.start v.end) (as_meets a b) t h.slots)
+pub answers-range : (h : Held) (t : ℕ) (a b : ℤ) (found : List Version) → is_versioned h t ≡ true → SameBag found (filter (asked (FromTo a b)) (live h t)) → AnswersFromTo h t a b found
+answers-range h t a b found kept e = answers-from_to h t a b found kept (same-trans e (same-list (filter-live (asked (FromTo a b)) (λ v. meets a b v.row.start v.end) (as_meets a b) h t)))
 
-pub answers-between : (h : Held) (t : ℕ) (a b : ℤ) (found : List Version) → is_versioned h t ≡ true → found ≡ answers t (Between a b) h.slots → AnswersFromTo h t a (b +ℤ pos 1) found
+pub answers-between : (h : Held) (t : ℕ) (a b : ℤ) (found : List Version) → is_versioned h t ≡ true → SameBag found (filter (asked (Between a b)) (live h t)) → AnswersFromTo h t a (b +ℤ pos 1) found
 answers-between h t a b found kept e = answers-from_to h t a (b +ℤ pos 1) found kept
-    (e ∙ filter-live (asked (Between a b)) (λ v. meets a (b +ℤ pos 1) v.row.start v.end)
-    (λ v l. ap (λ c. c && (int_le v.row.start b && int_lt a v.end)) (below_next a b) ∙ ap (λ c. int_lt a (b +ℤ pos 1) && (c && int_lt a v.end)) (below_next v.row.start b) ∙ as_meets a (b +ℤ pos 1) v l) t h.slots)
+    (same-trans e (same-list (filter-live (asked (Between a b)) (λ v. meets a (b +ℤ pos 1) v.row.start v.end)
+    (λ v l. ap (λ c. c && (int_le v.row.start b && int_lt a v.end)) (below_next a b) ∙ ap (λ c. int_lt a (b +ℤ pos 1) && (c && int_lt a v.end)) (below_next v.row.start b) ∙ as_meets a (b +ℤ pos 1) v l) h t)))
 
 -- ---- a new store
 
-pub new-represents : (new : Held) → new ≡ record { tables = []; slots = []; working = None; last = None } → Represents new (λ t. []) (λ t. [])
-new-represents new e = subst (λ (h : Held). Represents h (λ t. []) (λ t. [])) (sym e) (record { dated = λ t. refl; stands = λ t. new-stands })
+pub new-represents : (new : Held) → new.working ≡ None → new.last ≡ None → ((t : ℕ) → live new t ≡ []) → Represents new (λ t. []) (λ t. [])
+new-represents new closed last versions = record {
+  dated = λ t. sym last;
+  stands = λ t. subst (λ (o : Option ℤ). StandsWith (horizon_of new.tables new.last t) o (live new t) [] []) (sym closed)
+      (subst (λ (g : Option ℤ). StandsFor g (live new t) []) (sym (none t))
+      (subst (λ (vs : List Version). StandsFor None vs []) (sym (versions t)) new-stands));
+}
+  where
+    chosen : {X : Type 0} (b : Bool) (x : X) → (if b then x else x) ≡ x
+    chosen true x = refl
+    chosen false x = refl
+
+    none : (t : ℕ) → horizon_of new.tables new.last t ≡ None
+    none t = ap (λ (l : Option ℤ). horizon_of new.tables l t) last ∙ chosen (is_brief (place_of new.tables t)) None

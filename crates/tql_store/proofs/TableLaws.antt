@@ -9,13 +9,14 @@ use Rattle.tql_spec.specs.Bag.{SameBag}
 use Rattle.tql_spec.specs.Calendar.{high}
 use Rattle.tql_spec.specs.Definition.{Stamped, Version}
 use Rattle.tql_spec.specs.History.{TableEntry, still}
-use Rattle.tql_store.proofs.Laws.{stands-from}
-use Rattle.tql_store.proofs.SlotLaws.{live-dropped, live-without}
-use Rattle.tql_store.proofs.StoreLaws.{at_rest, no_horizon}
+use Rattle.tql_store.proofs.Laws.{stands-from, same-stands}
+use Rattle.tql_store.proofs.StoreLaws.{at_rest, no_horizon, of_parts}
 use Rattle.tql_store.specs.Changes.{newest, emptied}
 use Rattle.tql_store.specs.Represents.{Copies, Working, horizon_of, StandsWith, Represents, Takes, AddsTable, AddKeepsCopies, copies_without, DropEmpties}
-use Rattle.tql_store.specs.Slots.{Held, place_of, place_for, is_brief, live, without}
-use Rattle.tql_store.specs.Stands.{Under, Told, StandsFor}
+use Rattle.tql_store.specs.Held.{Held, live}
+use Rattle.tql_store.specs.Places.{place_of, place_for, is_brief}
+use Rattle.tql_rows.specs.Changes.{Under}
+use Rattle.tql_store.specs.Stands.{Told, StandsFor}
 use Rattle.tql_store.specs.declared.tables.Place.{Place}
 use Rattle.tql_store.specs.declared.tables.Place.TheVariants.{Free}
 
@@ -50,15 +51,17 @@ horizon_at : (t : ℕ) (p : Place) (old new : List Place) (last : Option ℤ) (u
 horizon_at t p old new last u takes b e = ap (λ (q : Place). if is_brief q then last else None) (takes.places u ∙ ap (λ (c : Bool). if c then p else place_of old u) e)
 
 pub add-keeps : (versioned : Bool) (t : ℕ) (old new : Held) → AddsTable versioned t old new → AddKeepsCopies old new
-add-keeps versioned t old new a = λ copies working r. subst (λ (h : Held). Represents h copies working) (sym a.rest) (record {
-  dated = r.dated;
-  stands = λ u. by_bool (nat_eq u t)
-      (λ same. subst (λ (g : Option ℤ). StandsWith g old.working (live u old.slots) (copies u) (working u)) (sym (horizon_at t (place_for versioned) old.tables new.tables old.last u a.takes true same))
-      (from_either (is_brief (place_for versioned)) old.last old.working (live u old.slots) (copies u) (working u) (r.dated u)
-      (subst (λ (g : Option ℤ). StandsWith g old.working (live u old.slots) (copies u) (working u))
+add-keeps versioned t old new a = λ copies working r. record {
+  dated = λ u. r.dated u ∙ sym a.last;
+  stands = λ u. of_parts _ _ _ new refl a.last a.working u
+      (subst (λ (vs : List Version). StandsWith (horizon_of new.tables old.last u) old.working vs (copies u) (working u)) (sym (a.versions u))
+      (by_bool (nat_eq u t)
+      (λ same. subst (λ (g : Option ℤ). StandsWith g old.working (live old u) (copies u) (working u)) (sym (horizon_at t (place_for versioned) old.tables new.tables old.last u a.takes true same))
+      (from_either (is_brief (place_for versioned)) old.last old.working (live old u) (copies u) (working u) (r.dated u)
+      (subst (λ (g : Option ℤ). StandsWith g old.working (live old u) (copies u) (working u))
       (no_horizon old.tables old.last u (ap is_brief (ap (place_of old.tables) (decided u t same) ∙ a.free))) (r.stands u))))
-      (λ other. subst (λ (g : Option ℤ). StandsWith g old.working (live u old.slots) (copies u) (working u)) (sym (horizon_at t (place_for versioned) old.tables new.tables old.last u a.takes false other)) (r.stands u));
-})
+      (λ other. subst (λ (g : Option ℤ). StandsWith g old.working (live old u) (copies u) (working u)) (sym (horizon_at t (place_for versioned) old.tables new.tables old.last u a.takes false other)) (r.stands u))));
+}
 
 -- ---- a dropped table
 
@@ -87,26 +90,28 @@ emptied-stands horizon versions entries s = record {
   told = told-emptied horizon s.rows s.ends high entries s.told;
 }
 
-pub drop-empties : (t : ℕ) (old new : Held) → old.working ≡ None → Takes t Free old.tables new.tables → new ≡ record old { tables = new.tables; slots = without t old.slots } → DropEmpties t old new
-drop-empties t old new closed takes e = λ copies working r. subst (λ (h : Held). Represents h (copies_without t copies) working) (sym e) (record {
-  dated = λ u. dated (nat_eq u t) (copies u) ∙ r.dated u;
-  stands = λ u. subst (λ (o : Option ℤ). StandsWith (horizon_of new.tables old.last u) o (live u (without t old.slots)) (copies_without t copies u) (working u)) (sym closed)
+pub drop-empties : (t : ℕ) (old new : Held) → old.working ≡ None → Takes t Free old.tables new.tables → new.working ≡ old.working → new.last ≡ old.last
+    → ((u : ℕ) → SameBag (live new u) (if nat_eq u t then [] else live old u)) → DropEmpties t old new
+drop-empties t old new closed takes working_same last versions = λ copies working r. record {
+  dated = λ u. dated (nat_eq u t) (copies u) ∙ r.dated u ∙ sym last;
+  stands = λ u. of_parts _ _ _ new refl last (working_same ∙ closed) u
       (by_bool (nat_eq u t)
       (λ same. gone copies u same (at_rest old copies working closed r u))
       (λ other. stays copies u other (at_rest old copies working closed r u)));
-})
+}
   where
     dated : (b : Bool) (entries : List TableEntry) → newest (if b then emptied entries else entries) ≡ newest entries
     dated true entries = newest-emptied entries
     dated false entries = refl
 
-    gone : (copies : Copies) (u : ℕ) → nat_eq u t ≡ true → StandsFor (horizon_of old.tables old.last u) (live u old.slots) (copies u) → StandsFor (horizon_of new.tables old.last u) (live u (without t old.slots)) (copies_without t copies u)
-    gone copies u same s =
-        rw (same, horizon_at t Free old.tables new.tables old.last u takes true same, ap (λ (n : ℕ). live n (without t old.slots)) (decided u t same) ∙ live-dropped t old.slots)
-        (emptied-stands _ (live u old.slots) (copies u) s)
+    left : (u : ℕ) (b : Bool) → nat_eq u t ≡ b → SameBag (live new u) (if b then [] else live old u)
+    left u b e = subst (λ (c : Bool). SameBag (live new u) (if c then [] else live old u)) e (versions u)
 
-    stays : (copies : Copies) (u : ℕ) → nat_eq u t ≡ false → StandsFor (horizon_of old.tables old.last u) (live u old.slots) (copies u) → StandsFor (horizon_of new.tables old.last u) (live u (without t old.slots)) (copies_without t copies u)
-    stays copies u other s = rw (other, horizon_at t Free old.tables new.tables old.last u takes false other, live-without t u old.slots other) s
+    gone : (copies : Copies) (u : ℕ) → nat_eq u t ≡ true → StandsFor (horizon_of old.tables old.last u) (live old u) (copies u) → StandsFor (horizon_of new.tables old.last u) (live new u) (copies_without t copies u)
+    gone copies u same s = rw (same, horizon_at t Free old.tables new.tables old.last u takes true same) (same-stands (left u true same) (emptied-stands _ (live old u) (copies u) s))
+
+    stays : (copies : Copies) (u : ℕ) → nat_eq u t ≡ false → StandsFor (horizon_of old.tables old.last u) (live old u) (copies u) → StandsFor (horizon_of new.tables old.last u) (live new u) (copies_without t copies u)
+    stays copies u other s = rw (other, horizon_at t Free old.tables new.tables old.last u takes false other) (same-stands (left u false other) s)
 
 -- ---- copies and working copies that are one
 
@@ -137,6 +142,6 @@ same_with horizon (Some m) versions entries rows others h s = record { since = s
 pub represents-same : (h : Held) (copies others : Copies) (working changed : Working) → ((t : ℕ) → copies t ≡ others t) → ((t : ℕ) → SameBag (changed t) (working t)) → Represents h copies working → Represents h others changed
 represents-same h copies others working changed same bags r = record {
   dated = λ t. ap newest (sym (same t)) ∙ r.dated t;
-  stands = λ t. subst (λ (entries : List TableEntry). StandsWith (horizon_of h.tables h.last t) h.working (live t h.slots) entries (changed t)) (same t)
-      (same_with _ h.working (live t h.slots) (copies t) (working t) (changed t) (bags t) (r.stands t));
+  stands = λ t. subst (λ (entries : List TableEntry). StandsWith (horizon_of h.tables h.last t) h.working (live h t) entries (changed t)) (same t)
+      (same_with _ h.working (live h t) (copies t) (working t) (changed t) (bags t) (r.stands t));
 }

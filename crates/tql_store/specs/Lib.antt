@@ -1,6 +1,7 @@
+pub mod Places
 pub mod Stands
 pub mod Changes
-pub mod Slots
+pub mod Held
 pub mod Views
-pub mod Asked
+pub mod Orderly
 pub mod Represents

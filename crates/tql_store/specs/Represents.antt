@@ -1,12 +1,15 @@
 -- A store stands for the copies of the machine that copies each table at each commit.
-use Rattle.std.specs.Prelude.{◌≡◌, ℕ, ◌+◌, Bool, false, ◌&&◌, ◌||◌, List, [], ◌∷◌, ℤ, nat_eq, slice_get, Option, Some, None, if◌then◌else◌}
+use Rattle.std.specs.Prelude.{◌≡◌, ℕ, ◌+◌, Bool, false, ◌&&◌, List, ◌∷◌, filter, length, ℤ, nat_eq, Option, Some, None, if◌then◌else◌}
 use Rattle.tql_spec.specs.Bag.{SameBag}
 use Rattle.tql_spec.specs.Datum.{Datum}
 use Rattle.tql_spec.specs.Definition.{Stamped, Version}
 use Rattle.tql_spec.specs.History.{TableEntry, as_of, from_to, current}
-use Rattle.tql_store.specs.Stands.{StandsFor, is_current}
-use Rattle.tql_store.specs.Changes.{alive, rows_after, InTransaction, last_rows, newest, emptied}
-use Rattle.tql_store.specs.Slots.{Slot, Held, live, place_of, place_for, is_brief, table_count}
+use Rattle.tql_rows.specs.Changes.{is_current}
+use Rattle.tql_store.specs.Stands.{StandsFor}
+use Rattle.tql_rows.specs.Changes.{alive, replaced}
+use Rattle.tql_store.specs.Changes.{rows_after, InTransaction, last_rows, newest, emptied}
+use Rattle.tql_store.specs.Held.{Held, live, named, is_among, table_count}
+use Rattle.tql_store.specs.Places.{place_of, place_for, is_brief}
 use Rattle.tql_store.specs.declared.tables.Place.{Place}
 use Rattle.tql_store.specs.declared.tables.Place.TheVariants.{Free}
 
@@ -32,7 +35,7 @@ StandsWith horizon (Some m) versions entries rows = InTransaction horizon versio
 -- the store stands for these copies of each table, and, if a transaction is open, this working copy
 pub record Represents (h : Held) (copies : Copies) (working : Working) : Type 0 where
   pub dated : (t : ℕ) → newest (copies t) ≡ h.last
-  pub stands : (t : ℕ) → StandsWith (horizon_of h.tables h.last t) h.working (live t h.slots) (copies t) (working t)
+  pub stands : (t : ℕ) → StandsWith (horizon_of h.tables h.last t) h.working (live h t) (copies t) (working t)
 
 -- ---- transactions
 
@@ -54,18 +57,18 @@ RollbackRestores old new = (copies : Copies) (working : Working) (m : ℤ) → o
 
 -- ---- changes
 
--- whether a place is among these
-abbrev pub is_among : ℕ → List ℕ → Bool
-is_among i [] = false
-is_among i (j ∷ js) = nat_eq i j || is_among i js
+-- the ids listed are those of the versions that a change of a table takes away: what goes is told by the rows' values
+abbrev pub Judged : Held → ℕ → (Stamped → Bool) → List ℕ → Type 0
+Judged h t gone removed = (id : ℕ) (v : Version) → named h t id ≡ Some v → is_among id removed ≡ (alive v && (is_current v && gone v.row))
 
--- the slots that a change of a table takes away, told by their rows
-abbrev pub taken : ℕ → (Stamped → Bool) → Slot → Bool
-taken t gone s = nat_eq s.table t && (alive s.version && (is_current s.version && gone s.version.row))
-
--- the places listed are those of the slots that are taken away: what goes is told by the rows' values
-abbrev pub Judged : ℕ → (Stamped → Bool) → List ℕ → List Slot → Type 0
-Judged t gone removed slots = (i : ℕ) (s : Slot) → slice_get slots i ≡ Some s → is_among i removed ≡ taken t gone s
+-- a change of a table: those of its versions that go are replaced by those that come, and nothing else is touched
+pub record ReplacesVersions (t : ℕ) (removed : List ℕ) (added : List (List Datum)) (old new : Held) : Type 0 where
+  pub tables : new.tables ≡ old.tables
+  pub working : new.working ≡ old.working
+  pub last : new.last ≡ old.last
+  pub others : (u : ℕ) → nat_eq u t ≡ false → SameBag (live new u) (live old u)
+  pub versions : (m : ℤ) (gone : Stamped → Bool) → old.working ≡ Some m → Judged old t gone removed → SameBag (live new t) (replaced m gone added (live old t))
+  pub counted : length (filter is_current (live new t)) + length removed ≡ length (filter is_current (live old t)) + length added
 
 -- the working copy with other rows of one table
 abbrev pub with_rows : ℕ → List Stamped → Working → Working
@@ -73,7 +76,7 @@ with_rows t rows working u = if nat_eq u t then rows else working u
 
 -- what a change does: of its table the rows that go are replaced by those that come
 abbrev pub ChangeReplaces : ℕ → List ℕ → List (List Datum) → Held → Held → Type 0
-ChangeReplaces t removed added old new = (copies : Copies) (working : Working) (m : ℤ) (gone : Stamped → Bool) → old.working ≡ Some m → Judged t gone removed old.slots → Represents old copies working
+ChangeReplaces t removed added old new = (copies : Copies) (working : Working) (m : ℤ) (gone : Stamped → Bool) → old.working ≡ Some m → Judged old t gone removed → Represents old copies working
     → Represents new copies (with_rows t (rows_after m gone added (working t)) working)
 
 -- ---- tables
@@ -87,7 +90,9 @@ pub record AddsTable (versioned : Bool) (t : ℕ) (old new : Held) : Type 0 wher
   pub free : place_of old.tables t ≡ Free
   pub takes : Takes t (place_for versioned) old.tables new.tables
   pub count : table_count new ≡ table_count old + 1
-  pub rest : new ≡ record old { tables = new.tables }
+  pub working : new.working ≡ old.working
+  pub last : new.last ≡ old.last
+  pub versions : (u : ℕ) → live new u ≡ live old u
 
 -- the same copies: the new table has no row in any, as its number had none
 abbrev pub AddKeepsCopies : Held → Held → Type 0

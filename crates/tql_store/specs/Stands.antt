@@ -1,6 +1,6 @@
 -- What the versions of a table have to do with its copies.
 use Rattle.std.specs.Prelude.{Bool, ◌&&◌, List, [], ◌∷◌, filter, ℤ, ◌≤ℤ◌, ◌<ℤ◌, int_le, int_lt, ◌⊎◌, Option, Some, None}
-use Rattle.std.specs.Ordering.{int_eq}
+use Rattle.tql_rows.specs.Changes.{Under, Past}
 use Rattle.tql_spec.specs.Bag.{SameBag, In}
 use Rattle.tql_spec.specs.Calendar.{high}
 use Rattle.tql_spec.specs.Definition.{Stamped, Version}
@@ -8,20 +8,10 @@ use Rattle.tql_spec.specs.History.{TableEntry, completed}
 
 -- ---- horizons: what ended at one or before it may be gone; with none nothing is
 
--- the horizon lies before a moment
-abbrev pub Under : Option ℤ → ℤ → Type 0
-Under None m = Unit {0}
-Under (Some h) m = h <ℤ m
-
 -- a moment is not before the horizon
 abbrev pub Within : Option ℤ → ℤ → Type 0
 Within None m = Unit {0}
 Within (Some h) m = h ≤ℤ m
-
--- what stood until a moment may be gone
-abbrev pub Past : Option ℤ → ℤ → Type 0
-Past None until = ⊥
-Past (Some h) until = until ≤ℤ h
 
 -- ---- copies
 
@@ -60,13 +50,3 @@ pub record StandsFor (horizon : Option ℤ) (versions : List Version) (entries :
   pub made : SameBag versions (completed ends rows)
   pub proper : Proper rows ends
   pub told : Told horizon rows ends high entries
-
--- ---- what readings keep of the versions
-
--- the versions that are not closed
-abbrev pub is_current : Version → Bool
-is_current v = int_eq v.end high
-
--- the versions that hold a moment
-abbrev pub holds : ℤ → Version → Bool
-holds m v = int_le v.row.start m && int_lt m v.end

@@ -1,7 +1,6 @@
-// The keeper of all row versions: one plain list, with transactions undone by the moments that they wrote.
+// The keeper of all row versions: those of each table by themselves, with the tables that the open transaction touched.
 #![tactic(auto)]
 
-mod kept;
 pub mod store;
 mod tables;
-pub mod version;
+mod turns;

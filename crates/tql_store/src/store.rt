@@ -1,23 +1,28 @@
-ghost use Rattle.std.specs.Prelude.{◌≡◌, ◌↔◌, ◌+ℤ◌, pos, ◌<◌, ◌++◌, ◌+◌, ◌<ℤ◌, [], map, filter, length, All, IsNone, IsSome, IsTrue, is_some, Some, None, IfOk, OnOk, OnErr, IfErr, Err};
+ghost use Rattle.std.specs.Prelude.{◌≡◌, ◌↔◌, Bool, ℕ, ℤ, ◌+ℤ◌, pos, ◌<◌, ◌++◌, ◌+◌, ◌<ℤ◌, nat_eq, if◌then◌else◌, [], map, filter, length, All, IsNone, IsSome, IsTrue, is_some, Some, None, IfOk, OnOk, OnErr, IfErr, Err};
 ghost use Rattle.tql_spec.specs.Calendar.{high};
-ghost use Rattle.tql_store.specs.Stands.{holds, is_current, Under};
-ghost use Rattle.tql_store.specs.Slots.{Held, live, moment_or_high, closing, fresh_slot, undone_slots, settled, without, has_table as table_there, is_versioned as table_versioned, table_count as tables_there};
-ghost use Rattle.tql_store.specs.Views.{slot_of, version_of, Names, NamesOnce};
-ghost use Rattle.tql_store.specs.Represents.{Represents, BeginCopies, ChangeReplaces, CommitAppends, RollbackRestores, AddsTable, AddKeepsCopies, DropEmpties, Takes, AnswersAsOf, AnswersFromTo, AnswersNow};
-ghost use Rattle.tql_store.specs.Asked.{asked, answers};
-ghost use Rattle.tql_store.specs.declared.kept.When.TheVariants as when;
+ghost use Rattle.tql_spec.specs.Bag.{SameBag};
+ghost use Rattle.tql_spec.specs.Definition.{Stamped};
+ghost use Rattle.tql_rows.specs.Changes.{alive, closing, fresh, holds, is_current, pruned, replaced, undone, Under};
+ghost use Rattle.tql_rows.specs.Held.{AtRest, InTurn, AreRemovable as AreRemovableRows, IsJudged, live as live_rows, versions as all_versions};
+ghost use Rattle.tql_store.specs.Held.{Held, live, named, AreRemovable, moment_or_high, has_table as table_there, is_versioned as table_versioned, table_count as tables_there};
+ghost use Rattle.tql_store.specs.Orderly.{table_at, IsNoted, HasTurned};
+ghost use Rattle.tql_store.specs.Places.{place_of, is_brief};
+ghost use Rattle.tql_rows.specs.Readings.{version_shown as version_of};
+ghost use Rattle.tql_store.specs.Views.{Names, NamesOnce};
+ghost use Rattle.tql_store.specs.Represents.{Represents, BeginCopies, ChangeReplaces, CommitAppends, ReplacesVersions, RollbackRestores, AddsTable, AddKeepsCopies, DropEmpties, Takes, AnswersAsOf, AnswersFromTo, AnswersNow};
+ghost use Rattle.tql_rows.specs.Readings.{asked};
+ghost use Rattle.tql_rows.specs.declared.readings.When.TheVariants as when;
 ghost use Rattle.tql_store.specs.declared.tables.Place.TheVariants.{Free};
 ghost use Rattle.tql_value.specs.Views.{datum_of_value};
 ghost use Rattle.tql_value.specs.declared.refusal.Refusal.TheVariants.{OutOfMemory};
 
-use crate::kept::{
-    Kept, When, answers_in, change, keep_before, keep_others, reopen_each, settle, stays_lasting,
-};
 use crate::tables::{Place, clear_place, free_table, place_at, put_table, taken_count};
-use crate::version::{HIGH, Version};
-use std::alloc::AllocError;
+use crate::turns::{commit_each, note, put_rows, set_rows, undo_each};
 use std::marker::Model;
+use tql_index::index::IntervalIndex;
 use tql_memory::Memory;
+use tql_rows::rows::Rows;
+use tql_rows::version::{HIGH, Version};
 use tql_value::refusal::Refusal;
 use tql_value::table::TableId;
 use tql_value::value::Value;
@@ -35,13 +40,28 @@ pub struct Delta {
 }
 
 impl Delta {
-    /// Makes the change at the moment, or does nothing.
-    fn make(self, versions: &mut Vec<Kept, Memory>, moment: i64) -> Result<(), AllocError>
-        requires { All (λ i. i < length versions.old.items) self.removed.items }
-        ensures ok { OnOk result (map slot_of versions.new.items
-            ≡ closing moment self.removed.items (map slot_of versions.old.items)
-            ++ map (λ row. fresh_slot self.table moment (map datum_of_value row.items)) self.added.items) }
-        ensures err { OnErr result (versions.new.items ≡ versions.old.items) }
+    /// Makes the change in its table, and notes that as touched. Refused where memory is, and then nothing is changed.
+    fn make<I: IntervalIndex>(
+        self,
+        rows: &mut [Rows<I>],
+        touched: &mut Vec<usize, Memory>,
+        moment: i64,
+    ) -> Result<(), Refusal>
+        requires within { self.table < length rows.old }
+        requires turn { InTurn moment (table_at rows.old self.table) }
+        requires removable { AreRemovableRows (table_at rows.old self.table) self.removed.items }
+        ensures turned { HasTurned moment self.table rows.old rows.new }
+        ensures noted { OnOk result (IsNoted self.table touched.old.items touched.new.items) }
+        ensures versions { OnOk result (SameBag (live_rows (table_at rows.new self.table))
+            (filter alive (closing moment self.removed.items (table_at rows.old self.table).current ++ (table_at rows.old self.table).closed)
+            ++ map (λ row. fresh moment (map datum_of_value row.items)) self.added.items)) }
+        ensures judged { OnOk result ((gone : Stamped → Bool) → IsJudged gone self.removed.items (table_at rows.old self.table)
+            → SameBag (live_rows (table_at rows.new self.table))
+            (replaced moment gone (map (λ row. map datum_of_value row.items) self.added.items) (live_rows (table_at rows.old self.table)))) }
+        ensures err { OnErr result (map all_versions rows.new ≡ map all_versions rows.old) }
+        ensures err_rest { OnErr result ((last : _) → AtRest last (table_at rows.old self.table) → AtRest last (table_at rows.new self.table)) }
+        ensures err_touched { OnErr result (touched.new.items ≡ touched.old.items) }
+        ensures refusal { IfErr result (λ e. e ≡ OutOfMemory) }
     {
         let Delta {
             table,
@@ -49,7 +69,11 @@ impl Delta {
             added,
             count: _,
         } = self;
-        change(versions, table, &removed, added, moment)
+        let number = usize::from(table.number());
+        touched.reserve(1)?;
+        rows[number].apply(&removed, added, moment)?;
+        note(touched, number);
+        Ok(())
     }
 }
 
@@ -66,65 +90,67 @@ impl Drop for Delta {
     }
 }
 
-/// The versions of all tables.
-pub struct Store {
+/// The versions of all tables: an index of each keeps those that are closed.
+pub struct Store<I: IntervalIndex> {
     memory: Memory,
     places: Vec<Place, Memory>,
-    versions: Vec<Kept, Memory>,
-    /// Where it says so, a commit at any moment leaves each version, and need not look at them.
-    lasts: bool,
+    /// The versions of the table of each number.
+    rows: Vec<Rows<I>, Memory>,
+    /// The numbers of the tables that the open transaction changed.
+    touched: Vec<usize, Memory>,
     working: Option<i64>,
     last: Option<i64>,
 }
 
-impl Drop for Store {
+impl<I: IntervalIndex> Drop for Store<I> {
     fn drop(self) {
         let Store {
             memory: _,
             places,
-            versions,
-            lasts: _,
+            rows,
+            touched,
             working: _,
             last: _,
         } = self;
         drop(places);
-        drop(versions);
+        drop(rows);
+        drop(touched);
     }
 }
 
-impl Model for Store {
+impl<I: IntervalIndex> Model for Store<I> {
     ghost use Rattle.std.specs.Prelude.{map};
-    ghost use Rattle.tql_store.specs.Slots.{Held};
+    ghost use Rattle.tql_rows.specs.Held.{versions};
+    ghost use Rattle.tql_store.specs.Held.{Held};
 
     ghost Value = { Held };
 
-    ghost use Rattle.tql_store.specs.Views.{slot_of};
-
     ghost view = { λ s. record {
       tables = s.places.items;
-      slots = map slot_of s.versions.items;
+      versions = map versions s.rows.items;
       working = s.working;
       last = s.last;
     } };
 
-    ghost use Rattle.std.specs.Prelude.{IsTrue};
-    ghost use Rattle.std.specs.List.{list_all};
-    ghost use Rattle.tql_store.specs.Slots.{is_lasting};
+    ghost use Rattle.tql_store.specs.Orderly.{IsOrderly};
 
-    ghost invariant = { λ s. IsTrue s.lasts → IsTrue (list_all (is_lasting s.places.items) (map slot_of s.versions.items)) };
+    ghost invariant = { λ s. IsOrderly s.places.items s.rows.items s.touched.items s.working s.last };
 }
 
-impl Store {
+impl<I: IntervalIndex> Store<I> {
     /// A store without tables.
-    pub fn new(memory: Memory) -> Store
-        ensures slots { result ≡ (record { tables = []; slots = []; working = None; last = None }) }
+    pub fn new(memory: Memory) -> Store<I>
+        ensures tables { result.tables ≡ [] }
+        ensures working { result.working ≡ None }
+        ensures last { result.last ≡ None }
+        ensures versions { (t : ℕ) → live result t ≡ [] }
         ensures copies { Represents result (λ t. []) (λ t. []) }
     {
         Store {
             memory,
             places: Vec::new(memory),
-            versions: Vec::new(memory),
-            lasts: true,
+            rows: Vec::new(memory),
+            touched: Vec::new(memory),
             working: None,
             last: None,
         }
@@ -178,9 +204,11 @@ impl Store {
         ensures err { OnErr result (self.new ≡ self.old) }
         ensures memory { IfErr result (λ e. e ≡ OutOfMemory) }
     {
-        self.lasts = false;
+        self.rows.reserve(1)?;
         let table = free_table(&self.places);
         put_table(&mut self.places, table, Place::of_table(versioned))?;
+        let rows = Rows::new(self.memory, versioned);
+        put_rows(&mut self.rows, usize::from(table.number()), rows);
         Ok(table)
     }
 
@@ -190,12 +218,14 @@ impl Store {
         requires present { IsTrue (table_there self.old table) }
         ensures places { Takes table Free self.old.tables self.new.tables }
         ensures count { tables_there self.new + 1 ≡ tables_there self.old }
-        ensures slots { self.new ≡ (record self.old { tables = self.new.tables; slots = without table self.old.slots }) }
+        ensures working { self.new.working ≡ self.old.working }
+        ensures last { self.new.last ≡ self.old.last }
+        ensures versions { (t : ℕ) → SameBag (live self.new t) (if nat_eq t table then [] else live self.old t) }
         ensures copies { DropEmpties table self.old self.new }
     {
-        self.lasts = false;
         clear_place(&mut self.places, table);
-        keep_others(&mut self.versions, table);
+        let rows = Rows::new(self.memory, false);
+        set_rows(&mut self.rows, usize::from(table.number()), rows);
     }
 
     /// The moment of the open transaction.
@@ -213,7 +243,11 @@ impl Store {
         requires closed { IsNone self.old.working }
         requires later { Under self.old.last moment }
         requires below { moment <ℤ high }
-        ensures slots { self.new ≡ (record self.old { working = Some moment }) }
+        ensures tables { self.new.tables ≡ self.old.tables }
+        ensures working { self.new.working ≡ Some moment }
+        ensures last { self.new.last ≡ self.old.last }
+        ensures versions { (t : ℕ) → live self.new t ≡ live self.old t }
+        ensures names { (t id : ℕ) → named self.new t id ≡ named self.old t id }
         ensures copies { BeginCopies self.old self.new }
     {
         self.working = Some(moment);
@@ -223,36 +257,32 @@ impl Store {
     pub fn apply(&mut self, delta: Delta) -> Result<(), Refusal>
         requires open_now { IsSome self.old.working }
         requires present { IsTrue (table_there self.old delta.table) }
-        requires within { All (λ i. i < length self.old.slots) delta.removed.items }
-        ensures ok { OnOk result (self.new ≡ (record self.old {
-          slots = closing (moment_or_high self.old.working) delta.removed.items self.old.slots
-              ++ map (λ row. fresh_slot delta.table (moment_or_high self.old.working) (map datum_of_value row.items)) delta.added.items;
-        })) }
+        requires removable { AreRemovable self.old delta.table delta.removed.items }
+        ensures ok { OnOk result (ReplacesVersions delta.table delta.removed.items
+            (map (λ row. map datum_of_value row.items) delta.added.items) self.old self.new) }
         ensures copies { OnOk result (ChangeReplaces delta.table delta.removed.items
             (map (λ row. map datum_of_value row.items) delta.added.items) self.old self.new) }
         ensures err { OnErr result (self.new ≡ self.old) }
         ensures memory { IfErr result (λ e. e ≡ OutOfMemory) }
     {
         let moment = self.moment();
-        let lasts = stays_lasting(self.lasts, &delta.removed, moment);
-        delta.make(&mut self.versions, moment)?;
-        self.lasts = lasts;
+        delta.make(&mut self.rows, &mut self.touched, moment)?;
         Ok(())
     }
 
     /// Commits the open transaction. Of a table that is not versioned the last copy alone is kept.
     pub fn commit(&mut self)
         requires { IsSome self.old.working }
-        ensures slots { self.new ≡ (record {
-          tables = self.old.tables;
-          slots = settled self.old.tables (moment_or_high self.old.working) self.old.slots;
-          working = None;
-          last = self.old.working;
-        }) }
+        ensures tables { self.new.tables ≡ self.old.tables }
+        ensures working { self.new.working ≡ None }
+        ensures last { self.new.last ≡ self.old.working }
+        ensures versions { (t : ℕ) (m : ℤ) → self.old.working ≡ Some m → SameBag (live self.new t)
+            (if is_brief (place_of self.old.tables t) then pruned m (live self.old t) else live self.old t) }
         ensures copies { CommitAppends self.old self.new }
     {
         let moment = self.moment();
-        self.lasts = settle(&mut self.versions, &self.places, moment, self.lasts);
+        commit_each(&mut self.rows, &self.touched, moment);
+        self.touched.clear();
         self.last = self.working;
         self.working = None;
     }
@@ -260,16 +290,15 @@ impl Store {
     /// Undoes the open transaction.
     pub fn rollback(&mut self)
         requires { IsSome self.old.working }
-        ensures slots { self.new ≡ (record self.old {
-          slots = undone_slots (moment_or_high self.old.working) self.old.slots;
-          working = None;
-        }) }
+        ensures tables { self.new.tables ≡ self.old.tables }
+        ensures working { self.new.working ≡ None }
+        ensures last { self.new.last ≡ self.old.last }
+        ensures versions { (t : ℕ) (m : ℤ) → self.old.working ≡ Some m → SameBag (live self.new t) (undone m (live self.old t)) }
         ensures copies { RollbackRestores self.old self.new }
     {
-        self.lasts = false;
         let moment = self.moment();
-        keep_before(&mut self.versions, moment);
-        reopen_each(&mut self.versions, moment);
+        undo_each(&mut self.rows, &self.touched, moment);
+        self.touched.clear();
         self.working = None;
     }
 
@@ -277,13 +306,12 @@ impl Store {
     /// (ISO/IEC 9075-2:2011, 7.6). Refused where memory is.
     pub fn as_of(&self, table: TableId, t: i64) -> Result<Vec<Version<'_>, Memory>, Refusal>
         requires { IsTrue (table_versioned self.now table) }
-        ensures slots { IfOk result (λ found. map version_of found.items ≡ filter (holds t) (live table self.now.slots)) }
-        ensures ids { IfOk result (λ found. All (Names table self.now.slots) found.items) }
-        ensures once { IfOk result (λ found. NamesOnce table (holds t) self.now.slots found.items) }
+        ensures versions { IfOk result (λ found. SameBag (map version_of found.items) (filter (holds t) (live self.now table))) }
+        ensures ids { IfOk result (λ found. All (Names self.now table) found.items) }
         ensures copies { IfOk result (λ found. AnswersAsOf self.now table t (map version_of found.items)) }
         ensures memory { IfErr result (λ e. e ≡ OutOfMemory) }
     {
-        let found = answers_in(self.memory, &self.versions, table, When::AsOf(t))?;
+        let found = self.rows[usize::from(table.number())].as_of(self.memory, t)?;
         Ok(found)
     }
 
@@ -296,13 +324,12 @@ impl Store {
         b: i64,
     ) -> Result<Vec<Version<'_>, Memory>, Refusal>
         requires { IsTrue (table_versioned self.now table) }
-        ensures slots { IfOk result (λ found. map version_of found.items ≡ answers table (when.FromTo a b) self.now.slots) }
-        ensures ids { IfOk result (λ found. All (Names table self.now.slots) found.items) }
-        ensures once { IfOk result (λ found. NamesOnce table (asked (when.FromTo a b)) self.now.slots found.items) }
+        ensures versions { IfOk result (λ found. SameBag (map version_of found.items) (filter (asked (when.FromTo a b)) (live self.now table))) }
+        ensures ids { IfOk result (λ found. All (Names self.now table) found.items) }
         ensures copies { IfOk result (λ found. AnswersFromTo self.now table a b (map version_of found.items)) }
         ensures memory { IfErr result (λ e. e ≡ OutOfMemory) }
     {
-        let found = answers_in(self.memory, &self.versions, table, When::FromTo(a, b))?;
+        let found = self.rows[usize::from(table.number())].from_to(self.memory, a, b)?;
         Ok(found)
     }
 
@@ -315,26 +342,25 @@ impl Store {
         b: i64,
     ) -> Result<Vec<Version<'_>, Memory>, Refusal>
         requires { IsTrue (table_versioned self.now table) }
-        ensures slots { IfOk result (λ found. map version_of found.items ≡ answers table (when.Between a b) self.now.slots) }
-        ensures ids { IfOk result (λ found. All (Names table self.now.slots) found.items) }
-        ensures once { IfOk result (λ found. NamesOnce table (asked (when.Between a b)) self.now.slots found.items) }
+        ensures versions { IfOk result (λ found. SameBag (map version_of found.items) (filter (asked (when.Between a b)) (live self.now table))) }
+        ensures ids { IfOk result (λ found. All (Names self.now table) found.items) }
         ensures copies { IfOk result (λ found. AnswersFromTo self.now table a (b +ℤ pos 1) (map version_of found.items)) }
         ensures memory { IfErr result (λ e. e ≡ OutOfMemory) }
     {
-        let found = answers_in(self.memory, &self.versions, table, When::Between(a, b))?;
+        let found = self.rows[usize::from(table.number())].between(self.memory, a, b)?;
         Ok(found)
     }
 
     /// The rows of a table now, each as a version that is not closed. Refused where memory is.
     pub fn current(&self, table: TableId) -> Result<Vec<Version<'_>, Memory>, Refusal>
         requires { IsTrue (table_there self.now table) }
-        ensures slots { IfOk result (λ found. map version_of found.items ≡ filter is_current (live table self.now.slots)) }
-        ensures ids { IfOk result (λ found. All (Names table self.now.slots) found.items) }
-        ensures once { IfOk result (λ found. NamesOnce table is_current self.now.slots found.items) }
+        ensures versions { IfOk result (λ found. SameBag (map version_of found.items) (filter is_current (live self.now table))) }
+        ensures ids { IfOk result (λ found. All (Names self.now table) found.items) }
+        ensures once { IfOk result (λ found. NamesOnce self.now table is_current found.items) }
         ensures copies { IfOk result (λ found. AnswersNow self.now table (map version_of found.items)) }
         ensures memory { IfErr result (λ e. e ≡ OutOfMemory) }
     {
-        let found = answers_in(self.memory, &self.versions, table, When::Now)?;
+        let found = self.rows[usize::from(table.number())].current(self.memory)?;
         Ok(found)
     }
 }

@@ -1,5 +1,5 @@
-ghost use Rattle.std.specs.Prelude.{◌≡◌, ℕ, ◌≤◌, ◌<◌, ◌+◌, true, false, OnOk, OnErr, count_by, length};
-ghost use Rattle.tql_store.specs.Slots.{place_of, is_taken as taken, is_kept as kept, is_brief as brief, place_for};
+ghost use Rattle.std.specs.Prelude.{◌≡◌, ℕ, ◌≤◌, ◌<◌, ◌+◌, true, false, OnOk, OnErr, count_by, length, max};
+ghost use Rattle.tql_store.specs.Places.{place_of, is_taken as taken, is_kept as kept, is_brief as brief, place_for};
 ghost use Rattle.tql_store.specs.Represents.{Takes};
 ghost use Rattle.tql_store.specs.declared.tables.Place.TheVariants.{Free};
 
@@ -116,6 +116,7 @@ pub fn put_table(
 ) -> Result<(), AllocError>
     requires near { table ≤ length places.old.items }
     ensures ok { OnOk result (Takes table place places.old.items places.new.items) }
+    ensures len { OnOk result (length places.new.items ≡ max (length places.old.items) (table + 1)) }
     ensures err { OnErr result (places.new.items ≡ places.old.items) }
 {
     let number = usize::from(table.number());
@@ -130,7 +131,8 @@ pub fn put_table(
 
 /// Takes the table at a number away.
 pub fn clear_place(places: &mut [Place], table: TableId)
-    ensures { Takes table Free places.old places.new }
+    ensures takes { Takes table Free places.old places.new }
+    ensures len { length places.new ≡ length places.old }
 {
     let number = usize::from(table.number());
     if number < places.len() {

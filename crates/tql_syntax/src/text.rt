@@ -4,7 +4,7 @@ ghost use Rattle.tql_syntax.specs.Texts.{ReadsText, SpellsText};
 
 use crate::parse::spelled;
 use tql_lex::splitter::LONGEST;
-use tql_lex::tokens::tokens;
+use tql_lex::tokenizer::tokens;
 use tql_memory::Memory;
 use tql_tree::tree::Tree;
 use tql_value::refusal::Refusal;

@@ -7,7 +7,7 @@ use crate::stop::Stop;
 use std::alloc::AllocError;
 use tql_lex::splitter::{Piece, Splitter};
 use tql_lex::token::{Symbol, Token, TokenKind};
-use tql_lex::tokens::tokens;
+use tql_lex::tokenizer::tokens;
 use tql_memory::Memory;
 
 const SYMBOLS: [Symbol; 13] = [

@@ -62,7 +62,10 @@ fn check_file(
     let text = fs::read_to_string(rt, &path)?;
     let mut lines = 0u64;
     let mut wrong = 0u64;
-    for written in text.lines().filter(|written| is_case(written)) {
+    for written in text.lines() {
+        if !is_case(written) {
+            continue;
+        }
         lines = lines.saturating_add(1);
         if !is_right(rt, subject, written)? {
             wrong = wrong.saturating_add(1);

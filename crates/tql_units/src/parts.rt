@@ -17,12 +17,12 @@ pub fn two(text: &str) -> Result<(&str, &str), Stop> {
 
 /// A whole number.
 pub fn int(text: &str) -> Result<i64, Stop> {
-    text.parse().map_err(|_| Stop::Form)
+    text.parse().ok().ok_or(Stop::Form)
 }
 
 /// A whole number that is not negative.
 pub fn count(text: &str) -> Result<usize, Stop> {
-    text.parse().map_err(|_| Stop::Form)
+    text.parse().ok().ok_or(Stop::Form)
 }
 
 /// A period, by its ends.
@@ -55,12 +55,6 @@ pub fn view(text: &str) -> Result<View<'_>, Stop> {
     }
 }
 
-/// Two values.
-pub fn two_views(text: &str) -> Result<(View<'_>, View<'_>), Stop> {
-    let (a, b) = sides(text)?;
-    Ok((view(a)?, view(b)?))
-}
-
 /// Writes a value as `view` reads it.
 pub fn write_view(out: &mut String, view: View<'_>) -> Result<(), AllocError> {
     match view {
@@ -77,16 +71,11 @@ pub fn write_yes(out: &mut String, holds: bool) -> Result<(), AllocError> {
     out.push_str(if holds { "yes" } else { "no" })
 }
 
-/// A value in memory of its own.
-fn value(memory: Memory, text: &str) -> Result<Value, Stop> {
-    Ok(view(text)?.to_value(memory)?)
-}
-
-/// Values with `, ` between them.
-pub fn row(memory: Memory, text: &str) -> Result<Vec<Value, Memory>, Stop> {
+/// Values in memory of their own, with `, ` between them.
+fn row(memory: Memory, text: &str) -> Result<Vec<Value, Memory>, Stop> {
     let mut row = Vec::new(memory);
     for part in text.split(", ") {
-        row.push(value(memory, part)?)?;
+        row.push(view(part)?.to_value(memory)?)?;
     }
     Ok(row)
 }
@@ -94,19 +83,10 @@ pub fn row(memory: Memory, text: &str) -> Result<Vec<Value, Memory>, Stop> {
 /// Rows with `; ` between them, or none.
 pub fn rows(memory: Memory, text: &str) -> Result<Vec<Vec<Value, Memory>, Memory>, Stop> {
     let mut rows = Vec::new(memory);
-    for part in text.split("; ").filter(|part| !part.is_empty()) {
-        rows.push(row(memory, part)?)?;
+    for part in text.split("; ") {
+        if !part.is_empty() {
+            rows.push(row(memory, part)?)?;
+        }
     }
     Ok(rows)
-}
-
-/// Writes a row as `row` reads it.
-pub fn write_row(out: &mut String, row: &[Value]) -> Result<(), AllocError> {
-    for (place, value) in row.iter().enumerate() {
-        if place > 0 {
-            out.push_str(", ")?;
-        }
-        write_view(out, value.view())?;
-    }
-    Ok(())
 }

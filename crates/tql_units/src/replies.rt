@@ -59,7 +59,7 @@ const NO_MEMORY: Stop = Stop::Refused(Refusal::OutOfMemory);
 /// Writes what a sink holds.
 fn write_held(out: &mut String, sink: VecSink) -> Result<(), Stop> {
     let bytes = sink.into_bytes();
-    out.push_str(str::from_utf8(&bytes).map_err(|_| Stop::Form)?)?;
+    out.push_str(str::from_utf8(&bytes).ok().ok_or(Stop::Form)?)?;
     Ok(())
 }
 
@@ -70,14 +70,16 @@ fn write_printed(out: &mut String, memory: Memory, reply: &Reply) -> Result<(), 
         return Ok(());
     }
     let mut sink = VecSink::new(Vec::new(memory));
-    write_reply(&mut sink, reply).map_err(|_| NO_MEMORY)?;
+    write_reply(&mut sink, reply).ok().ok_or(NO_MEMORY)?;
     write_held(out, sink)
 }
 
 /// Writes the text of the answer that accepts a statement.
 fn write_accepted(out: &mut String, memory: Memory) -> Result<(), Stop> {
     let mut sink = VecSink::new(Vec::new(memory));
-    write_answer(&mut sink, &Answer::Accepted).map_err(|_| NO_MEMORY)?;
+    write_answer(&mut sink, &Answer::Accepted)
+        .ok()
+        .ok_or(NO_MEMORY)?;
     write_held(out, sink)
 }
 

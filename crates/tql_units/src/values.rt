@@ -1,11 +1,10 @@
-// Comparison, order, arithmetic, truths, texts, numbers of tables, and refusals.
+// Comparison and order of values of two kinds, copies, texts, numbers of tables, and refusals.
 use crate::line::Line;
-use crate::parts::{count, two, two_views, view, write_view};
+use crate::parts::{count, sides, two, view, write_view};
 use crate::stop::Stop;
 use std::alloc::AllocError;
 use std::cmp::Ordering;
 use tql_memory::Memory;
-use tql_value::arithmetic::{Range, add, mul, sub};
 use tql_value::comparison::{Comparison, compare, order};
 use tql_value::refusal::Refusal;
 use tql_value::table::TableId;
@@ -51,7 +50,7 @@ const REFUSALS: [Refusal; 25] = [
 ];
 
 /// A truth value as `F`, `U` or `T`.
-pub fn letter(truth: Truth) -> char {
+fn letter(truth: Truth) -> char {
     match truth {
         Truth::False => 'F',
         Truth::Unknown => 'U',
@@ -59,27 +58,10 @@ pub fn letter(truth: Truth) -> char {
     }
 }
 
-fn truth(letter: &str) -> Result<Truth, Stop> {
-    match letter {
-        "F" => Ok(Truth::False),
-        "U" => Ok(Truth::Unknown),
-        "T" => Ok(Truth::True),
-        _ => Err(Stop::Form),
-    }
-}
-
-fn two_truths(text: &str) -> Result<(Truth, Truth), Stop> {
-    let (a, b) = two(text)?;
-    Ok((truth(a)?, truth(b)?))
-}
-
-fn write_truth(out: &mut String, truth: Truth) -> Result<(), Stop> {
-    out.push(letter(truth))?;
-    Ok(())
-}
-
 /// What each sign says of two values, and how they are ordered.
-fn write_comparison(out: &mut String, a: View<'_>, b: View<'_>) -> Result<(), Stop> {
+fn write_comparison(out: &mut String, text: &str) -> Result<(), Stop> {
+    let (a, b) = sides(text)?;
+    let (a, b) = (view(a)?, view(b)?);
     for sign in SIGNS {
         out.push(letter(compare(sign, a, b)))?;
     }
@@ -119,16 +101,8 @@ fn write_lengths(out: &mut String, memory: Memory, content: &str) -> Result<(), 
     Ok(())
 }
 
-fn write_calculated(out: &mut String, calculated: Result<View<'_>, Range>) -> Result<(), Stop> {
-    match calculated {
-        Ok(view) => write_view(out, view)?,
-        Err(range) => out.push_str(Refusal::from(range).text())?,
-    }
-    Ok(())
-}
-
 fn write_table(out: &mut String, number: usize) -> Result<(), Stop> {
-    match TableId::new(u16::try_from(number).map_err(|_| Stop::Form)?) {
+    match TableId::new(u16::try_from(number).ok().ok_or(Stop::Form)?) {
         Some(table) => write!(out, "{}", table.number())?,
         None => out.push_str("none")?,
     }
@@ -138,10 +112,12 @@ fn write_table(out: &mut String, number: usize) -> Result<(), Stop> {
 /// The refusal of a number.
 pub fn refusal(number: &str) -> Result<Refusal, Stop> {
     let number = count(number)?;
-    let found = REFUSALS
-        .iter()
-        .find(|refusal| refusal.number() as usize == number);
-    found.copied().ok_or(Stop::Form)
+    for refusal in REFUSALS {
+        if refusal.number() as usize == number {
+            return Ok(refusal);
+        }
+    }
+    Err(Stop::Form)
 }
 
 /// The place of a refusal in the order of report, its text, and how it is displayed.
@@ -156,44 +132,16 @@ fn write_earlier(out: &mut String, text: &str) -> Result<(), Stop> {
     Ok(())
 }
 
-/// What is calculated of two values.
-fn answer_calculation(line: &Line<'_>, out: &mut String) -> Result<(), Stop> {
-    let (a, b) = two_views(line.input)?;
-    match line.command {
-        "compare" => write_comparison(out, a, b),
-        "add" => write_calculated(out, add(a, b)),
-        "sub" => write_calculated(out, sub(a, b)),
-        "mul" => write_calculated(out, mul(a, b)),
-        _ => Err(Stop::Form),
-    }
-}
-
-/// What is said of truth values.
-fn answer_truth(line: &Line<'_>, out: &mut String) -> Result<(), Stop> {
-    if line.command == "not" {
-        return write_truth(out, truth(line.input)?.not());
-    }
-    let (a, b) = two_truths(line.input)?;
-    write_truth(
-        out,
-        if line.command == "and" {
-            a.and(b)
-        } else {
-            a.or(b)
-        },
-    )
-}
-
 /// Answers a line about values.
 pub fn answer(memory: Memory, line: &Line<'_>, out: &mut String) -> Result<(), Stop> {
     match line.command {
-        "and" | "or" | "not" => answer_truth(line, out),
+        "compare" => write_comparison(out, line.input),
         "kind" => Ok(write_kind(out, view(line.input)?.kind())?),
         "copies" => write_copies(out, memory, view(line.input)?),
         "lengths" => write_lengths(out, memory, line.input),
         "table" => write_table(out, count(line.input)?),
         "refusal" => write_refusal(out, refusal(line.input)?),
         "earlier" => write_earlier(out, line.input),
-        _ => answer_calculation(line, out),
+        _ => Err(Stop::Form),
     }
 }

@@ -5,7 +5,7 @@ use tql_memory::memory;
 use tql_result::vec_sink::VecSink;
 use tql_run::note::Note;
 use tql_run::notes::Notes;
-use tql_run::run::run;
+use tql_run::runner::run;
 use tql_run::slice_source::SliceSource;
 use tql_value::refusal::Refusal;
 

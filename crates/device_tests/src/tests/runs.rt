@@ -4,7 +4,7 @@ use std::test::Fail;
 use test_devices::{Chunks, Kept};
 use tql_memory::memory;
 use tql_result::std_sink::StdSink;
-use tql_run::run::{Fault, Summary, run};
+use tql_run::runner::{Fault, Summary, run};
 use tql_run::silence::Silence;
 use tql_run::std_source::StdSource;
 

@@ -1,12 +1,16 @@
 // tql_store: a short history, run with each growth refused in turn.
-ghost use Rattle.std.specs.Prelude.{◌≡◌, ◌<◌, [], All, IfOk, IsTrue, length};
-ghost use Rattle.tql_store.specs.Slots.{has_table as table_there};
+ghost use Rattle.std.specs.Prelude.{◌≡◌, [], map, IfOk, IsTrue};
+ghost use Rattle.tql_store.specs.Held.{has_table as table_there, AreRemovable};
 
 use std::process::Abort;
 use std::test::Fail;
+use tql_index::index::{Id, IntervalIndex};
+use tql_index::list_index::ListIndex;
+use tql_index::tree_index::TreeIndex;
 use tql_memory::{Memory, memory};
+use tql_period::period::Period;
+use tql_rows::version::{HIGH, Version};
 use tql_store::store::{Delta, Store};
-use tql_store::version::{HIGH, Version};
 use tql_value::refusal::Refusal;
 use tql_value::table::TableId;
 use tql_value::value::Value;
@@ -36,7 +40,6 @@ fn finds(
 
 /// A change that adds a row of the number.
 fn insertion(memory: Memory, table: TableId, number: i64) -> Result<Delta, Refusal>
-    ensures table { IfOk result (λ d. d.table ≡ table) }
     ensures none { IfOk result (λ d. d.removed.items ≡ []) }
 {
     let mut row = Vec::new(memory);
@@ -51,14 +54,28 @@ fn insertion(memory: Memory, table: TableId, number: i64) -> Result<Delta, Refus
     })
 }
 
+/// The ids of the versions.
+fn ids_of(memory: Memory, found: &[Version<'_>]) -> Result<Vec<usize, Memory>, Refusal>
+    ensures { IfOk result (λ ids. ids.items ≡ map (λ v. v.id) found.now) }
+{
+    let mut ids = Vec::new(memory);
+    for version in found {
+        ids.push(version.id)?;
+    }
+    Ok(ids)
+}
+
 /// A change that removes all rows.
-fn removal(memory: Memory, store: &Store, table: TableId) -> Result<Delta, Refusal>
+fn removal<I: IntervalIndex>(
+    memory: Memory,
+    store: &Store<I>,
+    table: TableId,
+) -> Result<Delta, Refusal>
     requires { IsTrue (table_there store.now table) }
-    ensures table { IfOk result (λ d. d.table ≡ table) }
-    ensures within { IfOk result (λ d. All (λ i. i < length store.now.slots) d.removed.items) }
+    ensures { IfOk result (λ d. AreRemovable store.now d.table d.removed.items) }
 {
     let found = store.current(table)?;
-    let removed = found.iter().map(|version| version.id).collect(memory)?;
+    let removed = ids_of(memory, &found)?;
     Ok(Delta {
         table,
         removed,
@@ -68,8 +85,14 @@ fn removal(memory: Memory, store: &Store, table: TableId) -> Result<Delta, Refus
 }
 
 /// Makes a change in a transaction of its own, and tells whether it was made and kept.
-fn transact(rt: &impl Abort, store: &mut Store, moment: i64, delta: Delta, keep: bool) -> bool
-    requires { All (λ i. i < length store.old.slots) delta.removed.items }
+fn transact<I: IntervalIndex>(
+    rt: &impl Abort,
+    store: &mut Store<I>,
+    moment: i64,
+    delta: Delta,
+    keep: bool,
+) -> bool
+    requires { AreRemovable store.old delta.table delta.removed.items }
 {
     assert!(rt; !store.has_transaction() && store.has_table(delta.table));
     assert!(rt; store.is_later(moment) && moment < HIGH);
@@ -85,10 +108,10 @@ fn transact(rt: &impl Abort, store: &mut Store, moment: i64, delta: Delta, keep:
 
 /// Adds a row at 10, adds one in a transaction that is undone at 20, and removes all at 30. Tells which of the
 /// first and the last were made.
-fn run(
+fn run<I: IntervalIndex>(
     rt: &impl Abort,
     ample: Memory,
-    store: &mut Store,
+    store: &mut Store<I>,
     table: TableId,
 ) -> Result<(bool, bool), Fail> {
     let first = insertion(ample, table, 7)?;
@@ -104,9 +127,9 @@ fn run(
 }
 
 /// Whether the history of a versioned table has a version from 10 on, which ends where it is no longer current.
-fn has_history(
+fn has_history<I: IntervalIndex>(
     ample: bool,
-    store: &Store,
+    store: &Store<I>,
     table: TableId,
     old: Option<Shown>,
     current: Option<Shown>,
@@ -123,8 +146,8 @@ fn has_history(
 }
 
 /// Whether the store has what `run` leaves, where both of its changes or only the first was made, or none.
-fn is_left(
-    store: &Store,
+fn is_left<I: IntervalIndex>(
+    store: &Store<I>,
     table: TableId,
     ample: bool,
     versioned: bool,
@@ -143,7 +166,7 @@ fn is_left(
 }
 
 /// Removes the table, if it can be, and tells whether none is left.
-fn drops(store: &mut Store, table: TableId) -> bool {
+fn drops<I: IntervalIndex>(store: &mut Store<I>, table: TableId) -> bool {
     if !store.has_table(table) || store.has_transaction() {
         return false;
     }
@@ -151,15 +174,14 @@ fn drops(store: &mut Store, table: TableId) -> bool {
     store.table_count() == 0
 }
 
-/// Whether the whole history of a store with so much memory, or with all that there is, is as it should be.
-fn is_right(
+/// Whether the whole history of a new store, whose memory is ample or not, is as it should be.
+fn is_right<I: IntervalIndex>(
     rt: &impl Abort,
-    granted: Option<Memory>,
+    mut store: Store<I>,
+    ample: bool,
     all: Memory,
     versioned: bool,
 ) -> Result<bool, Fail> {
-    let ample = granted.is_none();
-    let mut store = Store::new(granted.unwrap_or(all));
     assert!(rt; store.table_count() < 1000);
     match store.add_table(versioned) {
         Ok(table) => {
@@ -172,18 +194,84 @@ fn is_right(
     }
 }
 
+/// Whether it is with a tree of periods, or with a list of them.
+fn is_right_of(
+    rt: &impl Abort,
+    tree: bool,
+    granted: Option<Memory>,
+    all: Memory,
+    versioned: bool,
+) -> Result<bool, Fail> {
+    let ample = granted.is_none();
+    let memory = granted.unwrap_or(all);
+    if tree {
+        let store: Store<TreeIndex> = Store::new(memory);
+        is_right(rt, store, ample, all, versioned)
+    } else {
+        let store: Store<ListIndex> = Store::new(memory);
+        is_right(rt, store, ample, all, versioned)
+    }
+}
+
 #[test]
 fn each_growth_is_refused_in_turn(rt: HostRuntime) -> Result<(), Fail> {
     let all = memory(rt.alloc(), u64::MAX)?;
-    for versioned in [true, false] {
+    for (tree, versioned) in [(true, true), (true, false), (false, true), (false, false)] {
         let mut left = 0;
-        let mut are_right = is_right(&rt, None, all, versioned)?;
-        for granted in 0..12 {
+        let mut are_right = is_right_of(&rt, tree, None, all, versioned)?;
+        for granted in 0..48 {
             let little = memory(rt.alloc(), granted)?;
-            are_right = are_right && is_right(&rt, Some(little), all, versioned)?;
+            are_right = are_right && is_right_of(&rt, tree, Some(little), all, versioned)?;
             left = little.left();
         }
         assert!(rt; are_right && left > 0);
     }
+    Ok(())
+}
+
+/// An index that answers no question: memory is wanting for each.
+#[derive(Drop)]
+struct Mute {
+    index: ListIndex,
+}
+
+impl IntervalIndex for Mute {
+    ghost entries = { λ m. m.index };
+
+    fn new(memory: Memory) -> Self {
+        Mute {
+            index: ListIndex::new(memory),
+        }
+    }
+
+    fn add(&mut self, period: Period, id: Id) -> Result<(), Refusal> {
+        self.index.add(period, id)
+    }
+
+    fn remove(&mut self, period: Period, id: Id) -> bool {
+        self.index.remove(period, id)
+    }
+
+    fn stab(&self, _point: i64) -> Result<Vec<Id, Memory>, Refusal> {
+        Err(Refusal::OutOfMemory)
+    }
+
+    fn overlapping(&self, _period: Period) -> Result<Vec<Id, Memory>, Refusal> {
+        Err(Refusal::OutOfMemory)
+    }
+}
+
+#[test]
+fn what_the_index_refuses_is_refused(rt: HostRuntime) -> Result<(), Fail> {
+    let all = memory(rt.alloc(), u64::MAX)?;
+    let mut store: Store<Mute> = Store::new(all);
+    assert!(rt; store.table_count() < 1000);
+    let table = store.add_table(true)?;
+    let (inserted, removed) = run(&rt, all, &mut store, table)?;
+    assert!(rt; inserted && removed);
+    assert!(rt; store.has_table(table) && store.is_versioned(table));
+    assert!(rt; finds(true, store.current(table), None));
+    assert!(rt; store.as_of(table, 10).is_err());
+    assert!(rt; store.from_to(table, 0, 11).is_err() && store.between(table, 0, 10).is_err());
     Ok(())
 }

@@ -2,10 +2,10 @@
 use std::test::Fail;
 use test_devices::{Chunks, Kept};
 use tql_engine::engine::Engine;
-use tql_engine::run::run;
+use tql_engine::runner::run;
 use tql_memory::memory;
 use tql_result::std_sink::StdSink;
-use tql_run::run::{Fault, Summary};
+use tql_run::runner::{Fault, Summary};
 use tql_run::silence::Silence;
 use tql_run::std_source::StdSource;
 

@@ -2,9 +2,9 @@
 use crate::tests::devices::{Outcome, SOUND, Setting, run_script};
 use std::test::Fail;
 use tql_engine::engine::Engine;
-use tql_engine::run::run_bytes;
+use tql_engine::runner::run_bytes;
 use tql_memory::memory;
-use tql_run::run::{Fault, Summary};
+use tql_run::runner::{Fault, Summary};
 
 /// A table, its clock, a row, a question, and what is no whole statement.
 const SCRIPT: &str = "CREATE TABLE log (x INTEGER, s TIMESTAMP GENERATED ALWAYS AS ROW START,

@@ -1,26 +1,63 @@
-use Rattle.std.proofs.Common.{ap, ◌∙◌}
-use Rattle.std.specs.Prelude.{string_bytes}
-use Rattle.tql_spec.specs.Definition.{Name}
+use Rattle.std.proofs.Common.{ap, ◌∙◌, sym, subst}
+use Rattle.std.specs.Prelude.{string_bytes, option_map}
+use Rattle.tql_spec.specs.Binding.{bind}
+use Rattle.tql_spec.specs.Definition.{Name, TableDef}
+use Rattle.tql_spec.specs.Machine.{CreateTable}
+use Rattle.tql_value.specs.Refusals.{refusal_of}
 use Rattle.tql_catalog.specs.Tables.{definitions_of}
-use Rattle.tql_define.specs.NewTables.{columns_in, parts_in, new_fault}
-use Rattle.tql_define.proofs.Definitions.{refused, made}
+use Rattle.tql_tree.specs.Statements.{create_of}
+use Rattle.tql_scope.specs.Gathered.{Gathers}
+use Rattle.tql_scope.proofs.Gathering.{first_is}
+use Rattle.tql_define.specs.NewTables.{columns_in, applications_in, systems_in, create_in, table_of}
+use Rattle.tql_define.proofs.Creations.{IsDraft, bind_gathered}
+use Rattle.tql_define.proofs.Definable.{definable}
+use Rattle.tql_define.proofs.Gathered.{told, clean}
 use Rattle.tql_define.proofs.create.new_table.Goals as goal
 
 pub returns-in-Some : goal.returns-in-Some
 returns-in-Some c =
     let defs = definitions_of c.args.tables.now in
-    let d = c.in_ok-draft in
-    let n = c.in_ok-name in
-    refused defs c.args.create.now (string_bytes n.name) (columns_in d.draft) (parts_in d.draft) c.new_fault.result c.in-Some.fault c.requires
-    (record { name = n.ensures.value; columns = d.ensures.columns; periods = d.ensures.periods }) c.in-Some.is
-    (c.new_fault.ensures ∙ ap (λ (m : Name). new_fault defs m (columns_in d.draft) (parts_in d.draft) c.args.create.now.is_versioned) c.deref.ensures)
+    let tree = c.args.create.now in
+    let d = c.in_ok-draft.draft in
+    let n = string_bytes c.in_ok-name.name in
+    let old = c.none-faults.result in
+    let new = c.periods_of.new.faults in
+    let t = table_of n d c.in_ok-periods.periods in
+    let g = subst (λ (m : Name). Gathers (create_in defs m (columns_in d) (applications_in d) (systems_in d) tree.is_versioned) old new (table_of m d c.in_ok-periods.periods)) c.deref.ensures c.in_ok-periods.ensures in
+    let is : IsDraft tree n (columns_in d) (applications_in d) (systems_in d) =
+    record { name = c.in_ok-name.ensures; columns = c.in_ok-draft.ensures.columns; applications = c.in_ok-draft.ensures.applications; systems = c.in_ok-draft.ensures.systems } in
+    let all = bind defs (create_of tree) in
+    told (λ x. CreateTable x) all c.in-Some.fault
+    (first_is all old new (CreateTable t) c.none-faults.ensures (bind_gathered defs tree n (columns_in d) (applications_in d) (systems_in d) old new t c.requires is g)
+    ∙ sym c.least.ensures ∙ ap (option_map refusal_of) c.in-Some.is)
 
-pub returns-in-None : goal.returns-in-None
-returns-in-None c =
+pub definition-requires : goal.definition-requires
+definition-requires c =
     let defs = definitions_of c.args.tables.now in
-    let d = c.in_ok-draft in
-    let n = c.in_ok-name in
-    made defs c.args.create.now (string_bytes n.name) (columns_in d.draft) (parts_in d.draft) c.new_fault.result c.definition.result c.requires
-    (record { name = n.ensures.value; columns = d.ensures.columns; periods = d.ensures.periods }) c.in-None.is
-    (c.new_fault.ensures ∙ ap (λ (m : Name). new_fault defs m (columns_in d.draft) (parts_in d.draft) c.args.create.now.is_versioned) c.deref.ensures)
-    c.definition.ensures.definition c.definition.ensures.memory
+    let tree = c.args.create.now in
+    let d = c.in_ok-draft.draft in
+    let n = string_bytes c.in_ok-name.name in
+    let old = c.none-faults.result in
+    let new = c.periods_of.new.faults in
+    let t = table_of n d c.in_ok-periods.periods in
+    let g = subst (λ (m : Name). Gathers (create_in defs m (columns_in d) (applications_in d) (systems_in d) tree.is_versioned) old new (table_of m d c.in_ok-periods.periods)) c.deref.ensures c.in_ok-periods.ensures in
+    let all = create_in defs n (columns_in d) (applications_in d) (systems_in d) tree.is_versioned in
+    definable defs n (columns_in d) d.applications.items (systems_in d) tree.is_versioned t
+    (first_is all old new t c.none-faults.ensures g ∙ sym c.least.ensures ∙ ap (option_map refusal_of) c.in-None.is) g.value
+
+pub returns-in_ok-definition-in-None : goal.returns-in_ok-definition-in-None
+returns-in_ok-definition-in-None c =
+    let defs = definitions_of c.args.tables.now in
+    let tree = c.args.create.now in
+    let d = c.in_ok-draft.draft in
+    let n = string_bytes c.in_ok-name.name in
+    let old = c.none-faults.result in
+    let new = c.periods_of.new.faults in
+    let t = table_of n d c.in_ok-periods.periods in
+    let g = subst (λ (m : Name). Gathers (create_in defs m (columns_in d) (applications_in d) (systems_in d) tree.is_versioned) old new (table_of m d c.in_ok-periods.periods)) c.deref.ensures c.in_ok-periods.ensures in
+    let is : IsDraft tree n (columns_in d) (applications_in d) (systems_in d) =
+    record { name = c.in_ok-name.ensures; columns = c.in_ok-draft.ensures.columns; applications = c.in_ok-draft.ensures.applications; systems = c.in_ok-draft.ensures.systems } in
+    let whole = bind_gathered defs tree n (columns_in d) (applications_in d) (systems_in d) old new t c.requires is g in
+    let made = c.in_ok-definition-in-None in
+    clean (λ x. CreateTable x) (bind defs (create_of tree)) old new made.field-0 c.none-faults.ensures (sym c.least.ensures ∙ ap (option_map refusal_of) c.in-None.is)
+    (subst (λ (x : TableDef). Gathers (bind defs (create_of tree)) old new (CreateTable x)) (sym made.ensures) whole)

@@ -1,10 +1,9 @@
-use Rattle.std.proofs.Common.{ap, map, List}
-use Rattle.tql_spec.specs.Datum.{Row}
-use Rattle.tql_catalog.specs.Definitions.{column_of}
+use Rattle.std.proofs.Common.{ap, ◌∙◌}
+use Rattle.tql_spec.specs.Refusal.{first}
 use Rattle.tql_value.specs.Views.{rows_of}
+use Rattle.tql_dml.specs.Cells.{rows_faults}
 use Rattle.tql_dml.specs.Parts.{parts_in}
 use Rattle.tql_dml.proofs.Altering.{modify_fails, modify_refused, modify_gives, modify_fits}
-use Rattle.tql_dml.proofs.Inserting.{first_read}
 use Rattle.tql_dml.proofs.modification.modify.Goals as goal
 
 pub returns-in_err-changed-clause-alters : goal.returns-in_err-changed-clause-alters
@@ -14,21 +13,18 @@ returns-in_err-changed-clause-alters c =
 pub returns-in-Some-clause-alters : goal.returns-in-Some-clause-alters
 returns-in-Some-clause-alters c =
     let d = c.args.table.now.definition in
-    let rows : List Row = rows_of c.in_ok-changed.changed.added.items in
-    modify_refused d c.args.table.now.id c.args.found.now c.args.modification.now (parts_in c.in_ok-changed.changed) c.in-Some.refusal c.columns.ensures.right c.requires c.in_ok-changed.ensures
-    (first_read d (map column_of c.columns.result.now) c.assignable.result.now rows (rows_of c.deref.result.now) _
-    c.columns.ensures.columns c.assignable.ensures.assignable (ap rows_of c.deref.ensures.value) c.in-Some.ensures)
+    modify_refused d c.args.table.now.id c.args.found.now c.args.modification.now (parts_in c.in_ok-changed.changed) c.in-Some.refusal c.first_fault.ensures.right c.requires c.in_ok-changed.ensures
+    (c.in-Some.ensures.fault ∙ ap (λ rs. first (rows_faults d (rows_of rs))) c.deref.ensures.value)
 
 pub returns-in-None-clause-alters : goal.returns-in-None-clause-alters
 returns-in-None-clause-alters c =
     let d = c.args.table.now.definition in
-    let rows : List Row = rows_of c.in_ok-changed.changed.added.items in
-    modify_gives d c.args.table.now.id c.args.found.now c.args.modification.now (parts_in c.in_ok-changed.changed) c.of_table.result c.columns.ensures.right c.requires c.in_ok-changed.ensures
+    modify_gives d c.args.table.now.id c.args.found.now c.args.modification.now (parts_in c.in_ok-changed.changed) c.of_table.result c.first_fault.ensures.right c.requires c.in_ok-changed.ensures
     c.of_table.ensures.table c.of_table.ensures.removed (ap rows_of c.of_table.ensures.added) c.of_table.ensures.count
-    (first_read d (map column_of c.columns.result.now) c.assignable.result.now rows (rows_of c.deref.result.now) _
-    c.columns.ensures.columns c.assignable.ensures.assignable (ap rows_of c.deref.ensures.value) c.in-None.ensures)
+    (c.in-None.ensures.fault ∙ ap (λ rs. first (rows_faults d (rows_of rs))) c.deref.ensures.value)
 
 pub returns-in-None-clause-fits : goal.returns-in-None-clause-fits
 returns-in-None-clause-fits c =
     modify_fits c.args.table.now.definition c.args.found.now c.args.modification.now (parts_in c.in_ok-changed.changed) (rows_of c.of_table.result.added.items)
-    c.columns.ensures.right c.requires c.in_ok-changed.ensures (ap rows_of c.of_table.ensures.added)
+    c.first_fault.ensures.right c.requires c.in_ok-changed.ensures (ap rows_of c.of_table.ensures.added)
+    (c.in-None.ensures.fault ∙ ap (λ rs. first (rows_faults c.args.table.now.definition (rows_of rs))) c.deref.ensures.value)

@@ -1,29 +1,33 @@
 use Rattle.std.proofs.Common.{◌∙◌, ap, subst, Some}
 use Rattle.std.proofs.Math.Facts.{to_z-of_z}
 use Rattle.tql_store.specs.Represents.{RollbackRestores}
-use Rattle.tql_store.specs.Slots.{Held}
+use Rattle.tql_store.specs.Held.{Held}
+use Rattle.tql_store.proofs.Judging.{still-removable}
 use Rattle.tql_engine.proofs.committing.commit_rows.Goals as goal
+
+pub apply-requires-clause-removable : goal.apply-requires-clause-removable
+apply-requires-clause-removable c = still-removable c.args.store.now _ c.args.delta.table c.args.delta.removed.items (c.begin.ensures.names c.args.delta.table) c.requires.removable
 
 pub returns-in-Ok-clause-ok : goal.returns-in-Ok-clause-ok
 returns-in-Ok-clause-ok c = record {
   opened = c.begin.new.self;
   changed = c.apply.new.self;
   begins = c.begin.ensures.copies;
-  is_open = ap (λ (h : Held). h.working) c.begin.ensures.slots ∙ ap Some (to_z-of_z c.ranges.moment);
-  same_slots = ap (λ (h : Held). h.slots) c.begin.ensures.slots;
+  is_open = c.begin.ensures.working ∙ ap Some (to_z-of_z c.ranges.moment);
+  same_names = c.begin.ensures.names;
   changes = c.in-Ok.ensures.copies;
-  still_open = ap (λ (h : Held). h.working) c.in-Ok.ensures.ok ∙ ap (λ (h : Held). h.working) c.begin.ensures.slots ∙ ap Some (to_z-of_z c.ranges.moment);
+  still_open = c.in-Ok.ensures.ok.working ∙ c.begin.ensures.working ∙ ap Some (to_z-of_z c.ranges.moment);
   commits = c.commit.ensures.copies;
-  idle = ap (λ (h : Held). h.working) c.commit.ensures.slots;
-  places = ap (λ (h : Held). h.tables) c.commit.ensures.slots ∙ ap (λ (h : Held). h.tables) c.in-Ok.ensures.ok ∙ ap (λ (h : Held). h.tables) c.begin.ensures.slots;
+  idle = c.commit.ensures.working;
+  places = c.commit.ensures.tables ∙ c.in-Ok.ensures.ok.tables ∙ c.begin.ensures.tables;
 }
 
 pub returns-in-Err-clause-err : goal.returns-in-Err-clause-err
 returns-in-Err-clause-err c = record {
   opened = c.begin.new.self;
   begins = c.begin.ensures.copies;
-  is_open = ap (λ (h : Held). h.working) c.begin.ensures.slots ∙ ap Some (to_z-of_z c.ranges.moment);
+  is_open = c.begin.ensures.working ∙ ap Some (to_z-of_z c.ranges.moment);
   restores = subst (λ old. RollbackRestores old c.rollback.new.self) c.in-Err.ensures.err c.rollback.ensures.copies;
-  idle = ap (λ (h : Held). h.working) c.rollback.ensures.slots;
-  places = ap (λ (h : Held). h.tables) c.rollback.ensures.slots ∙ ap (λ (h : Held). h.tables) c.in-Err.ensures.err ∙ ap (λ (h : Held). h.tables) c.begin.ensures.slots;
+  idle = c.rollback.ensures.working;
+  places = c.rollback.ensures.tables ∙ ap (λ (h : Held). h.tables) c.in-Err.ensures.err ∙ c.begin.ensures.tables;
 }

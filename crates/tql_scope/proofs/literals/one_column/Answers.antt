@@ -1,13 +1,13 @@
-use Rattle.std.proofs.Common.{ap}
-use Rattle.tql_spec.specs.Names.{one_column}
+use Rattle.std.proofs.Common.{IfOk, subst, sym, ap}
+use Rattle.tql_spec.specs.Names.{Checked, Typed, one_column}
 use Rattle.tql_scope.specs.Bounds.{typed_of}
+use Rattle.tql_scope.specs.Gathered.{Gathers}
 use Rattle.tql_scope.specs.Scopes.{things_of}
-use Rattle.tql_scope.proofs.Gathering.{sound_ok}
 use Rattle.tql_scope.proofs.Loops.{only}
 use Rattle.tql_scope.proofs.literals.one_column.Goals as goal
 
 pub returns-in-len1-clause-bound : goal.returns-in-len1-clause-bound
 returns-in-len1-clause-bound c =
-    sound_ok _ _ (typed_of c.column_at.new.terms) _ _
-    (ap (λ xs. one_column (things_of xs)) (only c.args.things.now c.thing-item.result c.in-len1.len_at_least c.in-len1.len_below c.thing-item.is))
-    c.column_at.ensures.bound
+    subst (λ (d : Checked Typed). IfOk c.as_column.result (λ t. Gathers d c.args.faults.now c.as_column.new.faults (typed_of c.as_column.new.terms t)))
+    (ap (λ xs. one_column (things_of xs)) (sym (only c.args.things.now c.thing-item.result c.in-len1.len_at_least c.in-len1.len_below c.thing-item.is)))
+    c.as_column.ensures.bound

@@ -3,7 +3,7 @@ use Rattle.tql_spec.specs.Definition.{full}
 use Rattle.tql_spec.specs.QueryLaws.{selected}
 use Rattle.tql_bound.specs.Selections.{selection_of}
 use Rattle.tql_expr.specs.Evaluated.{behind}
-use Rattle.tql_store.specs.Views.{version_of}
+use Rattle.tql_rows.specs.Readings.{version_shown as version_of}
 use Rattle.tql_value.specs.Views.{rows_of}
 use Rattle.tql_selection.proofs.selecting.select_versions.Given as goal
 

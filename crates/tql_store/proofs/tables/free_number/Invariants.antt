@@ -1,5 +1,5 @@
 use Rattle.std.proofs.Common.{◌≡◌, ℕ, ◌<◌, true}
-use Rattle.tql_store.specs.Slots.{place_of, is_taken}
+use Rattle.tql_store.specs.Places.{place_of, is_taken}
 use Rattle.tql_store.proofs.tables.free_number.Given as goal
 
 -- at each number so far a table stands

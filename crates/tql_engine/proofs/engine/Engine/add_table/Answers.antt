@@ -1,9 +1,8 @@
-use Rattle.std.proofs.Common.{◌≡◌, ◌<◌, ℕ, Bool, ◌∙◌, ap, sym, subst, List, Err}
+use Rattle.std.proofs.Common.{◌<◌, ℕ, Bool, ◌∙◌, sym, subst, List, Err}
 use Rattle.std.specs.Prelude.{ℤ, IsNone, Option}
 use Rattle.std.proofs.lemmas.List.{length-map}
 use Rattle.tql_spec.specs.Machine.{with_table}
 use Rattle.tql_spec.specs.Refusal as spec
-use Rattle.tql_store.specs.Slots as store
 use Rattle.tql_store.specs.Represents.{AddsTable}
 use Rattle.tql_catalog.specs.Tables.{definitions_of, Tells}
 use Rattle.tql_catalog.specs.declared.catalog.Table.{Table}
@@ -24,7 +23,7 @@ create-requires c =
 
 pub drop_table-requires-clause-closed : goal.drop_table-requires-clause-closed
 drop_table-requires-clause-closed c =
-    subst (λ (o : Option ℤ). IsNone o) (sym (ap (λ (h : store.Held). h.working) c.in_ok-id.ensures.ok.rest)) (subst (λ (h : Held). IsNone h.rows.working) (sym c.self.view_is) c.requires.closed)
+    subst (λ (o : Option ℤ). IsNone o) (sym c.in_ok-id.ensures.ok.working) (subst (λ (h : Held). IsNone h.rows.working) (sym c.self.view_is) c.requires.closed)
 
 pub drop_table-requires-clause-present : goal.drop_table-requires-clause-present
 drop_table-requires-clause-present c =
@@ -50,7 +49,7 @@ invariant_of-self-in-Err c =
     record {
       state = c.self.invariant.state;
       stands = subst (λ (ts : List Table). StandsFor (record { tables = ts; rows = c.drop_table.new.self; next = c.self.inside.next }) c.self.invariant.state) (sym c.in-Err.ensures.kept)
-          (given_up_law c.self.inside.rows c.add_table.new.self c.drop_table.new.self table adds c.drop_table.ensures.places c.drop_table.ensures.count c.drop_table.ensures.slots c.drop_table.ensures.copies c.self.invariant.state c.self.inside.tables c.self.inside.next c.self.invariant.stands c.in_ok-id.ensures.copies);
+          (given_up_law c.self.inside.rows c.add_table.new.self c.drop_table.new.self table adds c.drop_table.ensures.places c.drop_table.ensures.count c.drop_table.ensures.working c.drop_table.ensures.copies c.self.invariant.state c.self.inside.tables c.self.inside.next c.self.invariant.stands c.in_ok-id.ensures.copies);
     }
 
 pub returns-in-Ok-clause-ok : goal.returns-in-Ok-clause-ok
@@ -67,7 +66,7 @@ returns-in-Err-clause-err c s st =
     let table : Table = record { definition = d; id = c.in_ok-id.id } in
     let adds = subst (λ (b : Bool). AddsTable b c.in_ok-id.id c.self.inside.rows c.add_table.new.self) c.is_versioned.ensures.versioned c.in_ok-id.ensures.ok in
     subst (λ (ts : List Table). StandsFor (record { tables = ts; rows = c.drop_table.new.self; next = c.self.inside.next }) s) (sym c.in-Err.ensures.kept)
-    (given_up_law c.self.inside.rows c.add_table.new.self c.drop_table.new.self table adds c.drop_table.ensures.places c.drop_table.ensures.count c.drop_table.ensures.slots c.drop_table.ensures.copies s c.self.inside.tables c.self.inside.next (subst (λ (h : Held). StandsFor h s) (sym c.self.view_is) st) c.in_ok-id.ensures.copies)
+    (given_up_law c.self.inside.rows c.add_table.new.self c.drop_table.new.self table adds c.drop_table.ensures.places c.drop_table.ensures.count c.drop_table.ensures.working c.drop_table.ensures.copies s c.self.inside.tables c.self.inside.next (subst (λ (h : Held). StandsFor h s) (sym c.self.view_is) st) c.in_ok-id.ensures.copies)
 
 pub returns-in-Err-clause-memory : goal.returns-in-Err-clause-memory
 returns-in-Err-clause-memory c =

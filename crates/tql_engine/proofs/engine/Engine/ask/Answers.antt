@@ -1,11 +1,11 @@
-use Rattle.std.proofs.Common.{◌≡◌, ◌∙◌, sym, subst, ap, map, Some, Option}
+use Rattle.std.proofs.Common.{◌≡◌, ◌∙◌, sym, subst, ap, map, Some}
 use Rattle.std.specs.Prelude.{IsTrue, List, ◌||◌, is_some, string_bytes}
 use Rattle.tql_spec.specs.Datum.{Row}
 use Rattle.tql_spec.specs.Definition.{Version, TableDef, full}
 use Rattle.tql_spec.specs.QueryLaws.{selected}
-use Rattle.tql_store.specs.Slots.{has_table, is_versioned}
-use Rattle.tql_store.specs.Views.{version_of}
-use Rattle.tql_store.specs.declared.version.Version as store
+use Rattle.tql_store.specs.Held.{has_table, is_versioned}
+use Rattle.tql_rows.specs.Readings.{version_shown as version_of}
+use Rattle.tql_rows.specs.declared.version.Version as store
 use Rattle.tql_bound.specs.Selections.{when_of, is_now, selection_of}
 use Rattle.tql_bound.specs.declared.selection.Selection.{Selection}
 use Rattle.tql_catalog.specs.declared.catalog.Table.{Table}

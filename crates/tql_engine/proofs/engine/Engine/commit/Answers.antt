@@ -1,6 +1,5 @@
 use Rattle.std.proofs.Common.{◌∙◌, ap, sym, subst}
 use Rattle.tql_spec.specs.Machine.{State, committed}
-use Rattle.tql_store.specs.Slots as store
 use Rattle.std.specs.Prelude.{is_some}
 use Rattle.tql_engine.specs.Stands.{Held, StandsFor}
 use Rattle.tql_engine.proofs.MomentFits.{clock_steps}
@@ -16,7 +15,7 @@ invariant_of-self c =
     rw (clock_steps _ s st (dated_below _ s e.0 st e.1))
     (record {
       state = committed s e.0;
-      stands = ended_law _ s e.0 c.commit.new.self st e.1 c.commit.ensures.copies (ap (λ (h : store.Held). h.working) c.commit.ensures.slots) (ap (λ (h : store.Held). h.tables) c.commit.ensures.slots);
+      stands = ended_law _ s e.0 c.commit.new.self st e.1 c.commit.ensures.copies (c.commit.ensures.working) (c.commit.ensures.tables);
     })
 
 pub returns-clause-answered : goal.returns-clause-answered
@@ -25,7 +24,7 @@ returns-clause-answered c s st =
     let is_open = sym c.has_transaction.ensures ∙ c.if-not-has_transaction.false in
     let e = open_entry _ s back is_open in
     rw (clock_steps _ s back (dated_below _ s e.0 back e.1))
-    (commit_does _ s c.commit.new.self back is_open c.commit.ensures.copies (ap (λ (h : store.Held). h.working) c.commit.ensures.slots) (ap (λ (h : store.Held). h.tables) c.commit.ensures.slots))
+    (commit_does _ s c.commit.new.self back is_open c.commit.ensures.copies (c.commit.ensures.working) (c.commit.ensures.tables))
 
 pub returns-then-not-has_transaction-clause-answered : goal.returns-then-not-has_transaction-clause-answered
 returns-then-not-has_transaction-clause-answered c s st =

@@ -7,10 +7,11 @@ use Rattle.tql_catalog.specs.Rows.{stored_width}
 use Rattle.tql_catalog.specs.declared.catalog.Table.{Table}
 use Rattle.tql_dml.specs.Alters.{IsVersionOf}
 use Rattle.tql_store.specs.Represents.{AnswersNow}
-use Rattle.tql_store.specs.Slots.{has_table}
-use Rattle.tql_store.specs.Stands.{is_current}
-use Rattle.tql_store.specs.Views.{version_of, Names, NamesOnce}
-use Rattle.tql_store.specs.declared.version.Version.{Version}
+use Rattle.tql_store.specs.Held.{has_table}
+use Rattle.tql_rows.specs.Changes.{is_current}
+use Rattle.tql_rows.specs.Readings.{version_shown as version_of}
+use Rattle.tql_store.specs.Views.{Names, NamesOnce}
+use Rattle.tql_rows.specs.declared.version.Version.{Version}
 use Rattle.tql_value.specs.Views.{datum_of_value}
 use Rattle.tql_engine.specs.Modifying.{Makes, Made}
 use Rattle.tql_engine.specs.Stands.{Held, StandsFor}
@@ -40,8 +41,8 @@ returns c p e =
     let back = sym c.deref.ensures.value in
     let made : Made c.self.inside.rows q x c.modify.result = record {
       found = c.deref.result.now;
-      names = subst (λ (vs : List Version). All (Names q.id c.self.inside.rows.slots) vs) back c.in_ok-found.ensures.ids;
-      once = subst (λ (vs : List Version). NamesOnce q.id is_current c.self.inside.rows.slots vs) back c.in_ok-found.ensures.once;
+      names = subst (λ (vs : List Version). All (Names c.self.inside.rows q.id) vs) back c.in_ok-found.ensures.ids;
+      once = subst (λ (vs : List Version). NamesOnce c.self.inside.rows q.id is_current vs) back c.in_ok-found.ensures.once;
       answers = subst (λ (vs : List Version). AnswersNow c.self.inside.rows q.id (map version_of vs)) back c.in_ok-found.ensures.copies;
       alters = c.modify.ensures.alters;
       fits = c.modify.ensures.fits;

@@ -20,7 +20,7 @@ invariant_of-self c =
     record {
       state = without_table c.args.place s;
       stands = drop_law _ s c.args.place c.remove-table.result _ _ c.self.invariant.stands closed c.remove-table.ensures.taken c.remove-table.ensures.others
-          c.drop_table.ensures.places c.drop_table.ensures.count c.drop_table.ensures.slots c.drop_table.ensures.copies;
+          c.drop_table.ensures.places c.drop_table.ensures.count c.drop_table.ensures.working c.drop_table.ensures.copies;
     }
 
 pub returns : goal.returns
@@ -29,4 +29,4 @@ returns c s st =
     let closed = subst (λ (h : Held). IsNone h.rows.working) (sym c.self.view_is) c.requires.closed in
     drop_does _ _ s c.args.place inside closed
     (drop_law _ s c.args.place c.remove-table.result _ _ inside closed c.remove-table.ensures.taken c.remove-table.ensures.others
-    c.drop_table.ensures.places c.drop_table.ensures.count c.drop_table.ensures.slots c.drop_table.ensures.copies)
+    c.drop_table.ensures.places c.drop_table.ensures.count c.drop_table.ensures.working c.drop_table.ensures.copies)

@@ -4,7 +4,8 @@ use Rattle.std.proofs.lemmas.List.Elements.{recursion_from_All}
 use Rattle.tql_spec.specs.Calendar.{high}
 use Rattle.tql_spec.specs.Datum.{Row}
 use Rattle.tql_spec.specs.Machine.{State}
-use Rattle.tql_store.specs.Slots.{has_table}
+use Rattle.tql_store.specs.Held.{has_table}
+use Rattle.tql_store.proofs.Judging.{none-removable}
 use Rattle.tql_catalog.specs.Rows.{IsRowOf}
 use Rattle.tql_bound.specs.declared.change.Insertion.{Insertion}
 use Rattle.tql_value.specs.Views.{rows_of}
@@ -34,6 +35,9 @@ change_rows-requires-clause-present c =
     let p : Table = c.table_at.result.now in
     let there = subst (λ (h : Held). slice_get h.tables c.args.insertion.now.table ≡ Some p) (sym c.self.view_is) c.table_at.ensures in
     subst (λ t. IsTrue (has_table c.self.inside.rows t)) (sym c.in-Ok.ensures.alters.table) (there_law _ c.self.invariant.state c.args.insertion.now.table p c.self.invariant.stands there)
+
+pub change_rows-requires-clause-removable : goal.change_rows-requires-clause-removable
+change_rows-requires-clause-removable c = none-removable c.self.inside.rows c.in-Ok.delta.table c.in-Ok.delta.removed.items c.in-Ok.ensures.alters.removed
 
 pub invariant_of-self : goal.invariant_of-self
 invariant_of-self c =

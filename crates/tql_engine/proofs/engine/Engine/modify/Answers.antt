@@ -1,11 +1,11 @@
-use Rattle.std.proofs.Common.{◌≡◌, ◌∙◌, sym, subst, List, Some, None, Ok, ℕ}
+use Rattle.std.proofs.Common.{◌≡◌, sym, subst, List, Some, None, Ok, ℕ}
 use Rattle.std.specs.Prelude.{IsNone, ◌<ℤ◌, slice_get, IsTrue}
 use Rattle.std.proofs.lemmas.List.Elements.{recursion_from_All}
 use Rattle.tql_spec.specs.Calendar.{high}
 use Rattle.tql_spec.specs.Datum.{Row}
 use Rattle.tql_spec.specs.Change.{modify}
 use Rattle.tql_spec.specs.Machine.{State}
-use Rattle.tql_store.specs.Slots.{has_table}
+use Rattle.tql_store.specs.Held.{has_table, AreRemovable}
 use Rattle.tql_catalog.specs.Rows.{IsRowOf}
 use Rattle.tql_bound.specs.Works.{work_of}
 use Rattle.tql_bound.specs.declared.change.Modification.{Modification}
@@ -13,12 +13,12 @@ use Rattle.tql_dml.specs.Alters.{conds_in}
 use Rattle.tql_value.specs.Views.{rows_of}
 use Rattle.tql_catalog.specs.declared.catalog.Table.{Table}
 use Rattle.tql_engine.specs.Committing.{ChangesRows, KeepsRows}
-use Rattle.tql_engine.specs.Modifying.{Makes, Made}
+use Rattle.tql_engine.specs.Modifying.{Made}
 use Rattle.tql_engine.specs.Stands.{Held, StandsFor}
 use Rattle.tql_engine.proofs.MomentFits.{clock_reads, clock_under, after_reads}
 use Rattle.tql_engine.proofs.Standing.{place_law, there_law}
 use Rattle.tql_engine.proofs.ChangeKeeps.{kept_law, working_now, working_rows, with_table_rows}
-use Rattle.tql_engine.proofs.Modifying.{modify_errs, modify_does, rows_modified, read_fit, table_there, gone_within, gone_judged}
+use Rattle.tql_engine.proofs.Modifying.{modify_errs, modify_does, rows_modified, read_fit, table_there, gone_removable, gone_judged}
 use Rattle.tql_engine.proofs.engine.Engine.modify.Goals as goal
 
 pub delta_of-requires : goal.delta_of-requires
@@ -41,11 +41,12 @@ change_rows-requires-clause-present c =
     let made = c.in-Ok.ensures t.0 t.1 in
     subst (λ i. IsTrue (has_table c.self.inside.rows i)) (sym made.alters.table) (there_law _ c.self.invariant.state x.table t.0 c.self.invariant.stands there)
 
-pub change_rows-requires-clause-within : goal.change_rows-requires-clause-within
-change_rows-requires-clause-within c =
+pub change_rows-requires-clause-removable : goal.change_rows-requires-clause-removable
+change_rows-requires-clause-removable c =
     let x : Modification = c.args.modification.now in
     let t = table_there c.args.self.now.tables x.table (place_law c.args.self.now.tables x.table c.requires.within) in
-    gone_within c.self.inside.rows t.0 x c.in-Ok.delta (subst (λ (h : Held). Made h.rows t.0 x (Ok c.in-Ok.delta)) (sym c.self.view_is) (c.in-Ok.ensures t.0 t.1))
+    let made : Made c.self.inside.rows t.0 x (Ok c.in-Ok.delta) = subst (λ (h : Held). Made h.rows t.0 x (Ok c.in-Ok.delta)) (sym c.self.view_is) (c.in-Ok.ensures t.0 t.1) in
+    subst (λ i. AreRemovable c.self.inside.rows i c.in-Ok.delta.removed.items) (sym made.alters.table) (gone_removable c.self.inside.rows t.0 x c.in-Ok.delta made)
 
 pub invariant_of-self : goal.invariant_of-self
 invariant_of-self c =

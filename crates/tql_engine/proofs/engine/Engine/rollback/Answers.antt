@@ -1,6 +1,5 @@
 use Rattle.std.proofs.Common.{◌∙◌, ap, sym, subst, None}
 use Rattle.tql_spec.specs.Machine.{State}
-use Rattle.tql_store.specs.Slots as store
 use Rattle.std.specs.Prelude.{is_some}
 use Rattle.tql_engine.specs.Stands.{Held, StandsFor}
 use Rattle.tql_engine.proofs.TransactionKeeps.{undone_law}
@@ -14,14 +13,14 @@ invariant_of-self c =
     let e = open_entry _ s st (sym c.has_transaction.ensures ∙ c.if-not-has_transaction.false) in
     record {
       state = record s { transaction = None };
-      stands = undone_law _ s e.0 c.rollback.new.self st e.1 c.rollback.ensures.copies (ap (λ (h : store.Held). h.working) c.rollback.ensures.slots) (ap (λ (h : store.Held). h.tables) c.rollback.ensures.slots);
+      stands = undone_law _ s e.0 c.rollback.new.self st e.1 c.rollback.ensures.copies (c.rollback.ensures.working) (c.rollback.ensures.tables);
     }
 
 pub returns-clause-answered : goal.returns-clause-answered
 returns-clause-answered c s st =
     let back = subst (λ h. StandsFor h s) (sym c.self.view_is) st in
     let is_open = sym c.has_transaction.ensures ∙ c.if-not-has_transaction.false in
-    rollback_does _ s c.rollback.new.self back is_open c.rollback.ensures.copies (ap (λ (h : store.Held). h.working) c.rollback.ensures.slots) (ap (λ (h : store.Held). h.tables) c.rollback.ensures.slots)
+    rollback_does _ s c.rollback.new.self back is_open c.rollback.ensures.copies (c.rollback.ensures.working) (c.rollback.ensures.tables)
 
 pub returns-then-not-has_transaction-clause-answered : goal.returns-then-not-has_transaction-clause-answered
 returns-then-not-has_transaction-clause-answered c s st =

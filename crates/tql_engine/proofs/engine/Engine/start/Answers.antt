@@ -2,7 +2,6 @@ use Rattle.std.proofs.Common.{◌∙◌, ap, sym, subst, Some, None}
 use Rattle.std.specs.Prelude.{IsNone, ◌<ℤ◌}
 use Rattle.tql_spec.specs.Calendar.{high}
 use Rattle.tql_spec.specs.Machine.{State, working}
-use Rattle.tql_store.specs.Slots as store
 use Rattle.tql_engine.specs.Stands.{Held, StandsFor}
 use Rattle.tql_engine.proofs.MomentFits.{clock_reads, clock_under}
 use Rattle.tql_engine.proofs.Standing.{closed_law}
@@ -29,7 +28,7 @@ invariant_of-self c =
     record {
       state = record s { transaction = Some (working s None) };
       stands = begun_law _ s _ st (closed_law _ s st closed) below c.begin.ensures.copies
-          (ap (λ (h : store.Held). h.working) c.begin.ensures.slots ∙ ap Some (clock_reads _ s st)) (ap (λ (h : store.Held). h.tables) c.begin.ensures.slots);
+          (c.begin.ensures.working ∙ ap Some (clock_reads _ s st)) (c.begin.ensures.tables);
     }
 
 pub returns : goal.returns
@@ -38,4 +37,4 @@ returns c s st =
     let closed = subst (λ (h : Held). IsNone h.rows.working) (sym c.self.view_is) c.requires.closed in
     let below = subst (λ (h : Held). h.next <ℤ high) (sym c.self.view_is) c.requires.below in
     start_does _ s _ back closed below c.begin.ensures.copies
-    (ap (λ (h : store.Held). h.working) c.begin.ensures.slots ∙ ap Some (clock_reads _ s back)) (ap (λ (h : store.Held). h.tables) c.begin.ensures.slots)
+    (c.begin.ensures.working ∙ ap Some (clock_reads _ s back)) (c.begin.ensures.tables)

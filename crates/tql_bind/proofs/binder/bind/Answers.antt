@@ -1,0 +1,16 @@
+use Rattle.std.proofs.Common.{◌≡◌, sym, subst}
+use Rattle.tql_spec.specs.Binding.{bind}
+use Rattle.tql_catalog.specs.Tables.{definitions_of}
+use Rattle.tql_tree.specs.Statements.{create_of, statement_of}
+use Rattle.tql_tree.specs.declared.statement.CreateTree.{CreateTree}
+use Rattle.tql_tree.specs.declared.statement.Statement.{Statement}
+use Rattle.tql_define.specs.Binds.{Binds}
+use Rattle.tql_bind.specs.Bounds.{bound_of}
+use Rattle.tql_bind.proofs.binder.bind.Goals as goal
+
+pub returns-in-Create-clause-binds : goal.returns-in-Create-clause-binds
+returns-in-Create-clause-binds c =
+    let defs = definitions_of c.args.tables.now in
+    let inside : c.deref.result.now ≡ c.in-Create.tree.value = cc (c.deref.ensures) in
+    subst (λ (s : Statement). Binds bound_of (bind defs (statement_of s)) c.create.result) (sym c.in-Create.is)
+    (subst (λ (t : CreateTree). Binds bound_of (bind defs (create_of t)) c.create.result) inside c.create.ensures.binds)

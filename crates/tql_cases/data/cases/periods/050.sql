@@ -1,0 +1,169 @@
+-- Made at random. The text comes from a rendering of the language that shares nothing with the engine.
+AT TIMESTAMP '2011-01-01 00:00:00';
+CREATE TABLE "t" (A DATE, X VARCHAR(1), WITHOUT VARCHAR(65535), DS DATE, G DATE, PERIOD FOR EP (DS, G));
+CREATE TABLE T ("SELECT" VARCHAR(10), F TIMESTAMP(12), G TIMESTAMP, PERIOD FOR EP (F, G));
+INSERT INTO T VALUES ('b', TIMESTAMP '2011-01-01 00:00:00', TIMESTAMP '2011-01-01 03:00:00');
+CREATE	TABLE
+"t" (OF int Not	NULL,
+period-- é
+for-- é
+EP -- it;s "a"
+(Ds,--
+G),
+Sys_e  TIMESTAMP(6)
+generated	ALWAYS-- é
+as
+row -- it;s "a"
+END,
+s-- é
+TIMESTAMP  Without time
+ZONE  generated
+ALWAYS AS -- it;s "a"
+row-- é
+START,	"a b"--
+INT,--
+period-- é
+for -- it;s "a"
+SYSTEM_TIME (S, SYS_E), DS  varchar(10),  G
+date, -- it;s "a"
+Without  VARCHAR (0)) -- it;s "a"
+WITH  SYSTEM	VERSIONING;
+Delete--
+FROM
+T	where (F ) > ( F) -- it;s "a"
+AND	t .EP
+OVERLAPS PERIOD	(TIMESTAMP--
+'2011-01-01 03:00:00',-- é
+G );
+SELECT * FROM T;
+CREATE--
+table
+V
+(S TIMESTAMP(0)  generated
+always -- it;s "a"
+AS
+ROW  START,  Period	FOR
+SYSTEM_TIME (S,
+E ),
+"a b"-- é
+Timestamp(0), row DATE,--
+E--
+timestamp(12)-- é
+Without -- it;s "a"
+TIME -- it;s "a"
+ZONE
+generated ALWAYS  AS -- it;s "a"
+ROW
+END) -- it;s "a"
+With	System-- é
+Versioning;
+SELECT * FROM T AS "z";
+INSERT--
+INTO v VALUES-- é
+(NULL, date
+'2011-01-07'),--
+(TIMESTAMP--
+'2011-01-01 07:00:00' , DATE
+'2011-01-07'),  ( TIMESTAMP
+'2011-01-01 03:00:00', -- it;s "a"
+date -- it;s "a"
+'2011-01-07');
+UPDATE	T
+set "SELECT"
+=
+NULL -- it;s "a"
+WHERE-- é
+g
+> TIMESTAMP--
+'0001-01-01 00:00:00'	AND 'a' >=--
+'''''';
+UPDATE V
+Set "a b"--
+=  -- it;s "a"
+(s),
+ROW =
+(DATE -- it;s "a"
+'2011-01-07') ;
+INSERT INTO "t" (DS, G) VALUES (DATE '2011-01-09', DATE '2011-01-10');
+create-- é
+TABLE
+LOG
+( Sys_s--
+TIMESTAMP-- é
+Generated  ALWAYS
+AS -- it;s "a"
+Row
+START, -- it;s "a"
+period-- é
+FOR	"p q"
+(DS, De),
+DS DATE, DE DATE, WITHOUT--
+INTEGER,-- é
+E -- it;s "a"
+TIMESTAMP
+without TIME	Zone GENERATED-- é
+Always-- é
+AS-- é
+ROW  End,	PERIOD-- é
+For system_time (SYS_S,
+e),-- é
+C  Int) -- it;s "a"
+WITH  SYSTEM VERSIONING;
+INSERT	INTO V	VALUES
+(TIMESTAMP '2011-01-01 00:00:00.000004',
+Date
+'2011-01-10');
+INSERT INTO V VALUES (TIMESTAMP '2011-01-01 00:00:00.000004', NULL), (TIMESTAMP '2011-01-01 06:00:00.0000009', DATE '2011-01-04'), ((TIMESTAMP '2011-01-01 00:00:00.000002'), DATE '2011-01-05');
+INSERT INTO T ("SELECT", F, G) VALUES (NULL, TIMESTAMP '2011-01-01 07:00:00', TIMESTAMP '2011-01-01 07:00:00.000001'), ('zz', TIMESTAMP '2011-01-01 07:00:00', TIMESTAMP '2011-01-01 08:00:00');
+SELECT X, X, "t".WITHOUT FROM "t" WHERE EP CONTAINS PERIOD (DATE '1969-12-31', G) OR "t".EP CONTAINS PERIOD (DS, G) AND (PERIOD (DS, A) CONTAINS DS);
+INSERT INTO "t" VALUES (DATE '2011-01-10', 'b', NULL, DATE '2011-01-09', DATE '2011-01-05'), (DATE '2011-01-05', 'b', 'A', DATE '2011-01-04', DATE '2011-01-08'), (DATE '2011-01-05', 'A', 'A', DATE '2011-01-08', DATE '2011-01-09');
+INSERT INTO LOG (WITHOUT, DS, DE) VALUES ((1), DATE '1970-01-01', DATE '1970-01-02');
+UPDATE "t" SET WITHOUT = (X), X = NULL;
+SELECT	x,  "t".ds FROM  "t";
+UPDATE  LOG
+SET	C -- it;s "a"
+=
+without  *--
+log .C
+Where LOG.C  <=
+3 Or NOT  e
+IN  (e,  TIMESTAMP	'2011-01-01 00:00:00.000007',  (TIMESTAMP
+'2011-01-01 07:00:00.000001'));
+SELECT -- it;s "a"
+*  from
+v FOR	SYSTEM_TIME
+From
+Timestamp	'2011-01-01 08:00:00.000000'	TO  TIMESTAMP-- é
+'2011-01-01 08:00:00';
+COMMIT;
+drop--
+TABLE--
+T
+Restrict;
+SELECT SYS_S, E FROM LOG FOR SYSTEM_TIME FROM TIMESTAMP '2011-01-01 00:00:00' TO TIMESTAMP '2011-01-01 03:00:00.0000009';
+Update -- it;s "a"
+"t"-- é
+SET-- é
+WITHOUT
+=  '|'--
+Where-- é
+NOT--
+Ep
+CONTAINS "t".EP;
+DELETE FROM "t" WHERE PERIOD (DS, "t".G) CONTAINS DS;
+INSERT	INTO -- it;s "a"
+LOG values ( DATE
+'2011-01-10',-- é
+date -- it;s "a"
+'2011-01-14',  3, -- it;s "a"
+0);
+INSERT INTO "t" VALUES (DATE '2011-01-10', ';', 'A', DATE '2011-01-02', DATE '2011-01-07');
+SELECT * FROM "t";
+SELECT * FROM V;
+SELECT * FROM V FOR SYSTEM_TIME BETWEEN TIMESTAMP '0001-01-01 00:00:00.000000999999' AND TIMESTAMP '9999-12-31 23:59:59.999999';
+SELECT * FROM V FOR SYSTEM_TIME AS OF TIMESTAMP '0001-01-01 00:00:00.000001';
+SELECT * FROM V FOR SYSTEM_TIME AS OF TIMESTAMP '2011-01-01 00:00:00.000010';
+SELECT * FROM LOG;
+SELECT * FROM LOG FOR SYSTEM_TIME BETWEEN TIMESTAMP '0001-01-01 00:00:00.000000999999' AND TIMESTAMP '9999-12-31 23:59:59.999999';
+SELECT * FROM LOG FOR SYSTEM_TIME AS OF TIMESTAMP '2011-01-01 00:00:00.000013';
+SELECT * FROM LOG FOR SYSTEM_TIME AS OF TIMESTAMP '2011-01-01 06:00:00.0000009';

@@ -1,0 +1,62 @@
+//! A whole run of a script on an engine.
+ghost use Rattle.tql_spec.specs.Machine.{State};
+ghost use Rattle.tql_spec.specs.Run.{Replies};
+ghost use Rattle.tql_run.specs.Hearing.{hearing_change};
+ghost use Rattle.tql_run.specs.Runs.{Runs, source_change, sink_change};
+ghost use Rattle.tql_engine.specs.Bytes.{RunsBytes};
+ghost use Rattle.tql_engine.specs.Stands.{StandsFor};
+
+use crate::engine::Engine;
+use std::mem;
+use tql_memory::Memory;
+use tql_result::sink::Sink;
+use tql_result::vec_sink::VecSink;
+use tql_run::device::Source;
+use tql_run::listener::Listener;
+use tql_run::responder::Responder;
+use tql_run::runner::{Fault, Summary};
+use tql_run::silence::Silence;
+use tql_run::slice_source::SliceSource;
+
+/// From so many bytes on a script in memory is not taken: no memory holds it a second time.
+const TOO_MANY_BYTES: usize = 281_474_976_710_655;
+
+/// Reads a script from the source to its end, then answers its statements one after another, writes each reply to the
+/// sink, and flushes it. Where the source fails, the statements that came whole before that are answered, and the run
+/// says `Read`; where the sink fails, no statement runs behind the one whose reply it did not take, and the run says
+/// `Write`. A refused statement does not stop the run; the listener is told of it, behind the push of its reply.
+pub fn run<I: Source, O: Sink, L: Listener>(
+    engine: &mut Engine,
+    source: &mut I,
+    sink: &mut O,
+    listener: &mut L,
+) -> Result<Summary, Fault>
+    ensures { (s : State) → StandsFor engine.old s → Runs Replies s (StandsFor engine.new)
+        (source_change I.left I.failures I.ended source.old source.new)
+        (sink_change O.written O.failures O.flushed sink.old sink.new)
+        (hearing_change L.heard listener.old listener.new) result }
+{
+    tql_run::runner::run(engine, source, sink, listener)
+}
+
+/// Runs a script that is in memory, and puts its replies behind the output. Where the output finds no memory, no
+/// statement runs behind the one whose reply it did not take whole, and the run says `Write`. Where there is no memory
+/// for what a run takes at its start, or the script has 2^48 - 1 bytes or more, nothing runs, and the run says
+/// `Memory`. It never says `Read`. A refused statement does not stop the run.
+pub fn run_bytes(
+    engine: &mut Engine,
+    script: &[u8],
+    output: &mut Vec<u8, Memory>,
+) -> Result<Summary, Fault>
+    ensures { (s : State) → StandsFor engine.old s
+        → RunsBytes s (StandsFor engine.new) script.now output.old.items output.new.items result }
+{
+    if script.len() >= TOO_MANY_BYTES {
+        return Err(Fault::Memory);
+    }
+    let mut source = SliceSource::new(script);
+    let mut sink = VecSink::new(mem::replace(output, Vec::new(engine.memory())));
+    let end = run(engine, &mut source, &mut sink, &mut Silence);
+    *output = sink.into_bytes();
+    end
+}

@@ -1,0 +1,14 @@
+pub mod Sought
+pub mod Answering
+pub mod Naming
+pub mod Steps
+pub mod Sweeping
+pub mod Turns
+pub mod Counting
+pub mod Indexing
+pub mod Numbering
+pub mod Entering
+pub mod Resting
+pub mod Done
+pub mod Changing
+pub mod Beginning

@@ -1,0 +1,60 @@
+-- What a store holds: its tables by their numbers, and the versions of each.
+use Rattle.std.specs.Prelude.{ℕ, ◌≤◌, Bool, false, ◌&&◌, ◌||◌, List, [], ◌∷◌, filter, count_by, nat_eq, slice_get, slice_index_or, All, IsTrue, ℤ, Option, Some, None}
+use Rattle.tql_spec.specs.Calendar.{high}
+use Rattle.tql_spec.specs.Definition.{Version}
+use Rattle.tql_rows.specs.Changes.{alive, is_current}
+use Rattle.tql_store.specs.Places.{place_of, is_taken, is_kept}
+use Rattle.tql_store.specs.declared.tables.Place.{Place}
+
+-- a store: what stands at each table's number; the versions of each, by whose places they are named; the moment of an open transaction; the last commit's
+pub record Held : Type 0 where
+  pub tables : List Place
+  pub versions : List (List Version)
+  pub working : Option ℤ
+  pub last : Option ℤ
+
+-- whether a table is there
+abbrev pub has_table : Held → ℕ → Bool
+has_table h t = is_taken (place_of h.tables t)
+
+-- whether a table is there and versioned
+abbrev pub is_versioned : Held → ℕ → Bool
+is_versioned h t = is_kept (place_of h.tables t)
+
+-- how many tables are there
+abbrev pub table_count : Held → ℕ
+table_count h = count_by is_taken h.tables
+
+-- the moment of an open transaction
+abbrev pub moment_or_high : Option ℤ → ℤ
+moment_or_high None = high
+moment_or_high (Some m) = m
+
+-- ---- the versions of a table
+
+-- those that hold a moment: a bag
+abbrev pub live : Held → ℕ → List Version
+live h t = filter alive (slice_index_or h.versions t [])
+
+-- the one that an id names
+abbrev pub named : Held → ℕ → ℕ → Option Version
+named h t id = slice_get (slice_index_or h.versions t []) id
+
+-- whether it is one that holds a moment and is not closed
+abbrev pub is_open : Option Version → Bool
+is_open None = false
+is_open (Some v) = alive v && is_current v
+
+-- whether an id names a version that a change may take away
+abbrev pub is_removable : Held → ℕ → ℕ → Bool
+is_removable h t id = is_open (named h t id)
+
+-- the ids listed are those of such versions, each once
+pub record AreRemovable (h : Held) (t : ℕ) (removed : List ℕ) : Type 0 where
+  pub current : All (λ id. IsTrue (is_removable h t id)) removed
+  pub once : (id : ℕ) → count_by (λ j. nat_eq j id) removed ≤ 1
+
+-- whether an id is among these
+abbrev pub is_among : ℕ → List ℕ → Bool
+is_among i [] = false
+is_among i (j ∷ js) = nat_eq i j || is_among i js
