@@ -1,5 +1,5 @@
 -- Cells and tuples among growing terms.
-use Rattle.std.specs.Prelude.{◌≡◌, refl, ℕ, ◌<◌, ◌==◌, not, Bool, true, List, [], ◌∷◌, map, length, All, Option, Vec, Result, Ok, Err, IfOk}
+use Rattle.std.specs.Prelude.{◌≡◌, refl, ℕ, ◌<◌, ◌==◌, not, Bool, true, List, [], ◌∷◌, map, length, All, Option, option_map, Vec, Result, Ok, Err, IfOk}
 use Rattle.std.specs.declared.alloc.AllocError.{AllocError}
 use Rattle.std.proofs.Common.{sym, ap, ◌∙◌, subst, drop, arith, length-drop}
 use Rattle.std.proofs.Math.Dec.{eqb-suc-zero}
@@ -47,10 +47,11 @@ none_left [] = refl
 none_left (k ∷ kinds) = ap not (sym (eqb-suc-zero (length kinds)))
 
 -- no column is left for a cell
-pub none_for : (kinds : List Kind) (cells : List Typed) (i : ℕ) → length kinds < 1 → i < length cells → true ≡ cells_misfit (map plain_kind kinds) (map kind_of (drop i cells))
+pub none_for : (kinds : List Kind) (cells : List (Option Kind)) (i : ℕ) → length kinds < 1 → i < length cells
+    → true ≡ cells_misfit (map plain_kind kinds) (map (option_map plain_kind) (drop i cells))
 none_for kinds cells i none some = misfit kinds (drop i cells) none (simp length-drop (omega arith))
   where
-    misfit : (ks : List Kind) (left : List Typed) → length ks < 1 → 0 < length left → true ≡ cells_misfit (map plain_kind ks) (map kind_of left)
+    misfit : (ks : List Kind) (left : List (Option Kind)) → length ks < 1 → 0 < length left → true ≡ cells_misfit (map plain_kind ks) (map (option_map plain_kind) left)
     misfit [] [] h k = absurd (omega arith)
     misfit [] (c ∷ cs) h k = refl
     misfit (x ∷ ks) left h k = absurd (omega arith)
@@ -83,14 +84,16 @@ values_there t cells values is h = subst (All (HasExpr t)) (sym is) (All-map (Ha
 
 -- ---- the end of its binding
 
-pub tuple_ok : {A : Type 0} (kinds : List datum.Kind) (w : tree.Tuple) (t : Terms) (old mid now : Option Refusal) (cells asked taken : List Typed) (b : Bool) (r : Result (Vec ExprId A) AllocError)
+pub tuple_ok : {A : Type 0} (kinds : List datum.Kind) (w : tree.Tuple) (t : Terms) (old mid now : Option Refusal) (cells asked taken : List Typed) (found seen : List (Option Kind)) (b : Bool) (r : Result (Vec ExprId A) AllocError)
     → Gathers (check_each (cell []) (w.first ∷ w.more)) old mid (map (typed_of t) cells)
-    → asked ≡ cells → b ≡ cells_misfit kinds (map kind_of asked) → Gathers (refuse_if b TypesDoNotFit) mid now tt
+    → asked ≡ cells → map (option_map plain_kind) found ≡ map kind_of asked → seen ≡ found → b ≡ cells_misfit kinds (map (option_map plain_kind) seen) → Gathers (refuse_if b TypesDoNotFit) mid now tt
     → taken ≡ cells → IfOk r (λ v. v.items ≡ map (λ (c : Typed). c.expr) taken)
     → IfOk r (λ v. Gathers (tuple kinds w) old now (tuple_of t v))
-tuple_ok kinds w t old mid now cells asked taken b (Ok v) g same is h took values =
-    tuple_bound kinds w t old mid now cells v.items b g (is ∙ ap (λ (cs : List Typed). cells_misfit kinds (map kind_of cs)) same) h (values ∙ ap (map (λ (c : Typed). c.expr)) took)
-tuple_ok kinds w t old mid now cells asked taken b (Err e) g same is h took values = tt
+tuple_ok kinds w t old mid now cells asked taken found seen b (Ok v) g same kinds_are took_kinds is h took values =
+    tuple_bound kinds w t old mid now cells v.items b g
+    (is ∙ ap (λ (ks : List (Option Kind)). cells_misfit kinds (map (option_map plain_kind) ks)) took_kinds ∙ ap (cells_misfit kinds) (kinds_are ∙ ap (map kind_of) same))
+    h (values ∙ ap (map (λ (c : Typed). c.expr)) took)
+tuple_ok kinds w t old mid now cells asked taken found seen b (Err e) g same kinds_are took_kinds is h took values = tt
 
 pub values_ok : {A : Type 0} (t : Terms) (cells taken : List Typed) (r : Result (Vec ExprId A) AllocError) → taken ≡ cells → IfOk r (λ v. v.items ≡ map (λ (c : Typed). c.expr) taken) → All (HasValue t) cells
     → IfOk r (HasValues t)

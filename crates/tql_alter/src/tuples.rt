@@ -21,16 +21,16 @@ use tql_tree::statement::{Cell, Tuple};
 use tql_value::refusal::Refusal;
 use tql_value::value::Kind;
 
-/// Whether cells do not fit columns of these kinds: they are more or fewer, or one is of another kind.
-fn cells_misfit(kinds: &[Kind], cells: &[Typed]) -> bool
-    ensures { result ≡ binding.cells_misfit (map plain_kind kinds.now) (map kind_of cells.now) }
+/// Whether values of these kinds, where they are known, do not fit columns of these kinds: they are more or fewer, or one is of another kind.
+pub(crate) fn cells_misfit(kinds: &[Kind], cells: &[Option<Kind>]) -> bool
+    ensures { result ≡ binding.cells_misfit (map plain_kind kinds.now) (map (option_map plain_kind) cells.now) }
 {
     let mut left = kinds;
     for cell in cells {
         match left {
             [] => return true,
             [kind, others @ ..] => {
-                if is_other_kind(*kind, cell.kind) {
+                if is_other_kind(*kind, *cell) {
                     return true;
                 }
                 left = others;
@@ -74,6 +74,17 @@ fn cells(
     Ok(cells)
 }
 
+/// The kinds of cells.
+fn cell_kinds(memory: Memory, cells: &[Typed]) -> Result<Vec<Option<Kind>, Memory>, AllocError>
+    ensures { IfOk result (λ v. map (option_map plain_kind) v.items ≡ map kind_of cells.now) }
+{
+    let mut kinds = Vec::with_capacity(memory, cells.len())?;
+    for cell in cells {
+        kinds.push(cell.kind)?;
+    }
+    Ok(kinds)
+}
+
 /// The expressions of cells.
 fn values(memory: Memory, cells: &[Typed]) -> Result<Vec<ExprId, Memory>, AllocError>
     ensures { IfOk result (λ v. v.items ≡ map (λ cell. cell.expr) cells.now) }
@@ -99,7 +110,8 @@ fn tuple(
     ensures held { IfOk result (HasValues terms.new) }
 {
     let cells = cells(memory, tuple, terms, faults)?;
-    faults.refuse_if(cells_misfit(kinds, &cells), Refusal::TypesDoNotFit);
+    let found = cell_kinds(memory, &cells)?;
+    faults.refuse_if(cells_misfit(kinds, &found), Refusal::TypesDoNotFit);
     values(memory, &cells)
 }
 

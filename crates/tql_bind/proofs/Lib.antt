@@ -1,4 +1,5 @@
 pub mod Gathered
 pub mod Placed
+pub mod PlacedQueries
 pub mod Room
 pub mod RunningTrees

@@ -1,12 +1,15 @@
 -- Where a new table is bound without a fault, its name is free and there is room for it.
-use Rattle.std.proofs.Common.{◌≡◌, ◌<◌, ℕ, Bool, true, false, List, [], ◌∷◌, ◌++◌, length, refl, ap, arith, None}
+use Rattle.std.proofs.Common.{◌≡◌, ◌<◌, ◌≤◌, ◌+◌, ℕ, Bool, true, false, List, [], ◌∷◌, ◌++◌, length, refl, ap, arith, None}
 use Rattle.std.specs.Prelude.{◌||◌, ◌==◌, not, nat_le, nat_lt, is_some, if◌then◌else◌, Option, Some}
-use Rattle.std.specs.List.{list_any, list_all}
+use Rattle.std.specs.List.{list_any, list_all, sum_by}
+use Rattle.std.proofs.lemmas.List.{length-map}
+use Rattle.std.proofs.lemmas.List.Sums.{sum_by-cons}
 use Rattle.std.proofs.lemmas.Bool.Decides.{nat_tests}
 use Rattle.tql_spec.specs.Refusal.{Refusal, TooManyTablesOrReaders, TableUnknownOrAlreadyThere, NameUnknownAmbiguousOrRepeated, TypesDoNotFit, FormNotAllowedHere, first, fault_if}
 use Rattle.tql_spec.specs.Definition.{Name, TableDef, place_of}
 use Rattle.tql_spec.specs.Machine.{Bound, CreateTable}
-use Rattle.tql_spec.specs.Syntax.{Element, ColumnTree}
+use Rattle.tql_spec.specs.Syntax as syntax
+use Rattle.tql_spec.specs.Syntax.{Element, ColumnTree, columns_in, is_too_wide}
 use Rattle.tql_spec.specs.Creation.{create, whole_faults, repeats, column_names, period_names, has_bad_number, columns_of, several, application_parts, system_parts, starts, stops, primary_count, constraints_of}
 
 nothing_first : (fs : List Refusal) → first fs ≡ None → fs ≡ []
@@ -82,3 +85,23 @@ table_in d _ = d
 pub same_table : (d t : TableDef) → CreateTable d ≡ CreateTable t → d ≡ t
 unfolding table_in
 same_table d t e = ap (table_in d) e
+
+-- ---- a new table is no wider than its statement
+
+column_count : (es : List Element) → length (columns_of es) ≡ sum_by columns_in es
+column_count [] = refl
+column_count (syntax.ColumnElement c ∷ es) = omega (arith, column_count es, sum_by-cons columns_in (syntax.ColumnElement c) es)
+column_count (syntax.PeriodElement n s e ∷ es) = omega (arith, column_count es, sum_by-cons columns_in (syntax.PeriodElement n s e) es)
+column_count (syntax.ConstraintElement c ∷ es) = omega (arith, column_count es, sum_by-cons columns_in (syntax.ConstraintElement c) es)
+
+at_most : (n : ℕ) → nat_lt 64 n ≡ false → n ≤ 64
+at_most n e = grind (arith, nat_tests)
+
+pub narrow_law : (defs : List TableDef) (n : Name) (e : Element) (es : List Element) (versioned : Bool) → is_too_wide (syntax.CreateTree n e es versioned) ≡ false
+    → length (create defs n (e ∷ es) versioned).value.columns ≤ 64
+narrow_law defs n e es versioned narrow =
+    let few = at_most (columns_in e + sum_by columns_in es) narrow in
+    let count = column_count (e ∷ es) in
+    let sum = sum_by-cons columns_in e es in
+    let same : length (create defs n (e ∷ es) versioned).value.columns ≡ length (columns_of (e ∷ es)) = length-map (columns_of (e ∷ es)) _ in
+    omega (arith, few, count, sum, same)

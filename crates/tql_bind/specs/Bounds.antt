@@ -1,14 +1,14 @@
 -- The bound statements that those of the code stand for, and what is true of each.
-use Rattle.std.specs.Prelude.{◌≡◌, ◌<◌, Bool, true, false, ◌||◌, IsTrue, List, length, None, is_some}
-use Rattle.tql_spec.specs.Definition.{TableDef, place_of, table_at}
+use Rattle.std.specs.Prelude.{◌≡◌, ◌<◌, ◌≤◌, Bool, true, false, List, length, None}
+use Rattle.tql_spec.specs.Definition.{TableDef, place_of}
 use Rattle.tql_spec.specs.Machine as machine
 use Rattle.tql_spec.specs.Syntax.{Statement, CreateTree}
-use Rattle.tql_bound.specs.Changes.{insertion_of, modification_of}
-use Rattle.tql_bound.specs.Selections.{is_now, selection_of}
-use Rattle.tql_bound.specs.declared.selection.Reference.{Reference}
+use Rattle.tql_bound.specs.Changes.{insertion_of, modification_of, query_insertion_of}
+use Rattle.tql_bound.specs.Questions.{question_of}
 use Rattle.tql_value.specs.Points.{IsMoment}
+use Rattle.tql_bind.specs.Placed.{IsPlacedQuery}
 use Rattle.tql_bind.specs.declared.bound.Bound.{Bound}
-use Rattle.tql_bind.specs.declared.bound.Bound.TheVariants.{CreateTable, DropTable, Insert as Inserts, Modify, Ask, SetClock, Start, Commit, Rollback}
+use Rattle.tql_bind.specs.declared.bound.Bound.TheVariants.{CreateTable, DropTable, Insert as Inserts, InsertFrom, Modify, Ask, SetClock, Start, Commit, Rollback}
 
 -- ---- what they stand for
 
@@ -17,8 +17,9 @@ abbrev pub bound_of : Bound → machine.Bound
 bound_of (CreateTable d) = machine.CreateTable d
 bound_of (DropTable t) = machine.DropTable t
 bound_of (Inserts x) = machine.Alter (insertion_of x)
+bound_of (InsertFrom x) = machine.Alter (query_insertion_of x)
 bound_of (Modify x) = machine.Alter (modification_of x)
-bound_of (Ask x) = machine.Ask (selection_of x)
+bound_of (Ask x) = machine.Ask (question_of x)
 bound_of (SetClock m) = machine.SetClock m
 bound_of Start = machine.Start
 bound_of Commit = machine.Commit
@@ -31,15 +32,11 @@ is_creation _ = false
 
 -- ---- what is true of them
 
--- no table has the name, and there is room for one more
+-- no table has the name, there is room for one more, and it has at most 64 columns
 pub record IsSoundTable (defs : List TableDef) (d : TableDef) : Type 0 where
   pub free : place_of d.name defs ≡ None
   pub room : length defs < 1000
-
--- the table is there, and is system-versioned where its past is asked for
-pub record IsSoundReference (defs : List TableDef) (r : Reference) : Type 0 where
-  pub table : r.table < length defs
-  pub versioned : IsTrue (is_now r.when || is_some (table_at defs r.table).system)
+  pub narrow : length d.columns ≤ 64
 
 -- a moment that the clock is set to has a text
 abbrev pub HasMoment : Bound → Type 0
@@ -51,8 +48,9 @@ abbrev pub IsSound : List TableDef → Bound → Type 0
 IsSound defs (CreateTable d) = IsSoundTable defs d
 IsSound defs (DropTable t) = t < length defs
 IsSound defs (Inserts x) = x.table < length defs
+IsSound defs (InsertFrom x) = (x.table < length defs) × IsPlacedQuery defs (question_of x.question)
 IsSound defs (Modify x) = x.table < length defs
-IsSound defs (Ask x) = IsSoundReference defs x.reference
+IsSound defs (Ask x) = IsPlacedQuery defs (question_of x)
 IsSound defs (SetClock m) = IsMoment m
 IsSound defs Start = Unit {0}
 IsSound defs Commit = Unit {0}

@@ -1,7 +1,8 @@
 //! The names of a statement, bound.
-ghost use Rattle.std.specs.Prelude.{IsTrue, IfOk, not};
+ghost use Rattle.std.specs.Prelude.{◌≤◌, All, IsFalse, IsTrue, IfOk, length, not};
 ghost use Rattle.tql_spec.specs.Binding.{bind};
 ghost use Rattle.tql_spec.specs.Running.{does_run};
+ghost use Rattle.tql_spec.specs.Syntax.{is_too_wide};
 ghost use Rattle.tql_catalog.specs.Tables.{definitions_of};
 ghost use Rattle.tql_tree.specs.Statements.{create_of, statement_of};
 ghost use Rattle.tql_scope.specs.Gathered.{Gathers};
@@ -11,19 +12,20 @@ ghost use Rattle.tql_bind.specs.Bounds.{HasMoment, IsSound, bound_of, is_creatio
 use crate::bound::Bound;
 use crate::changes::{delete, insert, update};
 use crate::drop_table::bind_drop;
+use crate::questions::ask;
 use std::alloc::AllocError;
 use tql_catalog::catalog::Catalog;
 use tql_define::create::new_table;
 use tql_memory::Memory;
 use tql_scope::faults::Faults;
 use tql_scope::moments::moment;
-use tql_select::select::select_rows;
 use tql_tree::statement::{CreateTree, Statement};
 use tql_value::refusal::Refusal;
 
 /// CREATE TABLE with its names bound.
 fn create(memory: Memory, tables: &Catalog, create: &CreateTree<'_>) -> Result<Bound, Refusal>
-    requires { IsTrue (does_run (create_of create.now)) }
+    requires runs { IsTrue (does_run (create_of create.now)) }
+    requires narrow { IsFalse (is_too_wide (create_of create.now)) }
     ensures binds { Binds bound_of (bind (definitions_of tables.now) (create_of create.now)) result }
     ensures sound { IfOk result (IsSound (definitions_of tables.now)) }
 {
@@ -43,6 +45,8 @@ fn bound(
 ) -> Result<Bound, AllocError>
     requires runs { IsTrue (does_run (statement_of statement.now)) }
     requires other { IsTrue (not (is_creation (statement_of statement.now))) }
+    requires narrow { IsFalse (is_too_wide (statement_of statement.now)) }
+    requires tables { All (λ d. length d.columns ≤ 64) (definitions_of tables.now) }
     ensures bound { IfOk result (λ b. Gathers (bind (definitions_of tables.now) (statement_of statement.now)) faults.old faults.new (bound_of b)) }
     ensures within { IfOk result HasMoment }
 {
@@ -52,10 +56,7 @@ fn bound(
             let place = bind_drop(memory, tables, *name, faults)?;
             Ok(Bound::DropTable(place))
         }
-        Statement::Insert(tree) => {
-            let insertion = insert(memory, tables, tree, faults)?;
-            Ok(Bound::Insert(insertion))
-        }
+        Statement::Insert(tree) => insert(memory, tables, tree, faults),
         Statement::Update(tree) => {
             let modification = update(memory, tables, tree, faults)?;
             Ok(Bound::Modify(modification))
@@ -65,8 +66,8 @@ fn bound(
             Ok(Bound::Modify(modification))
         }
         Statement::Query(tree) => {
-            let selection = select_rows(memory, tables, tree, faults)?;
-            Ok(Bound::Ask(selection))
+            let question = ask(memory, tables, tree, faults)?;
+            Ok(Bound::Ask(question))
         }
         Statement::StartTransaction => Ok(Bound::Start),
         Statement::Commit => Ok(Bound::Commit),
@@ -82,6 +83,8 @@ fn bound(
 fn faultless(memory: Memory, tables: &Catalog, statement: &Statement<'_>) -> Result<Bound, Refusal>
     requires runs { IsTrue (does_run (statement_of statement.now)) }
     requires other { IsTrue (not (is_creation (statement_of statement.now))) }
+    requires narrow { IsFalse (is_too_wide (statement_of statement.now)) }
+    requires tables { All (λ d. length d.columns ≤ 64) (definitions_of tables.now) }
     ensures binds { Binds bound_of (bind (definitions_of tables.now) (statement_of statement.now)) result }
     ensures sound { IfOk result (IsSound (definitions_of tables.now)) }
 {
@@ -93,10 +96,12 @@ fn faultless(memory: Memory, tables: &Catalog, statement: &Statement<'_>) -> Res
     }
 }
 
-/// The statement with its names bound. Refused: the first of the faults of names, kinds, forms and literals that are present, in the
-/// order of report; or memory.
+/// The statement with its names bound: one of at most 64 columns or 8 table references, over tables of at most 64 columns. Refused: the
+/// first of the faults of names, kinds, forms and literals that are present, in the order of report; or memory.
 pub fn bind(memory: Memory, tables: &Catalog, statement: &Statement<'_>) -> Result<Bound, Refusal>
-    requires { IsTrue (does_run (statement_of statement.now)) }
+    requires runs { IsTrue (does_run (statement_of statement.now)) }
+    requires narrow { IsFalse (is_too_wide (statement_of statement.now)) }
+    requires tables { All (λ d. length d.columns ≤ 64) (definitions_of tables.now) }
     ensures binds { Binds bound_of (bind (definitions_of tables.now) (statement_of statement.now)) result }
     ensures sound { IfOk result (IsSound (definitions_of tables.now)) }
 {

@@ -1,6 +1,6 @@
 //! Statements whose names are bound.
-use tql_bound::change::{Insertion, Modification};
-use tql_bound::selection::Selection;
+use tql_bound::change::{Insertion, Modification, QueryInsertion};
+use tql_bound::question::Question;
 use tql_catalog::table_def::TableDef;
 
 /// A statement whose names are bound.
@@ -12,10 +12,12 @@ pub enum Bound {
     DropTable(usize),
     /// INSERT of tuples.
     Insert(Insertion),
+    /// INSERT from a query.
+    InsertFrom(QueryInsertion),
     /// UPDATE and DELETE.
     Modify(Modification),
     /// SELECT.
-    Ask(Selection),
+    Ask(Question),
     /// AT, with the moment in microseconds since 1970-01-01.
     SetClock(i64),
     /// START TRANSACTION.

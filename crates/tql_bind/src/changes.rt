@@ -1,46 +1,65 @@
 //! INSERT, UPDATE and DELETE.
-ghost use Rattle.std.specs.Prelude.{IfOk, IsTrue};
+ghost use Rattle.std.specs.Prelude.{◌≤◌, All, IfOk, IsFalse, IsTrue, length};
 ghost use Rattle.tql_spec.specs.Binding.{bind};
 ghost use Rattle.tql_spec.specs.Machine.{Alter};
 ghost use Rattle.tql_spec.specs.Running.{does_run};
-ghost use Rattle.tql_bound.specs.Changes.{insertion_of, modification_of};
+ghost use Rattle.tql_bound.specs.Changes.{modification_of};
 ghost use Rattle.tql_catalog.specs.Tables.{definitions_of};
 ghost use Rattle.tql_tree.specs.Statements.{delete_of, insert_of, update_of};
 ghost use Rattle.tql_scope.specs.Gathered.{Gathers};
+ghost use Rattle.tql_spec.specs.Syntax.{is_too_wide};
+ghost use Rattle.tql_bind.specs.Bounds.{HasMoment, bound_of};
 
+use crate::bound::Bound;
 use std::alloc::AllocError;
 use tql_alter::delete::delete_rows;
 use tql_alter::insert::insert_values;
+use tql_alter::insert_query::insert_select;
 use tql_alter::update::update_rows;
-use tql_bound::change::{Insertion, Modification};
+use tql_bound::change::Modification;
 use tql_catalog::catalog::Catalog;
 use tql_memory::Memory;
 use tql_scope::faults::Faults;
 use tql_tree::statement::{Delete, Insert, Rows, Update};
 
 /// INSERT with its names bound. Faults: no table has the name; a column of the list is unknown or repeated; a tuple has another number of
-/// cells than columns, or a cell of another kind than its column; a generated column in the list, an aggregate; a literal out of range. The
-/// only error is a refused growth.
+/// cells than columns, or a cell of another kind than its column; a generated column in the list, an aggregate; a literal out of range; of a
+/// query, what it may be refused for, and that its output columns do not fit. The only error is a refused growth.
 pub(crate) fn insert(
     memory: Memory,
     tables: &Catalog,
     insert: &Insert<'_>,
     faults: &mut Faults,
-) -> Result<Insertion, AllocError>
-    requires { IsTrue (does_run (insert_of insert.now)) }
-    ensures { IfOk result (λ x. Gathers (bind (definitions_of tables.now) (insert_of insert.now)) faults.old faults.new (Alter (insertion_of x))) }
+) -> Result<Bound, AllocError>
+    requires narrow { IsFalse (is_too_wide (insert_of insert.now)) }
+    requires tables { All (λ d. length d.columns ≤ 64) (definitions_of tables.now) }
+    ensures bound { IfOk result (λ b. Gathers (bind (definitions_of tables.now) (insert_of insert.now)) faults.old faults.new (bound_of b)) }
+    ensures within { IfOk result HasMoment }
 {
     match &insert.rows {
-        Rows::Values(first, more) => insert_values(
-            memory,
-            tables,
-            insert.table,
-            &insert.columns,
-            first,
-            more,
-            faults,
-        ),
-        Rows::Select(_) => unreachable!(),
+        Rows::Values(first, more) => {
+            let insertion = insert_values(
+                memory,
+                tables,
+                insert.table,
+                &insert.columns,
+                first,
+                more,
+                faults,
+            )?;
+            Ok(Bound::Insert(insertion))
+        }
+        Rows::Select(select) => {
+            let insertion = insert_select(
+                memory,
+                tables,
+                insert.table,
+                &insert.columns,
+                select,
+                faults,
+            )?;
+            Ok(Bound::InsertFrom(insertion))
+        }
     }
 }
 

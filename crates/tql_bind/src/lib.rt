@@ -5,3 +5,4 @@ pub mod binder;
 pub mod bound;
 mod changes;
 mod drop_table;
+mod questions;

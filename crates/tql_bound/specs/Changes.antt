@@ -2,12 +2,14 @@
 use Rattle.std.specs.Prelude.{List, map, Vec, None}
 use Rattle.tql_spec.specs.Expression as tree
 use Rattle.tql_spec.specs.Machine as machine
-use Rattle.tql_spec.specs.Machine.{InsertTuples, Modify}
+use Rattle.tql_spec.specs.Machine.{InsertTuples, InsertQuery, Modify}
 use Rattle.tql_expr.specs.Meaning.{expr, cond}
 use Rattle.tql_expr.specs.declared.terms.ExprId.{ExprId}
 use Rattle.tql_expr.specs.declared.terms.Terms.{Terms}
 use Rattle.tql_bound.specs.declared.change.Insertion.{Insertion}
 use Rattle.tql_bound.specs.declared.change.Modification.{Modification}
+use Rattle.tql_bound.specs.declared.change.QueryInsertion.{QueryInsertion}
+use Rattle.tql_bound.specs.Questions.{question_of}
 use Rattle.tql_bound.specs.Works.{work_of}
 
 -- the expressions of a tuple
@@ -17,6 +19,10 @@ tuple_of t ids = map (expr t) ids.items
 -- INSERT of tuples
 abbrev pub insertion_of : Insertion → machine.Change
 insertion_of x = InsertTuples x.table x.columns.items (map (tuple_of x.terms) x.tuples.items)
+
+-- INSERT from a query
+abbrev pub query_insertion_of : QueryInsertion → machine.Change
+query_insertion_of x = InsertQuery x.table x.columns.items (question_of x.question)
 
 -- UPDATE and DELETE, of no portion
 abbrev pub modification_of : Modification → machine.Change

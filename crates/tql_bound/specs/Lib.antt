@@ -1,3 +1,4 @@
 pub mod Changes
+pub mod Questions
 pub mod Selections
 pub mod Works

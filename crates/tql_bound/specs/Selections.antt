@@ -1,12 +1,10 @@
--- The machine's queries that bound ones stand for.
-use Rattle.std.specs.Prelude.{Bool, true, false, [], ◌∷◌, map, None, string_bytes}
+-- The machine's references that bound ones stand for.
+use Rattle.std.specs.Prelude.{Bool, true, false}
 use Rattle.tql_spec.specs.History as history
-use Rattle.tql_spec.specs.Query.{Query, Ref}
-use Rattle.tql_expr.specs.Meaning.{expr, cond}
+use Rattle.tql_spec.specs.Query.{Ref}
 use Rattle.tql_bound.specs.declared.selection.When.{When}
 use Rattle.tql_bound.specs.declared.selection.When.TheVariants as when
 use Rattle.tql_bound.specs.declared.selection.Reference.{Reference}
-use Rattle.tql_bound.specs.declared.selection.Selection.{Selection}
 
 -- the versions that are asked for
 abbrev pub when_of : When → history.When
@@ -23,16 +21,3 @@ is_now _ = false
 -- a table reference
 abbrev pub reference_of : Reference → Ref
 reference_of r = record { table = r.table; when = when_of r.when; width = r.width }
-
--- a query of one reference, without groups, that keeps repeated rows and asks for no order
-abbrev pub selection_of : Selection → Query
-selection_of x = record {
-  chains = record { first = reference_of x.reference; joins = [] } ∷ [];
-  filter = map (cond x.terms) x.conjuncts.items;
-  grouping = None;
-  having = [];
-  items = map (expr x.terms) x.items.items;
-  headings = map string_bytes x.headings.items;
-  distinct = false;
-  ordering = [];
-}

@@ -3,6 +3,7 @@ ghost use Rattle.std.specs.Prelude.{All};
 ghost use Rattle.tql_expr.specs.Meaning.{HasExpr, HasCond};
 ghost use Rattle.tql_bound.specs.Works.{sets_of};
 
+use crate::question::Question;
 use tql_expr::terms::{CondId, ExprId, Terms};
 use tql_memory::Memory;
 
@@ -28,6 +29,15 @@ impl Drop for Insertion {
         drop(columns);
         drop(tuples);
     }
+}
+
+/// New rows of a table, by its place among the tables: the columns that are given values, by their numbers from 0, and the query whose rows
+/// they are.
+#[derive(Drop)]
+pub struct QueryInsertion {
+    pub table: usize,
+    pub columns: Vec<usize, Memory>,
+    pub question: Question,
 }
 
 /// A column, by its number from 0, and what it is set to.

@@ -2,4 +2,5 @@
 #![tactic(auto)]
 
 pub mod change;
+pub mod question;
 pub mod selection;

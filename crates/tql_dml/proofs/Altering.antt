@@ -20,7 +20,7 @@ use Rattle.tql_value.specs.Points.{IsPrintable}
 use Rattle.tql_value.specs.Refusals.{refusal_of}
 use Rattle.tql_value.specs.declared.refusal.Refusal.{Refusal}
 use Rattle.tql_value.specs.declared.refusal.Refusal.TheVariants as r
-use Rattle.tql_dml.specs.Alters.{Gives, Alters, inserted, tuples_in, rows_in, conds_in, modified, fates, coming, gone, IsVersionOf}
+use Rattle.tql_dml.specs.Alters.{Gives, Alters, added_rows, tuples_in, rows_in, conds_in, modified, fates, coming, gone, IsVersionOf}
 use Rattle.tql_dml.specs.Cells.{stored_cells, rows_faults}
 use Rattle.tql_expr.specs.Evaluated.{Fails}
 use Rattle.tql_value.specs.Views.{rows_of}
@@ -40,47 +40,44 @@ tells id gone new outcome e h = h
 
 -- ---- INSERT
 
--- what is inserted where the tuples have these values
-valued : (d : TableDef) (x : Insertion) (tuples : List Row) (m : ℤ) → tuples_in x ≡ Some tuples → inserted d x m ≡ change.insert d m [] x.columns.items (Some tuples)
-valued d x tuples m e = ap (change.insert d m [] x.columns.items) e
-
--- the first fault of the new rows
-insert_faults : (d : TableDef) (x : Insertion) (tuples rows : List Row) (o : Option spec.Refusal) (m : ℤ) → IsDefinition d → tuples_in x ≡ Some tuples
-    → rows ≡ map (stored_cells d x.columns.items) tuples → o ≡ first (rows_faults d rows) → first (inserted d x m).faults ≡ o
-insert_faults d x tuples rows o m s v e f = ap (λ (y : Outcome). first y.faults) (valued d x tuples m v) ∙ first_of d m x.columns.items tuples rows o s e f
-
 -- rows that have a fault are refused
-pub insert_refused : (d : TableDef) (id : ℕ) (x : Insertion) (tuples rows : List Row) (e : Refusal) → IsDefinition d → tuples_in x ≡ Some tuples
-    → rows ≡ map (stored_cells d x.columns.items) tuples → Some (refusal_of e) ≡ first (rows_faults d rows)
-    → Alters id [] (λ m. (inserted d x m).rows) (inserted d x) (Err e)
-insert_refused d id x tuples rows e s v is f =
-    tells id [] (λ m. (inserted d x m).rows) (inserted d x) e (λ m. insert_faults d x tuples rows (Some (refusal_of e)) m s v is f)
+pub insert_refused : (d : TableDef) (id : ℕ) (js : List ℕ) (tuples rows : List Row) (e : Refusal) → IsDefinition d
+    → rows ≡ map (stored_cells d js) tuples → Some (refusal_of e) ≡ first (rows_faults d rows)
+    → Alters id [] (λ m. (added_rows d js (Some tuples) m).rows) (added_rows d js (Some tuples)) (Err e)
+insert_refused d id js tuples rows e s is f =
+    tells id [] (λ m. (added_rows d js (Some tuples) m).rows) (added_rows d js (Some tuples)) e (λ m. first_of d m js tuples rows (Some (refusal_of e)) s is f)
 
 -- rows without a fault are added
-pub insert_adds : (d : TableDef) (id : ℕ) (x : Insertion) (tuples : List Row) (delta : Delta) → IsDefinition d → tuples_in x ≡ Some tuples → delta.table ≡ id → delta.removed.items ≡ []
-    → rows_of delta.added.items ≡ map (stored_cells d x.columns.items) tuples → delta.count ≡ length delta.added.items
-    → None ≡ first (rows_faults d (rows_of delta.added.items)) → Gives id [] (λ m. (inserted d x m).rows) (inserted d x) delta
-insert_adds d id x tuples delta s v table removed rows count faults =
-    let js = x.columns.items in
-    record {
-      table = table;
-      removed = removed;
-      added = λ m. ap (λ (y : Outcome). map (λ (r : Stamped). r.cells) y.rows) (valued d x tuples m v) ∙ new_cells d m js tuples ∙ sym rows;
-      count = λ m. count ∙ sym (length-map delta.added.items _) ∙ ap length rows ∙ length-map tuples (stored_cells d js) ∙ sym (length-map tuples _) ∙ sym (ap (λ (y : Outcome). y.count) (valued d x tuples m v));
-      sound = λ m. insert_faults d x tuples (rows_of delta.added.items) None m s v rows faults;
-    }
+pub insert_adds : (d : TableDef) (id : ℕ) (js : List ℕ) (tuples : List Row) (delta : Delta) → IsDefinition d → delta.table ≡ id → delta.removed.items ≡ []
+    → rows_of delta.added.items ≡ map (stored_cells d js) tuples → delta.count ≡ length delta.added.items
+    → None ≡ first (rows_faults d (rows_of delta.added.items)) → Gives id [] (λ m. (added_rows d js (Some tuples) m).rows) (added_rows d js (Some tuples)) delta
+insert_adds d id js tuples delta s table removed rows count faults = record {
+  table = table;
+  removed = removed;
+  added = λ m. new_cells d m js tuples ∙ sym rows;
+  count = λ m. count ∙ sym (length-map delta.added.items _) ∙ ap length rows ∙ length-map tuples (stored_cells d js) ∙ sym (length-map tuples _);
+  sound = λ m. first_of d m js tuples (rows_of delta.added.items) None s rows faults;
+}
 
 -- what is added fits the table
-pub insert_fits : (d : TableDef) (x : Insertion) (tuples rows : List Row) → IsDefinition d → tuples_in x ≡ Some tuples → rows ≡ map (stored_cells d x.columns.items) tuples
+pub insert_fits : (d : TableDef) (js : List ℕ) (tuples rows : List Row) → IsDefinition d → All (All IsPrintable) tuples → rows ≡ map (stored_cells d js) tuples
     → None ≡ first (rows_faults d rows) → All (IsRowOf d) rows
-insert_fits d x tuples rows s v is none =
-    let js = x.columns.items in
-    let prints : RowsPrint (Some tuples) = subst RowsPrint v (tuples_print x.terms x.tuples.items) in
+insert_fits d js tuples rows s prints is none =
     let wide : Fit d (map (stored_cells d js) tuples) =
     All-map (λ (cells : Row). length cells ≡ stored_width d) (stored_cells d js) tuples (λ k z l. length-stored d js (slice_index_or tuples k z) s) in
     let texts : All (All IsPrintable) (map (stored_cells d js) tuples) =
     All-map (All IsPrintable) (stored_cells d js) tuples (All-weaker (All IsPrintable) (λ vs. All IsPrintable (stored_cells d js vs)) (λ vs h. stored_prints d js vs s h) tuples prints) in
     rows_fit d rows s (subst (Fit d) (sym is) wide) (subst (All (All IsPrintable)) (sym is) texts) none
+
+-- the values of tuples have texts
+pub values_print : (x : Insertion) (tuples : List Row) → tuples_in x ≡ Some tuples → All (All IsPrintable) tuples
+values_print x tuples v = subst RowsPrint v (tuples_print x.terms x.tuples.items)
+
+-- an INSERT of tuples is that of their values
+pub of_values : (d : TableDef) (id : ℕ) (x : Insertion) (o p : Option (List Row)) (result : Result Delta Refusal) → o ≡ p
+    → Alters id [] (λ m. (added_rows d x.columns.items p m).rows) (added_rows d x.columns.items p) result
+    → Alters id [] (λ m. (added_rows d x.columns.items o m).rows) (added_rows d x.columns.items o) result
+of_values d id x o p result e h = subst (λ o. Alters id [] (λ m. (added_rows d x.columns.items o m).rows) (added_rows d x.columns.items o) result) (sym e) h
 
 -- ---- UPDATE and DELETE
 

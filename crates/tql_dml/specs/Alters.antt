@@ -42,9 +42,13 @@ Alters id gone new outcome (Err e) = (m : ℤ) → first (outcome m).faults ≡ 
 abbrev pub tuples_in : Insertion → Option (List Row)
 tuples_in x = map_all (map_all (eval [] [])) (map (tuple_of x.terms) x.tuples.items)
 
--- what an insertion makes of no rows: what it adds to any
+-- what an INSERT of these values into these columns makes of no rows: what it adds to any
+abbrev pub added_rows : TableDef → List ℕ → Option (List Row) → ℤ → Outcome
+added_rows d columns tuples m = change.insert d m [] columns tuples
+
+-- what an INSERT of tuples makes of them
 abbrev pub inserted : TableDef → Insertion → ℤ → Outcome
-inserted d x m = change.insert d m [] x.columns.items (tuples_in x)
+inserted d x = added_rows d x.columns.items (tuples_in x)
 
 -- ---- UPDATE and DELETE
 

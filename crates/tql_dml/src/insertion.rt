@@ -1,7 +1,8 @@
-//! INSERT of tuples of expressions.
-ghost use Rattle.std.specs.Prelude.{[], All, IfOk};
+//! INSERT of rows, and of tuples of expressions.
+ghost use Rattle.std.specs.Prelude.{[], All, IfOk, Some};
 ghost use Rattle.tql_catalog.specs.Rows.{IsRowOf};
-ghost use Rattle.tql_dml.specs.Alters.{Alters, inserted};
+ghost use Rattle.tql_dml.specs.Alters.{Alters, added_rows, inserted};
+ghost use Rattle.tql_value.specs.Points.{ArePrintable};
 ghost use Rattle.tql_value.specs.Views.{rows_of};
 
 use crate::faults::first_fault;
@@ -12,19 +13,24 @@ use tql_catalog::catalog::Table;
 use tql_memory::Memory;
 use tql_store::store::Delta;
 use tql_value::refusal::Refusal;
+use tql_value::value::Value;
 
-/// The change that adds a row for each tuple: its values in the columns that are given values, and NULL in the others.
-/// Refused, the first of them over all rows: an evaluation out of range, a text longer than its column takes, a NULL in
-/// a column that takes none, an application period that does not rise; memory. Nothing is changed. The rows that come
-/// fit the table.
-pub fn insert_tuples(memory: Memory, table: &Table, insertion: &Insertion) -> Result<Delta, Refusal>
-    ensures alters { Alters table.now.id [] (λ m. (inserted table.now.definition insertion.now m).rows)
-        (inserted table.now.definition insertion.now) result }
+/// The change that adds a row for each list of values: the values in the columns that are given them, and NULL in the others. Refused, the
+/// first of them over all rows: a text longer than its column takes, a NULL in a column that takes none, an application period that does
+/// not rise; memory. Nothing is changed. The rows that come fit the table.
+pub fn insert_rows(
+    memory: Memory,
+    table: &Table,
+    columns: &[usize],
+    rows: Vec<Vec<Value, Memory>, Memory>,
+) -> Result<Delta, Refusal>
+    requires { ArePrintable (rows_of rows.items) }
+    ensures alters { Alters table.now.id [] (λ m. (added_rows table.now.definition columns.now (Some (rows_of rows.entry.items)) m).rows)
+        (added_rows table.now.definition columns.now (Some (rows_of rows.entry.items))) result }
     ensures fits { IfOk result (λ delta. All (IsRowOf table.now.definition) (rows_of delta.added.items)) }
 {
     let definition = &table.definition;
-    let tuples = tuples_of(memory, &insertion.terms, &insertion.tuples)?;
-    let added = new_rows(memory, definition, &insertion.columns, tuples)?;
+    let added = new_rows(memory, definition, columns, rows)?;
     match first_fault(definition, &added) {
         Some(refusal) => Err(refusal),
         None => Ok(Delta {
@@ -34,4 +40,15 @@ pub fn insert_tuples(memory: Memory, table: &Table, insertion: &Insertion) -> Re
             added,
         }),
     }
+}
+
+/// The change that adds a row for each tuple, by the values of its expressions: ISO/IEC 9075-2:2011, 14.11. Refused as in `insert_rows`, and,
+/// before all of these, where an evaluation is out of range.
+pub fn insert_tuples(memory: Memory, table: &Table, insertion: &Insertion) -> Result<Delta, Refusal>
+    ensures alters { Alters table.now.id [] (λ m. (inserted table.now.definition insertion.now m).rows)
+        (inserted table.now.definition insertion.now) result }
+    ensures fits { IfOk result (λ delta. All (IsRowOf table.now.definition) (rows_of delta.added.items)) }
+{
+    let tuples = tuples_of(memory, &insertion.terms, &insertion.tuples)?;
+    insert_rows(memory, table, &insertion.columns, tuples)
 }

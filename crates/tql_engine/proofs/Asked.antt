@@ -6,15 +6,13 @@ use Rattle.std.specs.Ordering.{is_gt}
 use Rattle.std.specs.declared.cmp.Ordering.{Ordering}
 use Rattle.std.proofs.lemmas.Int.{ints}
 use Rattle.std.proofs.lemmas.List.Elements.{All-from_recursion, recursion_from_All}
-use Rattle.tql_spec.proofs.Bags.{same-map}
-use Rattle.tql_spec.specs.Bag.{SameBag}
 use Rattle.tql_spec.specs.Words.{listed}
 use Rattle.tql_spec.specs.Calendar.{first_moment, high}
 use Rattle.tql_spec.specs.Datum.{Datum, Moment, Row}
 use Rattle.tql_spec.specs.Definition.{Stamped, Version, System, TableDef, table_at, with_generated, full}
 use Rattle.tql_spec.specs.History.{Copy, Entry, TableEntry, When, Now, AsOf, FromTo, Between, FallingFrom, has_row, has_version, rows_in, table_history, completed, ends_before, still, meets, as_of_from, found_from, found, versions}
 use Rattle.tql_spec.specs.Machine.{State, entries}
-use Rattle.tql_spec.specs.Query.{placed, row_order, in_order}
+use Rattle.tql_spec.specs.Query.{OrderKey, placed, row_order, in_order}
 use Rattle.tql_catalog.specs.Tables.{definitions_of}
 use Rattle.tql_catalog.specs.declared.catalog.Table.{Table}
 use Rattle.tql_catalog.specs.Defined.{IsDefinition}
@@ -23,7 +21,6 @@ use Rattle.tql_expr.proofs.Printing.{generated_prints}
 use Rattle.tql_store.specs.Represents.{seen_by}
 use Rattle.tql_value.specs.Points.{IsPrintable, ArePrintable, IsMoment}
 use Rattle.tql_engine.specs.Fitting.{RowsFit, CopyFits, HistoryFits, WorkingFits}
-use Rattle.tql_engine.specs.Questions.{Answers}
 use Rattle.tql_engine.specs.Stands.{Held, StandsFor, AreSince, IsDated, copies_of, open_moment, working_of}
 use Rattle.tql_engine.proofs.Standing.{some_is, definition_law, defined_law}
 use Rattle.tql_engine.proofs.Copies.{history_found}
@@ -175,14 +172,6 @@ seen_law h s t p f e =
     ∙ seen_copies h.tables s.history s.transaction p.id
     ∙ history_found h.rows h.tables t p f.placed e (entries s)
 
--- what the store answers is what the machine does
-pub asked_law : (h : Held) (s : State) (t : ℕ) (p : Table) (when : When) (found_now : List Version) → StandsFor h s → slice_get h.tables t ≡ Some p
-    → Answers h.rows p.id when found_now → SameBag (map (full p.definition) found_now) (rows_when s t when)
-asked_law h s t p when found_now f e answers =
-    let same : SameBag found_now (versions_found s t when) =
-    subst (λ (es : List TableEntry). SameBag found_now (found when es)) (seen_law h s t p f e) (answers (copies_of h.tables s.history) (working_of h.tables s.transaction) f.stands) in
-    subst (SameBag (map (full p.definition) found_now)) (sym (rows_are h s t p when f e)) (same-map (full p.definition) same)
-
 -- ---- what can be printed
 
 version_prints : (d : TableDef) (v : Version) → VersionFits d v → All IsPrintable (full d v)
@@ -202,13 +191,13 @@ placed_all : (P : Row → Type 0) (R : Row → Row → Ordering) (r : Row) (xs :
 placed_all P R r [] e f = (e, tt)
 placed_all P R r (x ∷ xs) e f = either_all P (is_gt (R r x)) (x ∷ placed R r xs) (r ∷ x ∷ xs) (f.0, placed_all P R r xs e f.1) (e, f)
 
-ordered_all : (P : Row → Type 0) (rows : List Row) → AllByRecursion P rows → AllByRecursion P (in_order [] rows)
-ordered_all P [] e = tt
-ordered_all P (r ∷ rows) e = placed_all P (row_order []) r (in_order [] rows) e.0 (ordered_all P rows e.1)
+ordered_all : (P : Row → Type 0) (keys : List OrderKey) (rows : List Row) → AllByRecursion P rows → AllByRecursion P (in_order keys rows)
+ordered_all P keys [] e = tt
+ordered_all P keys (r ∷ rows) e = placed_all P (row_order keys) r (in_order keys rows) e.0 (ordered_all P keys rows e.1)
 
 -- rows that have texts have them in the printed order
-pub ordered_prints : (rows : List Row) → All (All IsPrintable) rows → ArePrintable (in_order [] rows)
-ordered_prints rows h = All-from_recursion (All IsPrintable) (in_order [] rows) (ordered_all (All IsPrintable) rows (recursion_from_All (All IsPrintable) rows h))
+pub ordered_prints : (keys : List OrderKey) (rows : List Row) → All (All IsPrintable) rows → ArePrintable (in_order keys rows)
+ordered_prints keys rows h = All-from_recursion (All IsPrintable) (in_order keys rows) (ordered_all (All IsPrintable) keys rows (recursion_from_All (All IsPrintable) rows h))
 
 -- the rows that a question finds have texts
 pub found_print : (h : Held) (s : State) (t : ℕ) (p : Table) (when : When) → StandsFor h s → slice_get h.tables t ≡ Some p → All (All IsPrintable) (rows_when s t when)

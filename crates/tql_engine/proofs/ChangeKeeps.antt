@@ -161,7 +161,7 @@ module _ (h : Held) (defs : List TableDef) (es : List Entry) (next : ℤ) where
       replaced_stands h.rows h.tables f.placed t p there c.opened c.changed (copies_of h.tables es) copy next gone removed added fits c.is_open judged1 c.changes opened in
       let from = f.not_before in
       record {
-        fits = record { definitions = f.fits.definitions; defined = f.fits.defined; rows = (replaced_fits h.rows h.tables f.placed t p there next gone added copy from below ok fits, f.fits.rows); working = tt };
+        fits = record { definitions = f.fits.definitions; defined = f.fits.defined; narrow = f.fits.narrow; rows = (replaced_fits h.rows h.tables f.placed t p there next gone added copy from below ok fits, f.fits.rows); working = tt };
         clock = refl;
         not_before = omega (arith, ints);
         not_after = omega (arith, ints);
@@ -208,6 +208,7 @@ module _ (h : Held) (defs : List TableDef) (es : List Entry) (next : ℤ) where
         fits = record {
           definitions = f.fits.definitions;
           defined = f.fits.defined;
+          narrow = f.fits.narrow;
           rows = f.fits.rows;
           working = replaced_fits h.rows h.tables f.placed t p there e.moment gone added e.copy (subst (λ m. first_moment ≤ℤ m) (sym same) from) (subst (λ m. m <ℤ high) (sym same) below) ok f.fits.working;
         };

@@ -17,7 +17,7 @@ use Rattle.tql_store.specs.declared.tables.Place.TheVariants.{Free}
 use Rattle.tql_catalog.specs.Tables.{definitions_of}
 use Rattle.tql_catalog.specs.declared.catalog.Table.{Table}
 use Rattle.tql_catalog.specs.Defined.{IsDefinition}
-use Rattle.tql_engine.specs.Fitting.{CopyFits, HistoryFits, WorkingFits}
+use Rattle.tql_engine.specs.Fitting.{CopyFits, HistoryFits, WorkingFits, IsNarrow}
 use Rattle.tql_engine.specs.Stands.{Held, StandsFor, ArePlaced, IsKept, AreSince, is_free, copies_of, open_moment, working_of}
 use Rattle.tql_engine.proofs.Standing.{closed_law}
 use Rattle.tql_engine.proofs.Copies.{turned, rows_more, fits_length, same_copies, any_working}
@@ -60,9 +60,9 @@ free_more : (id : ℕ) (ps : List Table) (q : Table) → IsTrue (is_free id ps) 
 free_more id [] q f e = ap (λ (b : Bool). not b && true) e
 free_more id (p ∷ ps) q f e = let g = both (not (nat_eq p.id id)) (is_free id ps) f in ap (λ (b : Bool). b && is_free id (ps ++ q ∷ [])) g.0 ∙ free_more id ps q g.1 e
 
-defined_more : (ps : List TableDef) (d : TableDef) → AllByRecursion IsDefinition ps → IsDefinition d → AllByRecursion IsDefinition (ps ++ d ∷ [])
-defined_more [] d a k = (k, tt)
-defined_more (p ∷ ps) d a k = (a.0, defined_more ps d a.1 k)
+all_more : (P : TableDef → Type 0) (ps : List TableDef) (d : TableDef) → AllByRecursion P ps → P d → AllByRecursion P (ps ++ d ∷ [])
+all_more P [] d a k = (k, tt)
+all_more P (p ∷ ps) d a k = (a.0, all_more P ps d a.1 k)
 
 -- a place that is filled is taken, and keeps its history where that is wanted
 taken_for : (b : Bool) → is_taken (place_for b) ≡ true
@@ -111,10 +111,10 @@ module _ (old new : store.Held) (q : Table) (a : AddsTable (is_some q.definition
 
 -- ---- the law
 
-pub create_law : (h : Held) (s : State) (q : Table) (r : store.Held) → StandsFor h s → IsNone h.rows.working → IsDefinition q.definition
+pub create_law : (h : Held) (s : State) (q : Table) (r : store.Held) → StandsFor h s → IsNone h.rows.working → IsDefinition q.definition → IsNarrow q.definition
     → AddsTable (is_some q.definition.system) q.id h.rows r → AddKeepsCopies h.rows r
     → StandsFor (record { tables = h.tables ++ q ∷ []; rows = r; next = h.next }) (with_table q.definition s)
-create_law h s q r f closed right a keeps =
+create_law h s q r f closed right few a keeps =
     let none : s.transaction ≡ None = closed_law h s f closed in
     let idle : r.working ≡ None = a.working ∙ f.opened ∙ ap open_moment none in
     let d : TableDef = q.definition in
@@ -122,7 +122,8 @@ create_law h s q r f closed right a keeps =
     record {
       fits = record {
         definitions = ap (λ (ds : List TableDef). ds ++ d ∷ []) f.fits.definitions ∙ sym more;
-        defined = subst (AllByRecursion IsDefinition) (sym more) (defined_more (definitions_of h.tables) d f.fits.defined right);
+        defined = subst (AllByRecursion IsDefinition) (sym more) (all_more IsDefinition (definitions_of h.tables) d f.fits.defined right);
+        narrow = subst (AllByRecursion IsNarrow) (sym more) (all_more IsNarrow (definitions_of h.tables) d f.fits.narrow few);
         rows = subst (λ (ps : List TableDef). HistoryFits ps (entries_more s.history)) (sym more) (history_fits (definitions_of h.tables) d s.history f.fits.rows);
         working = subst (λ (o : Option Entry). WorkingFits (definitions_of (h.tables ++ q ∷ [])) o) (sym none) tt;
       };

@@ -18,6 +18,7 @@ use Rattle.tql_catalog.specs.Defined.{IsDefinition}
 use Rattle.tql_catalog.specs.Tables.{IsFree, creation_faults}
 use Rattle.tql_catalog.specs.declared.catalog.Table.{Table}
 use Rattle.tql_bind.specs.Bounds.{IsSoundTable}
+use Rattle.tql_engine.specs.Fitting.{IsNarrow}
 use Rattle.tql_engine.specs.Stands.{StandsFor, ArePlaced, rows_of_id, copies_of, working_of}
 use Rattle.tql_engine.proofs.Copies.{passed, same_copies}
 use Rattle.tql_engine.proofs.CreateKeeps.{create_law, other_number, new_kept}
@@ -33,13 +34,13 @@ no_fault defs d k = λ i. first (fault_if (is_some (k.free i)) TableUnknownOrAlr
 
 -- the engine with the new table stands for the state with it
 pub made_law : (s : State) (tables more : List Table) (table : Table) (old new : store.Held) (next : ℤ) (versioned : Bool)
-    → StandsFor (record { tables = tables; rows = old; next = next }) s → IsNone old.working → IsDefinition table.definition
+    → StandsFor (record { tables = tables; rows = old; next = next }) s → IsNone old.working → IsDefinition table.definition → IsNarrow table.definition
     → AddsTable versioned table.id old new → AddKeepsCopies old new → versioned ≡ is_some table.definition.system
     → more ≡ tables ++ table ∷ []
     → StandsFor (record { tables = more; rows = new; next = next }) (with_table table.definition s)
-made_law s tables more table old new next versioned st closed right adds keeps same e =
+made_law s tables more table old new next versioned st closed right few adds keeps same e =
     subst (λ (ts : List Table). StandsFor (record { tables = ts; rows = new; next = next }) (with_table table.definition s)) (sym e)
-    (create_law (record { tables = tables; rows = old; next = next }) s table new st closed right (subst (λ (b : Bool). AddsTable b table.id old new) same adds) keeps)
+    (create_law (record { tables = tables; rows = old; next = next }) s table new st closed right few (subst (λ (b : Bool). AddsTable b table.id old new) same adds) keeps)
 
 -- ---- a number that the store has given out
 

@@ -3,18 +3,15 @@ use Rattle.std.proofs.Common.{◌≡◌, refl, sym, ap, subst, ◌∙◌, arith,
 use Rattle.std.specs.Prelude.{ℤ, pos, ◌≤ℤ◌, ◌<ℤ◌, ◌+ℤ◌, ◌&&◌, int_le, is_some, is_none, IsNone, IsSome, slice_get, if◌then◌else◌}
 use Rattle.std.specs.List.{AllByRecursion}
 use Rattle.std.proofs.lemmas.Int.{ints}
-use Rattle.tql_spec.specs.Bag.{SameBag}
 use Rattle.tql_spec.specs.Calendar.{first_moment, high}
 use Rattle.tql_spec.specs.Datum.{Row}
-use Rattle.tql_spec.specs.Definition.{Name, Stamped, TableDef, Version, full}
+use Rattle.tql_spec.specs.Definition.{Name, Stamped, TableDef}
 use Rattle.tql_spec.specs.History.{Entry, rows_in}
-use Rattle.tql_spec.specs.Query.{answer, in_order}
-use Rattle.tql_spec.specs.QueryLaws.{selected, PlainQueriesSelect, SelectionsKeepNoOrder, SameRows}
+use Rattle.tql_spec.specs.Query.{OrderKey, Query, answer, in_order}
 use Rattle.tql_spec.specs.Change.{Outcome, insert}
 use Rattle.tql_spec.specs.Refusal.{Refusal, NotInThisTransactionState, MomentNotAllowed, ValueOutOfRange, first}
 use Rattle.tql_spec.specs.Machine.{State, Reply, Refused, Done, Table, CreatedTable, DroppedTable, ClockSet, Inserted, Started, Committed, RolledBack, Change, CreateTable, DropTable, SetClock, Start, Commit, Rollback, Alter, Ask, step, altered, unless_refused, is_not_later, is_clock_at_end, with_table, without_table, with_commit, working, asked, bag_of}
-use Rattle.tql_bound.specs.Selections.{when_of, reference_of, selection_of}
-use Rattle.tql_bound.specs.declared.selection.Selection.{Selection}
+use Rattle.tql_exec.specs.Found.{ordered}
 use Rattle.tql_expr.specs.Evaluated.{Fails}
 use Rattle.tql_value.specs.declared.refusal.Refusal as r
 use Rattle.tql_value.specs.declared.refusal.Refusal.TheVariants as variant
@@ -26,13 +23,11 @@ use Rattle.tql_dml.specs.Alters.{tuples_in, inserted}
 use Rattle.tql_store.specs.Held as store
 use Rattle.tql_store.specs.Represents.{BeginCopies, CommitAppends, RollbackRestores}
 use Rattle.tql_engine.specs.Stands.{Held, StandsFor, open_moment}
-use Rattle.tql_engine.specs.Questions.{Answers}
 use Rattle.tql_engine.specs.Committing.{ChangesRows}
 use Rattle.tql_engine.specs.Effects.{Does, Refuses, not_later_than}
 use Rattle.tql_engine.proofs.Faults.{refused, create_step, drop_step, clock_step, start_step, commit_step, rollback_step, alter_step}
 use Rattle.tql_engine.proofs.Standing.{closed_law, open_law, last_law, clock_law, definition_law}
 use Rattle.tql_engine.proofs.Copies.{chosen, passed}
-use Rattle.tql_engine.proofs.Asked.{rows_when, asked_law}
 use Rattle.tql_engine.proofs.Added.{rows_begun, altered_by, insert_outcome, insert_faults}
 use Rattle.tql_engine.proofs.ChangeKeeps.{working_now, working_rows, with_table_rows, begun_at, AreRowsOf, change_law, only_added, none_judged}
 use Rattle.tql_engine.proofs.TransactionKeeps.{begun_law, ended_law, undone_law}
@@ -115,55 +110,31 @@ clock_set h s m st c e low up =
 
 -- ---- SELECT
 
--- what the machine answers
-pub answer_is : PlainQueriesSelect → (s : State) (x : Selection)
-    → (let q = selection_of x in answer (bag_of s) q ≡ selected q.filter q.items (rows_when s x.reference.table (when_of x.reference.when)))
-answer_is plain s x =
-    plain (bag_of s) (selection_of x) (reference_of x.reference) (record { reference = refl; ungrouped = refl; unconditional = refl; all = refl })
+-- rows in order are those of an answer
+asked_table : (s : State) (q : Query) (o : Option (List Row)) (rows : List Row) → ordered q.ordering o ≡ Some rows → asked s q o ≡ (Table q.headings rows, s)
+asked_table s q None rows e = absurd (cc)
+asked_table s q (Some bag) rows e = ap (λ (r : List Row). (Table q.headings r, s)) (inside (in_order q.ordering bag) rows e)
+  where
+    inside : (xs ys : List Row) → Some xs ≡ Some ys → xs ≡ ys
+    inside xs ys e = cc
 
--- what is selected, of rows of one bag
-same_there : (o q : Option (List Row)) (made : List Row) → o ≡ Some made → SameRows o q → (rows : List Row) × ((q ≡ Some rows) × SameBag made rows)
-same_there None q made e k = absurd cc
-same_there (Some xs) None made e k = absurd k
-same_there (Some xs) (Some ys) made e k = let is : xs ≡ made = cc in (ys, (refl, subst (λ (zs : List Row). SameBag zs ys) is k))
+none_ordered : (keys : List OrderKey) (o : Option (List Row)) → ordered keys o ≡ None → o ≡ None
+none_ordered keys None e = refl
+none_ordered keys (Some bag) e = absurd (cc)
 
-none_there_too : (o q : Option (List Row)) → o ≡ None → SameRows o q → q ≡ None
-none_there_too None None e k = refl
-none_there_too None (Some ys) e k = absurd k
-none_there_too (Some xs) q e k = absurd cc
-
-module _ (no_order : SelectionsKeepNoOrder) (plain : PlainQueriesSelect) (h : Held) (s : State) (p : CatalogTable) (x : Selection) (st : StandsFor h s)
-    (there : slice_get h.tables x.reference.table ≡ Some p) (found : List Version) (answers : Answers h.rows p.id (when_of x.reference.when) found) where
-  abbrev of : List Row → Option (List Row)
-  of rows = selected (selection_of x).filter (selection_of x).items rows
-
-  -- the rows that the machine finds
-  abbrev bag : List Row
-  bag = rows_when s x.reference.table (when_of x.reference.when)
-
-  same_selected : SameRows (of (map (full p.definition) found)) (of bag)
-  same_selected =
-      no_order (selection_of x).filter (selection_of x).items (map (full p.definition) found) bag
-      (asked_law h s x.reference.table p (when_of x.reference.when) found st there answers)
-
-  -- the rows selected of those found, sorted, under the headings
-  pub asked_does : (headings : List Name) (made rows : List Row) → of (map (full p.definition) found) ≡ Some made
-      → ((bag : List Row) → SameBag made bag → rows ≡ in_order [] bag) → headings ≡ (selection_of x).headings
-      → Does h (Table headings rows) (step s (Ask (selection_of x)))
-  asked_does headings made rows is sorted heads =
-      let k = same_there (of (map (full p.definition) found)) (of bag) made is same_selected in
-      by_step h (Table headings rows) (step s (Ask (selection_of x))) (Table (selection_of x).headings (in_order [] k.0), s)
-      (ap (asked s (selection_of x)) (answer_is plain s x ∙ k.1.0)) (record { replies = λ i. Table (heads i) (sorted k.0 k.1.1 i); stands = st })
-
-  asked_refused : of (map (full p.definition) found) ≡ None → Does h (Refused ValueOutOfRange) (step s (Ask (selection_of x)))
-  asked_refused is =
-      by_step h (Refused ValueOutOfRange) (step s (Ask (selection_of x))) (refused ValueOutOfRange s)
-      (ap (asked s (selection_of x)) (answer_is plain s x ∙ none_there_too (of (map (full p.definition) found)) (of bag) is same_selected)) (refuses h s ValueOutOfRange st)
+module _ (h : Held) (s : State) (q : Query) (st : StandsFor h s) where
+  -- the rows in order, under the headings
+  pub asked_does : (headings : List Name) (rows : List Row) → ordered q.ordering (answer (bag_of s) q) ≡ Some rows → headings ≡ q.headings → Does h (Table headings rows) (step s (Ask q))
+  asked_does headings rows is heads =
+      by_step h (Table headings rows) (step s (Ask q)) (Table q.headings rows, s) (asked_table s q (answer (bag_of s) q) rows is)
+      (record { replies = λ i. Table (heads i) rows; stands = st })
 
   -- an evaluation is out of range, or there is no memory
-  pub asked_errs : (e : r.Refusal) → Fails (of (map (full p.definition) found)) e → Refuses h s e (step s (Ask (selection_of x)))
+  pub asked_errs : (e : r.Refusal) → Fails (ordered q.ordering (answer (bag_of s) q)) e → Refuses h s e (step s (Ask q))
   asked_errs variant.OutOfMemory f = st
-  asked_errs variant.ValueOutOfRange f = asked_refused f
+  asked_errs variant.ValueOutOfRange f =
+      by_step h (Refused ValueOutOfRange) (step s (Ask q)) (refused ValueOutOfRange s)
+      (ap (asked s q) (none_ordered q.ordering (answer (bag_of s) q) f)) (refuses h s ValueOutOfRange st)
   asked_errs _ f = absurd f
 
 -- ---- changes

@@ -18,7 +18,7 @@ use Rattle.tql_store.specs.declared.tables.Place.TheVariants.{Free}
 use Rattle.tql_catalog.specs.Tables.{definitions_of}
 use Rattle.tql_catalog.specs.declared.catalog.Table.{Table}
 use Rattle.tql_catalog.specs.Defined.{IsDefinition}
-use Rattle.tql_engine.specs.Fitting.{CopyFits, HistoryFits, WorkingFits}
+use Rattle.tql_engine.specs.Fitting.{CopyFits, HistoryFits, WorkingFits, IsNarrow}
 use Rattle.tql_engine.specs.Stands.{Held, StandsFor, ArePlaced, IsKept, AreSince, is_free, rows_of_id, copies_of, open_moment, working_of}
 use Rattle.tql_engine.proofs.Standing.{closed_law, some_is}
 use Rattle.tql_engine.proofs.Copies.{chosen, passed, turned, apart, not_true, fits_length, same_copies, any_working}
@@ -90,11 +90,11 @@ definitions_less [] (suc t) = refl
 definitions_less (p ∷ ps) zero = refl
 definitions_less (p ∷ ps) (suc t) = ap (λ (ds : List TableDef). p.definition ∷ ds) (definitions_less ps t)
 
-defined_less : (ds : List TableDef) (t : ℕ) → AllByRecursion IsDefinition ds → AllByRecursion IsDefinition (remove ds t)
-defined_less [] zero a = tt
-defined_less [] (suc t) a = tt
-defined_less (d ∷ ds) zero a = a.1
-defined_less (d ∷ ds) (suc t) a = (a.0, defined_less ds t a.1)
+all_less : (P : TableDef → Type 0) (ds : List TableDef) (t : ℕ) → AllByRecursion P ds → AllByRecursion P (remove ds t)
+all_less P [] zero a = tt
+all_less P [] (suc t) a = tt
+all_less P (d ∷ ds) zero a = a.1
+all_less P (d ∷ ds) (suc t) a = (a.0, all_less P ds t a.1)
 
 free_less : (id : ℕ) (ps : List Table) (t : ℕ) → IsTrue (is_free id ps) → IsTrue (is_free id (remove ps t))
 free_less id [] zero f = f
@@ -163,7 +163,8 @@ drop_law h s t p tables r f closed there left places count same_working copies =
     (record {
       fits = record {
         definitions = ap (λ (ds : List TableDef). remove ds t) f.fits.definitions ∙ sym less;
-        defined = subst (AllByRecursion IsDefinition) (sym less) (defined_less (definitions_of h.tables) t f.fits.defined);
+        defined = subst (AllByRecursion IsDefinition) (sym less) (all_less IsDefinition (definitions_of h.tables) t f.fits.defined);
+        narrow = subst (AllByRecursion IsNarrow) (sym less) (all_less IsNarrow (definitions_of h.tables) t f.fits.narrow);
         rows = subst (λ (ds : List TableDef). HistoryFits ds (entries_less t s.history)) (sym less) (history_fits (definitions_of h.tables) t s.history f.fits.rows);
         working = subst (λ (o : Option Entry). WorkingFits (definitions_of (remove h.tables t)) o) (sym none) tt;
       };

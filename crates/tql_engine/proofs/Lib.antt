@@ -7,12 +7,14 @@ pub mod Creating
 pub mod Doing
 pub mod DropKeeps
 pub mod Faults
+pub mod Finding
 pub mod Inserting
 pub mod LaterLemmas
 pub mod Modified
 pub mod Modifying
 pub mod MomentFits
 pub mod Printing
+pub mod QueryInserting
 pub mod Standing
 pub mod Swapping
 pub mod TransactionKeeps

@@ -1,34 +1,36 @@
 -- Every reply to a bound statement has a text.
-use Rattle.std.proofs.Common.{◌≡◌, ◌<◌, ℕ, zero, suc, sym, subst, arith, List, [], ◌∷◌, ◌++◌, map, length, Option, Some, None, Result, Ok, Err, refl}
-use Rattle.std.specs.Prelude.{IfOk, slice_get, slice_set}
+use Rattle.std.proofs.Common.{◌≡◌, ◌<◌, ℕ, sym, subst, arith, Bool, true, false, List, [], ◌++◌, map, length, Option, Some, None, Result, Ok, Err, refl}
+use Rattle.std.specs.Prelude.{All, IfOk, nat_lt, slice_set, if◌then◌else◌}
+use Rattle.std.proofs.lemmas.Bool.Decides.{nat_tests}
+use Rattle.std.proofs.lemmas.List.Elements.{All-nil}
 use Rattle.tql_spec.specs.Datum.{Row}
 use Rattle.tql_spec.specs.History.{Copy, Entry}
-use Rattle.tql_spec.specs.Query.{answer}
-use Rattle.tql_spec.specs.QueryLaws.{PlainQueriesSelect}
+use Rattle.tql_spec.specs.Query.{OrderKey, Query, Ref, answer, in_order}
 use Rattle.tql_spec.specs.Refusal as faults
 use Rattle.tql_spec.specs.Refusal.{first}
 use Rattle.tql_spec.specs.Change as change
 use Rattle.tql_spec.specs.Machine as machine
 use Rattle.tql_spec.specs.Machine.{State, Done, unless_refused, effect, step, altered, outcome, changed_table, verb_of, working, with_working, constraint_faults, state_faults, manner_of, asked, bag_of}
+use Rattle.tql_value.specs.Points.{ArePrintable, IsPrintable}
 use Rattle.tql_value.specs.declared.refusal.Refusal.{Refusal}
 use Rattle.tql_result.specs.Replies.{IsPrintableReply, reply_of}
 use Rattle.tql_result.specs.declared.reply.Reply.{Reply}
 use Rattle.tql_bind.specs.Bounds.{IsSound, bound_of}
-use Rattle.tql_bound.specs.Selections.{when_of, selection_of}
-use Rattle.tql_bound.specs.declared.selection.Reference.{Reference}
-use Rattle.tql_bound.specs.declared.selection.Selection.{Selection}
-use Rattle.tql_expr.specs.Meaning.{cond}
-use Rattle.tql_expr.proofs.Printing.{RowsPrint}
-use Rattle.tql_selection.proofs.Printing.{selected_prints}
-use Rattle.tql_bound.specs.Changes.{insertion_of, modification_of}
+use Rattle.tql_bind.specs.Placed.{IsPlacedQuery, IsPlacedRef}
 use Rattle.tql_bind.specs.declared.bound.Bound.{Bound}
 use Rattle.tql_bind.specs.declared.bound.Bound.TheVariants as b
+use Rattle.tql_bound.specs.Changes.{insertion_of, modification_of, query_insertion_of}
+use Rattle.tql_bound.specs.Questions.{question_of}
+use Rattle.tql_bound.specs.declared.question.Question.{Question}
+use Rattle.tql_expr.proofs.Printing.{RowsPrint}
+use Rattle.tql_expr.proofs.QueryPrinting.{AllPrint, answers_print, items_literals}
+use Rattle.tql_exec.specs.Found.{ordered}
 use Rattle.tql_catalog.specs.Tables.{definitions_of}
-use Rattle.tql_catalog.specs.declared.catalog.Table.{Table}
 use Rattle.tql_engine.specs.Stands.{Held, StandsFor}
 use Rattle.tql_engine.specs.Effects.{DoesStep}
-use Rattle.tql_engine.proofs.Asked.{rows_when, found_print, ordered_prints}
-use Rattle.tql_engine.proofs.Doing.{answer_is}
+use Rattle.tql_engine.proofs.Asked.{found_print, ordered_prints}
+use Rattle.tql_engine.proofs.Copies.{chosen}
+use Rattle.tql_engine.proofs.Finding.{answer_same, table_there}
 
 -- the reply of a step has a text
 abbrev Prints : machine.Reply × State → Type 0
@@ -48,38 +50,65 @@ altered_prints s c =
     let copy : Copy = slice_set e.copy (changed_table c) o.rows in
     unless_prints (first (o.faults ++ constraint_faults s.definitions copy)) s (Done (verb_of c) (Some o.count)) (with_working s s.transaction (record { moment = e.moment; copy = copy })) tt
 
--- the table at a place
-there_is : (ps : List Table) (t : ℕ) → t < length (definitions_of ps) → (p : Table) × (slice_get ps t ≡ Some p)
-there_is [] t h = absurd (omega (arith, h))
-there_is (p ∷ ps) zero h = (p, refl)
-there_is (p ∷ ps) (suc t) h = there_is ps t (omega (arith, h))
+-- ---- what a query answers
+
+-- what each reference finds, and nothing where no table is
+abbrev bag_there : State → ℕ → Ref → List Row
+bag_there s n r = if nat_lt r.table n then bag_of s r else []
+
+there_prints : (h : Held) (s : State) → StandsFor h s → (r : Ref) → AllPrint (bag_there s (length (definitions_of h.tables)) r)
+there_prints h s st r = by_place (nat_lt r.table (length (definitions_of h.tables))) refl
+  where
+    below : (n m : ℕ) → nat_lt n m ≡ true → n < m
+    below n m e = grind (arith, nat_tests)
+
+    by_place : (b : Bool) → nat_lt r.table (length (definitions_of h.tables)) ≡ b → AllPrint (if b then bag_of s r else [])
+    by_place true e =
+        let p = table_there h.tables r.table (below r.table (length (definitions_of h.tables)) e) in
+        found_print h s r.table p.0 r.when st p.1
+    by_place false e = All-nil (All IsPrintable)
+
+same_there : (h : Held) (s : State) (r : Ref) → IsPlacedRef (definitions_of h.tables) r → bag_there s (length (definitions_of h.tables)) r ≡ bag_of s r
+same_there h s r placed = chosen (nat_lt r.table (length (definitions_of h.tables))) (bag_of s r) [] (is_below r.table (length (definitions_of h.tables)) placed.table)
+  where
+    is_below : (n m : ℕ) → n < m → nat_lt n m ≡ true
+    is_below n m h = grind (arith, nat_tests)
+
+-- its rows have texts
+pub answer_prints : (h : Held) (s : State) (x : Question) → StandsFor h s → IsPlacedQuery (definitions_of h.tables) (question_of x) → RowsPrint (answer (bag_of s) (question_of x))
+answer_prints h s x st placed =
+    subst RowsPrint (answer_same (definitions_of h.tables) (bag_there s (length (definitions_of h.tables))) (bag_of s) (same_there h s) (question_of x) placed.references)
+    (answers_print (bag_there s (length (definitions_of h.tables))) (question_of x) (there_prints h s st) (items_literals x.terms x.items.items))
+
+-- so have they in any order
+pub rows_print : (keys : List OrderKey) (o : Option (List Row)) (rows : List Row) → RowsPrint o → ordered keys o ≡ Some rows → ArePrintable rows
+rows_print keys None rows k e = absurd (cc)
+rows_print keys (Some bag) rows k e = subst ArePrintable (inside (in_order keys bag) rows e) (ordered_prints keys bag k)
+  where
+    inside : (xs ys : List Row) → Some xs ≡ Some ys → xs ≡ ys
+    inside xs ys e = cc
 
 -- what a question answers has one
-asked_prints : (s : State) (x : Selection) (o : Option (List Row)) → RowsPrint o → Prints (asked s (selection_of x) o)
-asked_prints s x None k = tt
-asked_prints s x (Some rows) k = ordered_prints rows k
+asked_prints : (s : State) (q : Query) (o : Option (List Row)) → RowsPrint o → Prints (asked s q o)
+asked_prints s q None k = tt
+asked_prints s q (Some rows) k = ordered_prints q.ordering rows k
 
 -- the machine's reply has one
-step_prints : PlainQueriesSelect → (h : Held) (s : State) → StandsFor h s → (x : Bound) → IsSound (definitions_of h.tables) x → Prints (step s (bound_of x))
-step_prints plain h s st (b.CreateTable d) k = by_effect s (bound_of (b.CreateTable d)) tt
-step_prints plain h s st (b.DropTable t) k = by_effect s (bound_of (b.DropTable t)) tt
-step_prints plain h s st (b.Insert x) k = by_effect s (bound_of (b.Insert x)) (altered_prints s (insertion_of x))
-step_prints plain h s st (b.Modify x) k = by_effect s (bound_of (b.Modify x)) (altered_prints s (modification_of x))
-step_prints plain h s st (b.Ask x) k =
-    let r : Reference = x.reference in
-    let p = there_is h.tables r.table k.table in
-    let rows : List Row = rows_when s r.table (when_of r.when) in
-    by_effect s (machine.Ask (selection_of x))
-    (asked_prints s x (answer (bag_of s) (selection_of x))
-    (subst RowsPrint (sym (answer_is plain s x))
-    (selected_prints x.terms x.items.items (map (cond x.terms) x.conjuncts.items) rows (found_print h s r.table p.0 (when_of r.when) st p.1))))
-step_prints plain h s st (b.SetClock m) k = by_effect s (bound_of (b.SetClock m)) tt
-step_prints plain h s st b.Start k = by_effect s machine.Start tt
-step_prints plain h s st b.Commit k = by_effect s machine.Commit tt
-step_prints plain h s st b.Rollback k = by_effect s machine.Rollback tt
+step_prints : (h : Held) (s : State) → StandsFor h s → (x : Bound) → IsSound (definitions_of h.tables) x → Prints (step s (bound_of x))
+step_prints h s st (b.CreateTable d) k = by_effect s (bound_of (b.CreateTable d)) tt
+step_prints h s st (b.DropTable t) k = by_effect s (bound_of (b.DropTable t)) tt
+step_prints h s st (b.Insert x) k = by_effect s (bound_of (b.Insert x)) (altered_prints s (insertion_of x))
+step_prints h s st (b.InsertFrom x) k = by_effect s (bound_of (b.InsertFrom x)) (altered_prints s (query_insertion_of x))
+step_prints h s st (b.Modify x) k = by_effect s (bound_of (b.Modify x)) (altered_prints s (modification_of x))
+step_prints h s st (b.Ask x) k =
+    by_effect s (machine.Ask (question_of x)) (asked_prints s (question_of x) (answer (bag_of s) (question_of x)) (answer_prints h s x st k))
+step_prints h s st (b.SetClock m) k = by_effect s (bound_of (b.SetClock m)) tt
+step_prints h s st b.Start k = by_effect s machine.Start tt
+step_prints h s st b.Commit k = by_effect s machine.Commit tt
+step_prints h s st b.Rollback k = by_effect s machine.Rollback tt
 
 -- so has the engine's
-pub does_print : PlainQueriesSelect → (old new : Held) (s : State) → StandsFor old s → (x : Bound) → IsSound (definitions_of old.tables) x → (result : Result Reply Refusal)
+pub does_print : (old new : Held) (s : State) → StandsFor old s → (x : Bound) → IsSound (definitions_of old.tables) x → (result : Result Reply Refusal)
     → DoesStep new s result (step s (bound_of x)) → IfOk result (λ reply. IsPrintableReply (reply_of reply))
-does_print plain old new s st x k (Ok reply) d = subst IsPrintableReply (sym d.replies) (step_prints plain old s st x k)
-does_print plain old new s st x k (Err e) d = tt
+does_print old new s st x k (Ok reply) d = subst IsPrintableReply (sym d.replies) (step_prints old s st x k)
+does_print old new s st x k (Err e) d = tt

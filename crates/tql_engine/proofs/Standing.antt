@@ -25,7 +25,7 @@ use Rattle.tql_engine.specs.Stands.{Held, StandsFor, ArePlaced, IsKept, IsDated,
 pub new_law : (r : store.Held) → Represents r (λ t. []) (λ t. []) → r.working ≡ None → table_count r ≡ 0
     → StandsFor (record { tables = []; rows = r; next = first_moment }) new_state
 new_law r stands idle count = record {
-  fits = record { definitions = refl; defined = tt; rows = tt; working = tt };
+  fits = record { definitions = refl; defined = tt; narrow = tt; rows = tt; working = tt };
   clock = refl;
   not_before = omega (arith, ints);
   not_after = omega (arith, ints);
@@ -72,7 +72,7 @@ falls_below n m (x ∷ older) f e = (grind (arith, ints), f.1)
 pub clock_law : (h : Held) (s : State) (m : ℤ) → StandsFor h s → IsNone h.rows.working → is_not_later m s.history ≡ false → first_moment ≤ℤ m → m ≤ℤ high
     → StandsFor (record h { next = m }) (record s { next = m })
 clock_law h s m f closed later from until = record {
-  fits = record { definitions = f.fits.definitions; defined = f.fits.defined; rows = f.fits.rows; working = f.fits.working };
+  fits = record { definitions = f.fits.definitions; defined = f.fits.defined; narrow = f.fits.narrow; rows = f.fits.rows; working = f.fits.working };
   clock = refl;
   not_before = from;
   not_after = until;

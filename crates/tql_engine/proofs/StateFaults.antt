@@ -62,6 +62,7 @@ pub allowed_law : (h : Held) (s : State) (x : Bound) → StandsFor h s → first
 allowed_law h s (b.CreateTable d) st k = idle h s st (no_fault (is_some s.transaction) NotInThisTransactionState k)
 allowed_law h s (b.DropTable t) st k = idle h s st (no_fault (is_some s.transaction) NotInThisTransactionState k)
 allowed_law h s (b.Insert x) st k = dated h s st k
+allowed_law h s (b.InsertFrom x) st k = dated h s st k
 allowed_law h s (b.Modify x) st k = dated h s st k
 allowed_law h s (b.Ask q) st k = tt
 allowed_law h s (b.SetClock m) st k = idle h s st (no_fault (is_some s.transaction) NotInThisTransactionState k)

@@ -116,7 +116,7 @@ module _ (h : Held) (t : ℕ) (p : Table) (there : slice_get h.tables t ≡ Some
   swapped_by defs es next None fits f =
       let copy : Copy = newest_copy defs es in
       record {
-        fits = record { definitions = f.fits.definitions; defined = f.fits.defined; rows = (set_fits h.tables t p there copy fits ys ok, f.fits.rows.1); working = f.fits.working };
+        fits = record { definitions = f.fits.definitions; defined = f.fits.defined; narrow = f.fits.narrow; rows = (set_fits h.tables t p there copy fits ys ok, f.fits.rows.1); working = f.fits.working };
         clock = f.clock;
         not_before = f.not_before;
         not_after = f.not_after;
@@ -130,7 +130,7 @@ module _ (h : Held) (t : ℕ) (p : Table) (there : slice_get h.tables t ≡ Some
         count = f.count;
       }
   swapped_by defs es next (Some e) fits f = record {
-    fits = record { definitions = f.fits.definitions; defined = f.fits.defined; rows = f.fits.rows; working = set_fits h.tables t p there e.copy fits ys ok };
+    fits = record { definitions = f.fits.definitions; defined = f.fits.defined; narrow = f.fits.narrow; rows = f.fits.rows; working = set_fits h.tables t p there e.copy fits ys ok };
     clock = f.clock;
     not_before = f.not_before;
     not_after = f.not_after;

@@ -28,6 +28,7 @@ module _ (h : Held) (defs : List TableDef) (es : List Entry) (next : ℤ) (r : s
     fits = record {
       definitions = f.fits.definitions;
       defined = f.fits.defined;
+      narrow = f.fits.narrow;
       rows = f.fits.rows;
       working = last_fits (definitions_of h.tables) defs es f.fits.definitions f.fits.rows;
     };
@@ -50,7 +51,7 @@ module _ (h : Held) (defs : List TableDef) (es : List Entry) (next : ℤ) (r : s
       let low : first_moment ≤ℤ e.moment = subst (λ m. first_moment ≤ℤ m) (sym same) f.not_before in
       let below : e.moment <ℤ high = subst (λ m. m <ℤ high) (sym same) f.dated.1 in
       record {
-        fits = record { definitions = f.fits.definitions; defined = f.fits.defined; rows = (f.fits.working, f.fits.rows); working = tt };
+        fits = record { definitions = f.fits.definitions; defined = f.fits.defined; narrow = f.fits.narrow; rows = (f.fits.working, f.fits.rows); working = tt };
         clock = ap (λ m. m +ℤ pos 1) (sym same);
         not_before = omega (arith, ints);
         not_after = omega (arith, ints);
@@ -67,7 +68,7 @@ module _ (h : Held) (defs : List TableDef) (es : List Entry) (next : ℤ) (r : s
   -- undone
   undone : (e : Entry) → StandsFor h (within e) → RollbackRestores h.rows r → r.working ≡ None → StandsFor (record h { rows = r }) idle
   undone e f restores is_idle = record {
-    fits = record { definitions = f.fits.definitions; defined = f.fits.defined; rows = f.fits.rows; working = tt };
+    fits = record { definitions = f.fits.definitions; defined = f.fits.defined; narrow = f.fits.narrow; rows = f.fits.rows; working = tt };
     clock = f.clock;
     not_before = f.not_before;
     not_after = f.not_after;

@@ -2,7 +2,7 @@
 use Rattle.std.specs.Prelude.{◌<ℤ◌, IsNone}
 use Rattle.tql_spec.specs.Calendar.{high}
 use Rattle.tql_bind.specs.declared.bound.Bound.{Bound}
-use Rattle.tql_bind.specs.declared.bound.Bound.TheVariants.{CreateTable, DropTable, Insert, Modify, Ask, SetClock, Start, Commit, Rollback}
+use Rattle.tql_bind.specs.declared.bound.Bound.TheVariants.{CreateTable, DropTable, Insert, InsertFrom, Modify, Ask, SetClock, Start, Commit, Rollback}
 use Rattle.tql_engine.specs.Stands.{Held}
 
 -- no transaction is open
@@ -18,6 +18,7 @@ abbrev pub IsAllowed : Held → Bound → Type 0
 IsAllowed h (CreateTable d) = IsIdle h
 IsAllowed h (DropTable t) = IsIdle h
 IsAllowed h (Insert x) = IsIdle h → HasTimeLeft h
+IsAllowed h (InsertFrom x) = IsIdle h → HasTimeLeft h
 IsAllowed h (Modify x) = IsIdle h → HasTimeLeft h
 IsAllowed h (Ask q) = Unit {0}
 IsAllowed h (SetClock m) = IsIdle h

@@ -1,5 +1,5 @@
 -- Rows that fit the tables of a state, in each of its copies.
-use Rattle.std.specs.Prelude.{◌≡◌, ◌≤ℤ◌, ◌<ℤ◌, List, [], ◌∷◌, Option, Some, None}
+use Rattle.std.specs.Prelude.{◌≡◌, ◌≤◌, ◌≤ℤ◌, ◌<ℤ◌, List, [], ◌∷◌, length, Option, Some, None}
 use Rattle.std.specs.List.{AllByRecursion}
 use Rattle.tql_spec.specs.Calendar.{first_moment, high}
 use Rattle.tql_spec.specs.Definition.{TableDef, Stamped}
@@ -34,9 +34,14 @@ abbrev pub WorkingFits : List TableDef → Option Entry → Type 0
 WorkingFits ds None = Unit {0}
 WorkingFits ds (Some e) = CopyFits ds e.copy
 
--- the state has these tables, each of a right definition, and rows that fit them
+-- a table of at most 64 columns
+abbrev pub IsNarrow : TableDef → Type 0
+IsNarrow d = length d.columns ≤ 64
+
+-- the state has these tables, each of a right definition and not too wide, and rows that fit them
 pub record StateFits (ds : List TableDef) (s : State) : Type 0 where
   pub definitions : s.definitions ≡ ds
   pub defined : AllByRecursion IsDefinition ds
+  pub narrow : AllByRecursion IsNarrow ds
   pub rows : HistoryFits ds s.history
   pub working : WorkingFits ds s.transaction

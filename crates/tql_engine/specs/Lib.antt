@@ -1,9 +1,9 @@
+pub mod Adding
 pub mod Fitting
 pub mod Stands
 pub mod Effects
 pub mod Allowed
 pub mod Committing
-pub mod Questions
 pub mod Sense
 pub mod Bytes
 pub mod Modifying

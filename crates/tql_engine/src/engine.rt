@@ -1,4 +1,4 @@
-ghost use Rattle.std.specs.Prelude.{◌≡◌, ◌<◌, length, slice_get, IfOk, IsTrue, Some};
+ghost use Rattle.std.specs.Prelude.{◌≡◌, ◌<◌, length, slice_get, IfOk, IsFalse, IsTrue, Some};
 
 mod changes;
 mod clock;
@@ -18,7 +18,6 @@ use tql_memory::Memory;
 use tql_result::answer::Answer;
 use tql_result::reply::Reply;
 use tql_run::responder::Responder;
-use tql_spec::plain_queries_select;
 use tql_tree::statement::Statement;
 use tql_value::calendar::FIRST_MOMENT;
 use tql_value::refusal::Refusal;
@@ -64,6 +63,7 @@ impl Engine {
     ghost use Rattle.tql_spec.specs.Machine.{State, new_state, step};
     ghost use Rattle.tql_spec.specs.Run.{Answers, finished, respond};
     ghost use Rattle.tql_spec.specs.Running.{does_run};
+    ghost use Rattle.tql_spec.specs.Syntax.{is_too_wide};
     ghost use Rattle.tql_tree.specs.Statements.{statement_of};
     ghost use Rattle.tql_run.specs.Responding.{Answered};
     ghost use Rattle.tql_bind.specs.Bounds.{IsSound, bound_of};
@@ -104,8 +104,9 @@ impl Engine {
             Bound::CreateTable(definition) => self.create(definition),
             Bound::DropTable(place) => Ok(self.drop_table(place)),
             Bound::Insert(insertion) => self.insert(&insertion),
+            Bound::InsertFrom(insertion) => self.insert_from(&insertion),
             Bound::Modify(modification) => self.modify(&modification),
-            Bound::Ask(selection) => self.ask(&selection),
+            Bound::Ask(question) => self.ask(&question),
             Bound::SetClock(moment) => self.at(moment),
             Bound::Start => Ok(self.start()),
             Bound::Commit => self.commit(),
@@ -115,11 +116,11 @@ impl Engine {
 
     /// Runs a statement. A refused statement changes nothing.
     pub(crate) fn execute(&mut self, statement: &Statement<'_>) -> Result<Reply, Refusal>
-        requires { IsTrue (does_run (statement_of statement.now)) }
+        requires runs { IsTrue (does_run (statement_of statement.now)) }
+        requires narrow { IsFalse (is_too_wide (statement_of statement.now)) }
         ensures answered { (s : State) → StandsFor self.old s → DoesStep self.new s result (respond s (statement_of statement.now)) }
         ensures printable { IfOk result (λ reply. IsPrintableReply (reply_of reply)) }
     {
-        plain_queries_select();
         if let Some(fault) = self.state_fault(statement) {
             return Err(fault);
         }

@@ -3,8 +3,6 @@
 
 mod committing;
 pub mod engine;
-mod order;
 pub mod runner;
 mod sense;
 mod store;
-mod when;

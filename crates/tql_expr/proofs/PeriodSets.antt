@@ -1,12 +1,12 @@
 -- Relations of periods that are given by expressions, as sets of points.
-use Rattle.std.specs.Prelude.{◌≡◌, ◌↔◌, refl, IsTrue, ℤ, List, Option, Some}
-use Rattle.std.proofs.Common.{sym, ap, subst, ◌∙◌}
+use Rattle.std.specs.Prelude.{◌≡◌, ◌↔◌, ℤ, List, Option, Some}
+use Rattle.std.proofs.Common.{ap, ◌∙◌}
 use Rattle.tql_spec.specs.Words.{◌>>=◌}
 use Rattle.tql_spec.specs.Truth.{Truth, True}
 use Rattle.tql_spec.specs.Datum.{Datum, Row}
-use Rattle.tql_spec.specs.Expression.{Expr, Cond, Related, ContainsPoint, eval, judge}
-use Rattle.tql_spec.specs.Period.{Period, Relation, Holds, rises, ends, OnSets, predicate, contains_point, FormulasAreSets, PointFormulaIsSet}
-use Rattle.tql_expr.specs.Sets.{AreEndsOf, SaysOfPeriods, SaysOfHolding}
+use Rattle.tql_spec.specs.Expression.{Cond, Related, ContainsPoint, judge}
+use Rattle.tql_spec.specs.Period.{Relation, Holds, ends, OnSets, predicate, contains_point, FormulasAreSets, PointFormulaIsSet}
+use Rattle.tql_expr.specs.Sets.{SaysOfPeriods, SaysOfHolding}
 
 -- what four values give, and three
 abbrev four_values : Relation → Option Datum → Option Datum → Option Datum → Option Datum → Option Truth

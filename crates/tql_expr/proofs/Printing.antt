@@ -25,16 +25,16 @@ printable_cell (v ∷ vs) (suc i) h = printable_cell vs i (All-tail IsPrintable 
 -- ---- expressions of a statement
 
 -- a value that stands in an expression by itself has a text
-abbrev Prints : tree.Expr → Type 0
+abbrev pub Prints : tree.Expr → Type 0
 Prints (tree.Literal v) = IsPrintable v
 Prints _ = ⊤
 
-literal_prints : (vs : List Value) (k : ℕ) → All (λ v. IsPrintable (datum_of_value v)) vs → IsPrintable (datum_at vs k)
+pub literal_prints : (vs : List Value) (k : ℕ) → All (λ v. IsPrintable (datum_of_value v)) vs → IsPrintable (datum_at vs k)
 literal_prints [] k h = tt
 literal_prints (v ∷ vs) zero h = All-head (λ w. IsPrintable (datum_of_value w)) v vs h
 literal_prints (v ∷ vs) (suc k) h = literal_prints vs k (All-tail (λ w. IsPrintable (datum_of_value w)) v vs h)
 
-node_prints : (lit : ℕ → Datum) (at : ℕ → Term) (n : Node) → ((k : ℕ) → IsPrintable (lit k)) → Prints (expr_of (node_term lit at n))
+pub node_prints : (lit : ℕ → Datum) (at : ℕ → Term) (n : Node) → ((k : ℕ) → IsPrintable (lit k)) → Prints (expr_of (node_term lit at n))
 node_prints lit at (Literal k) h = h k
 node_prints lit at _ h = tt
 
@@ -45,7 +45,7 @@ terms_print lit done (n ∷ ns) h d =
     let t = node_term lit (term_in done) n in
     terms_print lit (done ++ t ∷ []) ns h (All-push (λ t. Prints (expr_of t)) done t d (node_prints lit (term_in done) n h))
 
-term_prints : (ts : List Term) (k : ℕ) → All (λ t. Prints (expr_of t)) ts → Prints (expr_of (term_in ts k))
+pub term_prints : (ts : List Term) (k : ℕ) → All (λ t. Prints (expr_of t)) ts → Prints (expr_of (term_in ts k))
 term_prints [] k h = tt
 term_prints (t ∷ ts) zero h = All-head (λ t. Prints (expr_of t)) t ts h
 term_prints (t ∷ ts) (suc k) h = term_prints ts k (All-tail (λ t. Prints (expr_of t)) t ts h)
@@ -62,11 +62,11 @@ abbrev pub OptionPrints : Option Datum → Type 0
 OptionPrints None = ⊤
 OptionPrints (Some v) = IsPrintable v
 
-if_prints : (b : Bool) (o : Option Datum) → OptionPrints o → OptionPrints (if b then o else None)
+pub if_prints : (b : Bool) (o : Option Datum) → OptionPrints o → OptionPrints (if b then o else None)
 if_prints true o h = h
 if_prints false o h = tt
 
-calculated_prints : (op : Operation) (x y : Datum) → OptionPrints (calculate op x y)
+pub calculated_prints : (op : Operation) (x y : Datum) → OptionPrints (calculate op x y)
 calculated_prints op (Int a) (Int b) = if_prints (fits (result_of op a b)) (Some (Int (result_of op a b))) tt
 calculated_prints op _ _ = tt
 
@@ -76,11 +76,11 @@ aggregate_prints tree.Sum = tt
 aggregate_prints tree.Min = tt
 aggregate_prints tree.Max = tt
 
-negated_prints : (o : Option Datum) → OptionPrints (o >>= λ v. calculate Minus (Int (pos 0)) v)
+pub negated_prints : (o : Option Datum) → OptionPrints (o >>= λ v. calculate Minus (Int (pos 0)) v)
 negated_prints None = tt
 negated_prints (Some v) = calculated_prints Minus (Int (pos 0)) v
 
-binary_prints : (op : Operation) (o p : Option Datum) → OptionPrints (o >>= λ x. p >>= λ y. calculate op x y)
+pub binary_prints : (op : Operation) (o p : Option Datum) → OptionPrints (o >>= λ x. p >>= λ y. calculate op x y)
 binary_prints op None p = tt
 binary_prints op (Some x) None = tt
 binary_prints op (Some x) (Some y) = calculated_prints op x y
@@ -104,7 +104,7 @@ abbrev pub RowsPrint : Option (List Row) → Type 0
 RowsPrint None = ⊤
 RowsPrint (Some rows) = All (All IsPrintable) rows
 
-front_prints : (o : Option Datum) (rest : Option Row) → OptionPrints o → RowPrints rest → RowPrints (with_front o rest)
+pub front_prints : (o : Option Datum) (rest : Option Row) → OptionPrints o → RowPrints rest → RowPrints (with_front o rest)
 front_prints None rest h k = tt
 front_prints (Some v) None h k = tt
 front_prints (Some v) (Some row) h k = All-append IsPrintable (v ∷ []) row (All-push IsPrintable [] v (All-nil IsPrintable) h) k

@@ -26,7 +26,7 @@ pub trait Columns {
         ensures { datum_of_view result ≡ slice_index_or (values self.now) place pure.Null };
 
     /// What an aggregate of the terms gives over the rows of the group; `Range` where a number inside leaves 64 bits.
-    fn aggregate(&self, terms: &Terms, which: Aggregate) -> Result<View<'_>, Range>
+    fn aggregate<'a>(&'a self, terms: &'a Terms, which: Aggregate) -> Result<View<'a>, Range>
         requires { HasOperand terms.now which }
         ensures { outcome result ≡ tree.eval (group self.now) (values self.now) (tree_of terms.now which) };
 }

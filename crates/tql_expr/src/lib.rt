@@ -9,5 +9,6 @@ pub mod node;
 pub mod row;
 pub mod safety;
 pub mod scalar;
+pub mod search;
 pub mod terms;
 pub mod values;

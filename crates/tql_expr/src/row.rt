@@ -28,8 +28,9 @@ fn cell_at(cells: &[Value], place: usize) -> View<'_>
     }
 }
 
-/// An aggregate over no rows.
-fn over_no_rows<'a>(terms: &Terms, which: Aggregate) -> Result<View<'a>, Range>
+/// What an aggregate of the terms gives over no rows: 0 where it counts, and else NULL (ISO/IEC 9075-2:2011, 10.9
+/// `<aggregate function>`). It is never out of range.
+pub fn over_no_rows<'a>(terms: &Terms, which: Aggregate) -> Result<View<'a>, Range>
     requires { HasOperand terms.now which }
     ensures { (row : pure.Row) → outcome result ≡ tree.eval [] row (tree_of terms.now which) }
 {
@@ -91,7 +92,7 @@ impl Columns for Row {
         cell_at(self.cells.as_slice(), place)
     }
 
-    fn aggregate(&self, terms: &Terms, which: Aggregate) -> Result<View<'_>, Range> {
+    fn aggregate<'a>(&'a self, terms: &'a Terms, which: Aggregate) -> Result<View<'a>, Range> {
         over_no_rows(terms, which)
     }
 }
@@ -184,7 +185,7 @@ impl Columns for StoredRow<'_> {
         }
     }
 
-    fn aggregate(&self, terms: &Terms, which: Aggregate) -> Result<View<'_>, Range> {
+    fn aggregate<'a>(&'a self, terms: &'a Terms, which: Aggregate) -> Result<View<'a>, Range> {
         over_no_rows(terms, which)
     }
 }

@@ -1,3 +1,7 @@
+pub mod ChainLaws
+pub mod FromLaws
+pub mod QuestionLaws
 pub mod ReferenceLaws
-pub mod SelectLaws
+pub mod ScopeLaws
+pub mod Sequences
 pub mod ShownLaws

@@ -1,10 +1,12 @@
 -- Output columns that are added one behind another, while the terms of their statement grow.
-use Rattle.std.proofs.Common.{◌≡◌, refl, sym, ap, ◌∙◌, subst, arith, ℕ, suc, ◌+◌, ◌<◌, ◌≤◌, List, [], ◌∷◌, ◌++◌, length, map, All, drop, get_or, append_assoc, append-nil, None}
-use Rattle.std.specs.Prelude.{false, Option, string_bytes}
+use Rattle.std.proofs.Common.{◌≡◌, refl, sym, ap, ◌∙◌, subst, arith, ℕ, zero, suc, ◌+◌, ◌<◌, ◌≤◌, List, [], ◌∷◌, ◌++◌, length, map, All, drop, get_or, append_assoc, append-nil}
+use Rattle.std.specs.List.{flat_map}
+use Rattle.std.specs.Prelude.{Option, Some, Result, Ok, Err, IfOk, option_map, string_bytes}
+use Rattle.std.specs.declared.alloc.AllocError.{AllocError}
 use Rattle.std.proofs.lemmas.List.{at_drop_more, drop_all, length-map, map-append}
 use Rattle.std.proofs.lemmas.List.Elements.{All-nil, All-cons, All-head, All-tail, All-push}
 use Rattle.tql_spec.specs.Binding.{Output, item_outputs, all_columns_from, heading_by}
-use Rattle.tql_spec.specs.Datum.{Ints}
+use Rattle.tql_spec.specs.Datum.{Kind}
 use Rattle.tql_spec.specs.Definition.{Name, Column}
 use Rattle.tql_spec.specs.Expression as tree
 use Rattle.tql_spec.specs.Expression.{Expr}
@@ -18,9 +20,11 @@ use Rattle.tql_expr.specs.declared.terms.Terms.{Terms}
 use Rattle.tql_scope.specs.Bounds.{typed_of}
 use Rattle.tql_scope.specs.Gathered.{Gathers}
 use Rattle.tql_scope.proofs.Arena.{stays_here, stays_along, expr_kept, expr_there}
-use Rattle.tql_scope.proofs.Gathering.{Leads, gone_on, ended}
-use Rattle.tql_select.specs.Shown.{Shown, shown_by, shown, columns_from, all_shown, outputs_of, PushesItem}
+use Rattle.tql_scope.proofs.Gathering.{Leads, after_nil, gone_on, ended}
+use Rattle.tql_select.specs.Shown.{Shown, behind, column_output, shown_by, shown, outputs_of, PushesItem, PushesOutputs}
 use Rattle.tql_select.specs.declared.outputs.SelectList.{SelectList}
+use Rattle.tql_value.specs.Views.{plain_kind}
+use Rattle.tql_value.specs.declared.value.Kind as code
 
 -- ---- expressions that are there
 
@@ -38,17 +42,33 @@ exprs_there {t} {u} s (x ∷ xs) h =
 
 -- ---- items
 
--- what is shown so far, and more output columns
-abbrev pub behind : Shown → List Output → Shown
-behind c os = record { items = c.items ++ map (λ (o : Output). o.typed.expr) os; headings = c.headings ++ map (λ (o : Output). o.heading) os }
-
 -- what is shown so far, and the items that are left
 abbrev pub left_of : List Known → List Item → Shown → Checked Shown
 left_of scope its c = item_outputs scope (suc (length c.headings)) its >>= λ os. sound (behind c os)
 
 -- what is shown so far, and one item
 abbrev pub with_item : Item → Shown → Typed → Shown
-with_item it c v = record { items = c.items ++ v.expr ∷ []; headings = c.headings ++ heading_by it.alias (sole_name it.value) (suc (length c.headings)) ∷ [] }
+with_item it c v =
+    record {
+      items = c.items ++ v.expr ∷ [];
+      headings = c.headings ++ heading_by it.alias (sole_name it.value) (suc (length c.headings)) ∷ [];
+      kinds = c.kinds ++ v.kind ∷ [];
+    }
+
+-- nothing more behind what is shown
+behind_none : (c : Shown) → behind c [] ≡ c
+behind_none c = λ i. record { items = append-nil c.items i; headings = append-nil c.headings i; kinds = append-nil c.kinds i }
+
+-- output columns behind others
+behind_all : (c : Shown) (os ps : List Output) → behind (behind c os) ps ≡ behind c (os ++ ps)
+behind_all c os ps =
+    let items_in : List Output → List Expr = map (λ (o : Output). o.typed.expr) in
+    let names_in : List Output → List Name = map (λ (o : Output). o.heading) in
+    let kinds_in : List Output → List (Option Kind) = map (λ (o : Output). o.typed.kind) in
+    let items = append_assoc c.items (items_in os) (items_in ps) ∙ ap (λ (l : List Expr). c.items ++ l) (sym (map-append (λ (o : Output). o.typed.expr) os ps)) in
+    let headings = append_assoc c.headings (names_in os) (names_in ps) ∙ ap (λ (l : List Name). c.headings ++ l) (sym (map-append (λ (o : Output). o.heading) os ps)) in
+    let kinds = append_assoc c.kinds (kinds_in os) (kinds_in ps) ∙ ap (λ (l : List (Option Kind)). c.kinds ++ l) (sym (map-append (λ (o : Output). o.typed.kind) os ps)) in
+    λ i. record { items = items i; headings = headings i; kinds = kinds i }
 
 longer : (ns : List Name) (n : Name) → length (ns ++ n ∷ []) ≡ suc (length ns)
 longer [] n = refl
@@ -62,6 +82,7 @@ next_is scope it its c =
     let more : ℕ → Checked (List Output) = λ n. item_outputs scope (suc n) its in
     let items_in : ℕ → List Expr = λ n. map (λ (o : Output). o.typed.expr) (more n).value in
     let names_in : ℕ → List Name = λ n. map (λ (o : Output). o.heading) (more n).value in
+    let kinds_in : ℕ → List (Option Kind) = λ n. map (λ (o : Output). o.typed.kind) (more n).value in
     let here : suc (length c.headings) ≡ length (c.headings ++ h ∷ []) = sym (longer c.headings h) in
     let faults : (e.faults ++ ((more (suc (length c.headings))).faults ++ [])) ++ [] ≡ e.faults ++ ((more (length (c.headings ++ h ∷ []))).faults ++ []) =
     append-nil (e.faults ++ ((more (suc (length c.headings))).faults ++ [])) ∙ ap (λ (n : ℕ). e.faults ++ ((more n).faults ++ [])) here in
@@ -69,7 +90,9 @@ next_is scope it its c =
     sym (append_assoc c.items (e.value.expr ∷ []) (items_in (suc (length c.headings)))) ∙ ap (λ (n : ℕ). (c.items ++ e.value.expr ∷ []) ++ items_in n) here in
     let headings : c.headings ++ (h ∷ names_in (suc (length c.headings))) ≡ (c.headings ++ h ∷ []) ++ names_in (length (c.headings ++ h ∷ [])) =
     sym (append_assoc c.headings (h ∷ []) (names_in (suc (length c.headings)))) ∙ ap (λ (n : ℕ). (c.headings ++ h ∷ []) ++ names_in n) here in
-    λ i. record { faults = faults i; value = record { items = items i; headings = headings i } }
+    let kinds : c.kinds ++ (e.value.kind ∷ kinds_in (suc (length c.headings))) ≡ (c.kinds ++ e.value.kind ∷ []) ++ kinds_in (length (c.headings ++ h ∷ [])) =
+    sym (append_assoc c.kinds (e.value.kind ∷ []) (kinds_in (suc (length c.headings)))) ∙ ap (λ (n : ℕ). (c.kinds ++ e.value.kind ∷ []) ++ kinds_in n) here in
+    λ i. record { faults = faults i; value = record { items = items i; headings = headings i; kinds = kinds i } }
 
 -- the output columns so far are there, and with the items that are left they give the whole
 pub record ItemsLead (scope : List Known) (whole : Checked Shown) (start : Terms) (old : Option Refusal) (t : Terms) (x : SelectList) (left : List Item) (now : Option Refusal) : Type 0 where
@@ -77,19 +100,28 @@ pub record ItemsLead (scope : List Known) (whole : Checked Shown) (start : Terms
   pub held : All (HasExpr t) x.items.items
   pub leads : Leads whole old (left_of scope left (outputs_of t x)) now
 
+-- nothing is shown so far
+nothing_shown : (t : Terms) (x : SelectList) → x.items.items ≡ [] → x.headings.items ≡ [] → x.kinds.items ≡ [] → outputs_of t x ≡ shown_by []
+nothing_shown t x items headings kinds = λ i. record { items = map (expr t) (items i); headings = map string_bytes (headings i); kinds = map (option_map plain_kind) (kinds i) }
+
 -- no item so far
 pub items_begun : (scope : List Known) (it : Item) (its : List Item) (start : Terms) (old : Option Refusal) (x : SelectList)
-    → x.items.items ≡ [] → x.headings.items ≡ [] → ItemsLead scope (shown scope (TheseItems it its)) start old start x (it ∷ its) old
-items_begun scope it its start old x items headings =
+    → x.items.items ≡ [] → x.headings.items ≡ [] → x.kinds.items ≡ [] → ItemsLead scope (shown scope (TheseItems it its)) start old start x (it ∷ its) old
+items_begun scope it its start old x items headings kinds =
     let whole : Checked Shown = shown scope (TheseItems it its) in
-    let empty : Shown = record { items = []; headings = [] } in
-    let is : empty ≡ outputs_of start x = λ i. record { items = map (expr start) (sym items i); headings = map string_bytes (sym headings i) } in
+    let empty : Shown = record { items = []; headings = []; kinds = [] } in
+    let is : empty ≡ outputs_of start x = sym (nothing_shown start x items headings kinds) in
     let at_first : Leads whole old (left_of scope (it ∷ its) empty) old = record { value = refl; least = refl } in
     record {
       stays = stays_here start;
       held = subst (All (HasExpr start)) (sym items) (All-nil (HasExpr start));
       leads = subst (λ (c : Shown). Leads whole old (left_of scope (it ∷ its) c) old) is at_first;
     }
+
+-- one more kind
+kinds_pushed : (x y : SelectList) (k : Option code.Kind) → y.kinds.items ≡ x.kinds.items ++ k ∷ []
+    → map (option_map plain_kind) y.kinds.items ≡ map (option_map plain_kind) x.kinds.items ++ option_map plain_kind k ∷ []
+kinds_pushed x y k pushed = ap (map (option_map plain_kind)) pushed ∙ map-append (option_map plain_kind) x.kinds.items (k ∷ [])
 
 -- one more item
 pub items_next : (scope : List Known) (whole : Checked Shown) (start : Terms) (old : Option Refusal) (t u : Terms) (x y : SelectList) (it : Item) (left : List Item) (mid now : Option Refusal)
@@ -104,7 +136,8 @@ items_next scope whole start old t u x y it left mid now l s p =
     let place : length x.headings.items ≡ length c.headings = sym (length-map x.headings.items string_bytes) in
     let headings : map string_bytes y.headings.items ≡ c.headings ++ heading_by it.alias (sole_name it.value) (suc (length c.headings)) ∷ [] =
     p.headings ∙ ap (λ (n : ℕ). c.headings ++ heading_by it.alias (sole_name it.value) (suc n) ∷ []) place in
-    let is : with_item it c v ≡ outputs_of u y = λ i. record { items = sym items i; headings = sym headings i } in
+    let kinds : map (option_map plain_kind) y.kinds.items ≡ c.kinds ++ v.kind ∷ [] = kinds_pushed x y p.value.kind p.kinds in
+    let is : with_item it c v ≡ outputs_of u y = λ i. record { items = sym items i; headings = sym headings i; kinds = sym kinds i } in
     record {
       stays = stays_along l.stays s;
       held = subst (All (HasExpr u)) (sym p.items) (All-push (HasExpr u) x.items.items p.value.expr (exprs_there s x.items.items l.held) p.held);
@@ -129,56 +162,79 @@ pub items_done : {X : Type 0} (g : X → Item) (scope : List Known) (whole : Che
 items_done {X} g scope whole start old t xs i x now past l =
     let c = outputs_of t x in
     let none = subst (λ (left : List X). Leads whole old (left_of scope (map g left) c) now) (drop_all i xs past) l.leads in
-    let is : behind c [] ≡ c = λ i. record { items = append-nil c.items i; headings = append-nil c.headings i } in
-    subst (λ (d : Shown). Gathers whole old now d) is (ended whole old now (behind c []) none)
+    subst (λ (d : Shown). Gathers whole old now d) (behind_none c) (ended whole old now (behind c []) none)
 
 -- ---- all columns
 
--- their headings are their names
-pub headings_are : (i : ℕ) (cs : List Column) → map (λ (o : Output). o.heading) (all_columns_from i cs) ≡ map (λ (c : Column). c.name) cs
-headings_are i [] = refl
-headings_are i (c ∷ cs) = ap {B = List Name} (λ ns. c.name ∷ ns) (headings_are (suc i) cs)
-
--- any column
-no_column : Column
-no_column = record { name = []; kind = Ints; limit = None; required = false }
-
--- the columns so far are there, and with those that are left they are all
-pub record ColumnsLead (start : Terms) (offset : ℕ) (cs : List Column) (t : Terms) (n : ℕ) (ys : List ExprId) : Type 0 where
-  pub stays : Stays start t
-  pub held : All (HasExpr t) ys
-  pub are : map (expr t) ys ++ columns_from (offset + n) (drop n cs) ≡ columns_from offset cs
-
-pub columns_begun : (start : Terms) (offset : ℕ) (cs : List Column) (ys : List ExprId) → ys ≡ [] → ColumnsLead start offset cs start 0 ys
-columns_begun start offset cs ys empty =
-    subst (ColumnsLead start offset cs start 0) (sym empty)
-    (let here : offset + 0 ≡ offset = omega arith in
-    record { stays = stays_here start; held = All-nil (HasExpr start); are = ap (λ (i : ℕ). columns_from i cs) here })
-
-pub columns_next : (start : Terms) (offset : ℕ) (cs : List Column) (t u : Terms) (n : ℕ) (y : ExprId) (ys zs : List ExprId)
-    → n < length cs → ColumnsLead start offset cs t n ys → Stays t u → HasExpr u y → expr u y ≡ tree.Column (offset + n) → zs ≡ ys ++ y ∷ []
-    → ColumnsLead start offset cs u (n + 1) zs
-columns_next start offset cs t u n y ys zs within l s there is pushed =
-    let c : Column = get_or cs n no_column in
-    let next : drop n cs ≡ c ∷ drop (n + 1) cs = at_drop_more (λ l. l) cs n no_column within in
-    let on : suc (offset + n) ≡ offset + (n + 1) = omega arith in
-    let rest : List Expr = columns_from (offset + (n + 1)) (drop (n + 1) cs) in
-    let shorter : columns_from (offset + n) (drop n cs) ≡ tree.Column (offset + n) ∷ rest =
-    ap (columns_from (offset + n)) next ∙ ap (λ (i : ℕ). tree.Column (offset + n) ∷ columns_from i (drop (n + 1) cs)) on in
-    let grown : map (expr u) zs ≡ map (expr t) ys ++ tree.Column (offset + n) ∷ [] =
-    ap (map (expr u)) pushed ∙ map-append (expr u) ys (y ∷ []) ∙ (λ i. exprs_kept s ys l.held i ++ is i ∷ []) in
+-- one column is added
+pub column_pushed : (t u : Terms) (x y : SelectList) (i : ℕ) (c : Column) (e : ExprId) (name : Name) (headings : map string_bytes y.headings.items ≡ map string_bytes x.headings.items ++ name ∷ []) (k : code.Kind)
+    → All (HasExpr t) x.items.items → Stays t u → HasExpr u e → expr u e ≡ tree.Column i → name ≡ c.name → plain_kind k ≡ c.kind
+    → y.items.items ≡ x.items.items ++ e ∷ [] → y.kinds.items ≡ x.kinds.items ++ Some k ∷ [] → PushesOutputs (column_output i c ∷ []) t u x y
+column_pushed t u x y i c e name headings k held s there is named kind items kinds =
+    let os : List Output = column_output i c ∷ [] in
+    let grown : map (expr u) y.items.items ≡ map (expr t) x.items.items ++ tree.Column i ∷ [] =
+    ap (map (expr u)) items ∙ map-append (expr u) x.items.items (e ∷ []) ∙ (λ j. exprs_kept s x.items.items held j ++ is j ∷ []) in
+    let called : map string_bytes y.headings.items ≡ map string_bytes x.headings.items ++ c.name ∷ [] =
+    headings ∙ ap (λ (n : Name). map string_bytes x.headings.items ++ n ∷ []) named in
+    let kind_is : map (option_map plain_kind) y.kinds.items ≡ map (option_map plain_kind) x.kinds.items ++ Some c.kind ∷ [] =
+    kinds_pushed x y (Some k) kinds ∙ ap (λ (l : Kind). map (option_map plain_kind) x.kinds.items ++ Some l ∷ []) kind in
     record {
-      stays = stays_along l.stays s;
-      held = subst (All (HasExpr u)) (sym pushed) (All-push (HasExpr u) ys y (exprs_there s ys l.held) there);
-      are =
-          ap (λ (es : List Expr). es ++ rest) grown ∙ append_assoc (map (expr t) ys) (tree.Column (offset + n) ∷ []) rest
-          ∙ ap (λ (es : List Expr). map (expr t) ys ++ es) (sym shorter) ∙ l.are;
+      stays = s;
+      held = subst (All (HasExpr u)) (sym items) (All-push (HasExpr u) x.items.items e (exprs_there s x.items.items held) there);
+      are = λ j. record { items = grown j; headings = called j; kinds = kind_is j };
     }
 
-pub columns_done : (start : Terms) (offset : ℕ) (cs : List Column) (t : Terms) (n : ℕ) (ys : List ExprId) → length cs ≤ n → ColumnsLead start offset cs t n ys → map (expr t) ys ≡ columns_from offset cs
-columns_done start offset cs t n ys past l =
-    sym (append-nil (map (expr t) ys)) ∙ ap (λ (ds : List Column). map (expr t) ys ++ columns_from (offset + n) ds) (sym (drop_all n cs past)) ∙ l.are
+-- the output columns so far are there, and with those that are left they are all that stand behind the first
+pub record OutputsLead (start : Terms) (x : SelectList) (all : List Output) (t : Terms) (y : SelectList) (left : List Output) : Type 0 where
+  pub stays : Stays start t
+  pub held : All (HasExpr t) y.items.items
+  pub are : behind (outputs_of t y) left ≡ behind (outputs_of start x) all
 
--- `*` of one reference
-pub star_is : (k : Known) → shown (k ∷ []) AllColumns ≡ sound (all_shown k)
-star_is k = ap (λ (os : List Output). sound (shown_by os)) (append-nil (all_columns_from k.offset k.table.columns))
+-- more output columns are there
+pub outputs_next : (start : Terms) (x : SelectList) (all : List Output) (t u : Terms) (y z : SelectList) (os left : List Output)
+    → OutputsLead start x all t y (os ++ left) → PushesOutputs os t u y z → OutputsLead start x all u z left
+outputs_next start x all t u y z os left l p =
+    record {
+      stays = stays_along l.stays p.stays;
+      held = p.held;
+      are = ap (λ (c : Shown). behind c left) p.are ∙ behind_all (outputs_of t y) os left ∙ l.are;
+    }
+
+-- ---- the columns of a reference
+
+-- what stands at an index of a mapped list
+placed : {X Y : Type 0} (g : X → Y) (xs : List X) (i : ℕ) (d : X) → get_or (map g xs) i (g d) ≡ g (get_or xs i d)
+placed g [] i d = refl
+placed g (x ∷ xs) zero d = refl
+placed g (x ∷ xs) (suc i) d = placed g xs i d
+
+-- the column at an index
+pub column_next : {X : Type 0} (g : X → Column) (start : Terms) (x : SelectList) (all : List Output) (offset : ℕ) (t u : Terms) (y z : SelectList) (xs : List X) (cs : List Column) (i : ℕ) (c : X)
+    → map g xs ≡ cs → i < length xs → c ≡ get_or xs i c → OutputsLead start x all t y (all_columns_from (offset + i) (drop i cs))
+    → PushesOutputs (column_output (offset + i) (g c) ∷ []) t u y z → OutputsLead start x all u z (all_columns_from (offset + (i + 1)) (drop (i + 1) cs))
+column_next g start x all offset t u y z xs cs i c are within is l p =
+    let on : suc (offset + i) ≡ offset + (i + 1) = omega arith in
+    let os : List Output = column_output (offset + i) (g c) ∷ [] in
+    let left : List Output = all_columns_from (offset + (i + 1)) (drop (i + 1) cs) in
+    let there : i < length cs = subst (λ (n : ℕ). i < n) (sym (length-map xs g) ∙ ap length are) within in
+    let here : get_or cs i (g c) ≡ g c = ap (λ (l : List Column). get_or l i (g c)) (sym are) ∙ placed g xs i c ∙ ap g (sym is) in
+    let split : all_columns_from (offset + i) (drop i cs) ≡ os ++ left =
+    ap (all_columns_from (offset + i)) (at_index cs i (g c) there (sym here))
+    ∙ ap (λ (n : ℕ). column_output (offset + i) (g c) ∷ all_columns_from n (drop (i + 1) cs)) on in
+    outputs_next start x all t u y z os left (subst (OutputsLead start x all t y) split l) p
+
+-- ---- the columns of all references
+
+-- the output columns of a reference
+abbrev columns_in : Known → List Output
+columns_in k = all_columns_from k.offset k.table.columns
+
+-- the output columns of all references
+abbrev pub columns_of_all : List Known → List Output
+columns_of_all = flat_map columns_in
+
+-- `*`, where that is the last call
+pub star_ok : {Y : Type 0} (scope : List Known) (whole : Checked Shown) (view : Y → Shown) (now : Option Refusal) (r : Result Y AllocError)
+    → whole ≡ shown scope AllColumns → IfOk r (λ y. sound (view y) ≡ shown scope AllColumns) → IfOk r (λ y. Gathers whole now now (view y))
+star_ok scope whole view now (Ok y) is h = subst (λ (c : Checked Shown). Gathers c now now (view y)) (h ∙ sym is) (record { value = refl; least = sym (after_nil now) })
+star_ok scope whole view now (Err e) is h = tt

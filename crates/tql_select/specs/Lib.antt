@@ -1,2 +1,5 @@
-pub mod Asked
+pub mod From
+pub mod Grouped
+pub mod Ordered
+pub mod Selecting
 pub mod Shown

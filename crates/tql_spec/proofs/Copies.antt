@@ -87,7 +87,7 @@ first_fits e es n h k x (inl q) = ap (λ (y : Entry). length y.copy) q ∙ h
 first_fits e es n h k x (inr m) = k x m
 
 -- each effect keeps the number of tables in copies
-effect_fits : (defs : List TableDef) (history : List Entry) (next : ℤ) (begun : Option Entry) (b : Bound)
+pub effect_fits : (defs : List TableDef) (history : List Entry) (next : ℤ) (begun : Option Entry) (b : Bound)
     → state_faults (state defs history next begun) (manner_of b) ≡ []
     → CopiesFit (state defs history next begun) → CopiesFit (effect (state defs history next begun) b).1
 effect_fits defs history next None (CreateTable d) e f =

@@ -30,4 +30,23 @@ pub mod LateFaults
 mod FaultBags
 mod MappedBags
 mod ChangeBags
+mod InsertBags
 mod QueryBags
+pub mod OrderBags
+pub mod JoinBags
+pub mod AnswerBags
+pub mod BagFolds
+pub mod AggregateBags
+pub mod GroupValues
+pub mod DistinctBags
+pub mod GroupBags
+pub mod ExprKinds
+pub mod RowKinds
+pub mod RowChanges
+mod ChangeKinds
+mod KindRuns
+mod CreateKinds
+mod BoundKinds
+mod JoinKinds
+mod ChainKinds
+mod QueryKinds

@@ -73,7 +73,7 @@ order-parts (Moment a) (Text b) = refl
 order-parts (Moment a) (Day b) = refl
 order-parts (Moment a) (Moment b) = then_equal (int_cmp a b)
 
-total_along : {A : Type 0} (R S : A → A → Ordering) → ((a b : A) → S a b ≡ R a b) → IsTotalOrder R → IsTotalOrder S
+pub total_along : {A : Type 0} (R S : A → A → Ordering) → ((a b : A) → S a b ≡ R a b) → IsTotalOrder R → IsTotalOrder S
 total_along R S e o = record {
   antisymm = λ x y. rw (e x y, e y x) (o.antisymm x y);
   trans = λ x y z h k. rw (e x z) (o.trans x y z (sym (e x y) ∙ h) (sym (e y z) ∙ k));
@@ -95,7 +95,7 @@ then_first Less p e = e
 then_first Equal p e = refl
 then_first Greater p e = e
 
-then_second : (o p : Ordering) → ordering_then o p ≡ Equal → p ≡ Equal
+pub then_second : (o p : Ordering) → ordering_then o p ≡ Equal → p ≡ Equal
 then_second Less p e = cc
 then_second Equal p e = e
 then_second Greater p e = cc
@@ -271,14 +271,14 @@ module _ (R : Row → Row → Ordering) (o : IsTotalOrder R) where
     | false ↦ λ e. (h, (e, a.1))
   ] refl
 
-  placed_ascends : (r : Row) (xs : List Row) → Ascends R xs → Ascends R (placed R r xs)
+  pub placed_ascends : (r : Row) (xs : List Row) → Ascends R xs → Ascends R (placed R r xs)
   placed_ascends r [] a = tt
   placed_ascends r (s ∷ rest) a = elim (is_gt (R r s)) as (λ b. is_gt (R r s) ≡ b → Ascends R (if b then s ∷ placed R r rest else r ∷ s ∷ rest)) [
     | true ↦ λ e. placed_after s r rest (not_gt r s e) a
     | false ↦ λ e. (e, a)
   ] refl
 
-  placed_bag : (w : Row → ℕ) (r : Row) (xs : List Row) → sum_by w (placed R r xs) ≡ w r + sum_by w xs
+  pub placed_bag : (w : Row → ℕ) (r : Row) (xs : List Row) → sum_by w (placed R r xs) ≡ w r + sum_by w xs
   placed_bag w r [] = sum_by-cons w r []
   placed_bag w r (s ∷ rest) = elim (is_gt (R r s)) as (λ b. sum_by w (if b then s ∷ placed R r rest else r ∷ s ∷ rest) ≡ w r + sum_by w (s ∷ rest)) [
     | true ↦ omega (arith, sum_by-cons w s (placed R r rest), sum_by-cons w s rest, placed_bag w r rest)

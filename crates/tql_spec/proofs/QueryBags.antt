@@ -1,27 +1,24 @@
--- A query of one table reference selects from its rows, and does not see their order.
-use Rattle.std.proofs.Common.{◌≡◌, ℕ, Bool, true, false, List, [], ◌∷◌, ◌++◌, map, flat_map, refl, sym, ap, subst, ◌∙◌, arith}
+-- What is kept of rows, or made of each, does not see their order.
+use Rattle.std.proofs.Common.{◌≡◌, Bool, true, false, List, [], ◌∷◌, flat_map, refl, sym, ap, subst, ◌∙◌, arith}
 use Rattle.std.specs.Prelude.{Option, Some, None}
-use Rattle.std.proofs.lemmas.List.{append-nil}
 use Rattle.std.proofs.lemmas.List.Concat.{flat_map-cons}
 use Rattle.tql_spec.specs.Words.{◌>>=◌, map_all, filter_all, with_front, kept_if}
 use Rattle.tql_spec.specs.Bag.{SameBag}
 use Rattle.tql_spec.specs.Datum.{Row}
-use Rattle.tql_spec.specs.Expression.{Expr, Cond, eval, passes}
-use Rattle.tql_spec.specs.Query.{Chain, Ref, Scope, pairs, product, chain_rows, keep, scopes, alone, if_distinct}
-use Rattle.tql_spec.specs.QueryLaws.{selected, SameRows, PlainQueriesSelect, SelectionsKeepNoOrder}
+use Rattle.tql_spec.specs.QueryLaws.{SameRows}
 use Rattle.tql_spec.proofs.Bags.{same-flat_map, same-refl}
 use Rattle.tql_spec.proofs.MappedBags.{lack_of, weight_of, all_total, none_lacks, some_lacks}
 
 -- ---- what each row gives
 
 -- both are none, or the bags are the same
-abbrev Same : {B : Type 0} → Option (List B) → Option (List B) → Type 0
+abbrev pub Same : {B : Type 0} → Option (List B) → Option (List B) → Type 0
 Same None None = Unit {0}
 Same (Some xs) (Some ys) = SameBag xs ys
 Same None (Some ys) = ⊥
 Same (Some xs) None = ⊥
 
-mapped_same : {A B : Type 0} (f : A → Option B) (xs others : List A) → SameBag xs others → (o p : Option (List B))
+pub mapped_same : {A B : Type 0} (f : A → Option B) (xs others : List A) → SameBag xs others → (o p : Option (List B))
     → map_all f xs ≡ o → map_all f others ≡ p → Same o p
 mapped_same f xs others h None None e k = tt
 mapped_same f xs others h None (Some ys) e k = absurd (omega (arith, some_lacks f xs e, h.totals (λ x. lack_of (f x)), none_lacks f others ys k))
@@ -40,7 +37,7 @@ itself x false = []
 abbrev kept_of : {A : Type 0} → (A → Option Bool) → A → Option (List A)
 kept_of test x = test x >>= λ b. Some (itself x b)
 
-abbrev flattened : {A : Type 0} → Option (List (List A)) → Option (List A)
+abbrev pub flattened : {A : Type 0} → Option (List (List A)) → Option (List A)
 flattened o = o >>= λ xss. Some (flat_map (λ xs. xs) xss)
 
 kept_by : {A : Type 0} (x : A) (o : Option Bool) (rest : Option (List (List A))) → kept_if x o (flattened rest) ≡ flattened (with_front (o >>= λ b. Some (itself x b)) rest)
@@ -54,13 +51,13 @@ filter_is : {A : Type 0} (test : A → Option Bool) (xs : List A) → filter_all
 filter_is test [] = refl
 filter_is test (x ∷ xs) = ap (kept_if x (test x)) (filter_is test xs) ∙ kept_by x (test x) (map_all (kept_of test) xs)
 
-flattened_same : {A : Type 0} (o p : Option (List (List A))) → Same o p → Same (flattened o) (flattened p)
+pub flattened_same : {A : Type 0} (o p : Option (List (List A))) → Same o p → Same (flattened o) (flattened p)
 flattened_same None None h = tt
 flattened_same None (Some ys) h = absurd h
 flattened_same (Some xs) None h = absurd h
 flattened_same (Some xs) (Some ys) h = same-flat_map (λ zs. zs) (λ zs. zs) h (λ zs. same-refl zs)
 
-filtered_same : {A : Type 0} (test : A → Option Bool) (xs others : List A) → SameBag xs others → Same (filter_all test xs) (filter_all test others)
+pub filtered_same : {A : Type 0} (test : A → Option Bool) (xs others : List A) → SameBag xs others → Same (filter_all test xs) (filter_all test others)
 filtered_same test xs others h =
     let h' = flattened_same (map_all (kept_of test) xs) (map_all (kept_of test) others) (mapped_same (kept_of test) xs others h _ _ refl refl) in
     subst (λ o. Same o (filter_all test others)) (sym (filter_is test xs)) (subst (λ p. Same (flattened (map_all (kept_of test) xs)) p) (sym (filter_is test others)) h')
@@ -73,64 +70,8 @@ then_same f None (Some ys) h = absurd h
 then_same f (Some xs) None h = absurd h
 then_same f (Some xs) (Some ys) h = mapped_same f xs ys h (map_all f xs) (map_all f ys) refl refl
 
-same_rows : (o p : Option (List Row)) → Same o p → SameRows o p
+pub same_rows : (o p : Option (List Row)) → Same o p → SameRows o p
 same_rows None None h = tt
 same_rows None (Some ys) h = absurd h
 same_rows (Some xs) None h = absurd h
 same_rows (Some xs) (Some ys) h = h
-
-pub no_order : SelectionsKeepNoOrder
-no_order conds items rows others h =
-    let test : Row → Option Bool = λ r. passes [] r conds in
-    let made : Row → Option Row = λ r. map_all (eval [] r) items in
-    same_rows (selected conds items rows) (selected conds items others)
-    (then_same made (filter_all test rows) (filter_all test others) (filtered_same test rows others h))
-
--- ---- one reference
-
--- a query of these parts
-abbrev answer_of : (Ref → List Row) → List Chain → List Cond → Option (List ℕ) → List Cond → List Expr → Bool → Option (List Row)
-answer_of bag chains filter grouping having items distinct =
-    map_all (chain_rows bag) chains >>= λ bags. keep filter (product bags) >>= λ rows.
-    filter_all (λ (s : Scope). passes s.group s.row having) (scopes grouping rows) >>= λ kept.
-    map_all (λ (s : Scope). map_all (eval s.group s.row) items) kept >>= λ out. Some (if_distinct distinct out)
-
-product_is : (rows : List Row) → product (rows ∷ []) ≡ rows
-product_is rows = same_pairs rows
-  where
-    one : (x : Row) → map (λ (y : Row). x ++ y) ([] ∷ []) ≡ x ∷ []
-    one x = ap (λ (r : Row). r ∷ []) (append-nil x)
-
-    same_pairs : (xs : List Row) → pairs xs ([] ∷ []) ≡ xs
-    same_pairs [] = refl
-    same_pairs (x ∷ xs) = flat_map-cons (λ (z : Row). map (λ (y : Row). z ++ y) ([] ∷ [])) x xs ∙ (λ i. one x i ++ same_pairs xs i)
-
-all_pass : (rows : List Row) → filter_all (λ (s : Scope). passes s.group s.row []) (map alone rows) ≡ Some (map alone rows)
-all_pass [] = refl
-all_pass (r ∷ rows) = ap (kept_if (alone r) (Some true)) (all_pass rows)
-
-each_alone : (items : List Expr) (rows : List Row) → map_all (λ (s : Scope). map_all (eval s.group s.row) items) (map alone rows) ≡ map_all (λ r. map_all (eval [] r) items) rows
-each_alone items [] = refl
-each_alone items (r ∷ rows) = ap (with_front (map_all (eval [] r) items)) (each_alone items rows)
-
-as_it_is : (o : Option (List Row)) → (o >>= λ out. Some (if_distinct false out)) ≡ o
-as_it_is None = refl
-as_it_is (Some out) = refl
-
--- what is left of it behind the filter
-kept_then : (items : List Expr) (o : Option (List Row))
-    → (o >>= λ rows. filter_all (λ (s : Scope). passes s.group s.row []) (map alone rows) >>= λ kept.
-    map_all (λ (s : Scope). map_all (eval s.group s.row) items) kept >>= λ out. Some (if_distinct false out))
-    ≡ (o >>= λ rows. map_all (λ r. map_all (eval [] r) items) rows)
-kept_then items None = refl
-kept_then items (Some rows) =
-    ap (λ o. o >>= λ kept. map_all (λ (s : Scope). map_all (eval s.group s.row) items) kept >>= λ out. Some (if_distinct false out)) (all_pass rows)
-    ∙ as_it_is (map_all (λ (s : Scope). map_all (eval s.group s.row) items) (map alone rows))
-    ∙ each_alone items rows
-
-pub plain : PlainQueriesSelect
-plain bag q r p =
-    (λ i. answer_of bag (p.reference i) q.filter (p.ungrouped i) (p.unconditional i) q.items (p.all i))
-    ∙ ap (λ rows. keep q.filter rows >>= λ rows. filter_all (λ (s : Scope). passes s.group s.row []) (map alone rows) >>= λ kept.
-    map_all (λ (s : Scope). map_all (eval s.group s.row) q.items) kept >>= λ out. Some (if_distinct false out)) (product_is (bag r))
-    ∙ kept_then q.items (keep q.filter (bag r))

@@ -26,12 +26,12 @@ use Rattle.tql_spec.proofs.Widths.{IsPair, IsProper, Sound, AllFit, change_fits}
 -- ---- the generated columns of a new table
 
 -- a name stands at its number
-record IsAt (n : Name) (names : List Name) (i : ℕ) : Type 0 where
-  within : i < length names
-  named : get_or names i [] ≡ n
+pub record IsAt (n : Name) (names : List Name) (i : ℕ) : Type 0 where
+  pub within : i < length names
+  pub named : get_or names i [] ≡ n
 
 -- a number that is found is a place of the name
-is_at : (n : Name) (names : List Name) (i : ℕ) → number_in n names ≡ Some i → IsAt n names i
+pub is_at : (n : Name) (names : List Name) (i : ℕ) → number_in n names ≡ Some i → IsAt n names i
 is_at n [] i e = absurd (cc)
 is_at n (x ∷ names) i e = by_bool (same_text n x)
     (λ b. let here : 0 ≡ i = some_is 0 i (sym (ap (λ c. if c then Some 0 else next_place (number_in n names)) b) ∙ e) in
@@ -50,7 +50,7 @@ is_at n (x ∷ names) i e = by_bool (same_text n x)
         subst (IsAt n (x ∷ names)) (some_is (suc k) i q) (record { within = omega arith; named = at.named })
 
 -- a column without a fault is found
-number_found : (names : List Name) (n : Name) → (column_number names n).faults ≡ []
+pub number_found : (names : List Name) (n : Name) → (column_number names n).faults ≡ []
     → IsAt n names (column_number names n).value
 number_found names n e = by_number (number_in n names) refl e
   where
@@ -59,12 +59,12 @@ number_found names n e = by_number (number_in n names) refl e
     by_number (Some i) q f = is_at n names i q
 
 -- no part of a false OR holds
-first_false : (a b c : Bool) → a || b || c ≡ false → a ≡ false
+pub first_false : (a b c : Bool) → a || b || c ≡ false → a ≡ false
 first_false false b c e = refl
 first_false true b c e = absurd (cc)
 
 -- the columns of a system period without a fault are two of the table's
-period_is_pair : (es : List Element) (p : PeriodPart) → (system_period es p).faults ≡ []
+pub period_is_pair : (es : List Element) (p : PeriodPart) → (system_period es p).faults ≡ []
     → IsPair (length (columns_of es)) (system_period es p).value
 period_is_pair es p e =
     let names : List Name = column_names es in
@@ -103,7 +103,7 @@ first_is_pair es (p ∷ parts) e s q =
     subst (IsPair (length (columns_of es))) same (period_is_pair es p (no_left (system_period es p).faults _ e))
 
 -- CREATE TABLE without a fault defines a table whose generated columns are two of its own
-created_sound : (defs : List TableDef) (n : Name) (es : List Element) (versioned : Bool)
+pub created_sound : (defs : List TableDef) (n : Name) (es : List Element) (versioned : Bool)
     → (create defs n es versioned).faults ≡ [] → Sound (create defs n es versioned).value
 created_sound defs n es versioned e =
     let one = no_right (whole_faults defs n es versioned) _ e in
@@ -153,7 +153,7 @@ abbrev CopyRowsFit : List TableDef → Copy → Type 0
 CopyRowsFit defs copy = (t : ℕ) → AllFit (table_at defs t) (rows_in copy t)
 
 -- a table with rows is within the copy
-there_within : (copy : Copy) (t : ℕ) (r : Stamped) → In r (rows_in copy t) → t < length copy
+pub there_within : (copy : Copy) (t : ℕ) (r : Stamped) → In r (rows_in copy t) → t < length copy
 there_within [] t r m = absurd m
 there_within (rows ∷ copy) zero r m = omega arith
 there_within (rows ∷ copy) (suc t) r m = let l = there_within copy t r m in omega arith

@@ -1,7 +1,7 @@
 -- Whether an aggregate stands in an expression, a condition or a select list as it is written.
-use Rattle.std.specs.Prelude.{Bool, true, false, ◌||◌, ◌∷◌, Option, Some, None}
+use Rattle.std.specs.Prelude.{Bool, true, false, ◌||◌, Option, Some, None}
 use Rattle.std.specs.List.{list_any}
-use Rattle.tql_spec.specs.Syntax.{Sum, Terms, MoreTerms, NoTerm, PlusTerm, MinusTerm, Product, Factors, MoreFactors, NoFactor, TimesFactor, Signed, Unsigned, Positive, Negative, Primary, NumberLiteral, TextLiteral, DateLiteral, TimestampLiteral, ColumnNamed, Enclosed, CountStar, Over, Marked, FromEnds, SystemTime, Operand, ByMark, ByName, Condition, AnyOf, MoreConjs, NoConj, OrConj, Conj, AllOf, MoreTests, NoTest, AndTest, Factor, Straight, Negated, Test, Grouped, Compared, NullTest, BetweenTest, InTest, RelationTest, ContainsPeriod, ContainsPoint, Item, Items, AllColumns, TheseItems}
+use Rattle.tql_spec.specs.Syntax.{Sum, Terms, MoreTerms, NoTerm, PlusTerm, MinusTerm, Product, Factors, MoreFactors, NoFactor, TimesFactor, Signed, Unsigned, Positive, Negative, Primary, NumberLiteral, TextLiteral, DateLiteral, TimestampLiteral, ColumnNamed, Enclosed, CountStar, Over, Marked, FromEnds, SystemTime, Operand, ByMark, ByName, Condition, AnyOf, MoreConjs, NoConj, OrConj, Conj, AllOf, MoreTests, NoTest, AndTest, Factor, Straight, Negated, Test, Grouped, Compared, NullTest, BetweenTest, InTest, RelationTest, ContainsPeriod, ContainsPoint}
 
 -- ---- expressions
 
@@ -79,8 +79,3 @@ abbrev mutual
 abbrev pub in_filter : Option Condition → Bool
 in_filter None = false
 in_filter (Some c) = in_condition c
-
--- in a select list
-abbrev pub in_items : Items → Bool
-in_items AllColumns = false
-in_items (TheseItems i is) = list_any (λ (item : Item). in_sum item.value) (i ∷ is)

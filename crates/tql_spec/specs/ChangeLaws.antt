@@ -1,13 +1,14 @@
--- What UPDATE and DELETE do to a table does not depend on the order in which its rows are kept.
-use Rattle.std.specs.Prelude.{◌≡◌, Bool, true, false, not, List, ◌++◌, ℤ, Option, Some, None}
+-- What a change does to a table does not depend on the order in which rows are kept or given.
+use Rattle.std.specs.Prelude.{◌≡◌, ℕ, Bool, true, false, not, List, ◌++◌, ℤ, Option, Some, None}
 use Rattle.std.specs.List.{filter}
 use Rattle.tql_spec.specs.Words.{map_all}
 use Rattle.tql_spec.specs.Bag.{SameBag}
+use Rattle.tql_spec.specs.Datum.{Row}
 use Rattle.tql_spec.specs.Period.{Period}
 use Rattle.tql_spec.specs.Refusal.{first}
 use Rattle.tql_spec.specs.Expression.{Cond}
 use Rattle.tql_spec.specs.Definition.{TableDef, Stamped, shown}
-use Rattle.tql_spec.specs.Change.{Outcome, Fate, Untouched, Replaced, after_fates, new_rows, Work, fate, modify}
+use Rattle.tql_spec.specs.Change.{Outcome, Fate, Untouched, Replaced, after_fates, new_rows, Work, fate, insert, modify}
 
 -- ---- the order of rows
 
@@ -37,3 +38,11 @@ ChangesByParts =
     (d : TableDef) (m : ℤ) (rows : List Stamped) (portion : Option Period) (work : Work) (conds : List Cond) (fates : List Fate)
     → map_all (λ r. fate d m portion work conds (shown d r)) rows ≡ Some fates
     → SameBag (after_fates rows fates) (filter (λ r. not (goes (fate d m portion work conds (shown d r)))) rows ++ new_rows fates)
+
+-- ---- new rows
+
+-- the law: an insertion of the same rows in another order leaves the same bag of rows, and reports the same count and the same fault
+abbrev pub InsertsKeepNoOrder : Type 0
+InsertsKeepNoOrder =
+    (d : TableDef) (m : ℤ) (rows : List Stamped) (columns : List ℕ) (tuples others : List Row) → SameBag tuples others
+    → SameOutcome (insert d m rows columns (Some tuples)) (insert d m rows columns (Some others))

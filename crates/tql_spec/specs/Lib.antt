@@ -32,4 +32,6 @@ pub mod Running
 pub mod Run
 pub mod Reached
 pub mod Meaning
+pub mod Typing
+pub mod TypingLaws
 pub mod AtPoints

@@ -4,8 +4,8 @@
 ghost use Rattle.std.specs.Prelude.{ℕ, List};
 ghost use Rattle.tql_spec.specs.Datum.{Day, Moment};
 ghost use Rattle.tql_spec.specs.Period.{FormulasAreSets, PartsAreSets, Period, PointFormulaIsSet};
-ghost use Rattle.tql_spec.specs.ChangeLaws.{ChangesKeepNoOrder, ChangesByParts};
-ghost use Rattle.tql_spec.specs.QueryLaws.{PlainQueriesSelect, SelectionsKeepNoOrder};
+ghost use Rattle.tql_spec.specs.ChangeLaws.{ChangesKeepNoOrder, ChangesByParts, InsertsKeepNoOrder};
+ghost use Rattle.tql_spec.specs.QueryLaws.{JoinsKeepNoOrder, GroupsKeepNoOrder, DistinctKeepsNoOrder, OrderIsOne, AnswersKeepNoOrder};
 ghost use Rattle.tql_spec.specs.Expression.{SafeConditionsAreJudged};
 ghost use Rattle.tql_spec.specs.Constraint.{KeyTestIsRight, ReferenceTestIsRight};
 ghost use Rattle.tql_spec.specs.Run.{RefusalsKeepState, RunsKeepConstraints};
@@ -13,6 +13,7 @@ ghost use Rattle.tql_spec.specs.Lines.{StatementsInPlace};
 ghost use Rattle.tql_spec.specs.Token.{HasOneTokenList};
 ghost use Rattle.tql_spec.specs.Spans.{ReadsBySpans, SteadyRangesAgree};
 ghost use Rattle.tql_spec.specs.Reached.{ReachedAreInOrder, ReachedFit, ReachedAreSteady, ReachedReadBySpans};
+ghost use Rattle.tql_spec.specs.TypingLaws.{ValuesAreOfKind, BoundAreTyped, BagsAreTyped, StepsKeepTypes, ReachedAreTyped, OwnPeriodsArePoints};
 ghost use Rattle.tql_spec.specs.AtPoints.{CopyTestsAreRight, RunsKeepPoints, ReachedHoldAtPoints};
 
 /// Each part of a period holds the points that it is named for.
@@ -100,14 +101,48 @@ pub fn changes_keep_no_order()
     ensures { ChangesKeepNoOrder }
 {}
 
+/// An INSERT does the same whatever the order of the rows that it is given: the same bag of rows, the same count and the same fault.
+pub fn inserts_keep_no_order()
+    ensures { InsertsKeepNoOrder }
+{}
+
 /// Where nothing that an UPDATE or a DELETE evaluates is out of range, the rows after it are those that it leaves and the new ones.
 pub fn changes_by_parts()
     ensures { ChangesByParts }
 {}
 
-/// A query of one table reference without groups selects from its rows, and what it selects is the same bag, or out of range as well,
-/// whatever the order in which they are kept.
-pub fn plain_queries_select()
-    ensures selects { PlainQueriesSelect }
-    ensures no_order { SelectionsKeepNoOrder }
+/// What passes conjuncts, and what a join gives, is the same bag, or out of range as well, whatever the order in which the rows of
+/// either side are kept.
+pub fn joins_keep_no_order()
+    ensures { JoinsKeepNoOrder }
+{}
+
+/// Rows without their repeats are the same bag whatever the order in which the rows are kept, and for any keys a bag has one list in
+/// order, since rows that tie are equal.
+pub fn order_is_one()
+    ensures distinct { DistinctKeepsNoOrder }
+    ensures order { OrderIsOne }
+{}
+
+/// What a grouped query shows depends on the bag of its rows alone: the same bag of rows, or out of range as well, whatever the
+/// order in which the rows of its groups are kept.
+pub fn groups_keep_no_order()
+    ensures { GroupsKeepNoOrder }
+{}
+
+/// What a query answers depends on the bags of its references alone: the same bag of rows, or out of range as well.
+pub fn answers_keep_no_order()
+    ensures { AnswersKeepNoOrder }
+{}
+
+/// Values are of their columns' kinds, or null. The value of a bound expression is of its kind, a statement without a fault is bound to
+/// one that gives each column values of its kind, and steps keep this; so it is in every state that a run reaches. There questions find
+/// rows of these kinds too, and the ends of a row's application period are its points, as dates or as timestamps.
+pub fn kinds_are_kept()
+    ensures expressions { ValuesAreOfKind }
+    ensures bound { BoundAreTyped }
+    ensures bags { BagsAreTyped }
+    ensures steps { StepsKeepTypes }
+    ensures reached { ReachedAreTyped }
+    ensures points { OwnPeriodsArePoints }
 {}

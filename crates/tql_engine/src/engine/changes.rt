@@ -7,11 +7,11 @@ ghost use Rattle.tql_result.specs.Replies.{plain_verb};
 
 use crate::committing::change_rows;
 use crate::engine::Engine;
-use tql_bound::change::{Insertion, Modification, Work};
-use tql_dml::insertion::insert_tuples;
+use tql_bound::change::{Insertion, Modification, QueryInsertion, Work};
+use tql_dml::insertion::{insert_rows, insert_tuples};
 use tql_dml::modification::modify;
 use tql_result::reply::{Reply, Verb};
-use tql_spec::{changes_by_parts, changes_keep_no_order};
+use tql_spec::{changes_by_parts, changes_keep_no_order, inserts_keep_no_order};
 use tql_store::store::Delta;
 use tql_value::refusal::Refusal;
 
@@ -28,8 +28,11 @@ fn verb_of(work: &Work) -> Verb
 impl Engine {
     ghost use Rattle.tql_spec.specs.Machine as machine;
     ghost use Rattle.tql_spec.specs.Machine.{State, step};
-    ghost use Rattle.tql_bound.specs.Changes.{insertion_of, modification_of};
+    ghost use Rattle.tql_bind.specs.Placed.{IsPlacedQuery};
+    ghost use Rattle.tql_bound.specs.Changes.{insertion_of, modification_of, query_insertion_of};
+    ghost use Rattle.tql_bound.specs.Questions.{question_of};
     ghost use Rattle.tql_catalog.specs.declared.catalog.Table.{Table};
+    ghost use Rattle.tql_engine.specs.Adding.{Adds};
     ghost use Rattle.tql_engine.specs.Modifying.{Makes};
     ghost use Rattle.tql_catalog.specs.Tables.{definitions_of};
     ghost use Rattle.tql_engine.specs.Stands.{StandsFor};
@@ -51,6 +54,42 @@ impl Engine {
             Ok(next) => {
                 self.next = next;
                 Ok(Reply::Done(Verb::Inserted, Some(count)))
+            }
+            Err(refusal) => Err(refusal),
+        }
+    }
+
+    /// The change that adds the rows of a query, which are read before.
+    fn query_delta(&self, insertion: &QueryInsertion) -> Result<Delta, Refusal>
+        requires within { insertion.now.table < length (definitions_of self.now.tables) }
+        requires placed { IsPlacedQuery (definitions_of self.now.tables) (question_of insertion.now.question) }
+        ensures { (s : State) (p : Table) → StandsFor self.now s → slice_get self.now.tables insertion.now.table ≡ Some p → Adds s p insertion.now result }
+    {
+        let rows = match self.answer_rows(&insertion.question) {
+            Ok(rows) => rows,
+            Err(refusal) => return Err(refusal),
+        };
+        let table = self.table_at(insertion.table);
+        insert_rows(self.memory, table, &insertion.columns, rows)
+    }
+
+    /// INSERT from a query. The rows begin at the clock's moment, which is that of an open transaction.
+    pub(super) fn insert_from(&mut self, insertion: &QueryInsertion) -> Result<Reply, Refusal>
+        requires within { insertion.now.table < length (definitions_of self.old.tables) }
+        requires placed { IsPlacedQuery (definitions_of self.old.tables) (question_of insertion.now.question) }
+        requires below { IsIdle self.old → HasTimeLeft self.old }
+        ensures { (s : State) → StandsFor self.old s → DoesStep self.new s result (step s (machine.Alter (query_insertion_of insertion.now))) }
+    {
+        inserts_keep_no_order();
+        let delta = match self.query_delta(insertion) {
+            Ok(delta) => delta,
+            Err(refusal) => return Err(refusal),
+        };
+        let inserted = delta.count;
+        match change_rows(&mut self.rows, self.next, delta) {
+            Ok(next) => {
+                self.next = next;
+                Ok(Reply::Done(Verb::Inserted, Some(inserted)))
             }
             Err(refusal) => Err(refusal),
         }

@@ -1,8 +1,10 @@
-use Rattle.std.proofs.Common.{sym, subst}
+use Rattle.std.proofs.Common.{◌≡◌, sym, subst}
 use Rattle.tql_spec.specs.Binding.{bind}
 use Rattle.tql_spec.specs.Machine as machine
 use Rattle.tql_catalog.specs.Tables.{definitions_of}
-use Rattle.tql_tree.specs.Statements.{statement_of}
+use Rattle.tql_bound.specs.Questions.{question_of}
+use Rattle.tql_tree.specs.Statements.{query_of, statement_of}
+use Rattle.tql_tree.specs.declared.statement.Query.{Query}
 use Rattle.tql_tree.specs.declared.statement.Statement.{Statement}
 use Rattle.tql_scope.specs.Gathered.{Gathers}
 use Rattle.tql_alter.proofs.Sequences.{sound_here}
@@ -22,3 +24,11 @@ pub returns-in-Rollback-clause-bound : goal.returns-in-Rollback-clause-bound
 returns-in-Rollback-clause-bound c =
     let old = c.args.faults.now in
     subst (λ (s : Statement). Gathers (bind (definitions_of c.args.tables.now) (statement_of s)) old old machine.Rollback) (sym c.in-Rollback.is) (sound_here machine.Rollback old)
+
+pub returns-in_ok-question-in-Query-clause-bound : goal.returns-in_ok-question-in-Query-clause-bound
+returns-in_ok-question-in-Query-clause-bound c =
+    let defs = definitions_of c.args.tables.now in
+    let x = machine.Ask (question_of c.in_ok-question-in-Query.question) in
+    let inside : c.deref-in-Query.result.now ≡ c.in-Query.tree.value = cc (c.deref-in-Query.ensures) in
+    subst (λ (s : Statement). Gathers (bind defs (statement_of s)) c.args.faults.now c.ask.new.faults x) (sym c.in-Query.is)
+    (subst (λ (q : Query). Gathers (bind defs (query_of q)) c.args.faults.now c.ask.new.faults x) inside c.in_ok-question-in-Query.ensures)

@@ -1,12 +1,12 @@
-use Rattle.std.specs.Prelude.{◌≡◌, ◌∷◌, None}
-use Rattle.std.proofs.Common.{ap, sym, ◌∙◌, append-nil}
+use Rattle.std.specs.Prelude.{◌≡◌, ◌≤◌, ◌∷◌, None, length}
+use Rattle.std.proofs.Common.{ap, subst, sym, ◌∙◌, append-nil}
 use Rattle.tql_spec.specs.Creation as creation
 use Rattle.tql_spec.specs.Definition.{TableDef, place_of}
 use Rattle.tql_spec.specs.Refusal.{first}
 use Rattle.tql_catalog.specs.Tables.{definitions_of}
 use Rattle.tql_tree.specs.Expressions.{name_of}
 use Rattle.tql_tree.specs.Statements.{element_of, elements_of}
-use Rattle.tql_bind.proofs.Room.{room_law, free_law, same_table}
+use Rattle.tql_bind.proofs.Room.{room_law, free_law, narrow_law, same_table}
 use Rattle.tql_bind.proofs.binder.create.Goals as goal
 
 pub returns-in-Ok-clause-sound : goal.returns-in-Ok-clause-sound
@@ -20,4 +20,6 @@ returns-in-Ok-clause-sound c =
     record {
       free = ap (λ (d : TableDef). place_of d.name defs) (sym (same_table made.value c.in-Ok.definition c.in-Ok.ensures.1)) ∙ free_law defs n elements tree.is_versioned none;
       room = room_law defs n elements tree.is_versioned none;
+      narrow = subst (λ (d : TableDef). length d.columns ≤ 64) (same_table made.value c.in-Ok.definition c.in-Ok.ensures.1)
+          (narrow_law defs n (element_of tree.first) (elements_of tree.more) tree.is_versioned c.requires.narrow);
     }

@@ -1,4 +1,5 @@
--- Statements of the grammar that do not run yet (E10), outside a transaction and in one; a check takes them, but for the last four.
+-- Portions, which do not run yet (E10), beside queries of all forms over empty tables, outside a transaction and in one, and statements
+-- that are not in the grammar; a check takes all but the last four.
 -- By hand from docs/LANGUAGE.md.
 CREATE TABLE log (x INTEGER, s TIMESTAMP GENERATED ALWAYS AS ROW START, e TIMESTAMP GENERATED ALWAYS AS ROW END,
   PERIOD FOR SYSTEM_TIME (s, e)) WITH SYSTEM VERSIONING;

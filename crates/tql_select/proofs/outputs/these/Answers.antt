@@ -13,7 +13,7 @@ loop-item-init c =
     let more = map item_of c.args.more.now in
     items_next scope (shown scope (TheseItems first more)) c.args.terms.now c.args.faults.now c.args.terms.now c.push_item.new.terms c.none-outputs.result c.push_item.new.outputs first more
     c.args.faults.now c.push_item.new.faults
-    (items_begun scope first more c.args.terms.now c.args.faults.now c.none-outputs.result c.none-outputs.ensures.items c.none-outputs.ensures.headings)
+    (items_begun scope first more c.args.terms.now c.args.faults.now c.none-outputs.result c.none-outputs.ensures.items c.none-outputs.ensures.headings c.none-outputs.ensures.kinds)
     c.push_item.ensures.stays c.in_ok-push_item.ensures.pushes
 
 pub loop-item-preserved : goal.loop-item-preserved

@@ -37,7 +37,7 @@ invariant_of-self-in-Ok c =
     record {
       state = with_table d c.self.invariant.state;
       stands = made_law c.self.invariant.state c.self.inside.tables _ table c.self.inside.rows _ _ _ c.self.invariant.stands
-          (subst (λ (h : Held). IsNone h.rows.working) (sym c.self.view_is) c.requires.closed) c.is_versioned.ensures.right c.in_ok-id.ensures.ok c.in_ok-id.ensures.copies
+          (subst (λ (h : Held). IsNone h.rows.working) (sym c.self.view_is) c.requires.closed) c.is_versioned.ensures.right c.requires.sound.narrow c.in_ok-id.ensures.ok c.in_ok-id.ensures.copies
           c.is_versioned.ensures.versioned c.in-Ok.ensures.created;
     }
 
@@ -57,7 +57,7 @@ returns-in-Ok-clause-ok c s st =
     let d = c.args.definition in
     let table : Table = record { definition = d; id = c.in_ok-id.id } in
     made_law s c.self.inside.tables _ table c.self.inside.rows _ _ _ (subst (λ (h : Held). StandsFor h s) (sym c.self.view_is) st)
-    (subst (λ (h : Held). IsNone h.rows.working) (sym c.self.view_is) c.requires.closed) c.is_versioned.ensures.right c.in_ok-id.ensures.ok c.in_ok-id.ensures.copies
+    (subst (λ (h : Held). IsNone h.rows.working) (sym c.self.view_is) c.requires.closed) c.is_versioned.ensures.right c.requires.sound.narrow c.in_ok-id.ensures.ok c.in_ok-id.ensures.copies
     c.is_versioned.ensures.versioned c.in-Ok.ensures.created
 
 pub returns-in-Err-clause-err : goal.returns-in-Err-clause-err

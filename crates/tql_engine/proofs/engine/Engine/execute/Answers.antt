@@ -7,6 +7,8 @@ use Rattle.tql_tree.specs.Statements.{statement_of}
 use Rattle.tql_value.specs.Refusals.{refusal_of}
 use Rattle.tql_bind.specs.Bounds.{IsSound, bound_of}
 use Rattle.tql_catalog.specs.Tables.{definitions_of}
+use Rattle.std.proofs.lemmas.List.Elements.{All-from_recursion}
+use Rattle.tql_engine.specs.Fitting.{IsNarrow}
 use Rattle.tql_engine.specs.Stands.{Held, StandsFor}
 use Rattle.tql_engine.proofs.Printing.{does_print}
 use Rattle.tql_define.specs.Binds.{Binds}
@@ -47,7 +49,7 @@ returns-in-Ok-clause-printable c =
     let st = subst (λ (h : Held). StandsFor h s) c.self.view_is c.self.invariant.stands in
     let tables = ap (λ (h : Held). definitions_of h.tables) (sym c.self.view_is) in
     let sound = subst (λ (ds : List TableDef). IsSound ds c.in-Ok.bound) (sym tables) c.in-Ok.ensures.sound in
-    does_print c.plain_queries_select.ensures.selects c.args.self.now _ s st c.in-Ok.bound sound c.perform.result (c.perform.ensures s st)
+    does_print c.args.self.now _ s st c.in-Ok.bound sound c.perform.result (c.perform.ensures s st)
 
 pub returns-in-Err-clause-answered : goal.returns-in-Err-clause-answered
 returns-in-Err-clause-answered c s st =
@@ -55,3 +57,7 @@ returns-in-Err-clause-answered c s st =
     let tables = ap (λ (h : Held). definitions_of h.tables) (sym c.self.view_is) in
     let binds = subst (λ (ds : List TableDef). Binds bound_of (bind ds t) (Err c.in-Err.fault)) (sym (st.fits.definitions ∙ tables)) c.in-Err.ensures.binds in
     refusal_does bound_of c.args.self.now s t c.in-Err.fault st (ap (option_map refusal_of) (sym c.in_default.is) ∙ c.state_fault.ensures s st) binds
+
+pub bind-requires-clause-tables : goal.bind-requires-clause-tables
+bind-requires-clause-tables c =
+    All-from_recursion IsNarrow (definitions_of c.self.inside.tables) c.self.invariant.stands.fits.narrow

@@ -1,0 +1,39 @@
+-- Queries whose tables are there.
+use Rattle.std.specs.Prelude.{ℕ, ◌<◌, Bool, true, false, ◌||◌, IsTrue, List, [], ◌∷◌, length, is_some}
+use Rattle.tql_spec.specs.Definition.{TableDef, table_at}
+use Rattle.tql_spec.specs.History as history
+use Rattle.tql_spec.specs.Query.{Chain, Cross, Inner, Join, Left, Query, Ref}
+use Rattle.tql_spec.specs.QueryLaws.{NamesGroups}
+
+-- whether the current rows are meant
+abbrev pub is_current : history.When → Bool
+is_current history.Now = true
+is_current _ = false
+
+-- a reference to a table that is there, system-versioned where its past is asked for
+pub record IsPlacedRef (defs : List TableDef) (r : Ref) : Type 0 where
+  pub table : r.table < length defs
+  pub versioned : IsTrue (is_current r.when || is_some (table_at defs r.table).system)
+
+-- the reference of a join
+abbrev pub ref_of : Join → Ref
+ref_of (Inner r on) = r
+ref_of (Left r on) = r
+ref_of (Cross r) = r
+
+-- so is that of each join
+abbrev pub AreJoinsPlaced : List TableDef → List Join → Type 0
+AreJoinsPlaced defs [] = Unit {0}
+AreJoinsPlaced defs (j ∷ js) = IsPlacedRef defs (ref_of j) × AreJoinsPlaced defs js
+
+-- and so are those of each chain
+abbrev pub AreChainsPlaced : List TableDef → List Chain → Type 0
+AreChainsPlaced defs [] = Unit {0}
+AreChainsPlaced defs (c ∷ cs) = (IsPlacedRef defs c.first × AreJoinsPlaced defs c.joins) × AreChainsPlaced defs cs
+
+-- ---- queries
+
+-- its tables are there, and outside aggregates it names its grouping columns alone
+pub record IsPlacedQuery (defs : List TableDef) (q : Query) : Type 0 where
+  pub references : AreChainsPlaced defs q.chains
+  pub grouped : NamesGroups q.grouping q.having q.items

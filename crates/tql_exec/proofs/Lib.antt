@@ -1,0 +1,2 @@
+pub mod OverBags
+pub mod Printed

@@ -1,0 +1,5 @@
+pub mod Folding
+pub mod Bests
+pub mod Scopes
+pub mod Groups
+pub mod Answered

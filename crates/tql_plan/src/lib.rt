@@ -1,0 +1,5 @@
+// How a query is answered: which versions are read, and how they are joined. A plan says nothing of the store.
+#![tactic(auto)]
+
+pub mod plan;
+pub mod planner;

@@ -1,2 +1,0 @@
-pub mod RowByRow
-pub mod Printing

@@ -1,0 +1,255 @@
+-- Statements keep the kinds of rows, so in every state that a run reaches rows are of their tables' kinds.
+use Rattle.std.proofs.Common.{◌≡◌, refl, sym, subst, ℕ, zero, suc, Bool, true, false, List, [], ◌∷◌, ◌++◌, map, filter, length, inl, inr, arith}
+use Rattle.std.specs.Prelude.{◌&&◌, not, remove, slice_set, ℤ, int_le, int_lt, if◌then◌else◌, Option, Some, None}
+use Rattle.std.proofs.Math.ListN.{get_or-append}
+use Rattle.tql_spec.specs.Bag.{In}
+use Rattle.tql_spec.specs.Calendar.{high}
+use Rattle.tql_spec.specs.Refusal.{first}
+use Rattle.tql_spec.specs.Definition.{TableDef, Stamped, Version, no_table, table_at, full, shown}
+use Rattle.tql_spec.specs.Creation.{kinds_of}
+use Rattle.tql_spec.specs.History.{Copy, Entry, When, Now, AsOf, FromTo, Between, rows_in, table_history, found, as_of_from, found_from, completed, with_end, still, ends_before, meets, has_version}
+use Rattle.tql_spec.specs.Machine.{State, Bound, CreateTable, DropTable, SetClock, Start, Commit, Rollback, Alter, Ask, Change, outcome, changed_table, manner_of, state_faults, effect, newest_copy, new_state, bag_of, entries}
+use Rattle.tql_spec.specs.Binding.{bind}
+use Rattle.tql_spec.specs.Reached.{CopiesFit}
+use Rattle.tql_spec.specs.Typing.{AreOfKinds, AreTypedDefinitions, IsTypedDefinition, IsTypedState, RowsAreTyped}
+use Rattle.tql_spec.specs.TypingLaws.{IsTypedBag, IsTypedBound, IsTypedChange, BoundAreTyped, BagsAreTyped, StepsKeepTypes, ReachedAreTyped}
+use Rattle.tql_spec.proofs.MemberLists.{in_either, in_image, in_kept}
+use Rattle.tql_spec.proofs.FirstFaults.{none_first}
+use Rattle.tql_spec.proofs.RunKeeps.{unless_either, asked_stays, changed_entry, altered_keeps, run_keeps}
+use Rattle.tql_spec.proofs.InOrder.{state}
+use Rattle.tql_spec.proofs.Copies.{rows_more, skip, removed_at, rows_set, no_rows, effect_fits}
+use Rattle.tql_spec.proofs.WidthRuns.{there_within}
+use Rattle.tql_spec.proofs.RowKinds.{same_kinds, generated_same}
+use Rattle.tql_spec.proofs.RowChanges.{Good, AllGood}
+use Rattle.tql_spec.proofs.ChangeKinds.{change_good}
+
+-- ---- what questions find
+
+-- a row of some copy
+record IsKept (t : ℕ) (es : List Entry) (r : Stamped) : Type 0 where
+  entry : Entry
+  among : In entry es
+  there : In r (rows_in entry.copy t)
+
+-- of one more copy
+kept_later : (t : ℕ) (e : Entry) (es : List Entry) (r : Stamped) → IsKept t es r → IsKept t (e ∷ es) r
+kept_later t e es r k = record { entry = k.entry; among = inr k.among; there = k.there }
+
+-- a version of a row
+completed_row : (ends : Stamped → ℤ) (t : ℕ) (e : Entry) (es : List Entry) (v : Version)
+    → In v (completed ends (rows_in e.copy t))
+    → IsKept t (e ∷ es) v.row
+completed_row ends t e es v m =
+    let i = in_image (with_end ends) v (rows_in e.copy t) m in
+    record { entry = e; among = inl refl; there = subst (λ (x : Version). In x.row (rows_in e.copy t)) (sym i.2) i.1 }
+
+as_of_kept : (t : ℕ) (until : ℤ) (ends : Stamped → ℤ) (m : ℤ) (es : List Entry) (v : Version)
+    → In v (as_of_from until ends m (table_history t es)) → IsKept t es v.row
+as_of_kept t until ends m [] v i = absurd i
+as_of_kept t until ends m (e ∷ es) v i = either (int_le e.moment m && int_lt m until)
+    (as_of_kept t e.moment (ends_before (record { moment = e.moment; rows = rows_in e.copy t }) ends) m es v) i
+  where
+    rest : List Version
+    rest = as_of_from e.moment (ends_before (record { moment = e.moment; rows = rows_in e.copy t }) ends) m
+        (table_history t es)
+
+    either : (b : Bool) → (In v rest → IsKept t es v.row)
+        → In v (if b then completed ends (rows_in e.copy t) else rest) → IsKept t (e ∷ es) v.row
+    either true ih n = completed_row ends t e es v n
+    either false ih n = kept_later t e es v.row (ih n)
+
+found_kept : (t : ℕ) (until : ℤ) (ends : Stamped → ℤ) (a b : ℤ) (es : List Entry) (v : Version)
+    → In v (found_from until ends a b (table_history t es)) → IsKept t es v.row
+found_kept t until ends a b [] v i = absurd i
+found_kept t until ends a b (e ∷ es) v i = elim (in_either v (filter (λ w. not (has_version rest w.row)) here) rest i) [
+  | inl n ↦ either (meets a b e.moment until) (in_kept (λ (w : Version). not (has_version rest w.row)) v here n).0
+  | inr n ↦ kept_later t e es v.row
+      (found_kept t e.moment (ends_before (record { moment = e.moment; rows = rows_in e.copy t }) ends) a b es v n)
+]
+  where
+    rest : List Version
+    rest = found_from e.moment (ends_before (record { moment = e.moment; rows = rows_in e.copy t }) ends) a b
+        (table_history t es)
+
+    here : List Version
+    here = if meets a b e.moment until then completed ends (rows_in e.copy t) else []
+
+    either : (c : Bool) → In v (if c then completed ends (rows_in e.copy t) else []) → IsKept t (e ∷ es) v.row
+    either true n = completed_row ends t e es v n
+    either false n = absurd n
+
+-- what a question finds is a row of some copy
+question_kept : (t : ℕ) (w : When) (es : List Entry) (v : Version) → In v (found w (table_history t es))
+    → IsKept t es v.row
+question_kept t Now [] v i = absurd i
+question_kept t Now (e ∷ es) v i = completed_row still t e es v i
+question_kept t (AsOf m) es v i = as_of_kept t _ still m es v i
+question_kept t (FromTo a b) es v i = found_kept t _ still a b es v i
+question_kept t (Between a b) es v i = found_kept t _ still a _ es v i
+
+-- so the references of a query have rows of their tables' kinds
+bag_typed : (s : State) → RowsAreTyped s → IsTypedBag s.definitions (bag_of s)
+bag_typed s h r row m =
+    let d : TableDef = table_at s.definitions r.table in
+    let i = in_image (full d) row (found r.when (table_history r.table (entries s))) m in
+    let k = question_kept r.table r.when (entries s) i.0 i.1 in
+    subst (AreOfKinds (kinds_of d)) (sym i.2)
+    (same_kinds (kinds_of d) (shown d i.0.row) (full d i.0)
+    (generated_same d.system i.0.row.cells i.0.row.start high i.0.row.start i.0.end)
+    (h k.entry k.among r.table i.0.row k.there))
+
+-- the law that readers see
+pub bags_typed : BagsAreTyped
+bags_typed s h = bag_typed s h.rows
+
+-- ---- the rows of a copy
+
+-- each row is good
+abbrev CopyGood : List TableDef → Copy → Type 0
+CopyGood defs copy = (t : ℕ) → AllGood (table_at defs t) (rows_in copy t)
+
+-- in each copy
+abbrev EntriesGood : List TableDef → List Entry → Type 0
+EntriesGood defs es = (e : Entry) → In e es → CopyGood defs e.copy
+
+-- one definition more
+defined_more : (defs : List TableDef) (d : TableDef) → AreTypedDefinitions defs → IsTypedDefinition d
+    → AreTypedDefinitions (defs ++ d ∷ [])
+defined_more [] d h k zero = k
+defined_more [] d h k (suc t) = h (suc t)
+defined_more (x ∷ defs) d h k zero = h zero
+defined_more (x ∷ defs) d h k (suc t) = defined_more defs d (λ i. h (suc i)) k t
+
+-- one table more
+good_more : (defs : List TableDef) (d : TableDef) (copy : Copy) → length copy ≡ length defs → CopyGood defs copy
+    → CopyGood (defs ++ d ∷ []) (copy ++ [] ∷ [])
+good_more defs d copy n h t r m =
+    let there : In r (rows_in copy t) = subst (λ xs. In r xs) (rows_more copy t) m in
+    let within = there_within copy t r there in
+    subst (λ (x : TableDef). Good x r) (sym (get_or-append defs (d ∷ []) no_table t (omega arith))) (h t r there)
+
+-- one less
+good_less : (defs : List TableDef) (k : ℕ) (copy : Copy) → CopyGood defs copy → CopyGood (remove defs k) (remove copy k)
+good_less defs k copy h t r m =
+    subst (λ (x : TableDef). Good x r) (sym (removed_at defs k t no_table))
+    (h (skip k t) r (subst (λ xs. In r xs) (removed_at copy k t []) m))
+
+-- the newest copy
+newest_good : (defs : List TableDef) (es : List Entry) → EntriesGood defs es → CopyGood defs (newest_copy defs es)
+newest_good defs [] h t r m = absurd (subst (λ xs. In r xs) (no_rows defs t) m)
+newest_good defs (e ∷ es) h t r m = h e (inl refl) t r m
+
+-- what is done to every copy
+good_in_each : (g : Copy → Copy) (new : List TableDef) (es : List Entry)
+    → ((e : Entry) → In e es → CopyGood new (g e.copy))
+    → EntriesGood new (map (λ (e : Entry). record e { copy = g e.copy }) es)
+good_in_each g new es k e m =
+    let i = in_image (λ (x : Entry). record x { copy = g x.copy }) e es m in subst
+    (λ (x : Entry). CopyGood new x.copy) (sym i.2) (k i.0 i.1)
+
+-- one more entry
+first_good : (defs : List TableDef) (e : Entry) (es : List Entry) → CopyGood defs e.copy → EntriesGood defs es
+    → EntriesGood defs (e ∷ es)
+first_good defs e es h k x (inl q) = subst (λ (y : Entry). CopyGood defs y.copy) (sym q) h
+first_good defs e es h k x (inr m) = k x m
+
+-- a change in one copy
+changed_good : (s : State) (m : ℤ) (copy : Copy) (c : Change) → AreTypedDefinitions s.definitions
+    → IsTypedBag s.definitions (bag_of s)
+    → IsTypedChange s.definitions c → CopyGood s.definitions copy → (outcome s m copy c).faults ≡ []
+    → CopyGood s.definitions (slice_set copy (changed_table c) (outcome s m copy c).rows)
+changed_good s m copy c d b k h f t = elim (rows_set copy (changed_table c) (outcome s m copy c).rows t) [
+  | inl e ↦ subst (AllGood (table_at s.definitions t)) (sym e) (h t)
+  | inr e ↦ subst (AllGood (table_at s.definitions t)) (sym e.1)
+      (subst (λ i. AllGood (table_at s.definitions i) (outcome s m copy c).rows) (sym e.0)
+      (change_good s m copy c (d (changed_table c)) b k (h (changed_table c)) f))
+]
+
+-- ---- statements and runs
+
+-- definitions and rows
+abbrev Both : State → Type 0
+Both s = AreTypedDefinitions s.definitions × EntriesGood s.definitions (entries s)
+
+-- the kinds of the rows of a state
+rows_typed : (s : State) → Both s → RowsAreTyped s
+rows_typed s h e m t r i = (h.1 e m t r i).typed
+
+-- each effect keeps it
+effect_good : (defs : List TableDef) (history : List Entry) (next : ℤ) (begun : Option Entry) (b : Bound)
+    → state_faults (state defs history next begun) (manner_of b) ≡ [] → IsTypedBound defs b
+    → CopiesFit (state defs history next begun)
+    → Both (state defs history next begun) → Both (effect (state defs history next begun) b).1
+effect_good defs history next None (CreateTable d) e g f h = (
+  defined_more defs d h.0 g,
+  good_in_each (λ copy. copy ++ [] ∷ []) (defs ++ d ∷ []) history (λ x m. good_more defs d x.copy (f x m) (h.1 x m)),
+)
+effect_good defs history next (Some w) (CreateTable d) e g f h = absurd (cc)
+effect_good defs history next None (DropTable t) e g f h = (
+  λ i. subst IsTypedDefinition (sym (removed_at defs t i no_table)) (h.0 (skip t i)),
+  good_in_each (λ copy. remove copy t) (remove defs t) history (λ x m. good_less defs t x.copy (h.1 x m)),
+)
+effect_good defs history next (Some w) (DropTable t) e g f h = absurd (cc)
+effect_good defs history next begun (SetClock m) e g f h = h
+effect_good defs history next None Start e g f h = (h.0, first_good defs _ history (newest_good defs history h.1) h.1)
+effect_good defs history next (Some w) Start e g f h = absurd (cc)
+effect_good defs history next None Commit e g f h = h
+effect_good defs history next (Some w) Commit e g f h = h
+effect_good defs history next None Rollback e g f h = h
+effect_good defs history next (Some w) Rollback e g f h = (h.0, λ x m. h.1 x (inr m))
+effect_good defs history next None (Alter c) e g f h =
+    let s : State = state defs history next None in
+    altered_keeps Both s c h
+    (λ q. (
+      h.0,
+      first_good defs (changed_entry s c) history
+          (changed_good s next (newest_copy defs history) c h.0 (bag_typed s (rows_typed s h)) g
+          (newest_good defs history h.1) q.sound) h.1,
+    ))
+effect_good defs history next (Some w) (Alter c) e g f h =
+    let s : State = state defs history next (Some w) in
+    altered_keeps Both s c h
+    (λ q. (
+      h.0,
+      first_good defs (changed_entry s c) history
+          (changed_good s w.moment w.copy c h.0 (bag_typed s (rows_typed s h)) g (h.1 w (inl refl)) q.sound)
+          (λ x m. h.1 x (inr m)),
+    ))
+effect_good defs history next begun (Ask q) e g f h = asked_stays Both (state defs history next begun) q _ h
+
+-- a state by these
+typed_state : (s : State) → CopiesFit s → Both s → IsTypedState s
+typed_state s f h = record {
+  definitions = h.0;
+  copies = f;
+  rows = rows_typed s h;
+  periods = λ e m t r i. (h.1 e m t r i).period;
+}
+
+-- each effect that the state does not refuse keeps it
+effect_typed : (s : State) (b : Bound) → state_faults s (manner_of b) ≡ [] → IsTypedState s
+    → IsTypedBound s.definitions b
+    → IsTypedState (effect s b).1
+effect_typed s b e h k = typed_state (effect s b).1
+    (effect_fits s.definitions s.history s.next s.transaction b e h.copies)
+    (effect_good s.definitions s.history s.next s.transaction b e k h.copies
+    (h.definitions, λ x m t r i. record { typed = h.rows x m t r i; period = h.periods x m t r i }))
+
+-- so does a step
+pub steps_keep : StepsKeepTypes
+steps_keep = record {
+  steps = λ s b h k. unless_either IsTypedState (first (state_faults s (manner_of b))) s (effect s b).0 (effect s b).1 h
+      (λ e. effect_typed s b (none_first (state_faults s (manner_of b)) e) h k);
+  effects = effect_typed;
+}
+
+-- no definitions and no rows
+first_typed : IsTypedState new_state
+first_typed = typed_state new_state (λ e m. absurd m)
+    (λ t. record { system = λ s q. absurd (cc); application = λ a q. absurd (cc) }, λ e m. absurd m)
+
+-- in every state that a run reaches
+pub reached_typed : BoundAreTyped → ReachedAreTyped
+reached_typed b s r = run_keeps IsTypedState
+    (λ x t k h. effect_typed x (bind x.definitions t).value k.free h (b x.definitions t k.sound))
+    new_state r.pieces r.replies s r.run first_typed
