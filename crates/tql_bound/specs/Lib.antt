@@ -1,4 +1,4 @@
 pub mod Changes
 pub mod Questions
-pub mod Selections
+pub mod References
 pub mod Works

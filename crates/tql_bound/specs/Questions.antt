@@ -6,8 +6,8 @@ use Rattle.tql_spec.specs.Query as query
 use Rattle.tql_spec.specs.Query.{Query, Ref}
 use Rattle.tql_expr.specs.Meaning.{expr, cond}
 use Rattle.tql_expr.specs.declared.terms.Terms.{Terms}
-use Rattle.tql_bound.specs.Selections.{reference_of}
-use Rattle.tql_bound.specs.declared.selection.Reference.{Reference}
+use Rattle.tql_bound.specs.References.{reference_of}
+use Rattle.tql_bound.specs.declared.reference.Reference.{Reference}
 use Rattle.tql_bound.specs.declared.question.Chain.{Chain}
 use Rattle.tql_bound.specs.declared.question.Join.{Join}
 use Rattle.tql_bound.specs.declared.question.JoinKind.{JoinKind}

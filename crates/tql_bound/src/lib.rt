@@ -3,4 +3,4 @@
 
 pub mod change;
 pub mod question;
-pub mod selection;
+pub mod reference;

@@ -2,7 +2,7 @@
 ghost use Rattle.std.specs.Prelude.{All};
 ghost use Rattle.tql_expr.specs.Meaning.{HasExpr, HasCond};
 
-use crate::selection::Reference;
+use crate::reference::Reference;
 use tql_expr::terms::{CondId, ExprId, Terms};
 use tql_memory::Memory;
 

@@ -16,8 +16,8 @@ ghost use Rattle.tql_dml.specs.Cells.{falls as falling, falls_by, has_falling_pe
 use crate::generated::generated_places;
 use tql_catalog::definition::{Application, Column};
 use tql_catalog::table_def::TableDef;
+use tql_cells::stored::StoredRow;
 use tql_expr::columns::Columns;
-use tql_expr::row::StoredRow;
 use tql_memory::Memory;
 use tql_rows::version::HIGH;
 use tql_value::refusal::Refusal;

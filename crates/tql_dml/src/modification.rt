@@ -5,7 +5,7 @@ ghost use Rattle.tql_catalog.specs.Rows.{IsRowOf, stored_width};
 ghost use Rattle.tql_rows.specs.Readings.{version_shown as version_of};
 ghost use Rattle.tql_dml.specs.Alters.{Alters, modified, fates, coming, gone, work_in, conds_in, IsVersionOf};
 ghost use Rattle.tql_expr.specs.Evaluated.{Evaluated};
-ghost use Rattle.tql_expr.specs.Shown.{shown_by};
+ghost use Rattle.tql_cells.specs.Shown.{shown_by};
 ghost use Rattle.tql_value.specs.Views.{rows_of};
 ghost use Rattle.tql_dml.specs.Parts.{before, touched_part, part_of, parts, parts_in};
 
@@ -15,7 +15,7 @@ use crate::generated::generated_places;
 use tql_bound::change::{Modification, Work};
 use tql_catalog::catalog::Table;
 use tql_catalog::table_def::TableDef;
-use tql_expr::row::StoredRow;
+use tql_cells::stored::StoredRow;
 use tql_memory::Memory;
 use tql_rows::version::{HIGH, Version};
 use tql_store::store::Delta;

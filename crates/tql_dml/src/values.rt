@@ -7,7 +7,7 @@ ghost use Rattle.tql_expr.specs.Meaning.{HasExpr};
 ghost use Rattle.tql_value.specs.Views.{rows_of};
 ghost use Rattle.tql_expr.specs.Evaluated.{Evaluated};
 
-use tql_expr::row::Row;
+use tql_cells::row::Row;
 use tql_expr::terms::{ExprId, Terms};
 use tql_expr::values::values_on;
 use tql_memory::Memory;

@@ -14,13 +14,13 @@ use Rattle.tql_spec.specs.Query.{Chain, Cross, Inner, Join, Left, Query, Ref, Sc
 use Rattle.tql_spec.specs.Words.{◌>>=◌, filter_all, map_all, with_front}
 use Rattle.tql_bind.specs.Placed.{AreChainsPlaced, AreJoinsPlaced, IsPlacedQuery, IsPlacedRef, is_current, ref_of}
 use Rattle.tql_bound.specs.Questions.{chain_of, join_by, join_of, question_of, references_in, references_of}
-use Rattle.tql_bound.specs.Selections.{reference_of}
+use Rattle.tql_bound.specs.References.{reference_of}
 use Rattle.tql_bound.specs.declared.question.Chain as code
 use Rattle.tql_bound.specs.declared.question.Join as joined
 use Rattle.tql_bound.specs.declared.question.JoinKind.{JoinKind}
 use Rattle.tql_bound.specs.declared.question.JoinKind.TheVariants as kind
 use Rattle.tql_bound.specs.declared.question.Question.{Question}
-use Rattle.tql_bound.specs.declared.selection.Reference.{Reference}
+use Rattle.tql_bound.specs.declared.reference.Reference.{Reference}
 use Rattle.tql_catalog.specs.Tables.{definitions_of}
 use Rattle.tql_catalog.specs.declared.catalog.Table.{Table}
 use Rattle.tql_expr.specs.Meaning.{cond}

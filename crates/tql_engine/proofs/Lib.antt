@@ -18,6 +18,7 @@ pub mod QueryInserting
 pub mod Standing
 pub mod Swapping
 pub mod TransactionKeeps
+pub mod Typed
 pub mod SenseLaws
 pub mod Stepping
 pub mod Joining

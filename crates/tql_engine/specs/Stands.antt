@@ -6,6 +6,7 @@ use Rattle.tql_spec.specs.Calendar.{first_moment, high}
 use Rattle.tql_spec.specs.Definition.{Stamped}
 use Rattle.tql_spec.specs.History.{Copy, Entry, FallingFrom}
 use Rattle.tql_spec.specs.Machine.{State}
+use Rattle.tql_spec.specs.Typing.{IsTypedState}
 use Rattle.tql_catalog.specs.Tables.{definitions_of, tables_code}
 use Rattle.tql_catalog.specs.declared.catalog.Table.{Table}
 use Rattle.tql_store.specs.Held as store
@@ -83,7 +84,9 @@ pub record StandsFor (h : Held) (s : State) : Type 0 where
   pub placed : ArePlaced h.rows h.tables
   pub count : table_count h.rows ≡ length h.tables
 
--- what is true of every engine: it stands for some state of the machine
+-- what is true of every engine: it stands for some state of the machine, and in each copy of it, the working one too, values are of their
+-- columns' kinds, so that the ends of a row's application period are points of its kind
 pub record IsSound (h : Held) : Type 0 where
   pub state : State
   pub stands : StandsFor h state
+  pub typed : IsTypedState state

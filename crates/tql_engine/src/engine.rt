@@ -64,6 +64,7 @@ impl Engine {
     ghost use Rattle.tql_spec.specs.Run.{Answers, finished, respond};
     ghost use Rattle.tql_spec.specs.Running.{does_run};
     ghost use Rattle.tql_spec.specs.Syntax.{is_too_wide};
+    ghost use Rattle.tql_spec.specs.TypingLaws.{IsTypedBound};
     ghost use Rattle.tql_tree.specs.Statements.{statement_of};
     ghost use Rattle.tql_run.specs.Responding.{Answered};
     ghost use Rattle.tql_bind.specs.Bounds.{IsSound, bound_of};
@@ -98,6 +99,7 @@ impl Engine {
     pub(crate) fn perform(&mut self, bound: Bound) -> Result<Reply, Refusal>
         requires sound { IsSound (definitions_of self.old.tables) bound }
         requires allowed { IsAllowed self.old bound }
+        requires typed { IsTypedBound (definitions_of self.old.tables) (bound_of bound) }
         ensures { (s : State) → StandsFor self.old s → DoesStep self.new s result (step s (bound_of bound)) }
     {
         match bound {

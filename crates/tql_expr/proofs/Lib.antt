@@ -1,5 +1,4 @@
 pub mod Evaluations
-pub mod Inserted
 pub mod Judged
 pub mod Laws
 pub mod Nesting

@@ -1,8 +1,6 @@
 pub mod Nodes
 pub mod Trees
 pub mod Meaning
-pub mod Rows
 pub mod Searches
 pub mod Evaluated
 pub mod Sets
-pub mod Shown

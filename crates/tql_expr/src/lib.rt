@@ -1,12 +1,10 @@
 // Bound expressions and conditions as flat nodes, their meaning as the trees of the definitions, and their evaluation.
-// The rows that they read: those that own their values, and stored ones with their generated columns.
 #![tactic(auto)]
 
 pub mod chains;
 pub mod columns;
 pub mod evaluation;
 pub mod node;
-pub mod row;
 pub mod safety;
 pub mod scalar;
 pub mod search;

@@ -12,7 +12,7 @@ use Rattle.tql_spec.specs.Query.{Ref}
 use Rattle.tql_spec.specs.Refusal.{Refusal}
 use Rattle.tql_spec.specs.Syntax.{JoinTree, ChainTree, chain_length}
 use Rattle.tql_bound.specs.Questions.{join_of}
-use Rattle.tql_bound.specs.Selections.{reference_of}
+use Rattle.tql_bound.specs.References.{reference_of}
 use Rattle.tql_expr.specs.Meaning.{Stays}
 use Rattle.tql_expr.specs.declared.terms.Terms.{Terms}
 use Rattle.tql_scope.specs.Gathered.{Gathers}

@@ -16,7 +16,7 @@ use Rattle.tql_spec.specs.Refusal.{Refusal}
 use Rattle.tql_spec.specs.Syntax.{RefTree, JoinTree, InnerJoin, LeftJoin, CrossJoin}
 use Rattle.tql_spec.specs.Words.{listed}
 use Rattle.tql_bound.specs.Questions.{join_by, join_of}
-use Rattle.tql_bound.specs.Selections.{reference_of}
+use Rattle.tql_bound.specs.References.{reference_of}
 use Rattle.tql_bound.specs.declared.question.Join.{Join}
 use Rattle.tql_expr.specs.Meaning.{cond, HasCond, Stays}
 use Rattle.tql_expr.specs.declared.terms.Terms.{Terms}

@@ -10,7 +10,7 @@ use Rattle.tql_spec.specs.Query.{Ref}
 use Rattle.tql_spec.specs.Refusal.{Refusal}
 use Rattle.tql_spec.specs.Syntax.{RefTree, JoinTree, InnerJoin, LeftJoin, CrossJoin, ChainTree, chain_length}
 use Rattle.tql_bound.specs.Questions.{chain_of, join_of}
-use Rattle.tql_bound.specs.Selections.{reference_of}
+use Rattle.tql_bound.specs.References.{reference_of}
 use Rattle.tql_bound.specs.declared.question.Join.{Join}
 use Rattle.tql_bound.specs.declared.question.JoinKind.{JoinKind}
 use Rattle.tql_bound.specs.declared.question.JoinKind.TheVariants.{Inner, Left, Cross}

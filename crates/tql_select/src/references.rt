@@ -3,12 +3,12 @@ ghost use Rattle.std.specs.Prelude.{◌≡◌, IfOk, is_none, string_bytes};
 ghost use Rattle.tql_spec.specs.Binding as binding;
 ghost use Rattle.tql_spec.specs.Names.{refuse_if};
 ghost use Rattle.tql_spec.specs.Refusal.{FormNotAllowedHere};
-ghost use Rattle.tql_bound.specs.Selections.{when_of};
+ghost use Rattle.tql_bound.specs.References.{when_of};
 ghost use Rattle.tql_tree.specs.Statements.{ref_of, span_of};
 ghost use Rattle.tql_scope.specs.Gathered.{Gathers};
 
 use std::alloc::AllocError;
-use tql_bound::selection::When;
+use tql_bound::reference::When;
 use tql_catalog::table_def::TableDef;
 use tql_memory::Memory;
 use tql_scope::faults::Faults;

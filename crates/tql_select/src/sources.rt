@@ -9,7 +9,7 @@ ghost use Rattle.tql_select.specs.From.{name_in, source_of};
 
 use crate::references::when;
 use std::alloc::AllocError;
-use tql_bound::selection::Reference;
+use tql_bound::reference::Reference;
 use tql_catalog::catalog::Catalog;
 use tql_catalog::table_def::TableDef;
 use tql_memory::Memory;

@@ -244,7 +244,7 @@ steps_keep = record {
 }
 
 -- no definitions and no rows
-first_typed : IsTypedState new_state
+pub first_typed : IsTypedState new_state
 first_typed = typed_state new_state (λ e m. absurd m)
     (λ t. record { system = λ s q. absurd (cc); application = λ a q. absurd (cc) }, λ e m. absurd m)
 

@@ -44,9 +44,9 @@ pub mod ExprKinds
 pub mod RowKinds
 pub mod RowChanges
 mod ChangeKinds
-mod KindRuns
+pub mod KindRuns
 mod CreateKinds
 mod BoundKinds
 mod JoinKinds
 mod ChainKinds
-mod QueryKinds
+pub mod QueryKinds

@@ -28,6 +28,7 @@ fn verb_of(work: &Work) -> Verb
 impl Engine {
     ghost use Rattle.tql_spec.specs.Machine as machine;
     ghost use Rattle.tql_spec.specs.Machine.{State, step};
+    ghost use Rattle.tql_spec.specs.TypingLaws.{IsTypedChange};
     ghost use Rattle.tql_bind.specs.Placed.{IsPlacedQuery};
     ghost use Rattle.tql_bound.specs.Changes.{insertion_of, modification_of, query_insertion_of};
     ghost use Rattle.tql_bound.specs.Questions.{question_of};
@@ -42,6 +43,7 @@ impl Engine {
     /// INSERT of tuples. The rows begin at the clock's moment, which is that of an open transaction.
     pub(super) fn insert(&mut self, insertion: &Insertion) -> Result<Reply, Refusal>
         requires within { insertion.now.table < length (definitions_of self.old.tables) }
+        requires typed { IsTypedChange (definitions_of self.old.tables) (insertion_of insertion.now) }
         requires below { IsIdle self.old → HasTimeLeft self.old }
         ensures { (s : State) → StandsFor self.old s → DoesStep self.new s result (step s (machine.Alter (insertion_of insertion.now))) }
     {
@@ -77,6 +79,7 @@ impl Engine {
     pub(super) fn insert_from(&mut self, insertion: &QueryInsertion) -> Result<Reply, Refusal>
         requires within { insertion.now.table < length (definitions_of self.old.tables) }
         requires placed { IsPlacedQuery (definitions_of self.old.tables) (question_of insertion.now.question) }
+        requires typed { IsTypedChange (definitions_of self.old.tables) (query_insertion_of insertion.now) }
         requires below { IsIdle self.old → HasTimeLeft self.old }
         ensures { (s : State) → StandsFor self.old s → DoesStep self.new s result (step s (machine.Alter (query_insertion_of insertion.now))) }
     {
@@ -108,6 +111,7 @@ impl Engine {
     /// UPDATE and DELETE.
     pub(super) fn modify(&mut self, modification: &Modification) -> Result<Reply, Refusal>
         requires within { modification.now.table < length (definitions_of self.old.tables) }
+        requires typed { IsTypedChange (definitions_of self.old.tables) (modification_of modification.now) }
         requires below { IsIdle self.old → HasTimeLeft self.old }
         ensures { (s : State) → StandsFor self.old s → DoesStep self.new s result (step s (machine.Alter (modification_of modification.now))) }
     {

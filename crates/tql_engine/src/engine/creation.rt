@@ -9,6 +9,7 @@ use tql_value::refusal::Refusal;
 impl Engine {
     ghost use Rattle.tql_spec.specs.Machine as machine;
     ghost use Rattle.tql_spec.specs.Machine.{State, step, with_table};
+    ghost use Rattle.tql_spec.specs.Typing.{IsTypedDefinition};
     ghost use Rattle.tql_catalog.specs.Tables.{definitions_of};
     ghost use Rattle.tql_value.specs.declared.refusal.Refusal.TheVariants.{OutOfMemory};
     ghost use Rattle.tql_bind.specs.Bounds.{IsSoundTable};
@@ -20,6 +21,7 @@ impl Engine {
     fn add_table(&mut self, definition: TableDef) -> Result<(), Refusal>
         requires closed { IsIdle self.old }
         requires sound { IsSoundTable (definitions_of self.old.tables) definition }
+        requires typed { IsTypedDefinition definition }
         ensures ok { OnOk result ((s : State) → StandsFor self.old s → StandsFor self.new (with_table definition s)) }
         ensures err { OnErr result ((s : State) → StandsFor self.old s → StandsFor self.new s) }
         ensures memory { IfErr result (λ e. e ≡ OutOfMemory) }
@@ -38,6 +40,7 @@ impl Engine {
     pub(super) fn create(&mut self, definition: TableDef) -> Result<Reply, Refusal>
         requires closed { IsIdle self.old }
         requires sound { IsSoundTable (definitions_of self.old.tables) definition }
+        requires typed { IsTypedDefinition definition }
         ensures { (s : State) → StandsFor self.old s → DoesStep self.new s result (step s (machine.CreateTable definition)) }
     {
         match self.add_table(definition) {

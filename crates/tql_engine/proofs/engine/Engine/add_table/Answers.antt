@@ -1,7 +1,7 @@
 use Rattle.std.proofs.Common.{◌<◌, ℕ, Bool, ◌∙◌, sym, subst, List, Err}
 use Rattle.std.specs.Prelude.{ℤ, IsNone, Option}
 use Rattle.std.proofs.lemmas.List.{length-map}
-use Rattle.tql_spec.specs.Machine.{with_table}
+use Rattle.tql_spec.specs.Machine.{CreateTable}
 use Rattle.tql_spec.specs.Refusal as spec
 use Rattle.tql_store.specs.Represents.{AddsTable}
 use Rattle.tql_catalog.specs.Tables.{definitions_of, Tells}
@@ -9,6 +9,8 @@ use Rattle.tql_catalog.specs.declared.catalog.Table.{Table}
 use Rattle.tql_bind.specs.Bounds.{IsSoundTable}
 use Rattle.tql_engine.specs.Stands.{Held, StandsFor}
 use Rattle.tql_engine.proofs.Creating.{no_fault, made_law, free_number, there_now, given_up_law}
+use Rattle.tql_engine.proofs.Doing.{create_does}
+use Rattle.tql_engine.proofs.Typed.{sound_after}
 use Rattle.tql_engine.proofs.engine.Engine.add_table.Goals as goal
 
 pub add_table-requires : goal.add_table-requires
@@ -34,12 +36,12 @@ pub invariant_of-self-in-Ok : goal.invariant_of-self-in-Ok
 invariant_of-self-in-Ok c =
     let d = c.args.definition in
     let table : Table = record { definition = d; id = c.in_ok-id.id } in
-    record {
-      state = with_table d c.self.invariant.state;
-      stands = made_law c.self.invariant.state c.self.inside.tables _ table c.self.inside.rows _ _ _ c.self.invariant.stands
-          (subst (λ (h : Held). IsNone h.rows.working) (sym c.self.view_is) c.requires.closed) c.is_versioned.ensures.right c.requires.sound.narrow c.in_ok-id.ensures.ok c.in_ok-id.ensures.copies
-          c.is_versioned.ensures.versioned c.in-Ok.ensures.created;
-    }
+    let closed = subst (λ (h : Held). IsNone h.rows.working) (sym c.self.view_is) c.requires.closed in
+    sound_after _ _ c.self.invariant (CreateTable d) _ c.requires.typed
+    (create_does _ _ c.self.invariant.state d c.self.invariant.stands closed
+    (made_law c.self.invariant.state c.self.inside.tables _ table c.self.inside.rows _ _ _ c.self.invariant.stands
+    closed c.is_versioned.ensures.right c.requires.sound.narrow c.in_ok-id.ensures.ok c.in_ok-id.ensures.copies
+    c.is_versioned.ensures.versioned c.in-Ok.ensures.created))
 
 pub invariant_of-self-in-Err : goal.invariant_of-self-in-Err
 invariant_of-self-in-Err c =
@@ -50,6 +52,7 @@ invariant_of-self-in-Err c =
       state = c.self.invariant.state;
       stands = subst (λ (ts : List Table). StandsFor (record { tables = ts; rows = c.drop_table.new.self; next = c.self.inside.next }) c.self.invariant.state) (sym c.in-Err.ensures.kept)
           (given_up_law c.self.inside.rows c.add_table.new.self c.drop_table.new.self table adds c.drop_table.ensures.places c.drop_table.ensures.count c.drop_table.ensures.working c.drop_table.ensures.copies c.self.invariant.state c.self.inside.tables c.self.inside.next c.self.invariant.stands c.in_ok-id.ensures.copies);
+      typed = c.self.invariant.typed;
     }
 
 pub returns-in-Ok-clause-ok : goal.returns-in-Ok-clause-ok

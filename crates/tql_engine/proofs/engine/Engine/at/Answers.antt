@@ -1,10 +1,10 @@
-use Rattle.std.proofs.Common.{rules, sym, subst, ◌≡◌, false}
+use Rattle.std.proofs.Common.{rules, sym, subst}
 use Rattle.std.specs.Prelude.{IsNone}
 use Rattle.std.proofs.Math.Facts.{to_z-of_z}
-use Rattle.tql_spec.specs.Machine.{State, is_not_later}
+use Rattle.tql_spec.specs.Machine.{State, SetClock}
 use Rattle.tql_engine.specs.Stands.{Held, StandsFor}
-use Rattle.tql_engine.proofs.Standing.{last_law, clock_law}
 use Rattle.tql_engine.proofs.Doing.{clock_refused, clock_set}
+use Rattle.tql_engine.proofs.Typed.{sound_after}
 use Rattle.tql_engine.proofs.engine.Engine.at.Goals as goal
 
 pub returns-then-is_not_later-clause-answered : goal.returns-then-is_not_later-clause-answered
@@ -20,5 +20,5 @@ pub invariant_of-self : goal.invariant_of-self
 invariant_of-self c =
     let s : State = c.self.invariant.state in
     let closed = subst (λ (h : Held). IsNone h.rows.working) (sym c.self.view_is) c.requires.closed in
-    let later : is_not_later c.args.moment s.history ≡ false = rw (last_law _ s c.args.moment c.self.invariant.stands) (search rules) in
-    rw (to_z-of_z c.ranges.moment) (record { state = record s { next = c.args.moment }; stands = clock_law _ s _ c.self.invariant.stands closed later c.requires.moment.0 c.requires.moment.1 })
+    rw (to_z-of_z c.ranges.moment)
+    (sound_after _ _ c.self.invariant (SetClock c.args.moment) _ tt (clock_set _ s _ c.self.invariant.stands closed (search rules) c.requires.moment.0 c.requires.moment.1))

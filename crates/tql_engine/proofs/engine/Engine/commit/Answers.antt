@@ -1,22 +1,22 @@
 use Rattle.std.proofs.Common.{◌∙◌, ap, sym, subst}
-use Rattle.tql_spec.specs.Machine.{State, committed}
+use Rattle.tql_spec.specs.Machine.{State, Commit}
 use Rattle.std.specs.Prelude.{is_some}
 use Rattle.tql_engine.specs.Stands.{Held, StandsFor}
 use Rattle.tql_engine.proofs.MomentFits.{clock_steps}
-use Rattle.tql_engine.proofs.TransactionKeeps.{dated_below, ended_law}
+use Rattle.tql_engine.proofs.TransactionKeeps.{dated_below}
 use Rattle.tql_engine.proofs.Doing.{open_entry, commit_refused, commit_does}
+use Rattle.tql_engine.proofs.Typed.{sound_after}
 use Rattle.tql_engine.proofs.engine.Engine.commit.Goals as goal
 
 pub invariant_of-self : goal.invariant_of-self
 invariant_of-self c =
     let s : State = c.self.invariant.state in
     let st = c.self.invariant.stands in
-    let e = open_entry _ s st (sym c.has_transaction.ensures ∙ c.if-not-has_transaction.false) in
+    let is_open = sym c.has_transaction.ensures ∙ c.if-not-has_transaction.false in
+    let e = open_entry _ s st is_open in
     rw (clock_steps _ s st (dated_below _ s e.0 st e.1))
-    (record {
-      state = committed s e.0;
-      stands = ended_law _ s e.0 c.commit.new.self st e.1 c.commit.ensures.copies (c.commit.ensures.working) (c.commit.ensures.tables);
-    })
+    (sound_after _ _ c.self.invariant Commit _ tt
+    (commit_does _ s c.commit.new.self st is_open c.commit.ensures.copies (c.commit.ensures.working) (c.commit.ensures.tables)))
 
 pub returns-clause-answered : goal.returns-clause-answered
 returns-clause-answered c s st =

@@ -1,10 +1,11 @@
 use Rattle.std.proofs.Common.{sym, subst}
 use Rattle.std.specs.Prelude.{IsNone}
-use Rattle.tql_spec.specs.Machine.{State, without_table}
+use Rattle.tql_spec.specs.Machine.{State, DropTable}
 use Rattle.tql_engine.specs.Stands.{Held, StandsFor}
 use Rattle.tql_engine.proofs.Standing.{there_law}
 use Rattle.tql_engine.proofs.DropKeeps.{drop_law}
 use Rattle.tql_engine.proofs.Doing.{drop_does}
+use Rattle.tql_engine.proofs.Typed.{sound_after}
 use Rattle.tql_engine.proofs.engine.Engine.drop_table.Goals as goal
 
 pub drop_table-requires-clause-closed : goal.drop_table-requires-clause-closed
@@ -17,11 +18,10 @@ pub invariant_of-self : goal.invariant_of-self
 invariant_of-self c =
     let s : State = c.self.invariant.state in
     let closed = subst (λ (h : Held). IsNone h.rows.working) (sym c.self.view_is) c.requires.closed in
-    record {
-      state = without_table c.args.place s;
-      stands = drop_law _ s c.args.place c.remove-table.result _ _ c.self.invariant.stands closed c.remove-table.ensures.taken c.remove-table.ensures.others
-          c.drop_table.ensures.places c.drop_table.ensures.count c.drop_table.ensures.working c.drop_table.ensures.copies;
-    }
+    sound_after _ _ c.self.invariant (DropTable c.args.place) _ tt
+    (drop_does _ _ s c.args.place c.self.invariant.stands closed
+    (drop_law _ s c.args.place c.remove-table.result _ _ c.self.invariant.stands closed c.remove-table.ensures.taken c.remove-table.ensures.others
+    c.drop_table.ensures.places c.drop_table.ensures.count c.drop_table.ensures.working c.drop_table.ensures.copies))
 
 pub returns : goal.returns
 returns c s st =

@@ -3,6 +3,9 @@ use Rattle.std.specs.Prelude.{option_map}
 use Rattle.tql_spec.specs.Binding.{bind}
 use Rattle.tql_spec.specs.Definition.{TableDef}
 use Rattle.tql_spec.specs.Refusal.{first}
+use Rattle.tql_spec.specs.TypingLaws.{IsTypedBound}
+use Rattle.tql_spec.proofs.FirstFaults.{none_first}
+use Rattle.tql_spec.proofs.QueryKinds.{bound_typed}
 use Rattle.tql_tree.specs.Statements.{statement_of}
 use Rattle.tql_value.specs.Refusals.{refusal_of}
 use Rattle.tql_bind.specs.Bounds.{IsSound, bound_of}
@@ -23,6 +26,14 @@ pub perform-requires-clause-sound : goal.perform-requires-clause-sound
 perform-requires-clause-sound c =
     let tables = ap (λ (h : Held). definitions_of h.tables) (sym c.self.view_is) in
     subst (λ (ds : List TableDef). IsSound ds c.in-Ok.bound) (sym tables) c.in-Ok.ensures.sound
+
+pub perform-requires-clause-typed : goal.perform-requires-clause-typed
+perform-requires-clause-typed c =
+    let ds = definitions_of c.self.inside.tables in
+    let t = statement_of c.args.statement.now in
+    let binds = c.in-Ok.ensures.binds in
+    let typed : IsTypedBound ds (bound_of c.in-Ok.bound) = subst (IsTypedBound ds) binds.1 (bound_typed ds t (none_first (bind ds t).faults binds.0)) in
+    subst (λ (h : Held). IsTypedBound (definitions_of h.tables) (bound_of c.in-Ok.bound)) c.self.view_is typed
 
 pub perform-requires-clause-allowed : goal.perform-requires-clause-allowed
 perform-requires-clause-allowed c =

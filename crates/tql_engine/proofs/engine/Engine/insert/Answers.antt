@@ -3,10 +3,13 @@ use Rattle.std.specs.Prelude.{IsNone, ◌<ℤ◌, slice_get, IsTrue}
 use Rattle.std.proofs.lemmas.List.Elements.{recursion_from_All}
 use Rattle.tql_spec.specs.Calendar.{high}
 use Rattle.tql_spec.specs.Datum.{Row}
-use Rattle.tql_spec.specs.Machine.{State}
+use Rattle.tql_spec.specs.Machine.{State, Alter}
+use Rattle.tql_spec.specs.TypingLaws.{IsTypedChange}
 use Rattle.tql_store.specs.Held.{has_table}
 use Rattle.tql_store.proofs.Judging.{none-removable}
 use Rattle.tql_catalog.specs.Rows.{IsRowOf}
+use Rattle.tql_catalog.specs.Tables.{definitions_of}
+use Rattle.tql_bound.specs.Changes.{insertion_of}
 use Rattle.tql_bound.specs.declared.change.Insertion.{Insertion}
 use Rattle.tql_value.specs.Views.{rows_of}
 use Rattle.tql_catalog.specs.declared.catalog.Table.{Table}
@@ -15,8 +18,9 @@ use Rattle.tql_engine.specs.Stands.{Held, StandsFor}
 use Rattle.tql_engine.proofs.MomentFits.{clock_reads, clock_under, after_reads}
 use Rattle.tql_engine.proofs.Standing.{place_law, there_law}
 use Rattle.tql_engine.proofs.ChangeKeeps.{kept_law}
-use Rattle.tql_engine.proofs.Doing.{with_rows_added, rows_added, insert_does}
+use Rattle.tql_engine.proofs.Doing.{insert_does}
 use Rattle.tql_engine.proofs.Inserting.{insert_errs}
+use Rattle.tql_engine.proofs.Typed.{sound_after}
 use Rattle.tql_engine.proofs.engine.Engine.insert.Goals as goal
 
 pub table_at-requires : goal.table_at-requires
@@ -50,13 +54,16 @@ invariant_of-self c =
     let after = c.in-Ok-change_rows.next in
     let there = subst (λ (h : Held). slice_get h.tables x.table ≡ Some p) (sym c.self.view_is) c.table_at.ensures in
     let below = subst (λ (h : Held). IsNone h.rows.working → h.next <ℤ high) (sym c.self.view_is) c.requires.below in
+    let gives = c.in-Ok.ensures.alters in
     let fit = recursion_from_All (IsRowOf p.definition) rows c.in-Ok.ensures.fits in
     let old = c.self.inside.rows in
     let new = c.change_rows.new.store in
     let clocked = subst (λ m. ChangesRows old.working m after c.in-Ok.delta.table removed rows old new) (clock_reads _ s st) c.in-Ok-change_rows.ensures.ok in
-    let done = subst (λ t. ChangesRows old.working c.self.inside.next after t removed rows old new) c.in-Ok.ensures.alters.table clocked in
+    let done = subst (λ t. ChangesRows old.working c.self.inside.next after t removed rows old new) gives.table clocked in
+    let bound = subst (λ (h : Held). IsTypedChange (definitions_of h.tables) (insertion_of x)) (sym c.self.view_is) c.requires.typed in
     rw (after_reads _ s after p.id removed rows new st below done)
-    (record { state = with_rows_added s x.table rows; stands = rows_added _ s x.table p rows removed new after st there below fit c.in-Ok.ensures.alters.removed done })
+    (sound_after _ _ c.self.invariant (Alter (insertion_of x)) _ bound
+    (insert_does _ s p x rows removed new after c.in-Ok.delta.count st there below fit gives.removed done gives.added gives.sound gives.count))
 
 pub invariant_of-self-in-Err-change_rows : goal.invariant_of-self-in-Err-change_rows
 invariant_of-self-in-Err-change_rows c =
@@ -64,7 +71,7 @@ invariant_of-self-in-Err-change_rows c =
     let st = c.self.invariant.stands in
     let old = c.self.inside.rows in
     let kept = subst (λ m. KeepsRows old.working m old c.change_rows.new.store) (clock_reads _ s st) c.in-Err-change_rows.ensures.err in
-    record { state = s; stands = kept_law _ s c.change_rows.new.store st kept }
+    record { state = s; stands = kept_law _ s c.change_rows.new.store st kept; typed = c.self.invariant.typed }
 
 pub returns-in-Ok-change_rows : goal.returns-in-Ok-change_rows
 returns-in-Ok-change_rows c s st =

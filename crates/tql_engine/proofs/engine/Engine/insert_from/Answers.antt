@@ -3,10 +3,13 @@ use Rattle.std.specs.Prelude.{IsNone, ◌<ℤ◌, slice_get, IsTrue, All}
 use Rattle.std.proofs.lemmas.List.Elements.{recursion_from_All}
 use Rattle.tql_spec.specs.Calendar.{high}
 use Rattle.tql_spec.specs.Datum.{Row}
-use Rattle.tql_spec.specs.Machine.{State}
+use Rattle.tql_spec.specs.Machine.{State, Alter}
+use Rattle.tql_spec.specs.TypingLaws.{IsTypedChange}
 use Rattle.tql_store.specs.Held.{AreRemovable, has_table}
 use Rattle.tql_store.proofs.Judging.{none-removable}
+use Rattle.tql_bound.specs.Changes.{query_insertion_of}
 use Rattle.tql_bound.specs.declared.change.QueryInsertion.{QueryInsertion}
+use Rattle.tql_catalog.specs.Tables.{definitions_of}
 use Rattle.tql_catalog.specs.Rows.{IsRowOf}
 use Rattle.tql_catalog.specs.declared.catalog.Table.{Table}
 use Rattle.tql_value.specs.Views.{rows_of}
@@ -16,8 +19,9 @@ use Rattle.tql_engine.specs.Stands.{Held, StandsFor}
 use Rattle.tql_engine.proofs.MomentFits.{clock_reads, clock_under, after_reads}
 use Rattle.tql_engine.proofs.Modifying.{table_there}
 use Rattle.tql_engine.proofs.Standing.{place_law, there_law}
-use Rattle.tql_engine.proofs.ChangeKeeps.{kept_law, with_table_rows, working_now, working_rows}
-use Rattle.tql_engine.proofs.QueryInserting.{outcome_of, query_errs, query_inserts, rows_inserted}
+use Rattle.tql_engine.proofs.ChangeKeeps.{kept_law}
+use Rattle.tql_engine.proofs.QueryInserting.{query_errs, query_inserts}
+use Rattle.tql_engine.proofs.Typed.{sound_after}
 use Rattle.tql_engine.proofs.engine.Engine.insert_from.Goals as goal
 
 pub returns-in-Err : goal.returns-in-Err
@@ -67,11 +71,10 @@ invariant_of-self c =
     let new = c.change_rows.new.store in
     let clocked = subst (λ m. ChangesRows old.working m after c.in-Ok.delta.table removed rows old new) (clock_reads _ s st) c.in-Ok-change_rows.ensures.ok in
     let done = subst (λ i. ChangesRows old.working c.self.inside.next after i removed rows old new) a.alters.table clocked in
+    let bound = subst (λ (h : Held). IsTypedChange (definitions_of h.tables) (query_insertion_of x)) (sym c.self.view_is) c.requires.typed in
     rw (after_reads _ s after p.id removed rows new st below done)
-    (record {
-      state = with_table_rows s x.table (outcome_of c.inserts_keep_no_order.ensures _ s p x st there below (Some a.bag)).rows;
-      stands = rows_inserted c.inserts_keep_no_order.ensures _ s p x st there below a.bag a.rows a.answered a.same rows removed new after fit a.alters.removed done a.alters.added;
-    })
+    (sound_after _ _ c.self.invariant (Alter (query_insertion_of x)) _ bound
+    (query_inserts c.inserts_keep_no_order.ensures _ s p x st there below a.bag a.rows a.answered a.same rows removed new after c.in-Ok.delta.count fit a.alters.removed done a.alters.added a.alters.sound a.alters.count))
 
 pub invariant_of-self-in-Err-change_rows : goal.invariant_of-self-in-Err-change_rows
 invariant_of-self-in-Err-change_rows c =
@@ -79,7 +82,7 @@ invariant_of-self-in-Err-change_rows c =
     let st = c.self.invariant.stands in
     let old = c.self.inside.rows in
     let kept = subst (λ m. KeepsRows old.working m old c.change_rows.new.store) (clock_reads _ s st) c.in-Err-change_rows.ensures.err in
-    record { state = s; stands = kept_law _ s c.change_rows.new.store st kept }
+    record { state = s; stands = kept_law _ s c.change_rows.new.store st kept; typed = c.self.invariant.typed }
 
 pub returns-in-Ok-change_rows : goal.returns-in-Ok-change_rows
 returns-in-Ok-change_rows c s st =

@@ -3,13 +3,13 @@ use Rattle.std.specs.Prelude.{IsNone, ◌<ℤ◌, slice_get, IsTrue}
 use Rattle.std.proofs.lemmas.List.Elements.{recursion_from_All}
 use Rattle.tql_spec.specs.Calendar.{high}
 use Rattle.tql_spec.specs.Datum.{Row}
-use Rattle.tql_spec.specs.Change.{modify}
-use Rattle.tql_spec.specs.Machine.{State}
+use Rattle.tql_spec.specs.Machine.{State, Alter}
+use Rattle.tql_spec.specs.TypingLaws.{IsTypedChange}
 use Rattle.tql_store.specs.Held.{has_table, AreRemovable}
 use Rattle.tql_catalog.specs.Rows.{IsRowOf}
-use Rattle.tql_bound.specs.Works.{work_of}
+use Rattle.tql_catalog.specs.Tables.{definitions_of}
+use Rattle.tql_bound.specs.Changes.{modification_of}
 use Rattle.tql_bound.specs.declared.change.Modification.{Modification}
-use Rattle.tql_dml.specs.Alters.{conds_in}
 use Rattle.tql_value.specs.Views.{rows_of}
 use Rattle.tql_catalog.specs.declared.catalog.Table.{Table}
 use Rattle.tql_engine.specs.Committing.{ChangesRows, KeepsRows}
@@ -17,8 +17,9 @@ use Rattle.tql_engine.specs.Modifying.{Made}
 use Rattle.tql_engine.specs.Stands.{Held, StandsFor}
 use Rattle.tql_engine.proofs.MomentFits.{clock_reads, clock_under, after_reads}
 use Rattle.tql_engine.proofs.Standing.{place_law, there_law}
-use Rattle.tql_engine.proofs.ChangeKeeps.{kept_law, working_now, working_rows, with_table_rows}
-use Rattle.tql_engine.proofs.Modifying.{modify_errs, modify_does, rows_modified, read_fit, table_there, gone_removable, gone_judged}
+use Rattle.tql_engine.proofs.ChangeKeeps.{kept_law}
+use Rattle.tql_engine.proofs.Modifying.{modify_errs, modify_does, read_fit, table_there, gone_removable, gone_judged}
+use Rattle.tql_engine.proofs.Typed.{sound_after}
 use Rattle.tql_engine.proofs.engine.Engine.modify.Goals as goal
 
 pub delta_of-requires : goal.delta_of-requires
@@ -64,14 +65,12 @@ invariant_of-self c =
     let fit = recursion_from_All (IsRowOf p.definition) rows (made.fits (read_fit _ s x.table p made.found st there made.answers)) in
     let old = c.self.inside.rows in
     let new = c.change_rows.new.store in
-    let m = (working_now s).moment in
     let clocked = subst (λ n. ChangesRows old.working n after c.in-Ok.delta.table removed rows old new) (clock_reads _ s st) c.in-Ok-change_rows.ensures.ok in
     let done = subst (λ i. ChangesRows old.working c.self.inside.next after i removed rows old new) made.alters.table clocked in
+    let bound = subst (λ (h : Held). IsTypedChange (definitions_of h.tables) (modification_of x)) (sym c.self.view_is) c.requires.typed in
     rw (after_reads _ s after p.id removed rows new st below done)
-    (record {
-      state = with_table_rows s x.table (modify p.definition m (working_rows s x.table) None (work_of x.terms x.work) (conds_in x)).rows;
-      stands = rows_modified c.changes_keep_no_order.ensures c.changes_by_parts.ensures _ s p x st there below made.found made.answers rows removed new after fit (gone_judged old p x c.in-Ok.delta made) done made.alters.added made.alters.sound;
-    })
+    (sound_after _ _ c.self.invariant (Alter (modification_of x)) _ bound
+    (modify_does c.changes_keep_no_order.ensures c.changes_by_parts.ensures _ s p x st there below made.found made.answers rows removed new after c.in-Ok.delta.count fit (gone_judged old p x c.in-Ok.delta made) done made.alters.added made.alters.sound made.alters.count))
 
 pub invariant_of-self-in-Err-change_rows : goal.invariant_of-self-in-Err-change_rows
 invariant_of-self-in-Err-change_rows c =
@@ -79,7 +78,7 @@ invariant_of-self-in-Err-change_rows c =
     let st = c.self.invariant.stands in
     let old = c.self.inside.rows in
     let kept = subst (λ m. KeepsRows old.working m old c.change_rows.new.store) (clock_reads _ s st) c.in-Err-change_rows.ensures.err in
-    record { state = s; stands = kept_law _ s c.change_rows.new.store st kept }
+    record { state = s; stands = kept_law _ s c.change_rows.new.store st kept; typed = c.self.invariant.typed }
 
 pub returns-in-Ok-change_rows : goal.returns-in-Ok-change_rows
 returns-in-Ok-change_rows c s st =

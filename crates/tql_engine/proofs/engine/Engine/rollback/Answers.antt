@@ -1,20 +1,18 @@
-use Rattle.std.proofs.Common.{◌∙◌, ap, sym, subst, None}
-use Rattle.tql_spec.specs.Machine.{State}
+use Rattle.std.proofs.Common.{◌∙◌, ap, sym, subst}
+use Rattle.tql_spec.specs.Machine.{State, Rollback}
 use Rattle.std.specs.Prelude.{is_some}
 use Rattle.tql_engine.specs.Stands.{Held, StandsFor}
-use Rattle.tql_engine.proofs.TransactionKeeps.{undone_law}
-use Rattle.tql_engine.proofs.Doing.{open_entry, rollback_refused, rollback_does}
+use Rattle.tql_engine.proofs.Doing.{rollback_refused, rollback_does}
+use Rattle.tql_engine.proofs.Typed.{sound_after}
 use Rattle.tql_engine.proofs.engine.Engine.rollback.Goals as goal
 
 pub invariant_of-self : goal.invariant_of-self
 invariant_of-self c =
     let s : State = c.self.invariant.state in
     let st = c.self.invariant.stands in
-    let e = open_entry _ s st (sym c.has_transaction.ensures ∙ c.if-not-has_transaction.false) in
-    record {
-      state = record s { transaction = None };
-      stands = undone_law _ s e.0 c.rollback.new.self st e.1 c.rollback.ensures.copies (c.rollback.ensures.working) (c.rollback.ensures.tables);
-    }
+    let is_open = sym c.has_transaction.ensures ∙ c.if-not-has_transaction.false in
+    sound_after _ _ c.self.invariant Rollback _ tt
+    (rollback_does _ s c.rollback.new.self st is_open c.rollback.ensures.copies (c.rollback.ensures.working) (c.rollback.ensures.tables))
 
 pub returns-clause-answered : goal.returns-clause-answered
 returns-clause-answered c s st =

@@ -1,12 +1,11 @@
-use Rattle.std.proofs.Common.{◌∙◌, ap, sym, subst, Some, None}
+use Rattle.std.proofs.Common.{◌∙◌, ap, sym, subst, Some}
 use Rattle.std.specs.Prelude.{IsNone, ◌<ℤ◌}
 use Rattle.tql_spec.specs.Calendar.{high}
-use Rattle.tql_spec.specs.Machine.{State, working}
+use Rattle.tql_spec.specs.Machine.{State, Start}
 use Rattle.tql_engine.specs.Stands.{Held, StandsFor}
 use Rattle.tql_engine.proofs.MomentFits.{clock_reads, clock_under}
-use Rattle.tql_engine.proofs.Standing.{closed_law}
-use Rattle.tql_engine.proofs.TransactionKeeps.{begun_law}
 use Rattle.tql_engine.proofs.Doing.{start_does}
+use Rattle.tql_engine.proofs.Typed.{sound_after}
 use Rattle.tql_engine.proofs.engine.Engine.start.Goals as goal
 
 pub begin-requires-clause-closed : goal.begin-requires-clause-closed
@@ -25,11 +24,9 @@ invariant_of-self c =
     let st = c.self.invariant.stands in
     let closed = subst (λ (h : Held). IsNone h.rows.working) (sym c.self.view_is) c.requires.closed in
     let below = subst (λ (h : Held). h.next <ℤ high) (sym c.self.view_is) c.requires.below in
-    record {
-      state = record s { transaction = Some (working s None) };
-      stands = begun_law _ s _ st (closed_law _ s st closed) below c.begin.ensures.copies
-          (c.begin.ensures.working ∙ ap Some (clock_reads _ s st)) (c.begin.ensures.tables);
-    }
+    sound_after _ _ c.self.invariant Start _ tt
+    (start_does _ s _ st closed below c.begin.ensures.copies
+    (c.begin.ensures.working ∙ ap Some (clock_reads _ s st)) (c.begin.ensures.tables))
 
 pub returns : goal.returns
 returns c s st =

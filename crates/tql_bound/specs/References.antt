@@ -2,9 +2,9 @@
 use Rattle.std.specs.Prelude.{Bool, true, false}
 use Rattle.tql_spec.specs.History as history
 use Rattle.tql_spec.specs.Query.{Ref}
-use Rattle.tql_bound.specs.declared.selection.When.{When}
-use Rattle.tql_bound.specs.declared.selection.When.TheVariants as when
-use Rattle.tql_bound.specs.declared.selection.Reference.{Reference}
+use Rattle.tql_bound.specs.declared.reference.When.{When}
+use Rattle.tql_bound.specs.declared.reference.When.TheVariants as when
+use Rattle.tql_bound.specs.declared.reference.Reference.{Reference}
 
 -- the versions that are asked for
 abbrev pub when_of : When → history.When

@@ -1,101 +1,16 @@
-// Rows: those that own their values, and stored ones as their table shows them.
-ghost use Rattle.std.specs.Prelude.{◌≡◌, [], ◌∷◌, ◌++◌, length, map, insert, OnOk, OnErr};
+//! Rows as they are stored, shown as their table has them.
+ghost use Rattle.std.specs.Prelude.{◌≡◌, length, map, insert};
 ghost use Rattle.tql_spec.specs.Datum as pure;
-ghost use Rattle.tql_spec.specs.Definition.{with_generated, cell};
-ghost use Rattle.tql_spec.specs.Expression as tree;
-ghost use Rattle.tql_value.specs.Views.{datum_of_value, datum_of_view, outcome};
-ghost use Rattle.tql_expr.specs.Meaning.{HasOperand, aggregate as tree_of};
-ghost use Rattle.tql_expr.specs.Rows.{generated, read_or};
+ghost use Rattle.tql_spec.specs.Definition.{cell};
+ghost use Rattle.tql_value.specs.Views.{datum_of_value, datum_of_view};
+ghost use Rattle.tql_cells.specs.Generated.{read_or};
 
-use crate::columns::Columns;
-use crate::node::Function;
-use crate::terms::{Aggregate, Terms};
-use smallvec::SmallVec;
-use std::alloc::AllocError;
+use crate::row::cell_at;
 use std::cmp::Ordering;
-use std::marker::Model;
-use tql_memory::Memory;
+use tql_expr::columns::{Columns, over_no_rows};
+use tql_expr::terms::{Aggregate, Terms};
 use tql_value::arithmetic::Range;
 use tql_value::value::{Value, View};
-
-/// The value of a column of these cells; NULL past the last one.
-fn cell_at(cells: &[Value], place: usize) -> View<'_>
-    ensures { datum_of_view result ≡ cell (map datum_of_value cells.now) place }
-{
-    match cells.get(place) {
-        Some(value) => value.view(),
-        None => View::Null,
-    }
-}
-
-/// What an aggregate of the terms gives over no rows: 0 where it counts, and else NULL (ISO/IEC 9075-2:2011, 10.9
-/// `<aggregate function>`). It is never out of range.
-pub fn over_no_rows<'a>(terms: &Terms, which: Aggregate) -> Result<View<'a>, Range>
-    requires { HasOperand terms.now which }
-    ensures { (row : pure.Row) → outcome result ≡ tree.eval [] row (tree_of terms.now which) }
-{
-    match which {
-        Aggregate::Rows | Aggregate::Over(Function::Count, _) => Ok(View::Int(0)),
-        Aggregate::Over(..) => Ok(View::Null),
-    }
-}
-
-/// A row that owns its values, column by column. Up to four values take no memory beside that of their texts.
-#[derive(Drop)]
-pub struct Row {
-    cells: SmallVec<Value, 4, Memory>,
-}
-
-impl Model for Row {
-    ghost use Rattle.std.specs.Prelude.{map};
-    ghost use Rattle.tql_spec.specs.Datum as pure;
-    ghost use Rattle.tql_value.specs.Views.{datum_of_value};
-
-    ghost Value = { pure.Row };
-
-    ghost view = { λ r. map datum_of_value r.cells.items };
-}
-
-impl Row {
-    /// A row without columns.
-    pub fn new(memory: Memory) -> Row
-        ensures { result ≡ [] }
-    {
-        Row {
-            cells: SmallVec::new(memory),
-        }
-    }
-
-    /// Adds a value behind the others, or leaves the row as it was where there is no memory.
-    pub fn push(&mut self, value: Value) -> Result<(), AllocError>
-        ensures ok { OnOk result (self.new ≡ self.old ++ datum_of_value value ∷ []) }
-        ensures err { OnErr result (self.new ≡ self.old) }
-    {
-        self.cells.reserve(1)?;
-        self.cells.push_reserved(value);
-        Ok(())
-    }
-}
-
-impl Columns for Row {
-    ghost use Rattle.std.specs.Prelude.{[]};
-
-    ghost values = { λ r. r };
-
-    ghost group = { λ r. [] };
-
-    fn width(&self) -> usize {
-        self.cells.len()
-    }
-
-    fn column(&self, place: usize) -> View<'_> {
-        cell_at(self.cells.as_slice(), place)
-    }
-
-    fn aggregate<'a>(&'a self, terms: &'a Terms, which: Aggregate) -> Result<View<'a>, Range> {
-        over_no_rows(terms, which)
-    }
-}
 
 /// A row as it is stored, shown as its table has it: with ROW START and ROW END in their columns.
 #[derive(Clone, Copy)]
@@ -151,7 +66,7 @@ impl Columns for StoredRow<'_> {
     ghost use Rattle.std.specs.Prelude.{[], map};
     ghost use Rattle.tql_spec.specs.Definition.{with_generated};
     ghost use Rattle.tql_value.specs.Views.{datum_of_value};
-    ghost use Rattle.tql_expr.specs.Rows.{generated};
+    ghost use Rattle.tql_cells.specs.Generated.{generated};
 
     ghost values = { λ r. with_generated (generated r.system) (map datum_of_value r.cells.now) r.start r.end };
 

@@ -1,7 +1,7 @@
 use Rattle.std.proofs.Common.{◌≡◌, ◌<◌, ap, sym, ◌∙◌, min, length}
 use Rattle.std.proofs.lemmas.Cmp.{ranked}
-use Rattle.tql_expr.proofs.Inserted.{read_behind}
-use Rattle.tql_expr.proofs.row.place_among_others.Goals as goal
+use Rattle.tql_cells.proofs.Inserted.{read_behind}
+use Rattle.tql_cells.proofs.stored.place_among_others.Goals as goal
 
 pub returns-in-Greater : goal.returns-in-Greater
 returns-in-Greater c = λ row v is.
