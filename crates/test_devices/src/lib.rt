@@ -1,4 +1,5 @@
-//! Readers and writers of bytes that give and take so many at once, and fail where they are told to: the devices of the crates of tests.
+//! Readers and writers of bytes that give and take so many at once, and fail where they are told to: the devices of
+//! the crates of tests.
 #![tactic(auto)]
 
 use std::io::{self, Error, ErrorKind, Read, Write};

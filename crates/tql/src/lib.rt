@@ -1,19 +1,21 @@
 //! The engine for programs of your own: an in-memory bitemporal table engine, each of its answers proved.
 //!
-//! Make the memory that everything is kept in, and an engine in it; give it a script, or one statement after another, and read the
-//! replies. A run tells a listener which statements were refused, and on which lines. Nothing is kept when the engine is let go.
+//! Make the memory that everything is kept in, and an engine in it; give it a script, or one statement after another,
+//! and read the replies. A run tells a listener which statements were refused, and on which lines. Nothing is kept
+//! when the engine is let go.
 //!
 //! ```text
 //! let memory = memory(rt.alloc(), u64::MAX)?;
 //! let mut engine = Engine::new(memory);
 //! let mut output = Vec::new(memory);
-//! let end = run_bytes(&mut engine, b"CREATE TABLE pay (cents INTEGER); INSERT INTO pay VALUES (300000);", &mut output);
-//! if let Reply::Table(rows) = &engine.step(b"SELECT * FROM pay") {
+//! let end = run_bytes(&mut engine, b"CREATE TABLE pay (cents INTEGER); INSERT INTO pay VALUES (300000);", &mut
+//! output); if let Reply::Table(rows) = &engine.step(b"SELECT * FROM pay") {
 //!     // rows.headings, and rows.rows: for each row a value for each column
 //! }
 //! ```
 //!
-//! `crates/embedding` is a program that does so. `docs/LANGUAGE.md` is the language; what is proved of each function stands in its contract.
+//! `crates/embedding` is a program that does so. `docs/LANGUAGE.md` is the language; what is proved of each function
+//! stands in its contract.
 #![tactic(auto)]
 
 pub use tql_engine::engine::Engine;

@@ -10,9 +10,8 @@ use Rattle.tql_spec.specs.Names.{Checked, ◌>>=◌, sound, check_each}
 use Rattle.tql_spec.specs.Refusal.{Refusal}
 use Rattle.tql_spec.specs.Syntax.{SetTree, Condition}
 use Rattle.tql_scope.specs.Gathered.{after, Gathers}
-use Rattle.tql_scope.proofs.Gathering.{bound}
+use Rattle.tql_scope.proofs.Gathering.{bound, sound_here}
 use Rattle.tql_alter.specs.Heads.{Assigned, update_head}
-use Rattle.tql_alter.proofs.Sequences.{sound_here}
 
 -- what an UPDATE says before its WHERE, from its parts
 pub head_bound : (defs : List TableDef) (n : Name) (sets : List SetTree) (old a b new : Option Refusal) (t : ℕ) (d : TableDef) (is : List ℕ) (as' : List change.Assignment)

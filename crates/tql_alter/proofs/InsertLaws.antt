@@ -12,8 +12,7 @@ use Rattle.tql_spec.specs.Syntax.{SelectTree, Tuple}
 use Rattle.tql_value.specs.Views.{plain_kind}
 use Rattle.tql_value.specs.declared.value.Kind.{Kind}
 use Rattle.tql_scope.specs.Gathered.{Gathers}
-use Rattle.tql_scope.proofs.Gathering.{bound}
-use Rattle.tql_alter.proofs.Sequences.{sound_here}
+use Rattle.tql_scope.proofs.Gathering.{bound, sound_here}
 
 pub insert_bound : (defs : List TableDef) (n : Name) (ns : List Name) (ts : List Tuple) (old a b new : Option Refusal) (t : ℕ) (d : TableDef) (is asked : List ℕ) (kinds taken : List Kind) (rows : List (List Expr))
     → Gathers (table_number defs n) old a t → d ≡ table_at defs t → Gathers (insert_columns d ns) a b is

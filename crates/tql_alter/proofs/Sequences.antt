@@ -5,11 +5,7 @@ use Rattle.std.proofs.lemmas.List.{map-id, drop_all}
 use Rattle.tql_spec.specs.Names.{Checked, sound, check_each}
 use Rattle.tql_spec.specs.Refusal.{Refusal}
 use Rattle.tql_scope.specs.Gathered.{Gathers}
-use Rattle.tql_scope.proofs.Gathering.{EachLeads, after_nil, each_item, each_ended}
-
--- a value without a fault
-pub sound_here : {B : Type 0} (x : B) (now : Option Refusal) → Gathers (sound x) now now x
-sound_here x now = record { value = refl; least = sym (after_nil now) }
+use Rattle.tql_scope.proofs.Gathering.{EachLeads, each_item, each_ended}
 
 -- the element that is next is checked, and what it gives is pushed as it is
 pub plain_item : {X A B : Type 0} (f : A → Checked B) (g : X → A) (all : List A) (old mid now : Option Refusal) (xs : List X) (i : ℕ) (x : X) (ys zs : List B) (y : B)

@@ -6,34 +6,18 @@ ghost use Rattle.tql_spec.specs.Creation as creation;
 ghost use Rattle.tql_spec.specs.Creation.{names_of, kinds_of};
 ghost use Rattle.tql_spec.specs.Datum.{Ints};
 ghost use Rattle.tql_spec.specs.Names.{check_each};
-ghost use Rattle.tql_spec.specs.Words.{same_text};
 ghost use Rattle.tql_tree.specs.Expressions.{name_of};
 ghost use Rattle.tql_value.specs.Views.{plain_kind};
 ghost use Rattle.tql_scope.specs.Gathered.{Gathers};
 
 use std::alloc::AllocError;
-use tql_catalog::definition::Column;
 use tql_catalog::table_def::TableDef;
 use tql_memory::Memory;
 use tql_scope::faults::Faults;
-use tql_scope::texts::meant;
+use tql_scope::texts::{is_same_text, meant};
 use tql_tree::expression::Name;
 use tql_value::refusal::Refusal;
 use tql_value::value::Kind;
-
-/// Whether two names are one.
-fn is_same(name: &str, other: &str) -> bool
-    ensures { result ≡ same_text name.now other.now }
-{
-    name == other
-}
-
-/// Whether this is the name of the column.
-fn is_named(column: &Column, name: &str) -> bool
-    ensures { result ≡ same_text name.now (string_bytes column.now.name) }
-{
-    is_same(name, column.name.as_str())
-}
 
 /// The number of the column of this name.
 fn column_place(definition: &TableDef, name: &str) -> Option<usize>
@@ -42,28 +26,14 @@ fn column_place(definition: &TableDef, name: &str) -> Option<usize>
     definition
         .columns()
         .iter()
-        .position(|column| is_named(column, name))
-}
-
-/// The number of a column; where there is none, a fault, and the first column stands for it.
-#[tactic(auto, using(tql_scope::proofs::Gathering::gathering))]
-fn or_first(number: Option<usize>, faults: &mut Faults) -> usize
-    ensures { Gathers (creation.or_first number) faults.old faults.new result }
-{
-    match number {
-        Some(number) => number,
-        None => {
-            faults.refuse_if(true, Refusal::NameUnknownAmbiguousOrRepeated);
-            0
-        }
-    }
+        .position(|column| column.is_named(name))
 }
 
 /// The number of the column of this name. A fault where there is none.
 pub(crate) fn column_number(definition: &TableDef, name: &str, faults: &mut Faults) -> usize
     ensures { Gathers (creation.column_number (names_of definition.now) name.now) faults.old faults.new result }
 {
-    or_first(column_place(definition, name), faults)
+    faults.or_first(column_place(definition, name))
 }
 
 /// The number of the column that a name means. A fault where there is none.
@@ -73,7 +43,9 @@ pub(crate) fn named_column(
     name: Name<'_>,
     faults: &mut Faults,
 ) -> Result<usize, AllocError>
-    ensures { IfOk result (λ number. Gathers (creation.column_number (names_of definition.now) (name_of name.entry)) faults.old faults.new number) }
+    ensures { IfOk result
+        (λ number. Gathers (creation.column_number (names_of definition.now) (name_of name.entry))
+        faults.old faults.new number) }
 {
     let name = meant(memory, name)?;
     Ok(column_number(definition, &name, faults))
@@ -98,7 +70,7 @@ fn has_name(names: &[String<Memory>], name: &str) -> bool
     ensures { result ≡ creation.has_name name.now (map string_bytes names.now) }
 {
     for other in names {
-        if is_same(name, other.as_str()) {
+        if is_same_text(name, other.as_str()) {
             return true;
         }
     }
@@ -126,7 +98,9 @@ fn listed_columns(
     names: &[String<Memory>],
     faults: &mut Faults,
 ) -> Result<Vec<usize, Memory>, AllocError>
-    ensures { IfOk result (λ numbers. Gathers (check_each (creation.column_number (names_of definition.now)) (map string_bytes names.now)) faults.old faults.new numbers.items) }
+    ensures { IfOk result
+        (λ numbers. Gathers (check_each (creation.column_number (names_of definition.now))
+        (map string_bytes names.now)) faults.old faults.new numbers.items) }
 {
     let mut numbers = Vec::with_capacity(memory, names.len())?;
     for name in names {
@@ -143,7 +117,9 @@ fn column_numbers(
     names: &[String<Memory>],
     faults: &mut Faults,
 ) -> Result<Vec<usize, Memory>, AllocError>
-    ensures { IfOk result (λ numbers. Gathers (creation.column_numbers (names_of definition.now) (map string_bytes names.now)) faults.old faults.new numbers.items) }
+    ensures { IfOk result
+        (λ numbers. Gathers (creation.column_numbers (names_of definition.now) (map string_bytes names.now))
+        faults.old faults.new numbers.items) }
 {
     let numbers = listed_columns(memory, definition, names, faults)?;
     faults.refuse_if(has_repeated(names), Refusal::NameUnknownAmbiguousOrRepeated);
@@ -162,8 +138,8 @@ fn has_generated(definition: &TableDef, numbers: &[usize]) -> bool
     false
 }
 
-/// The numbers of the columns of these names, which a user may assign. A fault where one is no column's, where one stands twice, and where
-/// one is generated.
+/// The numbers of the columns of these names, which a user may assign. A fault where one is no column's, where one
+/// stands twice, and where one is generated.
 #[tactic(auto, using(tql_scope::proofs::Gathering::gathering))]
 pub fn assigned_columns(
     memory: Memory,
@@ -171,7 +147,9 @@ pub fn assigned_columns(
     names: &[String<Memory>],
     faults: &mut Faults,
 ) -> Result<Vec<usize, Memory>, AllocError>
-    ensures { IfOk result (λ numbers. Gathers (binding.assigned_columns definition.now (map string_bytes names.now)) faults.old faults.new numbers.items) }
+    ensures { IfOk result
+        (λ numbers. Gathers (binding.assigned_columns definition.now (map string_bytes names.now))
+        faults.old faults.new numbers.items) }
 {
     let numbers = column_numbers(memory, definition, names, faults)?;
     faults.refuse_if(
@@ -181,8 +159,8 @@ pub fn assigned_columns(
     Ok(numbers)
 }
 
-/// The numbers of the columns that an INSERT fills: those of its list, or all that are not generated where it has none. A fault as in
-/// `assigned_columns`.
+/// The numbers of the columns that an INSERT fills: those of its list, or all that are not generated where it has
+/// none. A fault as in `assigned_columns`.
 #[tactic(auto, using(tql_scope::proofs::Gathering::gathering))]
 pub fn insert_columns(
     memory: Memory,
@@ -190,7 +168,9 @@ pub fn insert_columns(
     names: &[Name<'_>],
     faults: &mut Faults,
 ) -> Result<Vec<usize, Memory>, AllocError>
-    ensures { IfOk result (λ numbers. Gathers (binding.insert_columns definition.now (map name_of names.now)) faults.old faults.new numbers.items) }
+    ensures { IfOk result
+        (λ numbers. Gathers (binding.insert_columns definition.now (map name_of names.now))
+        faults.old faults.new numbers.items) }
 {
     if names.is_empty() {
         return Ok(Vec::from_slice(memory, definition.assignable())?);

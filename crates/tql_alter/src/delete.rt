@@ -20,8 +20,8 @@ use tql_scope::faults::Faults;
 use tql_scope::tables::table_number;
 use tql_tree::statement::Delete;
 
-/// A DELETE of no portion. Faults: no table has the name; a name of WHERE is unknown or ambiguous; its kinds do not fit; an aggregate stands
-/// in it; a literal is out of range.
+/// A DELETE of no portion. Faults: no table has the name; a name of WHERE is unknown or ambiguous; its kinds do not
+/// fit; an aggregate stands in it; a literal is out of range.
 pub fn delete_rows(
     memory: Memory,
     catalog: &Catalog,
@@ -29,7 +29,8 @@ pub fn delete_rows(
     faults: &mut Faults,
 ) -> Result<Modification, AllocError>
     ensures { IfOk result (λ x. Gathers
-        (binding.delete (definitions_of catalog.now) (name_of delete.now.table) None (filter_of delete.now.filter)) faults.old faults.new
+        (binding.delete (definitions_of catalog.now) (name_of delete.now.table) None (filter_of delete.now.filter))
+        faults.old faults.new
         (Alter (modification_of x))) }
 {
     let table = table_number(memory, catalog, delete.table, faults)?;

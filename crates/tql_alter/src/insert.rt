@@ -21,9 +21,10 @@ use tql_scope::tables::table_number;
 use tql_tree::expression::Name;
 use tql_tree::statement::Tuple;
 
-/// An INSERT of tuples into the table of this name: of the first, and of those behind it. The names are those of its list of columns; without
-/// any it fills all columns that are not generated. Faults: no table has the name; a column of the list is unknown, repeated or generated;
-/// a cell has a fault of its own; a tuple has another number of cells than there are columns, or a cell of another kind than its column.
+/// An INSERT of tuples into the table of this name: of the first, and of those behind it. The names are those of its
+/// list of columns; without any it fills all columns that are not generated. Faults: no table has the name; a column
+/// of the list is unknown, repeated or generated; a cell has a fault of its own; a tuple has another number of cells
+/// than there are columns, or a cell of another kind than its column.
 pub fn insert_values(
     memory: Memory,
     catalog: &Catalog,
@@ -34,7 +35,8 @@ pub fn insert_values(
     faults: &mut Faults,
 ) -> Result<Insertion, AllocError>
     ensures { IfOk result (λ insertion. Gathers
-        (binding.insert_values (definitions_of catalog.now) (name_of table.entry) (map name_of names.now) (tuple_of first.now ∷ map tuple_of more.now))
+        (binding.insert_values (definitions_of catalog.now) (name_of table.entry) (map name_of names.now)
+        (tuple_of first.now ∷ map tuple_of more.now))
         faults.old faults.new (Alter (insertion_of insertion))) }
 {
     let place = table_number(memory, catalog, table, faults)?;

@@ -23,9 +23,10 @@ use tql_tree::expression::Name;
 use tql_tree::statement::{OrderKey, Select};
 use tql_value::refusal::Refusal;
 
-/// An INSERT of the rows of a query into the table of this name. The names are those of its list of columns; without any it fills all columns
-/// that are not generated. Faults: no table has the name; a column of the list is unknown, repeated or generated; those of the query; the
-/// query has another number of output columns than are filled, or one of another kind. The only error is a refused growth.
+/// An INSERT of the rows of a query into the table of this name. The names are those of its list of columns; without
+/// any it fills all columns that are not generated. Faults: no table has the name; a column of the list is unknown,
+/// repeated or generated; those of the query; the query has another number of output columns than are filled, or one
+/// of another kind. The only error is a refused growth.
 pub fn insert_select(
     memory: Memory,
     catalog: &Catalog,
@@ -37,7 +38,8 @@ pub fn insert_select(
     requires few { reference_count (select_of select.now) ≤ 8 }
     requires narrow { All (λ d. length d.columns ≤ 64) (definitions_of catalog.now) }
     ensures { IfOk result (λ insertion. Gathers
-        (binding.insert_select (definitions_of catalog.now) (name_of table.entry) (map name_of names.now) (select_of select.now))
+        (binding.insert_select (definitions_of catalog.now) (name_of table.entry)
+        (map name_of names.now) (select_of select.now))
         faults.old faults.new (Alter (query_insertion_of insertion))) }
 {
     let place = table_number(memory, catalog, table, faults)?;

@@ -1,4 +1,5 @@
-//! INSERT, UPDATE and DELETE with their names bound. Every fault is gathered, and the first in the order of report is kept.
+//! INSERT, UPDATE and DELETE with their names bound. Every fault is gathered, and the first in the order of report is
+//! kept.
 #![tactic(auto)]
 
 pub mod columns;

@@ -36,7 +36,8 @@ pub fn own_reference(definition: &TableDef) -> Known<'_>
     }
 }
 
-/// An assignment. Faults: its column is unknown; its cell has a fault of its own, or is of another kind than the column.
+/// An assignment. Faults: its column is unknown; its cell has a fault of its own, or is of another kind than the
+/// column.
 #[tactic(auto, using(tql_scope::proofs::Gathering::gathering))]
 fn assignment(
     memory: Memory,
@@ -45,7 +46,9 @@ fn assignment(
     terms: &mut Terms,
     faults: &mut Faults,
 ) -> Result<Assignment, AllocError>
-    ensures bound { IfOk result (λ a. Gathers (binding.assignment definition.now (assignment_of set.now)) faults.old faults.new (bound.assignment_of terms.new a)) }
+    ensures bound { IfOk result
+        (λ a. Gathers (binding.assignment definition.now (assignment_of set.now)) faults.old faults.new
+        (bound.assignment_of terms.new a)) }
     ensures stays { Stays terms.old terms.new }
     ensures held { IfOk result (HasAssigned terms.new) }
 {
@@ -62,7 +65,8 @@ fn assignment(
     })
 }
 
-/// The assignments of SET: the first, and those behind it. Faults: as in each; whether a user may assign the columns is for `set_columns`.
+/// The assignments of SET: the first, and those behind it. Faults: as in each; whether a user may assign the columns
+/// is for `set_columns`.
 pub fn assignments(
     memory: Memory,
     definition: &TableDef,
@@ -71,7 +75,10 @@ pub fn assignments(
     terms: &mut Terms,
     faults: &mut Faults,
 ) -> Result<Vec<Assignment, Memory>, AllocError>
-    ensures bound { IfOk result (λ v. Gathers (check_each (binding.assignment definition.now) (assignment_of first.now ∷ map assignment_of more.now)) faults.old faults.new (map (bound.assignment_of terms.new) v.items)) }
+    ensures bound { IfOk result
+        (λ v. Gathers (check_each (binding.assignment definition.now)
+        (assignment_of first.now ∷ map assignment_of more.now)) faults.old faults.new
+        (map (bound.assignment_of terms.new) v.items)) }
     ensures stays { Stays terms.old terms.new }
     ensures held { IfOk result (λ v. All (HasAssigned terms.new) v.items) }
 {
@@ -89,7 +96,9 @@ fn set_names(
     first: &tree::Assignment<'_>,
     more: &[tree::Assignment<'_>],
 ) -> Result<Vec<String<Memory>, Memory>, AllocError>
-    ensures { IfOk result (λ names. map string_bytes names.items ≡ map (λ set. set.column) (assignment_of first.now ∷ map assignment_of more.now)) }
+    ensures { IfOk result
+        (λ names. map string_bytes names.items
+        ≡ map (λ set. set.column) (assignment_of first.now ∷ map assignment_of more.now)) }
 {
     let mut names = Vec::new(memory);
     names.push(meant(memory, first.column)?)?;
@@ -107,7 +116,10 @@ pub fn set_columns(
     more: &[tree::Assignment<'_>],
     faults: &mut Faults,
 ) -> Result<Vec<usize, Memory>, AllocError>
-    ensures { IfOk result (λ numbers. Gathers (binding.assigned_columns definition.now (map (λ set. set.column) (assignment_of first.now ∷ map assignment_of more.now))) faults.old faults.new numbers.items) }
+    ensures { IfOk result
+        (λ numbers. Gathers (binding.assigned_columns definition.now
+        (map (λ set. set.column) (assignment_of first.now ∷ map assignment_of more.now)))
+        faults.old faults.new numbers.items) }
 {
     let names = set_names(memory, first, more)?;
     assigned_columns(memory, definition, &names, faults)

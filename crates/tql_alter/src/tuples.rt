@@ -21,7 +21,8 @@ use tql_tree::statement::{Cell, Tuple};
 use tql_value::refusal::Refusal;
 use tql_value::value::Kind;
 
-/// Whether values of these kinds, where they are known, do not fit columns of these kinds: they are more or fewer, or one is of another kind.
+/// Whether values of these kinds, where they are known, do not fit columns of these kinds: they are more or fewer, or
+/// one is of another kind.
 pub(crate) fn cells_misfit(kinds: &[Kind], cells: &[Option<Kind>]) -> bool
     ensures { result ≡ binding.cells_misfit (map plain_kind kinds.now) (map (option_map plain_kind) cells.now) }
 {
@@ -47,7 +48,8 @@ fn plain_cell(
     terms: &mut Terms,
     faults: &mut Faults,
 ) -> Result<Typed, AllocError>
-    ensures bound { IfOk result (λ t. Gathers (binding.cell [] (cell_of written.now)) faults.old faults.new (typed_of terms.new t)) }
+    ensures bound { IfOk result
+        (λ t. Gathers (binding.cell [] (cell_of written.now)) faults.old faults.new (typed_of terms.new t)) }
     ensures stays { Stays terms.old terms.new }
     ensures held { IfOk result (HasValue terms.new) }
 {
@@ -62,7 +64,9 @@ fn cells(
     terms: &mut Terms,
     faults: &mut Faults,
 ) -> Result<Vec<Typed, Memory>, AllocError>
-    ensures bound { IfOk result (λ v. Gathers (check_each (binding.cell []) (cell_of tuple.now.first ∷ cells_of tuple.now.more)) faults.old faults.new (map (typed_of terms.new) v.items)) }
+    ensures bound { IfOk result
+        (λ v. Gathers (check_each (binding.cell []) (cell_of tuple.now.first ∷ cells_of tuple.now.more)) faults.old
+        faults.new (map (typed_of terms.new) v.items)) }
     ensures stays { Stays terms.old terms.new }
     ensures held { IfOk result (λ v. All (HasValue terms.new) v.items) }
 {
@@ -105,7 +109,9 @@ fn tuple(
     terms: &mut Terms,
     faults: &mut Faults,
 ) -> Result<Vec<ExprId, Memory>, AllocError>
-    ensures bound { IfOk result (λ v. Gathers (binding.tuple (map plain_kind kinds.now) (tuple_of tuple.now)) faults.old faults.new (bound.tuple_of terms.new v)) }
+    ensures bound { IfOk result
+        (λ v. Gathers (binding.tuple (map plain_kind kinds.now) (tuple_of tuple.now)) faults.old
+        faults.new (bound.tuple_of terms.new v)) }
     ensures stays { Stays terms.old terms.new }
     ensures held { IfOk result (HasValues terms.new) }
 {
@@ -124,7 +130,10 @@ pub(crate) fn tuples(
     terms: &mut Terms,
     faults: &mut Faults,
 ) -> Result<Vec<Vec<ExprId, Memory>, Memory>, AllocError>
-    ensures bound { IfOk result (λ v. Gathers (check_each (binding.tuple (map plain_kind kinds.now)) (tuple_of first.now ∷ map tuple_of more.now)) faults.old faults.new (map (bound.tuple_of terms.new) v.items)) }
+    ensures bound { IfOk result
+        (λ v. Gathers (check_each (binding.tuple (map plain_kind kinds.now))
+        (tuple_of first.now ∷ map tuple_of more.now)) faults.old faults.new
+        (map (bound.tuple_of terms.new) v.items)) }
     ensures stays { Stays terms.old terms.new }
     ensures held { IfOk result (λ v. All (HasValues terms.new) v.items) }
 {

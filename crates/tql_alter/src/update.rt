@@ -30,8 +30,8 @@ pub struct Head {
     pub sets: Vec<Assignment, Memory>,
 }
 
-/// What an UPDATE of no portion says before its WHERE. Faults: no table has the name; a column of SET is unknown, repeated or generated; a
-/// cell has a fault of its own, or is of another kind than its column.
+/// What an UPDATE of no portion says before its WHERE. Faults: no table has the name; a column of SET is unknown,
+/// repeated or generated; a cell has a fault of its own, or is of another kind than its column.
 pub fn update_head(
     memory: Memory,
     catalog: &Catalog,
@@ -40,7 +40,8 @@ pub fn update_head(
     faults: &mut Faults,
 ) -> Result<Head, AllocError>
     ensures bound { IfOk result (λ head. Gathers
-        (heads.update_head (definitions_of catalog.now) (name_of update.now.table) (assignment_of update.now.first ∷ assignments_of update.now.more))
+        (heads.update_head (definitions_of catalog.now) (name_of update.now.table)
+        (assignment_of update.now.first ∷ assignments_of update.now.more))
         faults.old faults.new (heads.head_of terms.new head)) }
     ensures stays { Stays terms.old terms.new }
     ensures held { IfOk result (λ head. All (HasAssigned terms.new) head.sets.items) }
@@ -60,8 +61,8 @@ pub fn update_head(
     Ok(Head { table, sets })
 }
 
-/// An UPDATE of no portion. Faults: those of `update_head`; a name of WHERE is unknown or ambiguous; its kinds do not fit; an aggregate
-/// stands in it; a literal is out of range.
+/// An UPDATE of no portion. Faults: those of `update_head`; a name of WHERE is unknown or ambiguous; its kinds do not
+/// fit; an aggregate stands in it; a literal is out of range.
 pub fn update_rows(
     memory: Memory,
     catalog: &Catalog,
@@ -69,7 +70,8 @@ pub fn update_rows(
     faults: &mut Faults,
 ) -> Result<Modification, AllocError>
     ensures { IfOk result (λ x. Gathers
-        (binding.update (definitions_of catalog.now) (name_of update.now.table) None (assignment_of update.now.first ∷ assignments_of update.now.more)
+        (binding.update (definitions_of catalog.now) (name_of update.now.table) None
+        (assignment_of update.now.first ∷ assignments_of update.now.more)
         (filter_of update.now.filter)) faults.old faults.new (Alter (modification_of x))) }
 {
     let mut terms = Terms::new(memory);

@@ -13,7 +13,8 @@ use Rattle.tql_spec.specs.QueryLaws.{NamesGroups}
 use Rattle.tql_spec.specs.Refusal.{Refusal, FormNotAllowedHere, NameUnknownAmbiguousOrRepeated, fault_if, first}
 use Rattle.tql_spec.specs.Syntax.{AsOfTree, BetweenTree, ChainTree, CrossJoin, FromToTree, InnerJoin, JoinTree, LeftJoin, NoSpan, OrderTree, RefTree, SelectTree, SpanTree}
 use Rattle.tql_spec.specs.Words.{same_text}
-use Rattle.tql_bind.specs.Placed.{AreChainsPlaced, AreJoinsPlaced, IsPlacedQuery, IsPlacedRef, is_current, ref_of}
+use Rattle.tql_bound.specs.References.{is_now}
+use Rattle.tql_bind.specs.Placed.{AreChainsPlaced, AreJoinsPlaced, IsPlacedQuery, IsPlacedRef, ref_of}
 
 -- ---- no fault
 
@@ -67,7 +68,7 @@ is_there None rest e = absurd (never _ _ e)
     never f fs e = cc
 is_there (Some x) rest e = refl
 
-past_versioned : (d : TableDef) (span : SpanTree) → (when d span).faults ≡ [] → IsTrue (is_current (when d span).value || is_some d.system)
+past_versioned : (d : TableDef) (span : SpanTree) → (when d span).faults ≡ [] → IsTrue (is_now (when d span).value || is_some d.system)
 past_versioned d NoSpan e = refl
 past_versioned d (AsOfTree t) e = is_there d.system _ e
 past_versioned d (FromToTree a b) e = is_there d.system _ e

@@ -1,19 +1,14 @@
 -- Queries whose tables are there.
-use Rattle.std.specs.Prelude.{ℕ, ◌<◌, Bool, true, false, ◌||◌, IsTrue, List, [], ◌∷◌, length, is_some}
+use Rattle.std.specs.Prelude.{ℕ, ◌<◌, ◌||◌, IsTrue, List, [], ◌∷◌, length, is_some}
 use Rattle.tql_spec.specs.Definition.{TableDef, table_at}
-use Rattle.tql_spec.specs.History as history
 use Rattle.tql_spec.specs.Query.{Chain, Cross, Inner, Join, Left, Query, Ref}
 use Rattle.tql_spec.specs.QueryLaws.{NamesGroups}
-
--- whether the current rows are meant
-abbrev pub is_current : history.When → Bool
-is_current history.Now = true
-is_current _ = false
+use Rattle.tql_bound.specs.References.{is_now}
 
 -- a reference to a table that is there, system-versioned where its past is asked for
 pub record IsPlacedRef (defs : List TableDef) (r : Ref) : Type 0 where
   pub table : r.table < length defs
-  pub versioned : IsTrue (is_current r.when || is_some (table_at defs r.table).system)
+  pub versioned : IsTrue (is_now r.when || is_some (table_at defs r.table).system)
 
 -- the reference of a join
 abbrev pub ref_of : Join → Ref

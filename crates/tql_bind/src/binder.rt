@@ -35,8 +35,8 @@ fn create(memory: Memory, tables: &Catalog, create: &CreateTree<'_>) -> Result<B
     }
 }
 
-/// A statement other than CREATE TABLE with its names bound. Faults: those of names, kinds, forms and literals. The only error is a refused
-/// growth.
+/// A statement other than CREATE TABLE with its names bound. Faults: those of names, kinds, forms and literals. The
+/// only error is a refused growth.
 fn bound(
     memory: Memory,
     tables: &Catalog,
@@ -47,7 +47,9 @@ fn bound(
     requires other { IsTrue (not (is_creation (statement_of statement.now))) }
     requires narrow { IsFalse (is_too_wide (statement_of statement.now)) }
     requires tables { All (λ d. length d.columns ≤ 64) (definitions_of tables.now) }
-    ensures bound { IfOk result (λ b. Gathers (bind (definitions_of tables.now) (statement_of statement.now)) faults.old faults.new (bound_of b)) }
+    ensures bound { IfOk result
+        (λ b. Gathers (bind (definitions_of tables.now) (statement_of statement.now))
+        faults.old faults.new (bound_of b)) }
     ensures within { IfOk result HasMoment }
 {
     match statement {
@@ -96,8 +98,9 @@ fn faultless(memory: Memory, tables: &Catalog, statement: &Statement<'_>) -> Res
     }
 }
 
-/// The statement with its names bound: one of at most 64 columns or 8 table references, over tables of at most 64 columns. Refused: the
-/// first of the faults of names, kinds, forms and literals that are present, in the order of report; or memory.
+/// The statement with its names bound: one of at most 64 columns or 8 table references, over tables of at most 64
+/// columns. Refused: the first of the faults of names, kinds, forms and literals that are present, in the order of
+/// report; or memory.
 pub fn bind(memory: Memory, tables: &Catalog, statement: &Statement<'_>) -> Result<Bound, Refusal>
     requires runs { IsTrue (does_run (statement_of statement.now)) }
     requires narrow { IsFalse (is_too_wide (statement_of statement.now)) }

@@ -22,9 +22,10 @@ use tql_memory::Memory;
 use tql_scope::faults::Faults;
 use tql_tree::statement::{Delete, Insert, Rows, Update};
 
-/// INSERT with its names bound. Faults: no table has the name; a column of the list is unknown or repeated; a tuple has another number of
-/// cells than columns, or a cell of another kind than its column; a generated column in the list, an aggregate; a literal out of range; of a
-/// query, what it may be refused for, and that its output columns do not fit. The only error is a refused growth.
+/// INSERT with its names bound. Faults: no table has the name; a column of the list is unknown or repeated; a tuple
+/// has another number of cells than columns, or a cell of another kind than its column; a generated column in the
+/// list, an aggregate; a literal out of range; of a query, what it may be refused for, and that its output columns do
+/// not fit. The only error is a refused growth.
 pub(crate) fn insert(
     memory: Memory,
     tables: &Catalog,
@@ -33,7 +34,8 @@ pub(crate) fn insert(
 ) -> Result<Bound, AllocError>
     requires narrow { IsFalse (is_too_wide (insert_of insert.now)) }
     requires tables { All (λ d. length d.columns ≤ 64) (definitions_of tables.now) }
-    ensures bound { IfOk result (λ b. Gathers (bind (definitions_of tables.now) (insert_of insert.now)) faults.old faults.new (bound_of b)) }
+    ensures bound { IfOk result
+        (λ b. Gathers (bind (definitions_of tables.now) (insert_of insert.now)) faults.old faults.new (bound_of b)) }
     ensures within { IfOk result HasMoment }
 {
     match &insert.rows {
@@ -63,8 +65,9 @@ pub(crate) fn insert(
     }
 }
 
-/// UPDATE with its names bound. Faults: no table has the name; a column of SET is unknown or repeated, or a name unknown or ambiguous;
-/// kinds that do not fit; a generated column in SET, an aggregate; a literal out of range. The only error is a refused growth.
+/// UPDATE with its names bound. Faults: no table has the name; a column of SET is unknown or repeated, or a name
+/// unknown or ambiguous; kinds that do not fit; a generated column in SET, an aggregate; a literal out of range. The
+/// only error is a refused growth.
 pub(crate) fn update(
     memory: Memory,
     tables: &Catalog,
@@ -72,13 +75,15 @@ pub(crate) fn update(
     faults: &mut Faults,
 ) -> Result<Modification, AllocError>
     requires { IsTrue (does_run (update_of update.now)) }
-    ensures { IfOk result (λ x. Gathers (bind (definitions_of tables.now) (update_of update.now)) faults.old faults.new (Alter (modification_of x))) }
+    ensures { IfOk result
+        (λ x. Gathers (bind (definitions_of tables.now) (update_of update.now)) faults.old
+        faults.new (Alter (modification_of x))) }
 {
     update_rows(memory, tables, update, faults)
 }
 
-/// DELETE with its names bound. Faults: no table has the name; a name unknown or ambiguous; kinds that do not fit; an aggregate; a literal
-/// out of range. The only error is a refused growth.
+/// DELETE with its names bound. Faults: no table has the name; a name unknown or ambiguous; kinds that do not fit; an
+/// aggregate; a literal out of range. The only error is a refused growth.
 pub(crate) fn delete(
     memory: Memory,
     tables: &Catalog,
@@ -86,7 +91,9 @@ pub(crate) fn delete(
     faults: &mut Faults,
 ) -> Result<Modification, AllocError>
     requires { IsTrue (does_run (delete_of delete.now)) }
-    ensures { IfOk result (λ x. Gathers (bind (definitions_of tables.now) (delete_of delete.now)) faults.old faults.new (Alter (modification_of x))) }
+    ensures { IfOk result
+        (λ x. Gathers (bind (definitions_of tables.now) (delete_of delete.now)) faults.old
+        faults.new (Alter (modification_of x))) }
 {
     delete_rows(memory, tables, delete, faults)
 }

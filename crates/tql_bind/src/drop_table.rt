@@ -16,14 +16,17 @@ use tql_scope::texts::meant;
 use tql_tree::expression::Name;
 use tql_value::refusal::Refusal;
 
-/// The place of the table that is dropped. Faults: no table has the name; a reference names the table. The only error is a refused growth.
+/// The place of the table that is dropped. Faults: no table has the name; a reference names the table. The only error
+/// is a refused growth.
 pub(crate) fn bind_drop(
     memory: Memory,
     tables: &Catalog,
     name: Name<'_>,
     faults: &mut Faults,
 ) -> Result<usize, AllocError>
-    ensures { IfOk result (λ t. Gathers (bind (definitions_of tables.now) (DropTree (name_of name.entry))) faults.old faults.new (DropTable t)) }
+    ensures { IfOk result
+        (λ t. Gathers (bind (definitions_of tables.now) (DropTree (name_of name.entry)))
+        faults.old faults.new (DropTable t)) }
 {
     let place = table_number(memory, tables, name, faults)?;
     let name = meant(memory, name)?;

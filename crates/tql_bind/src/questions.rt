@@ -16,8 +16,9 @@ use tql_scope::faults::Faults;
 use tql_select::question::{Asked, question};
 use tql_tree::statement::Query;
 
-/// SELECT with its names bound. Faults: no table has the name; a name is unknown, ambiguous or repeated; kinds do not fit; a form that is not
-/// allowed, as an aggregate in WHERE, or a column that is not grouped; a literal out of range. The only error is a refused growth.
+/// SELECT with its names bound. Faults: no table has the name; a name is unknown, ambiguous or repeated; kinds do not
+/// fit; a form that is not allowed, as an aggregate in WHERE, or a column that is not grouped; a literal out of
+/// range. The only error is a refused growth.
 pub(crate) fn ask(
     memory: Memory,
     tables: &Catalog,
@@ -26,7 +27,9 @@ pub(crate) fn ask(
 ) -> Result<Question, AllocError>
     requires narrow { IsFalse (is_too_wide (query_of query.now)) }
     requires tables { All (λ d. length d.columns ≤ 64) (definitions_of tables.now) }
-    ensures { IfOk result (λ x. Gathers (bind (definitions_of tables.now) (query_of query.now)) faults.old faults.new (Ask (question_of x))) }
+    ensures { IfOk result
+        (λ x. Gathers (bind (definitions_of tables.now) (query_of query.now)) faults.old
+        faults.new (Ask (question_of x))) }
 {
     let Asked { question, kinds: _ } = question(
         memory,

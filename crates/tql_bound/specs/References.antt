@@ -14,8 +14,8 @@ when_of (when.FromTo a b) = history.FromTo a b
 when_of (when.Between a b) = history.Between a b
 
 -- whether the current rows are asked for
-abbrev pub is_now : When → Bool
-is_now when.Now = true
+abbrev pub is_now : history.When → Bool
+is_now history.Now = true
 is_now _ = false
 
 -- a table reference

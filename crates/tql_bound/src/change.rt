@@ -7,8 +7,8 @@ use crate::question::Question;
 use tql_expr::terms::{CondId, ExprId, Terms};
 use tql_memory::Memory;
 
-/// New rows of a table, by its place among the tables: the columns that are given values, by their numbers from 0, and for each row
-/// the expressions of these values.
+/// New rows of a table, by its place among the tables: the columns that are given values, by their numbers from 0,
+/// and for each row the expressions of these values.
 pub struct Insertion {
     pub terms: Terms,
     pub table: usize,
@@ -31,8 +31,8 @@ impl Drop for Insertion {
     }
 }
 
-/// New rows of a table, by its place among the tables: the columns that are given values, by their numbers from 0, and the query whose rows
-/// they are.
+/// New rows of a table, by its place among the tables: the columns that are given values, by their numbers from 0,
+/// and the query whose rows they are.
 #[derive(Drop)]
 pub struct QueryInsertion {
     pub table: usize,
@@ -56,7 +56,8 @@ pub enum Work {
     Remove,
 }
 
-/// UPDATE or DELETE of a table, by its place among the tables: what becomes of the rows of which all conjuncts are true.
+/// UPDATE or DELETE of a table, by its place among the tables: what becomes of the rows of which all conjuncts are
+/// true.
 pub struct Modification {
     pub terms: Terms,
     pub table: usize,

@@ -17,7 +17,8 @@ pub enum JoinKind {
     Cross,
 }
 
-/// One more reference of a chain, with the conjuncts of its ON; CROSS JOIN has none. Their columns count from the first of the chain.
+/// One more reference of a chain, with the conjuncts of its ON; CROSS JOIN has none. Their columns count from the
+/// first of the chain.
 #[derive(Drop)]
 pub struct Join {
     pub kind: JoinKind,
@@ -39,8 +40,8 @@ pub struct OrderKey {
     pub falls: bool,
 }
 
-/// SELECT: of the whole product of its chains the rows that pass WHERE; of these, or of their groups, those that pass HAVING; of each
-/// the values of the items, which have these headings.
+/// SELECT: of the whole product of its chains the rows that pass WHERE; of these, or of their groups, those that pass
+/// HAVING; of each the values of the items, which have these headings.
 pub struct Question {
     pub terms: Terms,
     pub chains: Vec<Chain, Memory>,

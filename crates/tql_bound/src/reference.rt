@@ -1,7 +1,7 @@
 //! Table references whose names are bound.
 
-/// Which versions of a table are asked for, by moments in microseconds since 1970-01-01: FOR SYSTEM_TIME of ISO/IEC 9075-2:2011, 7.6
-/// `<table reference>`.
+/// Which versions of a table are asked for, by moments in microseconds since 1970-01-01: FOR SYSTEM_TIME of ISO/IEC
+/// 9075-2:2011, 7.6 `<table reference>`.
 #[derive(Clone, Copy)]
 pub enum When {
     /// The rows now.

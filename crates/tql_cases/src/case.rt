@@ -1,5 +1,5 @@
-//! A case: a script `NAME.sql`, and what it prints: run in `NAME.out`, checked in `NAME.check.out`, checked with its neighbours
-//! in `NAME.marks`.
+//! A case: a script `NAME.sql`, and what it prints: run in `NAME.out`, checked in `NAME.check.out`, checked with its
+//! neighbours in `NAME.marks`.
 use crate::compare::text_difference;
 use crate::growths::growth_fault;
 use crate::neighbours::marks;

@@ -1,6 +1,6 @@
-//! Runs of a script in which each growth is refused in turn, in two ways: no memory is granted from there on, or only that one
-//! growth is refused. A statement that finds no memory has changed nothing: tried again with memory, it and all later ones are
-//! answered as they are listed.
+//! Runs of a script in which each growth is refused in turn, in two ways: no memory is granted from there on, or only
+//! that one growth is refused. A statement that finds no memory has changed nothing: tried again with memory, it and
+//! all later ones are answered as they are listed.
 use crate::runs::{Manner, Outcome, answer};
 use std::alloc::{AllocError, Global};
 use std::io;
@@ -27,8 +27,8 @@ fn reply_text(alloc: Global, engine: &mut Engine, statement: &[u8]) -> io::Resul
     }
 }
 
-/// What an engine answers to the statements of a script that end in `;`, where one that finds no memory is tried again with
-/// memory enough.
+/// What an engine answers to the statements of a script that end in `;`, where one that finds no memory is tried
+/// again with memory enough.
 fn retried_in(
     alloc: Global,
     memory: Memory,
@@ -107,7 +107,8 @@ fn run_in(
     }
 }
 
-/// Whether a script that is refused one growth is answered as it is listed. A check keeps no state, and needs no such test.
+/// Whether a script that is refused one growth is answered as it is listed. A check keeps no state, and needs no such
+/// test.
 fn is_retried_well(
     alloc: Global,
     manner: Manner,
@@ -121,7 +122,8 @@ fn is_retried_well(
     }
 }
 
-/// Refuses a script's first growth, then its second, and so on, until none is refused; tells at which one a reply is wrong.
+/// Refuses a script's first growth, then its second, and so on, until none is refused; tells at which one a reply is
+/// wrong.
 pub fn growth_fault(
     alloc: Global,
     manner: Manner,

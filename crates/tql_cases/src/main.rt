@@ -1,5 +1,5 @@
-//! The cases: scripts as data, each with the text that it prints. The program runs every case of the folders in `cases/`, and
-//! prints a line a case: its name and `ok`, or where it first differs from what is listed.
+//! The cases: scripts as data, each with the text that it prints. The program runs every case of the folders in
+//! `cases/`, and prints a line a case: its name and `ok`, or where it first differs from what is listed.
 //!
 //! It exits with 0 where no case differs, and with 1 else.
 #![tactic(auto)]

@@ -91,8 +91,8 @@ fn push_line(alloc: Global, marks: &mut String, statement: &str) -> io::Result<(
     Ok(())
 }
 
-/// The marks of the statements of a script and of their neighbours, a line a statement. Each line of the script that is no
-/// comment is a statement without its `;`, with a blank between each two tokens.
+/// The marks of the statements of a script and of their neighbours, a line a statement. Each line of the script that
+/// is no comment is a statement without its `;`, with a blank between each two tokens.
 pub fn marks(alloc: Global, script: &str) -> io::Result<String> {
     let mut marks = String::new(alloc);
     for line in script.lines() {

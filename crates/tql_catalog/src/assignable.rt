@@ -1,5 +1,6 @@
 //! The columns to which a user may give values, by their numbers from 0.
-ghost use Rattle.std.specs.Prelude.{◌≡◌, ◌++◌, ◌<◌, [], ◌∷◌, not, filter, length, option_map, IfOk, OnOk, true, ◌&&◌, nat_lt, false};
+ghost use Rattle.std.specs.Prelude.{◌≡◌, ◌++◌, ◌<◌, [], ◌∷◌, not, filter, length, option_map, IfOk, OnOk, true, ◌&&◌};
+ghost use Rattle.std.specs.Prelude.{nat_lt, false};
 ghost use Rattle.std.specs.List.{range_with_len, list_all};
 ghost use Rattle.tql_spec.specs.Creation.{has_number};
 ghost use Rattle.tql_spec.specs.Binding.{generated_columns};
@@ -67,7 +68,8 @@ pub(crate) fn has_repeated(numbers: &[usize]) -> bool
 
 /// Whether a column of this number is there, of so many, and not generated.
 fn is_open(width: usize, system: Option<System>, number: usize) -> bool
-    ensures { result ≡ (nat_lt number width && not (has_number number (generated_columns (option_map system_of system)))) }
+    ensures { result ≡ (nat_lt number width
+        && not (has_number number (generated_columns (option_map system_of system)))) }
 {
     number < width && !is_generated(system, number)
 }

@@ -1,5 +1,6 @@
 //! The tables that are there.
-ghost use Rattle.std.specs.Prelude.{◌≡◌, ◌≢◌, ◌↔◌, ◌<◌, ◌++◌, [], ◌∷◌, length, slice_get, All, IsTrue, OnOk, OnErr, Some, option_map, remove};
+ghost use Rattle.std.specs.Prelude.{◌≡◌, ◌≢◌, ◌↔◌, ◌<◌, ◌++◌, [], ◌∷◌, length, slice_get, All, IsTrue, OnOk, OnErr};
+ghost use Rattle.std.specs.Prelude.{Some, option_map, remove};
 ghost use Rattle.std.specs.Option.{ForSome};
 ghost use Rattle.tql_spec.specs.Binding as binding;
 ghost use Rattle.tql_spec.specs.Definition as spec;
@@ -32,8 +33,9 @@ impl Drop for Table {
 /// Tables in order, each under its name.
 type Tables = IndexMap<String<Memory>, Table, BuildHasherDefault<FoldHasher>, Memory>;
 
-/// The tables that are there, in the order of their creation: at most 1,000, each of a name and with a number of its own. Contracts see
-/// the list of them. A table is found by its name in a time that on average does not grow with their number.
+/// The tables that are there, in the order of their creation: at most 1,000, each of a name and with a number of its
+/// own. Contracts see the list of them. A table is found by its name in a time that on average does not grow with
+/// their number.
 pub struct Catalog {
     tables: Tables,
 }
@@ -113,7 +115,8 @@ impl Catalog {
         self.tables.values().all(|table| table.id != id)
     }
 
-    /// The first fault that the tables which are there show of a new table of this name: one of that name is there, or 1,000 are.
+    /// The first fault that the tables which are there show of a new table of this name: one of that name is there,
+    /// or 1,000 are.
     pub fn creation_fault(&self, name: &str) -> Option<Refusal>
         ensures { option_map refusal_of result ≡ first (creation_faults (definitions_of self.now) name.now) }
     {
@@ -126,8 +129,8 @@ impl Catalog {
         }
     }
 
-    /// Adds a table behind the others, under a number that no other has. Refused, the first of them: a table of that name is there; 1,000
-    /// tables are there; memory. A refusal changes nothing.
+    /// Adds a table behind the others, under a number that no other has. Refused, the first of them: a table of that
+    /// name is there; 1,000 tables are there; memory. A refusal changes nothing.
     pub fn create(&mut self, definition: TableDef, id: TableId) -> Result<(), Refusal>
         requires { IsFree id self.old }
         ensures created { OnOk result (self.new ≡ self.old ++ record { definition = definition; id = id } ∷ []) }

@@ -1,29 +1,22 @@
 //! Which columns and which periods can be those of a table.
-ghost use Rattle.std.specs.Prelude.{◌≡◌, ◌<◌, ◌&&◌, ◌||◌, ◌==◌, ◌++◌, not, length, map, option_map, slice_index_or, string_bytes, false};
+ghost use Rattle.std.specs.Prelude.{◌≡◌, ◌<◌, ◌&&◌, ◌||◌, ◌==◌, ◌++◌, not, length, map, option_map, slice_index_or};
+ghost use Rattle.std.specs.Prelude.{string_bytes, false};
 ghost use Rattle.tql_spec.specs.Creation.{has_name, repeats, are_ends, application_name};
 ghost use Rattle.tql_spec.specs.Datum.{Ints, Moments, same_kind};
-ghost use Rattle.tql_spec.specs.Words.{same_text};
 ghost use Rattle.tql_value.specs.Views.{plain_kind};
 ghost use Rattle.tql_catalog.specs.Columns.{names_in, kinds_in, required_in};
 ghost use Rattle.tql_catalog.specs.Defined as defined;
 ghost use Rattle.tql_catalog.specs.Definitions.{column_of, system_of, application_of};
 
 use crate::assignable::is_generated;
-use crate::definition::{Application, Column, System};
+use crate::definition::{Application, Column, System, are_ends};
 use tql_value::value::Kind;
-
-/// Whether this is the name of the column.
-fn is_named(column: &Column, name: &str) -> bool
-    ensures { result ≡ same_text name.now (string_bytes column.now.name) }
-{
-    name == column.name.as_str()
-}
 
 /// Whether a column has this name.
 fn has_column(columns: &[Column], name: &str) -> bool
     ensures { result ≡ has_name name.now (names_in columns.now) }
 {
-    columns.iter().any(|column| is_named(column, name))
+    columns.iter().any(|column| column.is_named(name))
 }
 
 /// Whether this is the name of the application period.
@@ -38,14 +31,16 @@ fn is_period_name(application: Option<&Application>, name: &str) -> bool
 
 /// Whether a column or the application period has this name.
 fn is_taken(columns: &[Column], application: Option<&Application>, name: &str) -> bool
-    ensures { result ≡ has_name name.now (names_in columns.now ++ application_name (option_map (λ a. application_of a.now) application.entry)) }
+    ensures { result ≡ has_name name.now
+        (names_in columns.now ++ application_name (option_map (λ a. application_of a.now) application.entry)) }
 {
     has_column(columns, name) || is_period_name(application, name)
 }
 
 /// Whether a name stands twice among those of the columns and that of the application period.
 fn has_repeated_name(columns: &[Column], application: Option<&Application>) -> bool
-    ensures { result ≡ repeats (names_in columns.now ++ application_name (option_map (λ a. application_of a.now) application.entry)) }
+    ensures { result ≡ repeats
+        (names_in columns.now ++ application_name (option_map (λ a. application_of a.now) application.entry)) }
 {
     let mut left = columns;
     while let [column, others @ ..] = left {
@@ -106,21 +101,12 @@ fn is_end_at(columns: &[Column], system: Option<System>, number: usize) -> bool
     is_required_at(columns, number) && !is_generated(system, number)
 }
 
-/// Whether both kinds are those of days, or of moments.
-fn are_ends(start: Kind, end: Kind) -> bool
-    ensures { result ≡ are_ends (plain_kind start) (plain_kind end) }
-{
-    matches!(
-        (start, end),
-        (Kind::Day, Kind::Day) | (Kind::Moment, Kind::Moment)
-    )
-}
-
 /// Whether the columns of these numbers both hold days, or moments.
 fn are_ends_at(columns: &[Column], start: usize, end: usize) -> bool
     requires start { start < length columns.now }
     requires end { end < length columns.now }
-    ensures { result ≡ are_ends (slice_index_or (kinds_in columns.now) start Ints) (slice_index_or (kinds_in columns.now) end Ints) }
+    ensures { result ≡ are_ends (slice_index_or (kinds_in columns.now) start Ints)
+        (slice_index_or (kinds_in columns.now) end Ints) }
 {
     are_ends(columns[start].kind, columns[end].kind)
 }
@@ -147,9 +133,9 @@ fn is_application_period(
     }
 }
 
-/// Whether columns and periods can be those of one table: no name stands twice among those of the columns and that of the application
-/// period, the generated columns are two of the columns and hold moments, and those of the application period are two others that take no
-/// null and hold days, or moments.
+/// Whether columns and periods can be those of one table: no name stands twice among those of the columns and that of
+/// the application period, the generated columns are two of the columns and hold moments, and those of the
+/// application period are two others that take no null and hold days, or moments.
 pub fn is_definable(
     columns: &[Column],
     system: Option<System>,

@@ -1,4 +1,8 @@
 //! What the definition of a table is made of.
+ghost use Rattle.std.specs.Prelude.{◌≡◌};
+ghost use Rattle.tql_spec.specs.Creation as spec;
+ghost use Rattle.tql_value.specs.Views.{plain_kind};
+
 use tql_memory::Memory;
 use tql_value::value::Kind;
 
@@ -11,6 +15,18 @@ pub struct Column {
     pub is_required: bool,
 }
 
+impl Column {
+    ghost use Rattle.std.specs.Prelude.{string_bytes};
+    ghost use Rattle.tql_spec.specs.Words.{same_text};
+
+    /// Whether this is the name of the column.
+    pub fn is_named(&self, name: &str) -> bool
+        ensures { result ≡ same_text name.now (string_bytes self.now.name) }
+    {
+        name == self.name.as_str()
+    }
+}
+
 /// The generated columns of a system-versioned table, by their numbers from 0.
 #[derive(Clone, Copy)]
 pub struct System {
@@ -20,7 +36,8 @@ pub struct System {
     pub end: usize,
 }
 
-/// The application period of a table: its name, and its columns by their numbers from 0. Both hold days, or both moments.
+/// The application period of a table: its name, and its columns by their numbers from 0. Both hold days, or both
+/// moments.
 pub struct Application {
     pub name: String<Memory>,
     /// The column of the first point of a row's period.
@@ -50,4 +67,14 @@ impl Drop for Column {
         } = self;
         drop(name);
     }
+}
+
+/// Whether both kinds are those of days, or of moments.
+pub fn are_ends(start: Kind, end: Kind) -> bool
+    ensures { result ≡ spec.are_ends (plain_kind start) (plain_kind end) }
+{
+    matches!(
+        (start, end),
+        (Kind::Day, Kind::Day) | (Kind::Moment, Kind::Moment)
+    )
 }

@@ -18,9 +18,10 @@ use std::alloc::AllocError;
 use std::marker::Model;
 use tql_memory::Memory;
 
-/// The definition of a table: its name, its columns, its system period where it is system-versioned, and its application period where it
-/// has one. No name stands twice among those of the columns and that of the application period; the generated columns are two columns of
-/// the table that hold moments; those of the application period are two others, which take no null and hold days, or moments.
+/// The definition of a table: its name, its columns, its system period where it is system-versioned, and its
+/// application period where it has one. No name stands twice among those of the columns and that of the application
+/// period; the generated columns are two columns of the table that hold moments; those of the application period are
+/// two others, which take no null and hold days, or moments.
 pub struct TableDef {
     name: String<Memory>,
     columns: Vec<Column, Memory>,
@@ -57,7 +58,8 @@ impl Model for TableDef {
 
     ghost coded = { table_def_code };
 
-    ghost view = { λ d. table_of_parts (string_bytes d.name) (map column_of d.columns.items) (option_map system_of d.system)
+    ghost view = { λ d. table_of_parts (string_bytes d.name) (map column_of d.columns.items)
+        (option_map system_of d.system)
         (option_map application_of d.application) };
 
     ghost invariant = { λ d.
@@ -78,9 +80,9 @@ fn names(memory: Memory, columns: &[Column]) -> Result<Vec<String<Memory>, Memor
 }
 
 impl TableDef {
-    /// Whether columns and periods can be those of one table: no name stands twice among those of the columns and that of the application
-    /// period, the generated columns are two of the columns and hold moments, and those of the application period are two others that take
-    /// no null and hold days, or moments.
+    /// Whether columns and periods can be those of one table: no name stands twice among those of the columns and
+    /// that of the application period, the generated columns are two of the columns and hold moments, and those of
+    /// the application period are two others that take no null and hold days, or moments.
     pub fn is_definable(
         columns: &[Column],
         system: Option<System>,
@@ -100,8 +102,11 @@ impl TableDef {
         system: Option<System>,
         application: Option<Application>,
     ) -> Result<TableDef, AllocError>
-        requires { IsTrue (defined.is_definable (map column_of columns.items) (option_map system_of system) (option_map application_of application)) }
-        ensures { IfOk result (λ d. d ≡ table_of_parts (string_bytes name.entry) (map column_of columns.entry.items) (option_map system_of system)
+        requires { IsTrue (defined.is_definable (map column_of columns.items) (option_map system_of system)
+            (option_map application_of application)) }
+        ensures { IfOk result
+            (λ d. d ≡ table_of_parts (string_bytes name.entry)
+            (map column_of columns.entry.items) (option_map system_of system)
             (option_map application_of application)) }
     {
         let assignable = assignable_numbers(memory, columns.len(), system)?;
@@ -190,7 +195,8 @@ impl TableDef {
         self.assignable.as_slice()
     }
 
-    /// Whether a user may give values to the columns of these numbers: each is there, none is generated, and none stands twice.
+    /// Whether a user may give values to the columns of these numbers: each is there, none is generated, and none
+    /// stands twice.
     pub fn are_assignable(&self, numbers: &[usize]) -> bool
         ensures { result ≡ rows.are_assignable self.now numbers.now }
     {

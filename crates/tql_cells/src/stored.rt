@@ -48,7 +48,8 @@ fn place_among_others(added: usize, width: usize, place: usize) -> Option<usize>
 impl<'a> StoredRow<'a> {
     /// The value of a column where two stamps are added to the cells, one after the other.
     fn with_stamps(&self, first: Stamp, second: Stamp, place: usize) -> View<'a>
-        ensures { datum_of_view result ≡ cell (insert (insert (map datum_of_value self.now.cells.now) first.place (pure.Moment first.moment))
+        ensures { datum_of_view result
+            ≡ cell (insert (insert (map datum_of_value self.now.cells.now) first.place (pure.Moment first.moment))
             second.place (pure.Moment second.moment)) place }
     {
         let width = self.cells.len();

@@ -7,7 +7,8 @@ ghost use Rattle.tql_change.specs.ChangeEnds as ends;
 ghost use Rattle.tql_spec.specs.Definition as definition;
 ghost use Rattle.tql_spec.specs.Syntax as tree;
 ghost use Rattle.tql_tree.specs.Expressions.{name_of};
-ghost use Rattle.tql_tree.specs.Statements.{names_of, cell_of, tuple_of, insert_by, assignment_of, assignments_of, point_of, portion_of, statement_of};
+ghost use Rattle.tql_tree.specs.Statements.{names_of, cell_of, tuple_of, insert_by, assignment_of, assignments_of};
+ghost use Rattle.tql_tree.specs.Statements.{point_of, portion_of, statement_of};
 
 use tql_condition::periods::period_name;
 use tql_lex::token::Symbol;
@@ -141,7 +142,9 @@ fn update_end<'a>(
     first: Assignment<'a>,
     more: Vec<Assignment<'a>, Memory>,
 ) -> Result<Statement<'a>, ParseError>
-    ensures { Reads statement_of (ends.update_end (name_of table.entry) (option_map portion_of portion.entry) (assignment_of first.entry) (assignments_of more.entry) tokens.old) result tokens.new }
+    ensures { Reads statement_of
+        (ends.update_end (name_of table.entry) (option_map portion_of portion.entry) (assignment_of first.entry)
+        (assignments_of more.entry) tokens.old) result tokens.new }
 {
     let filter = where_clause(memory, tokens)?;
     let update = Update {
@@ -164,7 +167,9 @@ fn sets_end<'a>(
     portion: Option<Portion<'a>>,
     first: Assignment<'a>,
 ) -> Result<Statement<'a>, ParseError>
-    ensures { Reads statement_of (ends.sets_end (name_of table.entry) (option_map portion_of portion.entry) (assignment_of first.entry) tokens.old) result tokens.new }
+    ensures { Reads statement_of
+        (ends.sets_end (name_of table.entry) (option_map portion_of portion.entry) (assignment_of first.entry)
+        tokens.old) result tokens.new }
 {
     let more = behind_commas(memory, tokens, &AssignmentRule)?;
     update_end(memory, tokens, table, portion, first, more)
@@ -190,7 +195,8 @@ fn delete_end<'a>(
     table: Name<'a>,
     portion: Option<Portion<'a>>,
 ) -> Result<Statement<'a>, ParseError>
-    ensures { Reads statement_of (ends.delete_end (name_of table.entry) (option_map portion_of portion.entry) tokens.old) result tokens.new }
+    ensures { Reads statement_of
+        (ends.delete_end (name_of table.entry) (option_map portion_of portion.entry) tokens.old) result tokens.new }
 {
     let filter = where_clause(memory, tokens)?;
     let delete = Delete {
@@ -249,7 +255,8 @@ fn column_list<'a>(
 /// What stands behind VALUES in an INSERT.
 #[tactic(auto, unfolding(tql_grammar::specs::ReadingStatements::values_at))]
 fn values<'a>(memory: Memory, tokens: &mut Cursor<'_, 'a>) -> Result<Rows<'a>, ParseError>
-    ensures { (n : definition.Name) → (cs : List definition.Name) → Reads (insert_by n cs) (reading.values_at n cs tokens.old) result tokens.new }
+    ensures { (n : definition.Name) → (cs : List definition.Name)
+        → Reads (insert_by n cs) (reading.values_at n cs tokens.old) result tokens.new }
 {
     let first = TupleRule.read(memory, tokens)?;
     let more = behind_commas(memory, tokens, &TupleRule)?;
@@ -259,7 +266,8 @@ fn values<'a>(memory: Memory, tokens: &mut Cursor<'_, 'a>) -> Result<Rows<'a>, P
 /// Where the rows of INSERT come from: VALUES, or a select.
 #[tactic(auto, unfolding(crate::specs::ChangeEnds::rows_at))]
 fn rows<'a>(memory: Memory, tokens: &mut Cursor<'_, 'a>) -> Result<Rows<'a>, ParseError>
-    ensures { (n : definition.Name) → (cs : List definition.Name) → Reads (insert_by n cs) (ends.rows_at n cs tokens.old) result tokens.new }
+    ensures { (n : definition.Name) → (cs : List definition.Name)
+        → Reads (insert_by n cs) (ends.rows_at n cs tokens.old) result tokens.new }
 {
     if tokens.eat_word("VALUES") {
         return values(memory, tokens);
@@ -276,7 +284,8 @@ fn insert_end<'a>(
     table: Name<'a>,
     columns: Vec<Name<'a>, Memory>,
 ) -> Result<Statement<'a>, ParseError>
-    ensures { Reads statement_of (ends.rows_at (name_of table.entry) (names_of columns.entry) tokens.old) result tokens.new }
+    ensures { Reads statement_of
+        (ends.rows_at (name_of table.entry) (names_of columns.entry) tokens.old) result tokens.new }
 {
     let rows = rows(memory, tokens)?;
     let insert = Insert {

@@ -1,6 +1,7 @@
 //! Reading conditions. A number bounds how deep parentheses may go; as many as there are tokens are enough.
 //!
-//! What `(` opens may be a condition or an expression, and only the tokens behind it tell which: both are read by one rule, once.
+//! What `(` opens may be a condition or an expression, and only the tokens behind it tell which: both are read by one
+//! rule, once.
 ghost use Rattle.std.specs.Prelude.{◌≡◌, [], IfOk};
 ghost use Rattle.tql_grammar.specs.Outcome.{Read, into, more};
 ghost use Rattle.tql_spec.specs.Syntax as tree;
@@ -9,7 +10,8 @@ ghost use Rattle.tql_grammar.specs.ReadingExpressions.{expr_at, mixed_at, as_nam
 ghost use Rattle.tql_phrase.specs.Parsing.{Reads};
 ghost use Rattle.tql_phrase.specs.Tails.{tail_test};
 ghost use Rattle.tql_tree.specs.Expressions.{named_of, expr_of, boxed_expr_of, primary_of};
-ghost use Rattle.tql_tree.specs.Conditions.{operand_of, boxed_test_of, factor_by, factor_of, conj_of, boxed_cond_of, factor_list, conj_list};
+ghost use Rattle.tql_tree.specs.Conditions.{operand_of, boxed_test_of, factor_by, factor_of, conj_of, boxed_cond_of};
+ghost use Rattle.tql_tree.specs.Conditions.{factor_list, conj_list};
 ghost use Rattle.tql_condition.specs.Mixtures.{tested_of, mixed_of, is_lone};
 ghost use Rattle.tql_condition.specs.TestEnds.{operand_end};
 ghost use Rattle.tql_condition.specs.TestWords.{test_word_at, worded_over};
@@ -73,7 +75,8 @@ fn is_lone(value: &Expr<'_>) -> bool
 
 /// The test of an operand, and what stands behind it.
 fn related<'a>(memory: Memory, left: Operand<'a>, tail: Tail<'a>) -> Result<Tested<'a>, AllocError>
-    ensures { IfOk result (λ tested. tested_of tested ≡ reading.WholeTest (tail_test (operand_of left.entry) tail.entry)) }
+    ensures { IfOk result
+        (λ tested. tested_of tested ≡ reading.WholeTest (tail_test (operand_of left.entry) tail.entry)) }
 {
     let test = operand_test(memory, left, tail)?;
     Ok(Tested::Test(test))
@@ -87,7 +90,9 @@ fn named_test<'a>(
     name: Named<'a>,
     value: Box<Expr<'a>, Memory>,
 ) -> Result<Tested<'a>, ParseError>
-    ensures { Reads tested_of (into (test_or (boxed_expr_of value.entry)) (reading.related_over (expr_at depth) (tree.ByName (named_of name.entry)) tokens.old)) result tokens.new }
+    ensures { Reads tested_of
+        (into (test_or (boxed_expr_of value.entry))
+        (reading.related_over (expr_at depth) (tree.ByName (named_of name.entry)) tokens.old)) result tokens.new }
 {
     match read_tail(memory, tokens, depth)? {
         Some(tail) => {
@@ -106,7 +111,9 @@ fn period_test<'a>(
     depth: usize,
     value: Box<Expr<'a>, Memory>,
 ) -> Result<Tested<'a>, ParseError>
-    ensures { Reads tested_of (reading.period_test_over (expr_at depth) (boxed_expr_of value.entry) (as_named (boxed_expr_of value.entry)) tokens.old) result tokens.new }
+    ensures { Reads tested_of
+        (reading.period_test_over (expr_at depth) (boxed_expr_of value.entry) (as_named (boxed_expr_of value.entry))
+        tokens.old) result tokens.new }
 {
     if !is_lone(&value) {
         return Ok(Tested::Expr(value));
@@ -153,7 +160,8 @@ fn worded<'a>(
     word: TestWord,
     value: Box<Expr<'a>, Memory>,
 ) -> Result<Box<Test<'a>, Memory>, ParseError>
-    ensures { Reads boxed_test_of (worded_over (expr_at depth) word (boxed_expr_of value.entry) tokens.old) result tokens.new }
+    ensures { Reads boxed_test_of
+        (worded_over (expr_at depth) word (boxed_expr_of value.entry) tokens.old) result tokens.new }
 {
     match word {
         TestWord::Is => null_test(memory, tokens, value),
@@ -171,7 +179,8 @@ fn word_test<'a>(
     depth: usize,
     value: Box<Expr<'a>, Memory>,
 ) -> Result<Tested<'a>, ParseError>
-    ensures { Reads tested_of (reading.word_test_over (expr_at depth) (boxed_expr_of value.entry) tokens.old) result tokens.new }
+    ensures { Reads tested_of
+        (reading.word_test_over (expr_at depth) (boxed_expr_of value.entry) tokens.old) result tokens.new }
 {
     match test_word(tokens) {
         Some(word) => {
@@ -190,7 +199,8 @@ fn test_behind<'a>(
     depth: usize,
     value: Box<Expr<'a>, Memory>,
 ) -> Result<Tested<'a>, ParseError>
-    ensures { Reads tested_of (reading.test_behind (expr_at depth) (boxed_expr_of value.entry) tokens.old) result tokens.new }
+    ensures { Reads tested_of
+        (reading.test_behind (expr_at depth) (boxed_expr_of value.entry) tokens.old) result tokens.new }
 {
     match comparison(tokens) {
         Some(comparison) => {
@@ -239,7 +249,8 @@ fn expr_from<'a>(
     depth: usize,
     primary: Primary<'a>,
 ) -> Result<Box<Expr<'a>, Memory>, ParseError>
-    ensures { Reads boxed_expr_of (reading.sum_from (expr_at depth) (primary_of primary.entry) tokens.old) result tokens.new }
+    ensures { Reads boxed_expr_of
+        (reading.sum_from (expr_at depth) (primary_of primary.entry) tokens.old) result tokens.new }
 {
     let signed = Signed {
         sign: Sign::None,
@@ -256,7 +267,9 @@ fn enclosed<'a>(
     depth: usize,
     inner: Box<Expr<'a>, Memory>,
 ) -> Result<Tested<'a>, ParseError>
-    ensures { Reads tested_of (reading.closed_over (expr_at depth) (mixed_at depth) (reading.WholeExpr (boxed_expr_of inner.entry)) tokens.old) result tokens.new }
+    ensures { Reads tested_of
+        (reading.closed_over (expr_at depth) (mixed_at depth) (reading.WholeExpr (boxed_expr_of inner.entry))
+        tokens.old) result tokens.new }
 {
     let value = expr_from(memory, tokens, depth, Primary::Enclosed(inner))?;
     test_behind(memory, tokens, depth, value)
@@ -264,7 +277,8 @@ fn enclosed<'a>(
 
 /// A test that is this condition in parentheses.
 fn grouped<'a>(memory: Memory, condition: Box<Cond<'a>, Memory>) -> Result<Tested<'a>, AllocError>
-    ensures { IfOk result (λ tested. tested_of tested ≡ reading.WholeTest (tree.Grouped (boxed_cond_of condition.entry))) }
+    ensures { IfOk result
+        (λ tested. tested_of tested ≡ reading.WholeTest (tree.Grouped (boxed_cond_of condition.entry))) }
 {
     let test = boxed_test(memory, Test::Grouped(condition))?;
     Ok(Tested::Test(test))
@@ -278,7 +292,9 @@ impl<'a> Mixed<'a> {
         tokens: &mut Cursor<'_, 'a>,
         depth: usize,
     ) -> Result<Tested<'a>, ParseError>
-        ensures { Reads tested_of (reading.closed_over (expr_at depth) (mixed_at depth) (mixed_of self.entry) tokens.old) result tokens.new }
+        ensures { Reads tested_of
+            (reading.closed_over (expr_at depth) (mixed_at depth) (mixed_of self.entry) tokens.old)
+            result tokens.new }
     {
         match self {
             Mixed::Cond(condition) => Ok(grouped(memory, condition)?),
@@ -287,7 +303,8 @@ impl<'a> Mixed<'a> {
     }
 }
 
-/// What stands behind `(`: a condition and its `)`, or a test or an expression that begins with an expression in parentheses.
+/// What stands behind `(`: a condition and its `)`, or a test or an expression that begins with an expression in
+/// parentheses.
 #[cycle(conditions)]
 #[tactic(auto, unfolding(tql_grammar::specs::ReadingExpressions::opened_over))]
 fn opened<'a>(
@@ -363,7 +380,8 @@ fn factors<'a>(
     tokens: &mut Cursor<'_, 'a>,
     depth: usize,
 ) -> Result<Vec<Factor<'a>, Memory>, ParseError>
-    ensures { Reads factor_list (more (reading.next_test (expr_at depth) (mixed_at depth)) [] tokens.old) result tokens.new }
+    ensures { Reads factor_list
+        (more (reading.next_test (expr_at depth) (mixed_at depth)) [] tokens.old) result tokens.new }
 {
     let mut found = Vec::new(memory);
     for _turn in 0..tokens.left() {
@@ -384,7 +402,8 @@ fn conj_behind<'a>(
     depth: usize,
     first: Factor<'a>,
 ) -> Result<Conj<'a>, ParseError>
-    ensures { Reads conj_of (reading.conj_behind (expr_at depth) (mixed_at depth) (factor_of first.entry) tokens.old) result tokens.new }
+    ensures { Reads conj_of
+        (reading.conj_behind (expr_at depth) (mixed_at depth) (factor_of first.entry) tokens.old) result tokens.new }
 {
     let more = factors(memory, tokens, depth)?;
     Ok(Conj { first, more })
@@ -411,7 +430,8 @@ fn conjs<'a>(
     tokens: &mut Cursor<'_, 'a>,
     depth: usize,
 ) -> Result<Vec<Conj<'a>, Memory>, ParseError>
-    ensures { Reads conj_list (more (reading.next_conj (expr_at depth) (mixed_at depth)) [] tokens.old) result tokens.new }
+    ensures { Reads conj_list
+        (more (reading.next_conj (expr_at depth) (mixed_at depth)) [] tokens.old) result tokens.new }
 {
     let mut found = Vec::new(memory);
     for _turn in 0..tokens.left() {
@@ -432,7 +452,9 @@ fn condition_behind<'a>(
     depth: usize,
     first: Factor<'a>,
 ) -> Result<Box<Cond<'a>, Memory>, ParseError>
-    ensures { Reads boxed_cond_of (reading.condition_behind (expr_at depth) (mixed_at depth) (factor_of first.entry) tokens.old) result tokens.new }
+    ensures { Reads boxed_cond_of
+        (reading.condition_behind (expr_at depth) (mixed_at depth) (factor_of first.entry) tokens.old)
+        result tokens.new }
 {
     let first = conj_behind(memory, tokens, depth, first)?;
     let more = conjs(memory, tokens, depth)?;
@@ -449,7 +471,10 @@ fn condition_from<'a>(
     is_negated: bool,
     test: Box<Test<'a>, Memory>,
 ) -> Result<Mixed<'a>, ParseError>
-    ensures { Reads mixed_of (into reading.WholeCondition (reading.condition_behind (expr_at depth) (mixed_at depth) (factor_by is_negated (boxed_test_of test.entry)) tokens.old)) result tokens.new }
+    ensures { Reads mixed_of
+        (into reading.WholeCondition
+        (reading.condition_behind (expr_at depth) (mixed_at depth) (factor_by is_negated (boxed_test_of test.entry))
+        tokens.old)) result tokens.new }
 {
     let first = Factor { is_negated, test };
     let condition = condition_behind(memory, tokens, depth, first)?;
@@ -499,7 +524,8 @@ fn condition_over<'a>(
     tokens: &mut Cursor<'_, 'a>,
     depth: usize,
 ) -> Result<Box<Cond<'a>, Memory>, ParseError>
-    ensures { Reads boxed_cond_of (reading.condition_over (expr_at depth) (mixed_at depth) tokens.old) result tokens.new }
+    ensures { Reads boxed_cond_of
+        (reading.condition_over (expr_at depth) (mixed_at depth) tokens.old) result tokens.new }
 {
     let first = factor(memory, tokens, depth)?;
     condition_behind(memory, tokens, depth, first)

@@ -7,7 +7,8 @@ ghost use Rattle.tql_phrase.specs.Parsing.{Reads, nothing, itself};
 ghost use Rattle.tql_spec.specs.Definition as definition;
 ghost use Rattle.tql_spec.specs.Syntax as tree;
 ghost use Rattle.tql_tree.specs.Expressions.{digits_of, name_of};
-ghost use Rattle.tql_tree.specs.Statements.{type_of, generated_of, reflist_of, constraint_of, boxed_constraint_of, element_of, elements_of, statement_of};
+ghost use Rattle.tql_tree.specs.Statements.{type_of, generated_of, reflist_of, constraint_of, boxed_constraint_of};
+ghost use Rattle.tql_tree.specs.Statements.{element_of, elements_of, statement_of};
 
 use tql_condition::conditions::condition_here;
 use tql_condition::periods::period_name;
@@ -446,7 +447,9 @@ fn create_end<'a>(
     first: Element<'a>,
     more: Vec<Element<'a>, Memory>,
 ) -> Result<Statement<'a>, ParseError>
-    ensures { Reads statement_of (ends.create_end (name_of table.entry) (element_of first.entry) (elements_of more.entry) tokens.old) result tokens.new }
+    ensures { Reads statement_of
+        (ends.create_end (name_of table.entry) (element_of first.entry) (elements_of more.entry) tokens.old)
+        result tokens.new }
 {
     let is_versioned = versioning(tokens)?;
     let create = CreateTree {
@@ -467,7 +470,8 @@ fn elements_end<'a>(
     table: Name<'a>,
     first: Element<'a>,
 ) -> Result<Statement<'a>, ParseError>
-    ensures { Reads statement_of (ends.elements_end (name_of table.entry) (element_of first.entry) tokens.old) result tokens.new }
+    ensures { Reads statement_of
+        (ends.elements_end (name_of table.entry) (element_of first.entry) tokens.old) result tokens.new }
 {
     let more = behind_commas(memory, tokens, &ElementRule)?;
     tokens.expect_symbol(Symbol::Close)?;

@@ -14,12 +14,11 @@ use Rattle.tql_spec.specs.Machine.{Bound, CreateTable}
 use Rattle.tql_spec.specs.Running.{is_plain_element, does_run}
 use Rattle.tql_catalog.specs.Defined.{table_of_parts}
 use Rattle.tql_scope.specs.Gathered.{Gathers}
-use Rattle.tql_scope.proofs.Gathering.{bound}
+use Rattle.tql_scope.proofs.Gathering.{bound, sound_here}
 use Rattle.tql_tree.specs.Expressions.{name_of}
 use Rattle.tql_tree.specs.Statements.{create_of}
 use Rattle.tql_tree.specs.declared.statement.CreateTree.{CreateTree}
 use Rattle.tql_define.specs.NewTables.{elements_in, application_in, system_in, implied_in, whole_in, create_in}
-use Rattle.tql_define.proofs.Gathered.{sound_here}
 
 -- ---- elements that are columns and periods
 

@@ -7,7 +7,7 @@ use Rattle.tql_spec.specs.Definition.{Name}
 use Rattle.tql_spec.specs.Names.{Checked, ◌>>=◌, sound, refuse_if}
 use Rattle.tql_spec.specs.Creation.{column_number}
 use Rattle.tql_scope.specs.Gathered.{after, Gathers}
-use Rattle.tql_scope.proofs.Gathering.{after_append, after_nil, bound, first_is, unless_asked}
+use Rattle.tql_scope.proofs.Gathering.{after_append, bound, first_is, sound_here, unless_asked}
 use Rattle.tql_value.specs.Refusals.{refusal_of}
 use Rattle.tql_value.specs.declared.refusal.Refusal.{Refusal}
 use Rattle.tql_value.specs.declared.refusal.Refusal.TheVariants.{OutOfMemory}
@@ -24,10 +24,6 @@ pub more : (old mid new : Option spec.Refusal) (xs ys : List spec.Refusal) → m
 more old mid new xs ys e f = f ∙ ap (λ (o : Option spec.Refusal). after o ys) e ∙ sym (after_append old xs ys)
 
 -- ---- a period of two columns
-
--- a value without a fault
-pub sound_here : {B : Type 0} (x : B) (now : Option spec.Refusal) → Gathers (sound x) now now x
-sound_here x now = record { value = refl; least = sym (after_nil now) }
 
 -- what two columns give by their numbers, with the faults of their kinds and of their form
 abbrev pub of_columns : {B : Type 0} → List Name → Name → Name → (ℕ → ℕ → Bool) → (ℕ → ℕ → Bool) → (ℕ → ℕ → B) → Checked B

@@ -11,15 +11,9 @@ ghost use Rattle.tql_define.specs.NewTables.{column_of, names_in, starts_in, sto
 
 use crate::draft::NewColumn;
 use tql_scope::number::unsigned;
+use tql_scope::texts::is_same_text;
 use tql_tree::statement::{Generated, TypeName};
 use tql_value::value::Kind;
-
-/// Whether two texts are the same.
-pub fn is_same_text(a: &str, b: &str) -> bool
-    ensures { result ≡ same_text a.now b.now }
-{
-    a == b
-}
 
 /// Whether this is the name of the column.
 fn is_named(column: &NewColumn<'_>, name: &str) -> bool

@@ -1,5 +1,6 @@
 //! New tables: the faults that a CREATE TABLE shows, and the definition that it gives.
-ghost use Rattle.std.specs.Prelude.{◌≡◌, ◌||◌, ◌==◌, IsTrue, map, not, IfOk, string_bytes, length, nat_le, is_some, if◌then◌else◌};
+ghost use Rattle.std.specs.Prelude.{◌≡◌, ◌||◌, ◌==◌, IsTrue, map, not, IfOk, string_bytes, length, nat_le, is_some};
+ghost use Rattle.std.specs.Prelude.{if◌then◌else◌};
 ghost use Rattle.tql_spec.specs.Binding.{bind};
 ghost use Rattle.tql_spec.specs.Creation as spec;
 ghost use Rattle.tql_spec.specs.Creation.{several};
@@ -13,7 +14,8 @@ ghost use Rattle.tql_catalog.specs.Tables.{definitions_of};
 ghost use Rattle.tql_scope.specs.Gathered.{Gathers};
 ghost use Rattle.tql_tree.specs.Statements.{create_of};
 ghost use Rattle.tql_define.specs.Binds.{Binds};
-ghost use Rattle.tql_define.specs.NewTables.{column_of, application_part, columns_in, applications_in, systems_in, implied_in, starts_in, stops_in, whole_in, create_in, table_of};
+ghost use Rattle.tql_define.specs.NewTables.{column_of, application_part, columns_in, applications_in, systems_in};
+ghost use Rattle.tql_define.specs.NewTables.{implied_in, starts_in, stops_in, whole_in, create_in, table_of};
 
 use crate::columns::{are_all_generated, end_count, has_misfit, kind_of, limit_of, start_count};
 use crate::draft::{Draft, NewApplication, NewColumn, draft_of};
@@ -76,7 +78,9 @@ fn whole_faults(
     is_versioned: bool,
     faults: &mut Faults,
 )
-    ensures { Gathers (refuse_for (whole_in (definitions_of tables.now) name.now (columns_in draft.now) (applications_in draft.now) (systems_in draft.now) is_versioned))
+    ensures { Gathers (refuse_for
+        (whole_in (definitions_of tables.now) name.now (columns_in draft.now) (applications_in draft.now)
+        (systems_in draft.now) is_versioned))
         faults.old faults.new tt }
 {
     faults.refuse_if(is_there(tables, name), Refusal::TableUnknownOrAlreadyThere);
@@ -104,7 +108,9 @@ fn definition_column(
     column: &NewColumn<'_>,
     periods: &[NewApplication],
 ) -> Result<Column, AllocError>
-    ensures { IfOk result (λ c. catalog.column_of c ≡ spec.column (implied_in (map application_part periods.now)) (column_of column.now)) }
+    ensures { IfOk result
+        (λ c. catalog.column_of c
+        ≡ spec.column (implied_in (map application_part periods.now)) (column_of column.now)) }
 {
     Ok(Column {
         name: column.name.clone()?,
@@ -120,7 +126,9 @@ fn definitions(
     columns: &[NewColumn<'_>],
     periods: &[NewApplication],
 ) -> Result<Vec<Column, Memory>, AllocError>
-    ensures { IfOk result (λ cs. map catalog.column_of cs.items ≡ map (spec.column (implied_in (map application_part periods.now))) (map column_of columns.now)) }
+    ensures { IfOk result
+        (λ cs. map catalog.column_of cs.items
+        ≡ map (spec.column (implied_in (map application_part periods.now))) (map column_of columns.now)) }
 {
     let mut definitions = Vec::with_capacity(memory, columns.len())?;
     for column in columns {
@@ -138,7 +146,9 @@ fn periods_of(
     is_versioned: bool,
     faults: &mut Faults,
 ) -> Result<Periods, AllocError>
-    ensures { IfOk result (λ p. Gathers (create_in (definitions_of tables.now) name.now (columns_in draft.now) (applications_in draft.now) (systems_in draft.now) is_versioned)
+    ensures { IfOk result
+        (λ p. Gathers (create_in (definitions_of tables.now) name.now (columns_in draft.now)
+        (applications_in draft.now) (systems_in draft.now) is_versioned)
         faults.old faults.new (table_of name.now draft.now p)) }
 {
     whole_faults(tables, name, draft, is_versioned, faults);
@@ -157,7 +167,8 @@ fn definition(
     draft: &Draft<'_>,
     periods: &Periods,
 ) -> Result<TableDef, AllocError>
-    requires { let t = table_of (string_bytes name) draft.now periods.now in IsTrue (is_definable t.columns t.system t.application) }
+    requires { let t = table_of (string_bytes name) draft.now periods.now in IsTrue
+        (is_definable t.columns t.system t.application) }
     ensures { IfOk result (λ d. d ≡ table_of (string_bytes name.entry) draft.now periods.now) }
 {
     let columns = definitions(memory, &draft.columns, &draft.applications)?;
@@ -166,13 +177,14 @@ fn definition(
     TableDef::new(memory, name, columns, system, application)
 }
 
-/// The definition that a CREATE TABLE of columns and periods gives. Refused are, the first of them: a table of that name is there; a name
-/// that stands twice among those of the columns and of the application periods, or a column of a period unknown; a length or a precision
-/// that is not allowed, columns of an application period that are not both DATE and not both TIMESTAMP, or a column of the system period
-/// that is no TIMESTAMP; a form not allowed (no column that a user can assign, several application periods or system periods, a period that
-/// names one column twice, an application period that names a generated column, a system period without WITH SYSTEM VERSIONING or the
-/// reverse, generated columns other than one ROW START and one ROW END that the system period names in that order); a thousand tables.
-/// Where memory runs out, that is the refusal.
+/// The definition that a CREATE TABLE of columns and periods gives. Refused are, the first of them: a table of that
+/// name is there; a name that stands twice among those of the columns and of the application periods, or a column of
+/// a period unknown; a length or a precision that is not allowed, columns of an application period that are not both
+/// DATE and not both TIMESTAMP, or a column of the system period that is no TIMESTAMP; a form not allowed (no column
+/// that a user can assign, several application periods or system periods, a period that names one column twice, an
+/// application period that names a generated column, a system period without WITH SYSTEM VERSIONING or the reverse,
+/// generated columns other than one ROW START and one ROW END that the system period names in that order); a thousand
+/// tables. Where memory runs out, that is the refusal.
 pub fn new_table(
     memory: Memory,
     tables: &Catalog,

@@ -3,7 +3,8 @@ ghost use Rattle.std.specs.Prelude.{◌≡◌, ◌++◌, ◌∷◌, [], Some, No
 ghost use Rattle.tql_spec.specs.Creation.{columns_of, application_parts, system_parts};
 ghost use Rattle.tql_tree.specs.Expressions.{name_of};
 ghost use Rattle.tql_tree.specs.Statements as tree;
-ghost use Rattle.tql_define.specs.NewTables.{column_of, application_part, system_part, columns_in, applications_in, systems_in, elements_in};
+ghost use Rattle.tql_define.specs.NewTables.{column_of, application_part, system_part, columns_in, applications_in};
+ghost use Rattle.tql_define.specs.NewTables.{systems_in, elements_in};
 
 use std::alloc::AllocError;
 use tql_memory::Memory;
@@ -62,7 +63,11 @@ fn new_application(
     period: PeriodTree<'_>,
 ) -> Result<NewApplication, AllocError>
     ensures { IfOk result (λ p. application_part p
-        ≡ record { name = Some (name_of name.entry); start = name_of period.entry.start; end = name_of period.entry.end }) }
+        ≡ record {
+          name = Some (name_of name.entry);
+          start = name_of period.entry.start;
+          end = name_of period.entry.end;
+        }) }
 {
     Ok(NewApplication {
         name: meant(memory, name)?,
@@ -73,7 +78,12 @@ fn new_application(
 
 /// The system period under the names that are meant.
 fn new_system(memory: Memory, period: PeriodTree<'_>) -> Result<NewSystem, AllocError>
-    ensures { IfOk result (λ p. system_part p ≡ record { name = None; start = name_of period.entry.start; end = name_of period.entry.end }) }
+    ensures { IfOk result
+        (λ p. system_part p ≡ record {
+          name = None;
+          start = name_of period.entry.start;
+          end = name_of period.entry.end;
+        }) }
 {
     Ok(NewSystem {
         start: meant(memory, period.start)?,
@@ -85,8 +95,11 @@ impl<'a> Draft<'a> {
     /// Adds the period, where it has a name as an application period.
     fn add_period(&mut self, memory: Memory, period: PeriodTree<'_>) -> Result<(), AllocError>
         ensures columns { OnOk result (columns_in self.new ≡ columns_in self.old) }
-        ensures applications { OnOk result (applications_in self.new ≡ applications_in self.old ++ application_parts (tree.period_of period.entry ∷ [])) }
-        ensures systems { OnOk result (systems_in self.new ≡ systems_in self.old ++ system_parts (tree.period_of period.entry ∷ [])) }
+        ensures applications { OnOk result
+            (applications_in self.new ≡ applications_in self.old
+            ++ application_parts (tree.period_of period.entry ∷ [])) }
+        ensures systems { OnOk result
+            (systems_in self.new ≡ systems_in self.old ++ system_parts (tree.period_of period.entry ∷ [])) }
     {
         match period.name {
             Some(name) => self
@@ -99,9 +112,13 @@ impl<'a> Draft<'a> {
 
     /// Adds the element, where it is a column or a period.
     fn add(&mut self, memory: Memory, element: &Element<'a>) -> Result<(), AllocError>
-        ensures columns { OnOk result (columns_in self.new ≡ columns_in self.old ++ columns_of (tree.element_of element.now ∷ [])) }
-        ensures applications { OnOk result (applications_in self.new ≡ applications_in self.old ++ application_parts (tree.element_of element.now ∷ [])) }
-        ensures systems { OnOk result (systems_in self.new ≡ systems_in self.old ++ system_parts (tree.element_of element.now ∷ [])) }
+        ensures columns { OnOk result
+            (columns_in self.new ≡ columns_in self.old ++ columns_of (tree.element_of element.now ∷ [])) }
+        ensures applications { OnOk result
+            (applications_in self.new ≡ applications_in self.old
+            ++ application_parts (tree.element_of element.now ∷ [])) }
+        ensures systems { OnOk result
+            (systems_in self.new ≡ systems_in self.old ++ system_parts (tree.element_of element.now ∷ [])) }
     {
         match element {
             Element::Column(column) => self.columns.push(new_column(memory, *column)?)?,

@@ -1,10 +1,12 @@
 //! The names of a new table: those of its columns and of its application periods.
 ghost use Rattle.std.specs.Prelude.{◌≡◌, ◌++◌, map};
 ghost use Rattle.tql_spec.specs.Creation as spec;
-ghost use Rattle.tql_define.specs.NewTables.{column_of, application_part, names_in, names_of_periods, implied_in, columns_in, applications_in};
+ghost use Rattle.tql_define.specs.NewTables.{column_of, application_part, names_in, names_of_periods, implied_in};
+ghost use Rattle.tql_define.specs.NewTables.{columns_in, applications_in};
 
-use crate::columns::{has_column, is_same_text};
+use crate::columns::has_column;
 use crate::draft::{Draft, NewApplication, NewColumn};
+use tql_scope::texts::is_same_text;
 
 /// Whether an application period has this name.
 fn has_period(periods: &[NewApplication], name: &str) -> bool
@@ -34,7 +36,8 @@ fn has_repeated_period(periods: &[NewApplication]) -> bool
 
 /// Whether a column or an application period has this name.
 fn is_taken(columns: &[NewColumn<'_>], periods: &[NewApplication], name: &str) -> bool
-    ensures { result ≡ spec.has_name name.now (names_in (map column_of columns.now) ++ names_of_periods (map application_part periods.now)) }
+    ensures { result ≡ spec.has_name name.now
+        (names_in (map column_of columns.now) ++ names_of_periods (map application_part periods.now)) }
 {
     has_column(columns, name) || has_period(periods, name)
 }

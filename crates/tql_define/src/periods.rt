@@ -5,17 +5,18 @@ ghost use Rattle.tql_spec.specs.Creation.{has_number, first_of};
 ghost use Rattle.tql_spec.specs.Datum.{Moments, same_kind};
 ghost use Rattle.tql_spec.specs.Names.{check_each};
 ghost use Rattle.tql_spec.specs.Words.{same_text};
-ghost use Rattle.tql_value.specs.Views.{plain_kind};
 ghost use Rattle.tql_catalog.specs.Definitions.{application_of, system_of};
 ghost use Rattle.tql_scope.specs.Gathered.{Gathers};
-ghost use Rattle.tql_define.specs.NewTables.{column_of, application_part, system_part, names_in, starts_in, stops_in, kind_in, is_generated_in, application_in, system_in};
+ghost use Rattle.tql_define.specs.NewTables.{column_of, application_part, system_part, names_in, starts_in, stops_in};
+ghost use Rattle.tql_define.specs.NewTables.{kind_in, is_generated_in, application_in, system_in};
 
-use crate::columns::{is_end_at, is_generated_at, is_same_text, is_start_at, kind_at, number_in};
+use crate::columns::{is_end_at, is_generated_at, is_start_at, kind_at, number_in};
 use crate::draft::{NewApplication, NewColumn, NewSystem};
 use std::alloc::AllocError;
-use tql_catalog::definition::{Application, System};
+use tql_catalog::definition::{Application, System, are_ends};
 use tql_memory::Memory;
 use tql_scope::faults::Faults;
+use tql_scope::texts::is_same_text;
 use tql_value::refusal::Refusal;
 use tql_value::value::Kind;
 
@@ -26,40 +27,18 @@ pub struct Periods {
     pub systems: Vec<System, Memory>,
 }
 
-/// The number of a column; where there is none, a fault, and the first column stands for it.
-#[tactic(auto, using(tql_scope::proofs::Gathering::gathering))]
-fn or_first(number: Option<usize>, faults: &mut Faults) -> usize
-    ensures { Gathers (spec.or_first number) faults.old faults.new result }
-{
-    match number {
-        Some(number) => number,
-        None => {
-            faults.refuse_if(true, Refusal::NameUnknownAmbiguousOrRepeated);
-            0
-        }
-    }
-}
-
 /// The number of the column of this name. A fault where there is none.
 fn column_number(columns: &[NewColumn<'_>], name: &str, faults: &mut Faults) -> usize
-    ensures { Gathers (spec.column_number (names_in (map column_of columns.now)) name.now) faults.old faults.new result }
+    ensures { Gathers (spec.column_number (names_in (map column_of columns.now)) name.now)
+        faults.old faults.new result }
 {
-    or_first(number_in(columns, name), faults)
-}
-
-/// Whether both kinds are those of days, or of moments.
-fn are_ends(start: Kind, end: Kind) -> bool
-    ensures { result ≡ spec.are_ends (plain_kind start) (plain_kind end) }
-{
-    matches!(
-        (start, end),
-        (Kind::Day, Kind::Day) | (Kind::Moment, Kind::Moment)
-    )
+    faults.or_first(number_in(columns, name))
 }
 
 /// Whether the columns of these numbers are not both of type DATE and not both of type TIMESTAMP.
 fn are_no_ends(columns: &[NewColumn<'_>], start: usize, end: usize) -> bool
-    ensures { result ≡ not (spec.are_ends (kind_in (map column_of columns.now) start) (kind_in (map column_of columns.now) end)) }
+    ensures { result ≡ not (spec.are_ends (kind_in (map column_of columns.now) start)
+        (kind_in (map column_of columns.now) end)) }
 {
     !are_ends(kind_at(columns, start), kind_at(columns, end))
 }
@@ -79,15 +58,17 @@ fn is_wrong_application(
         || is_generated_at(columns, end)
 }
 
-/// An application period. A fault where a column is unknown, where the two are not both of type DATE and not both of type TIMESTAMP, and
-/// where one column is named twice or is generated. The only error is a refused growth.
+/// An application period. A fault where a column is unknown, where the two are not both of type DATE and not both of
+/// type TIMESTAMP, and where one column is named twice or is generated. The only error is a refused growth.
 fn application_period(
     memory: Memory,
     columns: &[NewColumn<'_>],
     period: &NewApplication,
     faults: &mut Faults,
 ) -> Result<Application, AllocError>
-    ensures { IfOk result (λ a. Gathers (application_in (map column_of columns.now) (application_part period.now)) faults.old faults.new (application_of a)) }
+    ensures { IfOk result
+        (λ a. Gathers (application_in (map column_of columns.now) (application_part period.now))
+        faults.old faults.new (application_of a)) }
 {
     let start = column_number(columns, &period.start, faults);
     let end = column_number(columns, &period.end, faults);
@@ -110,7 +91,9 @@ pub fn application_periods(
     periods: &[NewApplication],
     faults: &mut Faults,
 ) -> Result<Vec<Application, Memory>, AllocError>
-    ensures { IfOk result (λ as'. Gathers (check_each (application_in (map column_of columns.now)) (map application_part periods.now)) faults.old faults.new (map application_of as'.items)) }
+    ensures { IfOk result
+        (λ as'. Gathers (check_each (application_in (map column_of columns.now)) (map application_part periods.now))
+        faults.old faults.new (map application_of as'.items)) }
 {
     let mut applications = Vec::with_capacity(memory, periods.len())?;
     for period in periods {
@@ -145,7 +128,8 @@ fn is_moment_at(columns: &[NewColumn<'_>], number: usize) -> bool
 
 /// Whether one of these columns is no TIMESTAMP.
 fn has_no_moment(columns: &[NewColumn<'_>], start: usize, end: usize) -> bool
-    ensures { result ≡ (not (same_kind (kind_in (map column_of columns.now) start) Moments) || not (same_kind (kind_in (map column_of columns.now) end) Moments)) }
+    ensures { result ≡ (not (same_kind (kind_in (map column_of columns.now) start) Moments)
+        || not (same_kind (kind_in (map column_of columns.now) end) Moments)) }
 {
     !is_moment_at(columns, start) || !is_moment_at(columns, end)
 }
@@ -153,17 +137,19 @@ fn has_no_moment(columns: &[NewColumn<'_>], start: usize, end: usize) -> bool
 /// Whether the columns of the period are not a ROW START and a ROW END in that order.
 fn is_wrong_system(columns: &[NewColumn<'_>], period: &NewSystem, start: usize, end: usize) -> bool
     ensures { result ≡ (same_text (system_part period.now).start (system_part period.now).end
-        || not (has_number start (starts_in (map column_of columns.now))) || not (has_number end (stops_in (map column_of columns.now)))) }
+        || not (has_number start (starts_in (map column_of columns.now)))
+        || not (has_number end (stops_in (map column_of columns.now)))) }
 {
     is_same_text(&period.start, &period.end)
         || !is_start_at(columns, start)
         || !is_end_at(columns, end)
 }
 
-/// A system period. A fault where a column is unknown, where one is no TIMESTAMP, and where they are not the ROW START and the ROW END in
-/// that order.
+/// A system period. A fault where a column is unknown, where one is no TIMESTAMP, and where they are not the ROW
+/// START and the ROW END in that order.
 fn system_period(columns: &[NewColumn<'_>], period: &NewSystem, faults: &mut Faults) -> System
-    ensures { Gathers (system_in (map column_of columns.now) (system_part period.now)) faults.old faults.new (system_of result) }
+    ensures { Gathers (system_in (map column_of columns.now) (system_part period.now))
+        faults.old faults.new (system_of result) }
 {
     let start = column_number(columns, &period.start, faults);
     let end = column_number(columns, &period.end, faults);
@@ -182,7 +168,9 @@ pub fn system_periods(
     periods: &[NewSystem],
     faults: &mut Faults,
 ) -> Result<Vec<System, Memory>, AllocError>
-    ensures { IfOk result (λ ss. Gathers (check_each (system_in (map column_of columns.now)) (map system_part periods.now)) faults.old faults.new (map system_of ss.items)) }
+    ensures { IfOk result
+        (λ ss. Gathers (check_each (system_in (map column_of columns.now)) (map system_part periods.now)) faults.old
+        faults.new (map system_of ss.items)) }
 {
     let mut systems = Vec::with_capacity(memory, periods.len())?;
     for period in periods {

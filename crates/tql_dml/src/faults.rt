@@ -10,7 +10,8 @@ ghost use Rattle.tql_catalog.specs.Defined.{IsDefinition};
 ghost use Rattle.tql_catalog.specs.Definitions.{column_of, application_of};
 ghost use Rattle.tql_value.specs.Refusals.{refusal_of};
 ghost use Rattle.tql_value.specs.Views.{datum_of_value, datum_of_view, row_of, rows_of};
-ghost use Rattle.tql_dml.specs.Cells.{no_column, columns_at, rows_faults, has_long_text as long_in, lacks_a_value as lacking_in};
+ghost use Rattle.tql_dml.specs.Cells.{no_column, columns_at, rows_faults, has_long_text as long_in};
+ghost use Rattle.tql_dml.specs.Cells.{lacks_a_value as lacking_in};
 ghost use Rattle.tql_dml.specs.Cells.{falls as falling, falls_by, has_falling_period as falling_in};
 
 use crate::generated::generated_places;
@@ -43,7 +44,8 @@ fn is_lacking(column: &Column, value: &Value) -> bool
 
 /// Whether a value is too long for the column with a number.
 fn is_too_long_at(columns: &[Column], number: usize, value: &Value) -> bool
-    ensures { result ≡ too_long (slice_index_or (map column_of columns.now) number no_column).limit (datum_of_value value.now) }
+    ensures { result ≡ too_long (slice_index_or (map column_of columns.now) number no_column).limit
+        (datum_of_value value.now) }
 {
     match columns.get(number) {
         Some(column) => is_too_long(column, value),
@@ -53,7 +55,8 @@ fn is_too_long_at(columns: &[Column], number: usize, value: &Value) -> bool
 
 /// Whether a value is NULL where the column with a number takes none.
 fn is_lacking_at(columns: &[Column], number: usize, value: &Value) -> bool
-    ensures { result ≡ (slice_index_or (map column_of columns.now) number no_column).required && is_null (datum_of_value value.now) }
+    ensures { result ≡ (slice_index_or (map column_of columns.now) number no_column).required
+        && is_null (datum_of_value value.now) }
 {
     match columns.get(number) {
         Some(column) => is_lacking(column, value),

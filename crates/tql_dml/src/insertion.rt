@@ -15,9 +15,10 @@ use tql_store::store::Delta;
 use tql_value::refusal::Refusal;
 use tql_value::value::Value;
 
-/// The change that adds a row for each list of values: the values in the columns that are given them, and NULL in the others. Refused, the
-/// first of them over all rows: a text longer than its column takes, a NULL in a column that takes none, an application period that does
-/// not rise; memory. Nothing is changed. The rows that come fit the table.
+/// The change that adds a row for each list of values: the values in the columns that are given them, and NULL in the
+/// others. Refused, the first of them over all rows: a text longer than its column takes, a NULL in a column that
+/// takes none, an application period that does not rise; memory. Nothing is changed. The rows that come fit the
+/// table.
 pub fn insert_rows(
     memory: Memory,
     table: &Table,
@@ -25,7 +26,8 @@ pub fn insert_rows(
     rows: Vec<Vec<Value, Memory>, Memory>,
 ) -> Result<Delta, Refusal>
     requires { ArePrintable (rows_of rows.items) }
-    ensures alters { Alters table.now.id [] (λ m. (added_rows table.now.definition columns.now (Some (rows_of rows.entry.items)) m).rows)
+    ensures alters { Alters table.now.id []
+        (λ m. (added_rows table.now.definition columns.now (Some (rows_of rows.entry.items)) m).rows)
         (added_rows table.now.definition columns.now (Some (rows_of rows.entry.items))) result }
     ensures fits { IfOk result (λ delta. All (IsRowOf table.now.definition) (rows_of delta.added.items)) }
 {
@@ -42,8 +44,8 @@ pub fn insert_rows(
     }
 }
 
-/// The change that adds a row for each tuple, by the values of its expressions: ISO/IEC 9075-2:2011, 14.11. Refused as in `insert_rows`, and,
-/// before all of these, where an evaluation is out of range.
+/// The change that adds a row for each tuple, by the values of its expressions: ISO/IEC 9075-2:2011, 14.11. Refused
+/// as in `insert_rows`, and, before all of these, where an evaluation is out of range.
 pub fn insert_tuples(memory: Memory, table: &Table, insertion: &Insertion) -> Result<Delta, Refusal>
     ensures alters { Alters table.now.id [] (λ m. (inserted table.now.definition insertion.now m).rows)
         (inserted table.now.definition insertion.now) result }

@@ -1,4 +1,5 @@
-ghost use Rattle.std.specs.Prelude.{◌≡◌, IsTrue, nat_eq, replicate, remove, slice_set, length, map, option_map, IfOk, IfErr};
+ghost use Rattle.std.specs.Prelude.{◌≡◌, IsTrue, nat_eq, replicate, remove, slice_set, length, map, option_map, IfOk};
+ghost use Rattle.std.specs.Prelude.{IfErr};
 ghost use Rattle.std.specs.List.{list_all};
 ghost use Rattle.tql_spec.specs.Datum.{Null};
 ghost use Rattle.tql_spec.specs.Definition.{without_generated};
@@ -70,7 +71,8 @@ pub(crate) fn drop_generated(row: &mut Vec<Value, Memory>, system: Option<System
     }
 }
 
-/// The cells of a new row: these values in these columns, and NULL in the others, without the generated columns. The values are moved out.
+/// The cells of a new row: these values in these columns, and NULL in the others, without the generated columns. The
+/// values are moved out.
 fn spread(
     memory: Memory,
     definition: &TableDef,
@@ -93,7 +95,8 @@ fn spread_each(
     columns: &[usize],
     mut tuples: Vec<Vec<Value, Memory>, Memory>,
 ) -> Result<Vec<Vec<Value, Memory>, Memory>, Refusal>
-    ensures rows { IfOk result (λ rows. rows_of rows.items ≡ map (stored_cells definition.now columns.now) (rows_of tuples.entry.items)) }
+    ensures rows { IfOk result
+        (λ rows. rows_of rows.items ≡ map (stored_cells definition.now columns.now) (rows_of tuples.entry.items)) }
     ensures memory { IfErr result (λ e. e ≡ OutOfMemory) }
 {
     let mut rows = Vec::with_capacity(memory, tuples.len())?;
@@ -130,7 +133,8 @@ pub fn new_rows(
     columns: &[usize],
     tuples: Vec<Vec<Value, Memory>, Memory>,
 ) -> Result<Vec<Vec<Value, Memory>, Memory>, Refusal>
-    ensures rows { IfOk result (λ rows. rows_of rows.items ≡ map (stored_cells definition.now columns.now) (rows_of tuples.entry.items)) }
+    ensures rows { IfOk result
+        (λ rows. rows_of rows.items ≡ map (stored_cells definition.now columns.now) (rows_of tuples.entry.items)) }
     ensures memory { IfErr result (λ e. e ≡ OutOfMemory) }
 {
     if are_stored(definition, columns, &tuples) {

@@ -7,14 +7,13 @@ use Rattle.std.proofs.lemmas.List.Elements.{All-append, All-map, All-nil, All-pu
 use Rattle.tql_spec.specs.Datum.{Row}
 use Rattle.tql_spec.specs.Definition.{TableDef, Version, full, table_at}
 use Rattle.tql_spec.specs.Expression.{eval, passes}
-use Rattle.tql_spec.specs.History.{TableEntry, When, found, table_history}
-use Rattle.tql_spec.specs.History as history
+use Rattle.tql_spec.specs.History.{TableEntry, found, table_history}
 use Rattle.tql_spec.specs.Machine.{State, bag_of, entries}
 use Rattle.tql_spec.specs.Query.{Chain, Cross, Inner, Join, Left, Query, Ref, Scope, answer, chain_rows, if_distinct, joined_with, joins_from, keep, left_join, pairs, product, scopes}
 use Rattle.tql_spec.specs.Words.{◌>>=◌, filter_all, map_all, with_front}
-use Rattle.tql_bind.specs.Placed.{AreChainsPlaced, AreJoinsPlaced, IsPlacedQuery, IsPlacedRef, is_current, ref_of}
+use Rattle.tql_bind.specs.Placed.{AreChainsPlaced, AreJoinsPlaced, IsPlacedQuery, IsPlacedRef, ref_of}
 use Rattle.tql_bound.specs.Questions.{chain_of, join_by, join_of, question_of, references_in, references_of}
-use Rattle.tql_bound.specs.References.{reference_of}
+use Rattle.tql_bound.specs.References.{is_now, reference_of}
 use Rattle.tql_bound.specs.declared.question.Chain as code
 use Rattle.tql_bound.specs.declared.question.Join as joined
 use Rattle.tql_bound.specs.declared.question.JoinKind.{JoinKind}
@@ -28,7 +27,7 @@ use Rattle.tql_expr.specs.declared.terms.Terms.{Terms}
 use Rattle.tql_plan.specs.Meaning.{Bags, meaning, source_for, sources_of, table_number_at}
 use Rattle.tql_plan.specs.Nodes.{Source}
 use Rattle.tql_plan.specs.declared.plan.Plan.{Plan}
-use Rattle.tql_exec.specs.Found.{IsReadable, bags_in, completed, is_now}
+use Rattle.tql_exec.specs.Found.{IsReadable, bags_in, completed}
 use Rattle.tql_store.specs.Held.{has_table, is_versioned}
 use Rattle.tql_store.specs.Represents.{seen_by}
 use Rattle.tql_engine.specs.Stands.{Held, StandsFor, copies_of, working_of}
@@ -146,12 +145,6 @@ chains_there defs t (c ∷ cs) h =
 pub references_there : (defs : List TableDef) (x : Question) → IsPlacedQuery defs (question_of x) → All (IsThere defs) (references_of x)
 references_there defs x placed = chains_there defs x.terms x.chains.items placed.references
 
-current_now : (w : When) (b : Bool) → IsTrue (is_current w || b) → IsTrue (is_now w || b)
-current_now history.Now b h = h
-current_now (history.AsOf m) b h = h
-current_now (history.FromTo m n) b h = h
-current_now (history.Between m n) b h = h
-
 -- a source that can be read
 readable : (h : Held) (s : State) → StandsFor h s → (r : Reference) → IsThere (definitions_of h.tables) r → IsReadable h.rows (source_for h.tables (reference_of r))
 readable h s st r placed =
@@ -162,7 +155,7 @@ readable h s st r placed =
       there = subst (λ n. IsTrue (has_table h.rows n)) (sym number) (there_law h s r.table p st t.1);
       versioned = subst (λ n. IsTrue (is_now (reference_of r).when || is_versioned h.rows n)) (sym number)
           (subst (λ b. IsTrue (is_now (reference_of r).when || b)) (sym (versioned_law h s r.table p st t.1))
-          (subst (λ (d : TableDef). IsTrue (is_now (reference_of r).when || is_some d.system)) (defined_as h.tables r.table p t.1) (current_now (reference_of r).when _ placed.versioned)));
+          (subst (λ (d : TableDef). IsTrue (is_now (reference_of r).when || is_some d.system)) (defined_as h.tables r.table p t.1) placed.versioned));
     }
 
 -- those of a plan can be read

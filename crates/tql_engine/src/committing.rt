@@ -18,7 +18,9 @@ fn commit_rows(store: &mut Store, moment: i64, delta: Delta) -> Result<(), Refus
     requires below { moment <ℤ high }
     requires present { IsTrue (has_table store.old delta.table) }
     requires removable { AreRemovable store.old delta.table delta.removed.items }
-    ensures ok { OnOk result (CommitsRows moment delta.table delta.removed.items (map (λ row. map datum_of_value row.items) delta.added.items) store.old store.new) }
+    ensures ok { OnOk result
+        (CommitsRows moment delta.table delta.removed.items
+        (map (λ row. map datum_of_value row.items) delta.added.items) store.old store.new) }
     ensures err { OnErr result (Undoes moment store.old store.new) }
     ensures memory { IfErr result (λ e. e ≡ OutOfMemory) }
 {
@@ -35,14 +37,16 @@ fn commit_rows(store: &mut Store, moment: i64, delta: Delta) -> Result<(), Refus
     }
 }
 
-/// Makes a change in the open transaction, or in one of its own at the clock's moment, and gives the clock's moment after it; or
-/// leaves the store as it was. The only error is a refused growth.
+/// Makes a change in the open transaction, or in one of its own at the clock's moment, and gives the clock's moment
+/// after it; or leaves the store as it was. The only error is a refused growth.
 pub fn change_rows(store: &mut Store, clock: i64, delta: Delta) -> Result<i64, Refusal>
     requires later { Under store.old.last clock }
     requires below { IsNone store.old.working → clock <ℤ high }
     requires present { IsTrue (has_table store.old delta.table) }
     requires removable { AreRemovable store.old delta.table delta.removed.items }
-    ensures ok { IfOk result (λ next. ChangesRows store.old.working clock next delta.table delta.removed.items (map (λ row. map datum_of_value row.items) delta.added.items) store.old store.new) }
+    ensures ok { IfOk result
+        (λ next. ChangesRows store.old.working clock next delta.table delta.removed.items
+        (map (λ row. map datum_of_value row.items) delta.added.items) store.old store.new) }
     ensures err { OnErr result (KeepsRows store.old.working clock store.old store.new) }
     ensures memory { IfErr result (λ e. e ≡ OutOfMemory) }
 {

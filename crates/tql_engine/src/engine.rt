@@ -95,7 +95,8 @@ impl Engine {
         self.tables.table(place)
     }
 
-    /// Runs a statement whose names are bound, where the transaction and the clock allow it. A refused statement changes nothing.
+    /// Runs a statement whose names are bound, where the transaction and the clock allow it. A refused statement
+    /// changes nothing.
     pub(crate) fn perform(&mut self, bound: Bound) -> Result<Reply, Refusal>
         requires sound { IsSound (definitions_of self.old.tables) bound }
         requires allowed { IsAllowed self.old bound }
@@ -120,7 +121,8 @@ impl Engine {
     pub(crate) fn execute(&mut self, statement: &Statement<'_>) -> Result<Reply, Refusal>
         requires runs { IsTrue (does_run (statement_of statement.now)) }
         requires narrow { IsFalse (is_too_wide (statement_of statement.now)) }
-        ensures answered { (s : State) → StandsFor self.old s → DoesStep self.new s result (respond s (statement_of statement.now)) }
+        ensures answered { (s : State) → StandsFor self.old s
+            → DoesStep self.new s result (respond s (statement_of statement.now)) }
         ensures printable { IfOk result (λ reply. IsPrintableReply (reply_of reply)) }
     {
         if let Some(fault) = self.state_fault(statement) {
@@ -134,7 +136,8 @@ impl Engine {
 
     /// Runs the statement of a text.
     fn try_step(&mut self, text: &[u8]) -> Result<Reply, Refusal>
-        ensures answered { (s : State) → StandsFor self.old s → Answered Answers s (finished text.now) (reply_by result) (StandsFor self.new) }
+        ensures answered { (s : State) → StandsFor self.old s
+            → Answered Answers s (finished text.now) (reply_by result) (StandsFor self.new) }
         ensures printable { IfOk result (λ reply. IsPrintableReply (reply_of reply)) }
     {
         match read_statement(self.memory, text) {
@@ -143,10 +146,12 @@ impl Engine {
         }
     }
 
-    /// Answers one finished statement by its text, without its `;`. Any bytes are taken: more than 1,048,576 of them, bytes that are not
-    /// UTF-8, and texts that are no statement that runs are refused. A refused statement changes nothing.
+    /// Answers one finished statement by its text, without its `;`. Any bytes are taken: more than 1,048,576 of them,
+    /// bytes that are not UTF-8, and texts that are no statement that runs are refused. A refused statement changes
+    /// nothing.
     pub fn step(&mut self, text: &[u8]) -> Reply
-        ensures answered { (s : State) → StandsFor self.old s → Answered Answers s (finished text.now) (reply_of result) (StandsFor self.new) }
+        ensures answered { (s : State) → StandsFor self.old s
+            → Answered Answers s (finished text.now) (reply_of result) (StandsFor self.new) }
         ensures printable { IsPrintableReply (reply_of result) }
     {
         match self.try_step(text) {

@@ -8,8 +8,8 @@ use tql_tree::tree::Tree;
 use tql_tree::width::is_too_wide;
 use tql_value::refusal::Refusal;
 
-/// Reads a finished statement. Refused are, the first of them: over 1,048,576 bytes, bytes that are not UTF-8, over 64 parentheses
-/// open at once, a text that is no statement that runs, and over 64 columns.
+/// Reads a finished statement. Refused are, the first of them: over 1,048,576 bytes, bytes that are not UTF-8, over
+/// 64 parentheses open at once, a text that is no statement that runs, and over 64 columns.
 pub fn read_statement(memory: Memory, text: &[u8]) -> Result<Tree<'_>, Refusal>
     ensures { ReadsAs text.now result }
 {

@@ -1,7 +1,8 @@
 // Conditions and expressions that are written as lists.
 ghost use Rattle.std.specs.Prelude.{All, map};
 ghost use Rattle.tql_expr.specs.Trees.{plain_operation};
-ghost use Rattle.tql_expr.specs.Meaning.{expr, cond, HasExpr, HasCond, chain, all_of, any_of, one_of, BuildsExpr, BuildsCond};
+ghost use Rattle.tql_expr.specs.Meaning.{expr, cond, HasExpr, HasCond, chain, all_of, any_of, one_of, BuildsExpr};
+ghost use Rattle.tql_expr.specs.Meaning.{BuildsCond};
 
 use crate::node::Operation;
 use crate::terms::{CondId, ExprId, Terms};

@@ -233,10 +233,13 @@ impl Terms {
         ensures safe { IsTrue (tree.is_safe (cond self.now c)) → IsOk result }
 
         // What it says of periods as sets of points, where their ends are days, and where they are moments.
-        ensures days { SaysOfPeriods Day (C.group columns.now) (C.values columns.now) (cond self.now c) (judged result) }
-        ensures moments { SaysOfPeriods Moment (C.group columns.now) (C.values columns.now) (cond self.now c) (judged result) }
+        ensures days { SaysOfPeriods Day (C.group columns.now) (C.values columns.now)
+            (cond self.now c) (judged result) }
+        ensures moments { SaysOfPeriods Moment (C.group columns.now) (C.values columns.now)
+            (cond self.now c) (judged result) }
         ensures day { SaysOfHolding Day (C.group columns.now) (C.values columns.now) (cond self.now c) (judged result) }
-        ensures moment { SaysOfHolding Moment (C.group columns.now) (C.values columns.now) (cond self.now c) (judged result) }
+        ensures moment { SaysOfHolding Moment (C.group columns.now) (C.values columns.now)
+            (cond self.now c) (judged result) }
     {
         tql_spec::safe_conditions();
         tql_spec::predicates_on_points();

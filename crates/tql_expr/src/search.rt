@@ -49,7 +49,8 @@ impl Terms {
         ensures near { IfSome result (λ p. p.near < at) }
         ensures far { IfSome result (λ p. p.far < at) }
         ensures found { IfSome result (λ p. sought search.entry (expr_of (term_in (trees self.now) at))
-            ≡ (sought search.entry (expr_of (term_in (trees self.now) p.far)) || sought search.entry (expr_of (term_in (trees self.now) p.near)))) }
+            ≡ (sought search.entry (expr_of (term_in (trees self.now) p.far))
+            || sought search.entry (expr_of (term_in (trees self.now) p.near)))) }
     {
         match self.node(at) {
             Node::Binary(_, a, b) => {
@@ -111,7 +112,8 @@ impl Terms {
         ensures near { IfSome result (λ p. p.near < at) }
         ensures far { IfSome result (λ p. p.far < at) }
         ensures found { IfSome result (λ p. has_expr (sought search.entry) (cond_of (term_in (trees self.now) at))
-            ≡ (has_expr (sought search.entry) (cond_of (term_in (trees self.now) p.far)) || has_expr (sought search.entry) (cond_of (term_in (trees self.now) p.near)))) }
+            ≡ (has_expr (sought search.entry) (cond_of (term_in (trees self.now) p.far))
+            || has_expr (sought search.entry) (cond_of (term_in (trees self.now) p.near)))) }
     {
         match self.node(at) {
             Node::And(c, d) | Node::Or(c, d) => {

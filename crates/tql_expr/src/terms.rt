@@ -57,7 +57,8 @@ impl Terms {
     ghost use Rattle.tql_period.specs.Relations.{plain_relation};
     ghost use Rattle.tql_expr.specs.Nodes.{reads_before};
     ghost use Rattle.tql_expr.specs.Trees.{node_term, term_in, plain_operation, plain_function};
-    ghost use Rattle.tql_expr.specs.Meaning.{trees, size, expr, cond, datum_at, HasExpr, HasCond, Adds, AddsExpr, AddsCond};
+    ghost use Rattle.tql_expr.specs.Meaning.{trees, size, expr, cond, datum_at, HasExpr, HasCond, Adds, AddsExpr};
+    ghost use Rattle.tql_expr.specs.Meaning.{AddsCond};
 
     /// No terms yet.
     pub fn new(memory: Memory) -> Terms

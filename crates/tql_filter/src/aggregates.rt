@@ -5,7 +5,8 @@ ghost use Rattle.tql_tree.specs.Conditions.{marked_of, operand_of, cond_of, conj
 ghost use Rattle.tql_tree.specs.Expressions.{expr_of, boxed_expr_of};
 ghost use Rattle.tql_tree.specs.Statements.{filter_of};
 ghost use Rattle.tql_spec.specs.Aggregates.{in_sum};
-ghost use Rattle.tql_spec.specs.Aggregates.{in_marked, in_operand, in_condition, in_conj, in_factor, in_test, in_filter};
+ghost use Rattle.tql_spec.specs.Aggregates.{in_marked, in_operand, in_condition, in_conj, in_factor, in_test};
+ghost use Rattle.tql_spec.specs.Aggregates.{in_filter};
 
 use tql_memory::Memory;
 use tql_scope::aggregates::has_aggregate;
@@ -33,7 +34,8 @@ fn is_in_any(exprs: &[Box<Expr<'_>, Memory>]) -> bool
 
 /// Whether an aggregate stands in one of two expressions or in one of a list.
 fn is_in_list(first: &Expr<'_>, second: &Expr<'_>, more: &[Box<Expr<'_>, Memory>]) -> bool
-    ensures { result ≡ (in_sum (expr_of first.now) || in_sum (expr_of second.now) || list_any in_sum (map boxed_expr_of more.now)) }
+    ensures { result ≡ (in_sum (expr_of first.now) || in_sum (expr_of second.now)
+        || list_any in_sum (map boxed_expr_of more.now)) }
 {
     has_aggregate(first) || has_aggregate(second) || is_in_any(more)
 }

@@ -35,7 +35,9 @@ pub(crate) fn compared(
     faults: &mut Faults,
 ) -> Result<CondId, AllocError>
     requires { HasExpr terms.old left.expr }
-    ensures bound { IfOk result (λ c. Gathers (names.compared (expr_of right.now) (scope_of scope.now) (typed_of terms.old left) (bound.Compare (plain_comparison sign))) faults.old faults.new (cond terms.new c)) }
+    ensures bound { IfOk result
+        (λ c. Gathers (names.compared (expr_of right.now) (scope_of scope.now) (typed_of terms.old left)
+        (bound.Compare (plain_comparison sign))) faults.old faults.new (cond terms.new c)) }
     ensures stays { Stays terms.old terms.new }
     ensures held { IfOk result (λ c. HasCond terms.new c) }
 {
@@ -72,7 +74,10 @@ pub(crate) fn compare(
     terms: &mut Terms,
     faults: &mut Faults,
 ) -> Result<CondId, AllocError>
-    ensures bound { IfOk result (λ c. Gathers (names.test (scope_of scope.now) (tree.Compared (comparison_of sign) (expr_of left.now) (expr_of right.now))) faults.old faults.new (cond terms.new c)) }
+    ensures bound { IfOk result
+        (λ c. Gathers (names.test (scope_of scope.now)
+        (tree.Compared (comparison_of sign) (expr_of left.now) (expr_of right.now)))
+        faults.old faults.new (cond terms.new c)) }
     ensures stays { Stays terms.old terms.new }
     ensures held { IfOk result (λ c. HasCond terms.new c) }
 {
@@ -89,7 +94,9 @@ pub(crate) fn null_test(
     terms: &mut Terms,
     faults: &mut Faults,
 ) -> Result<CondId, AllocError>
-    ensures bound { IfOk result (λ c. Gathers (names.test (scope_of scope.now) (tree.NullTest is_negated (expr_of operand.now))) faults.old faults.new (cond terms.new c)) }
+    ensures bound { IfOk result
+        (λ c. Gathers (names.test (scope_of scope.now) (tree.NullTest is_negated (expr_of operand.now)))
+        faults.old faults.new (cond terms.new c)) }
     ensures stays { Stays terms.old terms.new }
     ensures held { IfOk result (λ c. HasCond terms.new c) }
 {
@@ -109,7 +116,10 @@ pub(crate) fn between(
     terms: &mut Terms,
     faults: &mut Faults,
 ) -> Result<CondId, AllocError>
-    ensures bound { IfOk result (λ c. Gathers (names.test (scope_of scope.now) (tree.BetweenTest is_negated (expr_of operand.now) (expr_of low.now) (expr_of high.now))) faults.old faults.new (cond terms.new c)) }
+    ensures bound { IfOk result
+        (λ c. Gathers (names.test (scope_of scope.now)
+        (tree.BetweenTest is_negated (expr_of operand.now) (expr_of low.now) (expr_of high.now)))
+        faults.old faults.new (cond terms.new c)) }
     ensures stays { Stays terms.old terms.new }
     ensures held { IfOk result (λ c. HasCond terms.new c) }
 {

@@ -25,7 +25,9 @@ pub fn condition(
     terms: &mut Terms,
     faults: &mut Faults,
 ) -> Result<CondId, AllocError>
-    ensures bound { IfOk result (λ c. Gathers (names.condition (scope_of scope.now) (cond_of condition.now)) faults.old faults.new (cond terms.new c)) }
+    ensures bound { IfOk result
+        (λ c. Gathers (names.condition (scope_of scope.now) (cond_of condition.now))
+        faults.old faults.new (cond terms.new c)) }
     ensures stays { Stays terms.old terms.new }
     ensures held { IfOk result (λ c. HasCond terms.new c) }
 {
@@ -47,7 +49,8 @@ fn conj(
     terms: &mut Terms,
     faults: &mut Faults,
 ) -> Result<CondId, AllocError>
-    ensures bound { IfOk result (λ c. Gathers (names.conj (scope_of scope.now) (conj_of conj.now)) faults.old faults.new (cond terms.new c)) }
+    ensures bound { IfOk result
+        (λ c. Gathers (names.conj (scope_of scope.now) (conj_of conj.now)) faults.old faults.new (cond terms.new c)) }
     ensures stays { Stays terms.old terms.new }
     ensures held { IfOk result (λ c. HasCond terms.new c) }
 {
@@ -69,7 +72,9 @@ pub fn factor(
     terms: &mut Terms,
     faults: &mut Faults,
 ) -> Result<CondId, AllocError>
-    ensures bound { IfOk result (λ c. Gathers (names.factor (scope_of scope.now) (factor_of factor.now)) faults.old faults.new (cond terms.new c)) }
+    ensures bound { IfOk result
+        (λ c. Gathers (names.factor (scope_of scope.now) (factor_of factor.now))
+        faults.old faults.new (cond terms.new c)) }
     ensures stays { Stays terms.old terms.new }
     ensures held { IfOk result (λ c. HasCond terms.new c) }
 {
@@ -86,7 +91,8 @@ fn test(
     terms: &mut Terms,
     faults: &mut Faults,
 ) -> Result<CondId, AllocError>
-    ensures bound { IfOk result (λ c. Gathers (names.test (scope_of scope.now) (test_of test.now)) faults.old faults.new (cond terms.new c)) }
+    ensures bound { IfOk result
+        (λ c. Gathers (names.test (scope_of scope.now) (test_of test.now)) faults.old faults.new (cond terms.new c)) }
     ensures stays { Stays terms.old terms.new }
     ensures held { IfOk result (λ c. HasCond terms.new c) }
 {

@@ -27,7 +27,9 @@ fn members(
     terms: &mut Terms,
     faults: &mut Faults,
 ) -> Result<Vec<CondId, Memory>, AllocError>
-    ensures bound { IfOk result (λ v. Gathers (names.check_each (names.factor (scope_of scope.now)) (members (conj_of conj.now))) faults.old faults.new (map (cond terms.new) v.items)) }
+    ensures bound { IfOk result
+        (λ v. Gathers (names.check_each (names.factor (scope_of scope.now)) (members (conj_of conj.now))) faults.old
+        faults.new (map (cond terms.new) v.items)) }
     ensures stays { Stays terms.old terms.new }
     ensures held { IfOk result (λ v. All (HasCond terms.new) v.items) }
 {
@@ -49,7 +51,9 @@ fn one_conjunct(
     terms: &mut Terms,
     faults: &mut Faults,
 ) -> Result<Vec<CondId, Memory>, AllocError>
-    ensures bound { IfOk result (λ v. Gathers (as_one (names.condition (scope_of scope.now) (cond_of whole.now))) faults.old faults.new (map (cond terms.new) v.items)) }
+    ensures bound { IfOk result
+        (λ v. Gathers (as_one (names.condition (scope_of scope.now) (cond_of whole.now))) faults.old faults.new
+        (map (cond terms.new) v.items)) }
     ensures stays { Stays terms.old terms.new }
     ensures held { IfOk result (λ v. All (HasCond terms.new) v.items) }
 {
@@ -67,7 +71,9 @@ pub fn conjuncts(
     terms: &mut Terms,
     faults: &mut Faults,
 ) -> Result<Vec<CondId, Memory>, AllocError>
-    ensures bound { IfOk result (λ v. Gathers (names.conjuncts (scope_of scope.now) (cond_of condition.now)) faults.old faults.new (map (cond terms.new) v.items)) }
+    ensures bound { IfOk result
+        (λ v. Gathers (names.conjuncts (scope_of scope.now) (cond_of condition.now)) faults.old faults.new
+        (map (cond terms.new) v.items)) }
     ensures stays { Stays terms.old terms.new }
     ensures held { IfOk result (λ v. All (HasCond terms.new) v.items) }
 {
@@ -86,7 +92,9 @@ pub fn optional_conjuncts(
     terms: &mut Terms,
     faults: &mut Faults,
 ) -> Result<Vec<CondId, Memory>, AllocError>
-    ensures bound { IfOk result (λ v. Gathers (names.optional_conjuncts (scope_of scope.now) (filter_of clause.now)) faults.old faults.new (map (cond terms.new) v.items)) }
+    ensures bound { IfOk result
+        (λ v. Gathers (names.optional_conjuncts (scope_of scope.now) (filter_of clause.now)) faults.old faults.new
+        (map (cond terms.new) v.items)) }
     ensures stays { Stays terms.old terms.new }
     ensures held { IfOk result (λ v. All (HasCond terms.new) v.items) }
 {
@@ -104,7 +112,9 @@ pub fn plain_conjuncts(
     terms: &mut Terms,
     faults: &mut Faults,
 ) -> Result<Vec<CondId, Memory>, AllocError>
-    ensures bound { IfOk result (λ v. Gathers (binding.plain_conjuncts (scope_of scope.now) (cond_of condition.now)) faults.old faults.new (map (cond terms.new) v.items)) }
+    ensures bound { IfOk result
+        (λ v. Gathers (binding.plain_conjuncts (scope_of scope.now) (cond_of condition.now)) faults.old faults.new
+        (map (cond terms.new) v.items)) }
     ensures stays { Stays terms.old terms.new }
     ensures held { IfOk result (λ v. All (HasCond terms.new) v.items) }
 {
@@ -121,7 +131,9 @@ pub fn plain_filter(
     terms: &mut Terms,
     faults: &mut Faults,
 ) -> Result<Vec<CondId, Memory>, AllocError>
-    ensures bound { IfOk result (λ v. Gathers (binding.plain_filter (scope_of scope.now) (filter_of clause.now)) faults.old faults.new (map (cond terms.new) v.items)) }
+    ensures bound { IfOk result
+        (λ v. Gathers (binding.plain_filter (scope_of scope.now) (filter_of clause.now)) faults.old faults.new
+        (map (cond terms.new) v.items)) }
     ensures stays { Stays terms.old terms.new }
     ensures held { IfOk result (λ v. All (HasCond terms.new) v.items) }
 {

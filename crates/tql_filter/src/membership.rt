@@ -29,7 +29,9 @@ pub(crate) fn one_of(
     faults: &mut Faults,
 ) -> Result<CondId, AllocError>
     requires { HasExpr terms.old operand.expr }
-    ensures bound { IfOk result (λ c. Gathers (names.in_list (scope_of scope.now) (typed_of terms.old operand) (expr_of first.now) (map boxed_expr_of more.now)) faults.old faults.new (cond terms.new c)) }
+    ensures bound { IfOk result
+        (λ c. Gathers (names.in_list (scope_of scope.now) (typed_of terms.old operand) (expr_of first.now)
+        (map boxed_expr_of more.now)) faults.old faults.new (cond terms.new c)) }
     ensures stays { Stays terms.old terms.new }
     ensures held { IfOk result (λ c. HasCond terms.new c) }
 {
@@ -70,7 +72,10 @@ pub(crate) fn in_test(
     terms: &mut Terms,
     faults: &mut Faults,
 ) -> Result<CondId, AllocError>
-    ensures bound { IfOk result (λ c. Gathers (names.test (scope_of scope.now) (tree.InTest is_negated (expr_of operand.now) (expr_of first.now) (map boxed_expr_of more.now))) faults.old faults.new (cond terms.new c)) }
+    ensures bound { IfOk result
+        (λ c. Gathers (names.test (scope_of scope.now)
+        (tree.InTest is_negated (expr_of operand.now) (expr_of first.now) (map boxed_expr_of more.now)))
+        faults.old faults.new (cond terms.new c)) }
     ensures stays { Stays terms.old terms.new }
     ensures held { IfOk result (λ c. HasCond terms.new c) }
 {

@@ -93,7 +93,8 @@ pub(crate) fn named_period(
     scope: &[Known<'_>],
     named: Named<'_>,
 ) -> Result<Option<(usize, usize, Kind)>, AllocError>
-    ensures { IfOk result (λ p. option_map period_of p ≡ sole_period (names.things (scope_of scope.now) (named_of named.entry))) }
+    ensures { IfOk result
+        (λ p. option_map period_of p ≡ sole_period (names.things (scope_of scope.now) (named_of named.entry))) }
 {
     let found = things(memory, scope, named)?;
     Ok(sole_period(&found))
@@ -108,7 +109,9 @@ fn one_period(
     terms: &mut Terms,
     faults: &mut Faults,
 ) -> Result<Ends, AllocError>
-    ensures bound { IfOk result (λ x. Gathers (names.one_period (names.things (scope_of scope.now) (named_of named.entry))) faults.old faults.new (ends_of terms.new x)) }
+    ensures bound { IfOk result
+        (λ x. Gathers (names.one_period (names.things (scope_of scope.now) (named_of named.entry))) faults.old
+        faults.new (ends_of terms.new x)) }
     ensures stays { Stays terms.old terms.new }
     ensures held { IfOk result (λ x. HasEnds terms.new x) }
 {
@@ -124,7 +127,8 @@ fn one_period(
 
 /// Adds the system period of a reference, if it has one.
 fn system_period(known: &Known<'_>, found: &mut Vec<System, Memory>) -> Result<(), AllocError>
-    ensures { IfOk result (λ _. periods_of found.new.items ≡ periods_of found.old.items ++ names.system_ends (known_of known.now) known.now.table.now.system) }
+    ensures { IfOk result (λ _. periods_of found.new.items ≡ periods_of found.old.items
+        ++ names.system_ends (known_of known.now) known.now.table.now.system) }
 {
     if let Some(system) = known.table.system() {
         found.push(System {
@@ -141,7 +145,8 @@ fn system_periods(
     scope: &[Known<'_>],
     qualifier: Option<&str>,
 ) -> Result<Vec<System, Memory>, AllocError>
-    ensures { IfOk result (λ v. periods_of v.items ≡ names.system_periods (scope_of scope.now) (option_map text_of qualifier.entry)) }
+    ensures { IfOk result
+        (λ v. periods_of v.items ≡ names.system_periods (scope_of scope.now) (option_map text_of qualifier.entry)) }
 {
     let mut found = Vec::new(memory);
     for known in scope {
@@ -158,7 +163,8 @@ fn system_periods_of(
     scope: &[Known<'_>],
     qualifier: Option<Name<'_>>,
 ) -> Result<Vec<System, Memory>, AllocError>
-    ensures { IfOk result (λ v. periods_of v.items ≡ names.system_periods (scope_of scope.now) (option_map name_of qualifier.entry)) }
+    ensures { IfOk result
+        (λ v. periods_of v.items ≡ names.system_periods (scope_of scope.now) (option_map name_of qualifier.entry)) }
 {
     match qualifier {
         None => system_periods(memory, scope, None),
@@ -172,7 +178,8 @@ fn system_periods_of(
 /// Exactly one system period.
 #[tactic(auto, using(tql_scope::proofs::Gathering::gathering))]
 fn only_one(found: &[System], terms: &mut Terms, faults: &mut Faults) -> Result<Ends, AllocError>
-    ensures bound { IfOk result (λ x. Gathers (names.only_one (periods_of found.now)) faults.old faults.new (ends_of terms.new x)) }
+    ensures bound { IfOk result
+        (λ x. Gathers (names.only_one (periods_of found.now)) faults.old faults.new (ends_of terms.new x)) }
     ensures stays { Stays terms.old terms.new }
     ensures held { IfOk result (λ x. HasEnds terms.new x) }
 {
@@ -193,7 +200,9 @@ fn system_time(
     terms: &mut Terms,
     faults: &mut Faults,
 ) -> Result<Ends, AllocError>
-    ensures bound { IfOk result (λ x. Gathers (names.marked (scope_of scope.now) (tree.SystemTime (option_map name_of qualifier.entry))) faults.old faults.new (ends_of terms.new x)) }
+    ensures bound { IfOk result
+        (λ x. Gathers (names.marked (scope_of scope.now) (tree.SystemTime (option_map name_of qualifier.entry)))
+        faults.old faults.new (ends_of terms.new x)) }
     ensures stays { Stays terms.old terms.new }
     ensures held { IfOk result (λ x. HasEnds terms.new x) }
 {
@@ -213,7 +222,9 @@ fn is_no_point(kind: Option<Kind>) -> bool
 
 /// Whether two kinds are not those of the ends of one period.
 fn are_no_ends(start: Option<Kind>, end: Option<Kind>) -> bool
-    ensures { result ≡ (names.is_no_point (option_map plain_kind start) || names.is_no_point (option_map plain_kind end) || names.differ (option_map plain_kind start) (option_map plain_kind end)) }
+    ensures { result ≡ (names.is_no_point (option_map plain_kind start)
+        || names.is_no_point (option_map plain_kind end)
+        || names.differ (option_map plain_kind start) (option_map plain_kind end)) }
 {
     is_no_point(start) || is_no_point(end) || differ(start, end)
 }
@@ -227,7 +238,9 @@ fn from_ends(
     terms: &mut Terms,
     faults: &mut Faults,
 ) -> Result<Ends, AllocError>
-    ensures bound { IfOk result (λ x. Gathers (names.marked (scope_of scope.now) (tree.FromEnds (expr_of start.now) (expr_of end.now))) faults.old faults.new (ends_of terms.new x)) }
+    ensures bound { IfOk result
+        (λ x. Gathers (names.marked (scope_of scope.now) (tree.FromEnds (expr_of start.now) (expr_of end.now)))
+        faults.old faults.new (ends_of terms.new x)) }
     ensures stays { Stays terms.old terms.new }
     ensures held { IfOk result (λ x. HasEnds terms.new x) }
 {
@@ -249,7 +262,9 @@ pub(crate) fn marked(
     terms: &mut Terms,
     faults: &mut Faults,
 ) -> Result<Ends, AllocError>
-    ensures bound { IfOk result (λ x. Gathers (names.marked (scope_of scope.now) (marked_of marked.now)) faults.old faults.new (ends_of terms.new x)) }
+    ensures bound { IfOk result
+        (λ x. Gathers (names.marked (scope_of scope.now) (marked_of marked.now)) faults.old
+        faults.new (ends_of terms.new x)) }
     ensures stays { Stays terms.old terms.new }
     ensures held { IfOk result (λ x. HasEnds terms.new x) }
 {
@@ -267,7 +282,9 @@ pub(crate) fn operand(
     terms: &mut Terms,
     faults: &mut Faults,
 ) -> Result<Ends, AllocError>
-    ensures bound { IfOk result (λ x. Gathers (names.operand (scope_of scope.now) (operand_of operand.now)) faults.old faults.new (ends_of terms.new x)) }
+    ensures bound { IfOk result
+        (λ x. Gathers (names.operand (scope_of scope.now) (operand_of operand.now)) faults.old
+        faults.new (ends_of terms.new x)) }
     ensures stays { Stays terms.old terms.new }
     ensures held { IfOk result (λ x. HasEnds terms.new x) }
 {

@@ -39,7 +39,9 @@ fn related(
 ) -> Result<CondId, AllocError>
     requires left { HasEnds terms.old left }
     requires right { HasEnds terms.old right }
-    ensures bound { IfOk result (λ c. Gathers (names.related (plain_relation which) (ends_of terms.old left) (ends_of terms.old right)) faults.old faults.new (cond terms.new c)) }
+    ensures bound { IfOk result
+        (λ c. Gathers (names.related (plain_relation which) (ends_of terms.old left) (ends_of terms.old right))
+        faults.old faults.new (cond terms.new c)) }
     ensures stays { Stays terms.old terms.new }
     ensures held { IfOk result (λ c. HasCond terms.new c) }
 {
@@ -57,7 +59,10 @@ pub(crate) fn relation_test(
     terms: &mut Terms,
     faults: &mut Faults,
 ) -> Result<CondId, AllocError>
-    ensures bound { IfOk result (λ c. Gathers (names.test (scope_of scope.now) (tree.RelationTest (operand_of left.now) (relation_of which) (operand_of right.now))) faults.old faults.new (cond terms.new c)) }
+    ensures bound { IfOk result
+        (λ c. Gathers (names.test (scope_of scope.now)
+        (tree.RelationTest (operand_of left.now) (relation_of which) (operand_of right.now)))
+        faults.old faults.new (cond terms.new c)) }
     ensures stays { Stays terms.old terms.new }
     ensures held { IfOk result (λ c. HasCond terms.new c) }
 {
@@ -75,7 +80,9 @@ pub(crate) fn contains_period(
     terms: &mut Terms,
     faults: &mut Faults,
 ) -> Result<CondId, AllocError>
-    ensures bound { IfOk result (λ c. Gathers (names.test (scope_of scope.now) (tree.ContainsPeriod (operand_of left.now) (marked_of right.now))) faults.old faults.new (cond terms.new c)) }
+    ensures bound { IfOk result
+        (λ c. Gathers (names.test (scope_of scope.now)
+        (tree.ContainsPeriod (operand_of left.now) (marked_of right.now))) faults.old faults.new (cond terms.new c)) }
     ensures stays { Stays terms.old terms.new }
     ensures held { IfOk result (λ c. HasCond terms.new c) }
 {
@@ -94,7 +101,9 @@ fn contained_point(
     faults: &mut Faults,
 ) -> Result<CondId, AllocError>
     requires { HasEnds terms.old period }
-    ensures bound { IfOk result (λ c. Gathers (names.contained_point (scope_of scope.now) (ends_of terms.old period) (expr_of point.now)) faults.old faults.new (cond terms.new c)) }
+    ensures bound { IfOk result
+        (λ c. Gathers (names.contained_point (scope_of scope.now) (ends_of terms.old period) (expr_of point.now))
+        faults.old faults.new (cond terms.new c)) }
     ensures stays { Stays terms.old terms.new }
     ensures held { IfOk result (λ c. HasCond terms.new c) }
 {
@@ -113,7 +122,9 @@ fn contained_period(
     faults: &mut Faults,
 ) -> Result<CondId, AllocError>
     requires { HasEnds terms.old period }
-    ensures bound { IfOk result (λ c. Gathers (names.related Includes (ends_of terms.old period) (names.ends_at start end (plain_kind kind))) faults.old faults.new (cond terms.new c)) }
+    ensures bound { IfOk result
+        (λ c. Gathers (names.related Includes (ends_of terms.old period) (names.ends_at start end (plain_kind kind)))
+        faults.old faults.new (cond terms.new c)) }
     ensures stays { Stays terms.old terms.new }
     ensures held { IfOk result (λ c. HasCond terms.new c) }
 {
@@ -132,7 +143,9 @@ fn contained_named(
     faults: &mut Faults,
 ) -> Result<CondId, AllocError>
     requires { HasEnds terms.old period }
-    ensures bound { IfOk result (λ c. Gathers (names.contained_named (scope_of scope.now) (ends_of terms.old period) (expr_of right.now) (names.things (scope_of scope.now) (named_of named.entry))) faults.old faults.new (cond terms.new c)) }
+    ensures bound { IfOk result
+        (λ c. Gathers (names.contained_named (scope_of scope.now) (ends_of terms.old period) (expr_of right.now)
+        (names.things (scope_of scope.now) (named_of named.entry))) faults.old faults.new (cond terms.new c)) }
     ensures stays { Stays terms.old terms.new }
     ensures held { IfOk result (λ c. HasCond terms.new c) }
 {
@@ -153,7 +166,9 @@ fn contained(
     faults: &mut Faults,
 ) -> Result<CondId, AllocError>
     requires { HasEnds terms.old period }
-    ensures bound { IfOk result (λ c. Gathers (names.contained (scope_of scope.now) (ends_of terms.old period) (expr_of right.now) (names.sole_name (expr_of right.now))) faults.old faults.new (cond terms.new c)) }
+    ensures bound { IfOk result
+        (λ c. Gathers (names.contained (scope_of scope.now) (ends_of terms.old period) (expr_of right.now)
+        (names.sole_name (expr_of right.now))) faults.old faults.new (cond terms.new c)) }
     ensures stays { Stays terms.old terms.new }
     ensures held { IfOk result (λ c. HasCond terms.new c) }
 {
@@ -172,7 +187,9 @@ pub(crate) fn contains_point(
     terms: &mut Terms,
     faults: &mut Faults,
 ) -> Result<CondId, AllocError>
-    ensures bound { IfOk result (λ c. Gathers (names.test (scope_of scope.now) (tree.ContainsPoint (operand_of left.now) (expr_of right.now))) faults.old faults.new (cond terms.new c)) }
+    ensures bound { IfOk result
+        (λ c. Gathers (names.test (scope_of scope.now) (tree.ContainsPoint (operand_of left.now) (expr_of right.now)))
+        faults.old faults.new (cond terms.new c)) }
     ensures stays { Stays terms.old terms.new }
     ensures held { IfOk result (λ c. HasCond terms.new c) }
 {

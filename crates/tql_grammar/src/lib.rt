@@ -1,5 +1,6 @@
-//! How the grammar is read, and the laws between reading and grammar. Nothing here knows of code: the reading functions compute
-//! a tree from tokens, and the sense of a piece of a script from its bytes; the laws say that they are what the grammar says.
+//! How the grammar is read, and the laws between reading and grammar. Nothing here knows of code: the reading
+//! functions compute a tree from tokens, and the sense of a piece of a script from its bytes; the laws say that they
+//! are what the grammar says.
 #![tactic(auto)]
 
 ghost use Rattle.tql_spec.specs.Grammar.{SpellsOnce};

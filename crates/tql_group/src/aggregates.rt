@@ -139,9 +139,9 @@ fn over_values<'a, C: Columns>(
     }
 }
 
-/// What an aggregate of the terms gives over these rows: COUNT(*) counts them, the others take the values of their operand
-/// that are not NULL (ISO/IEC 9075-2:2011, 10.9). `Range` where a sum, the count of the rows or a number inside an operand
-/// leaves 64 bits. It takes no memory.
+/// What an aggregate of the terms gives over these rows: COUNT(*) counts them, the others take the values of their
+/// operand that are not NULL (ISO/IEC 9075-2:2011, 10.9). `Range` where a sum, the count of the rows or a number
+/// inside an operand leaves 64 bits. It takes no memory.
 pub fn over_rows<'a, C: Columns>(
     terms: &'a Terms,
     which: Aggregate,

@@ -125,10 +125,10 @@ fn show_runs(
     Ok(made)
 }
 
-/// The values of the items for each row that passes the conjuncts of HAVING; in a grouped query for each group: of the rows
-/// that have one tuple in the grouping columns, NULL like NULL, or of all rows where no column is named (ISO/IEC
-/// 9075-2:2011, 7.9, 7.10, 7.12). The rows change their places: they are sorted by the grouping columns. Refused where an
-/// evaluation that is reached leaves 64 bits, or for memory.
+/// The values of the items for each row that passes the conjuncts of HAVING; in a grouped query for each group: of
+/// the rows that have one tuple in the grouping columns, NULL like NULL, or of all rows where no column is named
+/// (ISO/IEC 9075-2:2011, 7.9, 7.10, 7.12). The rows change their places: they are sorted by the grouping columns.
+/// Refused where an evaluation that is reached leaves 64 bits, or for memory.
 pub fn show(
     memory: Memory,
     terms: &Terms,

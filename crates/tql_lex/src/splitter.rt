@@ -109,9 +109,9 @@ impl Splitter {
     }
 
     /// The next statement: its text from the first byte that is neither a blank nor in a comment up to its `;`.
-    /// It is None where no whole statement is left, and then nothing changes. Once the input has ended, what no `;` ends is
-    /// given as unfinished. The limit on a text's bytes, and that a `;` in a text, a quoted name or a comment ends nothing,
-    /// are this project's choice; `NoMemory` is not given yet.
+    /// It is None where no whole statement is left, and then nothing changes. Once the input has ended, what no `;`
+    /// ends is given as unfinished. The limit on a text's bytes, and that a `;` in a text, a quoted name or a comment
+    /// ends nothing, are this project's choice; `NoMemory` is not given yet.
     pub fn next_statement(&mut self) -> Option<Piece<'_>>
         ensures* next { sem 𝓛 (EndsAs self.entry result) }
     {

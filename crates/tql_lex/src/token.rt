@@ -120,8 +120,8 @@ impl<'a> Token<'a> {
         }
     }
 
-    /// What the token says: a word in upper case, a name or a text without its quotes, the digits of a number, a symbol.
-    /// Doubled quotes stand once. The only error is a refused growth.
+    /// What the token says: a word in upper case, a name or a text without its quotes, the digits of a number, a
+    /// symbol. Doubled quotes stand once. The only error is a refused growth.
     pub fn content(&self, memory: Memory) -> Result<String<Memory>, Refusal>
         ensures value { IfOk result (λ s. string_bytes s ≡ tests_of.content_of (token_of self.now)) }
         ensures reason { IfErr result (λ e. e ≡ Refusal.OutOfMemory) }

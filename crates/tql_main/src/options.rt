@@ -110,7 +110,8 @@ fn file_named<'a>(word: Option<&'a str>) -> Option<&'a str>
 pub fn command_line<'a>(alloc: Global, words: &'a [String]) -> Result<CommandLine<'a>, Error>
     ensures check { IfOk result (λ o. TellsFlag (check_in (map string_bytes words.entry.now)) o.check) }
     ensures quiet { IfOk result (λ o. TellsFlag (quiet_in (map string_bytes words.entry.now)) o.quiet) }
-    ensures script { IfOk result (λ o. option_map (λ s. s.now) o.script ≡ script_in (map string_bytes words.entry.now)) }
+    ensures script { IfOk result
+        (λ o. option_map (λ s. s.now) o.script ≡ script_in (map string_bytes words.entry.now)) }
     ensures fails { FailsBy (faults_in (map string_bytes words.entry.now)) result }
     ensures reads { ReadsLine (map string_bytes words.entry.now) result }
 {

@@ -1,5 +1,6 @@
 ghost use Rattle.std.specs.Prelude.{◌≡◌, ◌<ℤ◌, ◌≤ℤ◌};
-ghost use Rattle.tql_spec.specs.Period.{Holds, before as part_before, inside as part_inside, after as part_after, if_any};
+ghost use Rattle.tql_spec.specs.Period.{Holds, before as part_before, inside as part_inside, after as part_after};
+ghost use Rattle.tql_spec.specs.Period.{if_any};
 ghost use Rattle.tql_period.specs.Points.{points_of, points_of_piece, HoldsExactly};
 
 use crate::period::Period;

@@ -4,7 +4,8 @@ ghost use Rattle.tql_grammar.specs.Outcome.{Read, more};
 ghost use Rattle.tql_grammar.specs.ReadingExpressions as reading;
 ghost use Rattle.tql_grammar.specs.ReadingExpressions.{expr_at};
 ghost use Rattle.tql_phrase.specs.Parsing.{Reads};
-ghost use Rattle.tql_tree.specs.Expressions.{named_of, function_of, added_of, primary_of, signed_of, term_of, boxed_expr_of, signeds_of, added_terms_of};
+ghost use Rattle.tql_tree.specs.Expressions.{named_of, function_of, added_of, primary_of, signed_of, term_of};
+ghost use Rattle.tql_tree.specs.Expressions.{boxed_expr_of, signeds_of, added_terms_of};
 
 use crate::cursor::{Cursor, ParseError};
 use tql_lex::token::Symbol;
@@ -250,7 +251,8 @@ pub fn expr_behind<'a>(
     depth: usize,
     first: Term<'a>,
 ) -> Result<Box<Expr<'a>, Memory>, ParseError>
-    ensures { Reads boxed_expr_of (reading.sum_behind (expr_at depth) (term_of first.entry) tokens.old) result tokens.new }
+    ensures { Reads boxed_expr_of
+        (reading.sum_behind (expr_at depth) (term_of first.entry) tokens.old) result tokens.new }
 {
     let more = terms(memory, tokens, depth)?;
     let value = boxed_expr(memory, Expr { first, more })?;

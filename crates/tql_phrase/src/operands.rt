@@ -185,7 +185,8 @@ fn contained<'a>(
     tokens: &mut Cursor<'_, 'a>,
     depth: usize,
 ) -> Result<Tail<'a>, ParseError>
-    ensures { (left : tree.Operand) → Reads (tail_test left) (reading.contained_over (expr_at depth) left tokens.old) result tokens.new }
+    ensures { (left : tree.Operand)
+        → Reads (tail_test left) (reading.contained_over (expr_at depth) left tokens.old) result tokens.new }
 {
     if begins_marked(tokens) {
         let mark = marked(memory, tokens, depth)?;
@@ -202,7 +203,9 @@ pub fn read_tail<'a>(
     tokens: &mut Cursor<'_, 'a>,
     depth: usize,
 ) -> Result<Option<Tail<'a>>, ParseError>
-    ensures { (left : tree.Operand) → Reads (option_map (tail_test left)) (reading.related_over (expr_at depth) left tokens.old) result tokens.new }
+    ensures { (left : tree.Operand)
+        → Reads (option_map (tail_test left))
+        (reading.related_over (expr_at depth) left tokens.old) result tokens.new }
 {
     if let Some(relation) = relation(tokens)? {
         let right = operand(memory, tokens, depth)?;
@@ -239,7 +242,8 @@ pub fn between<'a>(
     is_negated: bool,
     value: Box<Expr<'a>, Memory>,
 ) -> Result<Box<Test<'a>, Memory>, ParseError>
-    ensures { Reads boxed_test_of (reading.between_over (expr_at depth) is_negated (boxed_expr_of value.entry) tokens.old) result tokens.new }
+    ensures { Reads boxed_test_of
+        (reading.between_over (expr_at depth) is_negated (boxed_expr_of value.entry) tokens.old) result tokens.new }
 {
     let low = sum(memory, tokens, depth)?;
     tokens.expect_word("AND")?;
@@ -281,7 +285,8 @@ pub fn in_list<'a>(
     is_negated: bool,
     value: Box<Expr<'a>, Memory>,
 ) -> Result<Box<Test<'a>, Memory>, ParseError>
-    ensures { Reads boxed_test_of (reading.in_over (expr_at depth) is_negated (boxed_expr_of value.entry) tokens.old) result tokens.new }
+    ensures { Reads boxed_test_of
+        (reading.in_over (expr_at depth) is_negated (boxed_expr_of value.entry) tokens.old) result tokens.new }
 {
     tokens.expect_symbol(Symbol::Open)?;
     let first = sum(memory, tokens, depth)?;
@@ -299,7 +304,8 @@ pub fn denied<'a>(
     depth: usize,
     value: Box<Expr<'a>, Memory>,
 ) -> Result<Box<Test<'a>, Memory>, ParseError>
-    ensures { Reads boxed_test_of (reading.denied_over (expr_at depth) (boxed_expr_of value.entry) tokens.old) result tokens.new }
+    ensures { Reads boxed_test_of
+        (reading.denied_over (expr_at depth) (boxed_expr_of value.entry) tokens.old) result tokens.new }
 {
     if tokens.eat_word("BETWEEN") {
         return between(memory, tokens, depth, true, value);

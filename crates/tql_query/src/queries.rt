@@ -7,7 +7,9 @@ ghost use Rattle.tql_grammar.specs.ReadingStatements as reading;
 ghost use Rattle.tql_phrase.specs.Parsing.{Reads};
 ghost use Rattle.tql_query.specs.SelectEnds.{ended_by, select_from};
 ghost use Rattle.tql_tree.specs.Expressions.{content_of, name_of, named_of};
-ghost use Rattle.tql_tree.specs.Statements.{span_of, ref_of, joined_by, crossed_of, join_of, chain_of, item_of, items_of, filter_of, nameds_of, boxed_select_of, key_name_of, order_of, orders_of, statement_of};
+ghost use Rattle.tql_tree.specs.Statements.{span_of, ref_of, joined_by, crossed_of, join_of, chain_of, item_of};
+ghost use Rattle.tql_tree.specs.Statements.{items_of, filter_of, nameds_of, boxed_select_of, key_name_of, order_of};
+ghost use Rattle.tql_tree.specs.Statements.{orders_of, statement_of};
 
 use tql_condition::conditions::condition_here;
 use tql_lex::token::Symbol;
@@ -115,7 +117,8 @@ fn joined_on<'a>(
     memory: Memory,
     tokens: &mut Cursor<'_, 'a>,
 ) -> Result<Box<Joined<'a>, Memory>, ParseError>
-    ensures { (which : tree.RefTree → tree.Condition → tree.JoinTree) → Reads (joined_by which) (reading.joined_on_at which tokens.old) result tokens.new }
+    ensures { (which : tree.RefTree → tree.Condition → tree.JoinTree)
+        → Reads (joined_by which) (reading.joined_on_at which tokens.old) result tokens.new }
 {
     let reference = reference(tokens)?;
     tokens.expect_word("ON")?;

@@ -1,5 +1,6 @@
 // The entries of versions that the open transaction closed, put into an index of periods and taken out again.
-ghost use Rattle.std.specs.Prelude.{◌≡◌, ◌<◌, ◌+◌, ◌^◌, ◌++◌, ◌<ℤ◌, [], if◌then◌else◌, List, All, OnOk, OnErr, IfErr, length, slice_index_or};
+ghost use Rattle.std.specs.Prelude.{◌≡◌, ◌<◌, ◌+◌, ◌^◌, ◌++◌, ◌<ℤ◌, [], if◌then◌else◌, List, All, OnOk, OnErr, IfErr};
+ghost use Rattle.std.specs.Prelude.{length, slice_index_or};
 ghost use Rattle.tql_spec.specs.Bag.{SameBag};
 ghost use Rattle.tql_index.specs.Entry.{Entry};
 ghost use Rattle.tql_rows.specs.Changes.{nothing};
@@ -22,7 +23,9 @@ pub fn leave_each<I: IntervalIndex>(
     requires within { All (λ i. i < length versions.now) places.now }
     requires early { All (λ i. (slice_index_or (versions_of versions.now) i nothing).row.start <ℤ moment) places.now }
     requires room { number + length places.now < 2 ^ 64 }
-    ensures { (rest : List Entry) → SameBag (I.entries index.old) (entries_for moment number places.now (versions_of versions.now) ++ rest) → SameBag (I.entries index.new) rest }
+    ensures { (rest : List Entry)
+        → SameBag (I.entries index.old) (entries_for moment number places.now (versions_of versions.now) ++ rest)
+        → SameBag (I.entries index.new) rest }
 {
     for (k, place) in places.iter().enumerate() {
         index.remove(span(&versions[*place], moment), number + k);
@@ -41,7 +44,9 @@ pub fn enter_each<I: IntervalIndex>(
     requires within { All (λ i. i < length versions.now) places.now }
     requires early { All (λ i. (slice_index_or (versions_of versions.now) i nothing).row.start <ℤ moment) places.now }
     requires room { number + length places.now < 2 ^ 64 }
-    ensures ok { OnOk result (SameBag (I.entries index.new) (entries_for moment number places.now (versions_of versions.now) ++ I.entries index.old)) }
+    ensures ok { OnOk result
+        (SameBag (I.entries index.new)
+        (entries_for moment number places.now (versions_of versions.now) ++ I.entries index.old)) }
     ensures err { OnErr result (SameBag (I.entries index.new) (I.entries index.old)) }
     ensures refusal { IfErr result (λ e. e ≡ OutOfMemory) }
 {
@@ -66,7 +71,10 @@ pub fn leave_kept<I: IntervalIndex>(
     requires within { All (λ i. i < length versions.now) places.now }
     requires early { All (λ i. (slice_index_or (versions_of versions.now) i nothing).row.start <ℤ moment) places.now }
     requires room { number + length places.now < 2 ^ 64 }
-    ensures { (rest : List Entry) → SameBag (I.entries index.old) ((if keeps then entries_for moment number places.now (versions_of versions.now) else []) ++ rest) → SameBag (I.entries index.new) rest }
+    ensures { (rest : List Entry)
+        → SameBag (I.entries index.old)
+        ((if keeps then entries_for moment number places.now (versions_of versions.now) else []) ++ rest)
+        → SameBag (I.entries index.new) rest }
 {
     if keeps {
         leave_each(index, versions, places, moment, number);
@@ -85,7 +93,10 @@ pub fn enter_kept<I: IntervalIndex>(
     requires within { All (λ i. i < length versions.now) places.now }
     requires early { All (λ i. (slice_index_or (versions_of versions.now) i nothing).row.start <ℤ moment) places.now }
     requires room { number + length places.now < 2 ^ 64 }
-    ensures ok { OnOk result (SameBag (I.entries index.new) ((if keeps then entries_for moment number places.now (versions_of versions.now) else []) ++ I.entries index.old)) }
+    ensures ok { OnOk result
+        (SameBag (I.entries index.new)
+        ((if keeps then entries_for moment number places.now (versions_of versions.now) else [])
+        ++ I.entries index.old)) }
     ensures err { OnErr result (SameBag (I.entries index.new) (I.entries index.old)) }
     ensures refusal { IfErr result (λ e. e ≡ OutOfMemory) }
 {

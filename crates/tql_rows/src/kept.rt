@@ -1,5 +1,6 @@
 // The steps of a table's transactions, over plain lists.
-ghost use Rattle.std.specs.Prelude.{◌≡◌, ◌≢◌, ◌≤◌, ◌<◌, ◌+◌, ◌++◌, [], ◌∷◌, All, OnOk, OnErr, map, filter, length, false, true, if◌then◌else◌, vec_len, vec_capacity, slice_index_or, Contains, ◌<ℤ◌};
+ghost use Rattle.std.specs.Prelude.{◌≡◌, ◌≢◌, ◌≤◌, ◌<◌, ◌+◌, ◌++◌, [], ◌∷◌, All, OnOk, OnErr, map, filter, length};
+ghost use Rattle.std.specs.Prelude.{false, true, if◌then◌else◌, vec_len, vec_capacity, slice_index_or, Contains, ◌<ℤ◌};
 ghost use Rattle.tql_spec.specs.Bag.{SameBag};
 ghost use Rattle.tql_rows.specs.Changes.{is_current, closing, fresh, ended, moved_out, emptied, taken};
 ghost use Rattle.tql_rows.specs.Views.{version_of, versions_of, open_at};
@@ -53,10 +54,12 @@ fn take_version(version: &mut Kept, memory: Memory, moment: i64) -> Kept
 
 /// Takes closed versions out of a place until an open one stands there, or none.
 fn clear_place(versions: &mut Vec<Kept, Memory>, place: usize)
-    ensures bag { SameBag (filter is_current (versions_of versions.new.items)) (filter is_current (versions_of versions.old.items)) }
+    ensures bag { SameBag (filter is_current (versions_of versions.new.items))
+        (filter is_current (versions_of versions.old.items)) }
     ensures clear { place < length versions.new.items → open_at versions.new.items place }
     ensures shorter { length versions.new.items ≤ length versions.old.items }
-    ensures others { (k : _) → k ≢ place → k < length versions.new.items → (d : _) → slice_index_or versions.new.items k d ≡ slice_index_or versions.old.items k d }
+    ensures others { (k : _) → k ≢ place → k < length versions.new.items → (d : _)
+        → slice_index_or versions.new.items k d ≡ slice_index_or versions.old.items k d }
 {
     while place < versions.len() && !is_open(&versions[place]) {
         versions.swap_remove(place);
@@ -65,9 +68,11 @@ fn clear_place(versions: &mut Vec<Kept, Memory>, place: usize)
 
 /// Takes the closed versions out of these places.
 pub fn sweep(versions: &mut Vec<Kept, Memory>, places: &[usize])
-    ensures bag { SameBag (filter is_current (versions_of versions.new.items)) (filter is_current (versions_of versions.old.items)) }
+    ensures bag { SameBag (filter is_current (versions_of versions.new.items))
+        (filter is_current (versions_of versions.old.items)) }
     ensures shorter { length versions.new.items ≤ length versions.old.items }
-    ensures left { (k : _) → k < length versions.new.items → (Contains places.now k → open_at versions.new.items k) × (open_at versions.old.items k → open_at versions.new.items k) }
+    ensures left { (k : _) → k < length versions.new.items → (Contains places.now k → open_at versions.new.items k)
+        × (open_at versions.old.items k → open_at versions.new.items k) }
 {
     for place in places {
         clear_place(versions, *place);
@@ -93,7 +98,8 @@ pub fn add_each(
     moment: i64,
 )
     requires { vec_len versions.old + vec_len added ≤ vec_capacity versions.old }
-    ensures { versions_of versions.new.items ≡ versions_of versions.old.items ++ map (λ row. fresh moment (map datum_of_value row.items)) added.entry.items }
+    ensures { versions_of versions.new.items ≡ versions_of versions.old.items
+        ++ map (λ row. fresh moment (map datum_of_value row.items)) added.entry.items }
 {
     for row in added {
         versions.push_reserved(Kept {
@@ -153,7 +159,8 @@ pub fn retire(
     requires room { vec_len closed.old + length places.now ≤ vec_capacity closed.old }
     ensures left { versions_of versions.new ≡ emptied moment places.now (versions_of versions.old) }
     ensures len { length versions.new ≡ length versions.old }
-    ensures taken { versions_of closed.new.items ≡ versions_of closed.old.items ++ taken moment places.now (versions_of versions.old) }
+    ensures taken { versions_of closed.new.items ≡ versions_of closed.old.items
+        ++ taken moment places.now (versions_of versions.old) }
 {
     for place in places {
         let version = take_version(&mut versions[*place], memory, moment);
@@ -172,9 +179,11 @@ pub fn retire_kept(
 )
     requires within { All (λ i. i < length versions.old) places.now }
     requires room { keeps ≡ true → vec_len closed.old + length places.now ≤ vec_capacity closed.old }
-    ensures left { versions_of versions.new ≡ (if keeps then emptied moment places.now (versions_of versions.old) else versions_of versions.old) }
+    ensures left { versions_of versions.new
+        ≡ (if keeps then emptied moment places.now (versions_of versions.old) else versions_of versions.old) }
     ensures len { length versions.new ≡ length versions.old }
-    ensures taken { versions_of closed.new.items ≡ versions_of closed.old.items ++ (if keeps then taken moment places.now (versions_of versions.old) else []) }
+    ensures taken { versions_of closed.new.items ≡ versions_of closed.old.items
+        ++ (if keeps then taken moment places.now (versions_of versions.old) else []) }
 {
     if keeps {
         retire(versions, closed, places, memory, moment);

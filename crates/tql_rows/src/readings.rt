@@ -3,7 +3,8 @@ ghost use Rattle.std.specs.Prelude.{◌≡◌, ◌<◌, ◌+◌, ◌^◌, ◌++�
 ghost use Rattle.std.specs.Int.{int_min};
 ghost use Rattle.tql_spec.specs.Calendar.{high};
 ghost use Rattle.tql_spec.specs.Bag.{SameBag};
-ghost use Rattle.tql_rows.specs.Readings.{asked, is_answer, ids_sought, ids_between, version_shown, answer_of, answers_from, placed, IsReading};
+ghost use Rattle.tql_rows.specs.Readings.{asked, is_answer, ids_sought, ids_between, version_shown, answer_of};
+ghost use Rattle.tql_rows.specs.Readings.{answers_from, placed, IsReading};
 ghost use Rattle.tql_rows.specs.Held.{Held};
 ghost use Rattle.tql_rows.specs.Views.{version_of, versions_of};
 ghost use Rattle.tql_index.specs.Entry.{Entry};

@@ -1,5 +1,6 @@
 // One table: its current rows side by side, its closed ones behind them, and what the open transaction did.
-ghost use Rattle.std.specs.Prelude.{◌≡◌, ◌≤◌, ◌<◌, ◌+◌, ◌++◌, [], Bool, true, false, if◌then◌else◌, List, All, OnOk, OnErr, IfErr, Some, None, map, filter, length};
+ghost use Rattle.std.specs.Prelude.{◌≡◌, ◌≤◌, ◌<◌, ◌+◌, ◌++◌, [], Bool, true, false, if◌then◌else◌, List, All, OnOk};
+ghost use Rattle.std.specs.Prelude.{OnErr, IfErr, Some, None, map, filter, length};
 ghost use Rattle.tql_spec.specs.Bag.{SameBag};
 ghost use Rattle.tql_spec.specs.Definition.{Stamped};
 ghost use Rattle.tql_rows.specs.Changes.{alive, closing, fresh, undone, replaced, pruned};
@@ -54,7 +55,17 @@ impl<I: IntervalIndex> Model for Rows<I> {
 impl<I: IntervalIndex> Rows<I> {
     /// A table with no row, which keeps its history or does not.
     pub fn new(memory: Memory, keeps: bool) -> Rows<I>
-        ensures empty { result ≡ (record { keeps = keeps; current = []; base = 0; ended = []; dead = []; closed = []; room = 0; entries = [] }) }
+        ensures empty { result
+            ≡ (record {
+              keeps = keeps;
+              current = [];
+              base = 0;
+              ended = [];
+              dead = [];
+              closed = [];
+              room = 0;
+              entries = [];
+            }) }
         ensures rest { AtRest None result }
     {
         Rows {
@@ -82,10 +93,13 @@ impl<I: IntervalIndex> Rows<I> {
         ensures turn { InTurn moment self.new }
         ensures since { (last : _) → Since last self.old → Since last self.new }
         ensures keeps { self.new.keeps ≡ self.old.keeps }
-        ensures versions { OnOk result (SameBag (live self.new) (filter alive (closing moment removed.now self.old.current ++ self.old.closed)
+        ensures versions { OnOk result
+            (SameBag (live self.new) (filter alive (closing moment removed.now self.old.current ++ self.old.closed)
             ++ map (λ row. fresh moment (map datum_of_value row.items)) added.entry.items)) }
         ensures judged { OnOk result ((gone : Stamped → Bool) → IsJudged gone removed.now self.old
-            → SameBag (live self.new) (replaced moment gone (map (λ row. map datum_of_value row.items) added.entry.items) (live self.old))) }
+            → SameBag (live self.new)
+            (replaced moment gone
+            (map (λ row. map datum_of_value row.items) added.entry.items) (live self.old))) }
         ensures err { OnErr result (self.new ≡ record self.old { room = self.new.room; entries = self.new.entries }) }
         ensures err_entries { OnErr result (SameBag self.new.entries self.old.entries) }
         ensures refusal { IfErr result (λ e. e ≡ OutOfMemory) }
@@ -110,9 +124,11 @@ impl<I: IntervalIndex> Rows<I> {
         ensures base { self.new.base ≡ self.old.base }
         ensures ended { OnOk result (self.new.ended ≡ self.old.ended ++ below self.old.base removed.now) }
         ensures dead { OnOk result (self.new.dead ≡ self.old.dead ++ from self.old.base removed.now) }
-        ensures room { OnOk result (self.old.keeps ≡ true → length self.new.closed + length self.new.ended ≤ self.new.room) }
+        ensures room { OnOk result (self.old.keeps ≡ true
+            → length self.new.closed + length self.new.ended ≤ self.new.room) }
         ensures entries { OnOk result (SameBag self.new.entries ((if self.old.keeps
-            then entries_for moment (length self.old.closed + length self.old.ended) (below self.old.base removed.now) self.old.current else []) ++ self.old.entries)) }
+            then entries_for moment (length self.old.closed + length self.old.ended) (below self.old.base removed.now)
+            self.old.current else []) ++ self.old.entries)) }
         ensures err { OnErr result (self.new ≡ record self.old { room = self.new.room; entries = self.new.entries }) }
         ensures err_entries { OnErr result (SameBag self.new.entries self.old.entries) }
         ensures refusal { IfErr result (λ e. e ≡ OutOfMemory) }
@@ -149,7 +165,8 @@ impl<I: IntervalIndex> Rows<I> {
         requires { InTurn moment self.old }
         ensures rest { AtRest (Some moment) self.new }
         ensures keeps { self.new.keeps ≡ self.old.keeps }
-        ensures versions { SameBag (live self.new) (if self.old.keeps then live self.old else pruned moment (live self.old)) }
+        ensures versions { SameBag (live self.new)
+            (if self.old.keeps then live self.old else pruned moment (live self.old)) }
     {
         retire_kept(
             self.keeps,

@@ -17,9 +17,11 @@ use tql_memory::Memory;
 impl<I: IntervalIndex> Rows<I> {
     /// The rows now, each as a version that is not closed. The only error is a refused growth.
     pub fn current(&self, memory: Memory) -> Result<Vec<Version<'_>, Memory>, AllocError>
-        ensures found { IfOk result (λ found. map version_shown found.items ≡ filter is_current (filter alive self.now.current)) }
+        ensures found { IfOk result
+            (λ found. map version_shown found.items ≡ filter is_current (filter alive self.now.current)) }
         ensures ids { IfOk result (λ found. All (Names (all_versions self.now)) found.items) }
-        ensures once { IfOk result (λ found. AreEnded self.now → NamesOnce is_current (all_versions self.now) found.items) }
+        ensures once { IfOk result (λ found. AreEnded self.now
+            → NamesOnce is_current (all_versions self.now) found.items) }
     {
         let found = answers_in(memory, &self.current, When::Now)?;
         Ok(found)

@@ -104,6 +104,10 @@ each_ended f all old bound now l = record {
   least = sym (after_nil now) ∙ l.least;
 }
 
+-- a value without a fault
+pub sound_here : {B : Type 0} (x : B) (now : Option Refusal) → Gathers (sound x) now now x
+sound_here x now = record { value = refl; least = sym (after_nil now) }
+
 -- for `grind`
 pub ruleset gathering = (after_nil, after_append)
 

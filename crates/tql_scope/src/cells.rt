@@ -26,7 +26,9 @@ pub fn cell(
     terms: &mut Terms,
     faults: &mut Faults,
 ) -> Result<Typed, AllocError>
-    ensures bound { IfOk result (λ t. Gathers (binding.cell (scope_of scope.now) (cell_of cell.now)) faults.old faults.new (typed_of terms.new t)) }
+    ensures bound { IfOk result
+        (λ t. Gathers (binding.cell (scope_of scope.now) (cell_of cell.now)) faults.old
+        faults.new (typed_of terms.new t)) }
     ensures stays { Stays terms.old terms.new }
     ensures held { IfOk result (λ t. HasExpr terms.new t.expr) }
 {

@@ -1,4 +1,5 @@
-//! Operations that are written one behind another. Their operands are bound first, so that the operations become one run of terms.
+//! Operations that are written one behind another. Their operands are bound first, so that the operations become one
+//! run of terms.
 ghost use Rattle.std.specs.Prelude.{◌≡◌, IfOk};
 ghost use Rattle.tql_spec.specs.Names as names;
 ghost use Rattle.tql_expr.specs.Meaning.{HasExpr, Stays};
@@ -47,8 +48,11 @@ impl Chain {
         right: Typed,
         faults: &mut Faults,
     ) -> Result<(), AllocError>
-        ensures bound { IfOk result (λ _. (t : arena.Terms) → Gathers (names.arithmetic (plain_operation operation) (chain_of t self.old) (typed_of t right)) faults.old faults.new (chain_of t self.new)) }
-        ensures held { IfOk result (λ _. (t : arena.Terms) → HoldsChain t self.old → HasExpr t right.expr → HoldsChain t self.new) }
+        ensures bound { IfOk result (λ _. (t : arena.Terms)
+            → Gathers (names.arithmetic (plain_operation operation) (chain_of t self.old) (typed_of t right))
+            faults.old faults.new (chain_of t self.new)) }
+        ensures held { IfOk result (λ _. (t : arena.Terms) → HoldsChain t self.old
+            → HasExpr t right.expr → HoldsChain t self.new) }
     {
         faults.refuse_if(is_no_number(self.kind, right.kind), Refusal::TypesDoNotFit);
         self.rest.push((operation, right.expr))?;

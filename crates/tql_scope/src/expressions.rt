@@ -1,4 +1,5 @@
-//! Expressions. Each function is that of the definition of its name: the same parts, the same order, the same stand-ins.
+//! Expressions. Each function is that of the definition of its name: the same parts, the same order, the same
+//! stand-ins.
 ghost use Rattle.std.specs.Prelude.{◌≡◌, IfOk, option_map};
 ghost use Rattle.tql_spec.specs.Names as names;
 ghost use Rattle.tql_spec.specs.Datum as datum;
@@ -28,7 +29,8 @@ use tql_value::value::Kind;
 #[tactic(auto, using(crate::proofs::Gathering::gathering))]
 fn negation(operand: Typed, terms: &mut Terms, faults: &mut Faults) -> Result<Typed, AllocError>
     requires { HasExpr terms.old operand.expr }
-    ensures bound { IfOk result (λ t. Gathers (names.negation (typed_of terms.old operand)) faults.old faults.new (typed_of terms.new t)) }
+    ensures bound { IfOk result
+        (λ t. Gathers (names.negation (typed_of terms.old operand)) faults.old faults.new (typed_of terms.new t)) }
     ensures stays { Stays terms.old terms.new }
     ensures held { IfOk result (λ t. HasExpr terms.new t.expr) }
 {
@@ -72,7 +74,9 @@ fn aggregate(
     faults: &mut Faults,
 ) -> Result<Typed, AllocError>
     requires { HasExpr terms.old operand.expr }
-    ensures bound { IfOk result (λ t. Gathers (names.aggregate (function_of aggregate) (typed_of terms.old operand)) faults.old faults.new (typed_of terms.new t)) }
+    ensures bound { IfOk result
+        (λ t. Gathers (names.aggregate (function_of aggregate) (typed_of terms.old operand)) faults.old
+        faults.new (typed_of terms.new t)) }
     ensures stays { Stays terms.old terms.new }
     ensures held { IfOk result (λ t. HasExpr terms.new t.expr) }
 {
@@ -123,7 +127,9 @@ pub fn sum(
     terms: &mut Terms,
     faults: &mut Faults,
 ) -> Result<Typed, AllocError>
-    ensures bound { IfOk result (λ t. Gathers (names.expr (scope_of scope.now) (expr_of sum.now)) faults.old faults.new (typed_of terms.new t)) }
+    ensures bound { IfOk result
+        (λ t. Gathers (names.expr (scope_of scope.now) (expr_of sum.now)) faults.old
+        faults.new (typed_of terms.new t)) }
     ensures stays { Stays terms.old terms.new }
     ensures held { IfOk result (λ t. HasExpr terms.new t.expr) }
 {
@@ -146,7 +152,9 @@ fn product(
     terms: &mut Terms,
     faults: &mut Faults,
 ) -> Result<Typed, AllocError>
-    ensures bound { IfOk result (λ t. Gathers (names.product (scope_of scope.now) (term_of product.now)) faults.old faults.new (typed_of terms.new t)) }
+    ensures bound { IfOk result
+        (λ t. Gathers (names.product (scope_of scope.now) (term_of product.now)) faults.old
+        faults.new (typed_of terms.new t)) }
     ensures stays { Stays terms.old terms.new }
     ensures held { IfOk result (λ t. HasExpr terms.new t.expr) }
 {
@@ -169,7 +177,9 @@ fn signed(
     terms: &mut Terms,
     faults: &mut Faults,
 ) -> Result<Typed, AllocError>
-    ensures bound { IfOk result (λ t. Gathers (names.signed (scope_of scope.now) (signed_of signed.now)) faults.old faults.new (typed_of terms.new t)) }
+    ensures bound { IfOk result
+        (λ t. Gathers (names.signed (scope_of scope.now) (signed_of signed.now)) faults.old
+        faults.new (typed_of terms.new t)) }
     ensures stays { Stays terms.old terms.new }
     ensures held { IfOk result (λ t. HasExpr terms.new t.expr) }
 {
@@ -203,7 +213,9 @@ fn primary(
     terms: &mut Terms,
     faults: &mut Faults,
 ) -> Result<Typed, AllocError>
-    ensures bound { IfOk result (λ t. Gathers (names.primary (scope_of scope.now) (primary_of primary.now)) faults.old faults.new (typed_of terms.new t)) }
+    ensures bound { IfOk result
+        (λ t. Gathers (names.primary (scope_of scope.now) (primary_of primary.now)) faults.old
+        faults.new (typed_of terms.new t)) }
     ensures stays { Stays terms.old terms.new }
     ensures held { IfOk result (λ t. HasExpr terms.new t.expr) }
 {

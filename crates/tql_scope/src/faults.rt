@@ -1,5 +1,6 @@
 //! The faults that were found so far, of which only the first in the order of report is kept.
 ghost use Rattle.std.specs.Prelude.{◌≡◌, Some, None, [], ◌∷◌, option_map};
+ghost use Rattle.tql_spec.specs.Creation as creation;
 ghost use Rattle.tql_spec.specs.Names.{refuse_if};
 ghost use Rattle.tql_value.specs.Refusals.{refusal_of};
 ghost use Rattle.tql_scope.specs.Gathered.{after, Gathers};
@@ -49,6 +50,20 @@ impl Faults {
     {
         if is_present {
             self.least = Some(earlier(self.least, refusal));
+        }
+    }
+
+    /// The number of a column; where there is none, a fault, and the first column stands for it.
+    #[tactic(auto, using(crate::proofs::Gathering::gathering))]
+    pub fn or_first(&mut self, number: Option<usize>) -> usize
+        ensures { Gathers (creation.or_first number) self.old self.new result }
+    {
+        match number {
+            Some(number) => number,
+            None => {
+                self.refuse_if(true, Refusal::NameUnknownAmbiguousOrRepeated);
+                0
+            }
         }
     }
 

@@ -28,7 +28,8 @@ pub fn differ(kind: Option<Kind>, other: Option<Kind>) -> bool
 
 /// Whether one of two operands is known to be no whole number.
 pub(crate) fn is_no_number(left: Option<Kind>, right: Option<Kind>) -> bool
-    ensures { result ≡ (names.is_other_kind Ints (option_map plain_kind left) || names.is_other_kind Ints (option_map plain_kind right)) }
+    ensures { result ≡ (names.is_other_kind Ints (option_map plain_kind left)
+        || names.is_other_kind Ints (option_map plain_kind right)) }
 {
     is_other_kind(Kind::Int, left) || is_other_kind(Kind::Int, right)
 }

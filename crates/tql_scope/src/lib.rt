@@ -1,5 +1,5 @@
-//! Names, literals and expressions, bound to the terms of a statement. Every fault is gathered, and the first in the order of
-//! report is kept.
+//! Names, literals and expressions, bound to the terms of a statement. Every fault is gathered, and the first in the
+//! order of report is kept.
 #![tactic(auto)]
 
 pub mod aggregates;

@@ -32,7 +32,8 @@ use tql_value::value::{Kind, Value};
 /// A literal of this kind.
 fn literal(terms: &mut Terms, value: Value, kind: Option<Kind>) -> Result<Typed, AllocError>
     requires { IsPrintable (datum_of_value value) }
-    ensures bound { IfOk result (λ t. typed_of terms.new t ≡ literal_of (datum_of_value value) (option_map plain_kind kind)) }
+    ensures bound { IfOk result
+        (λ t. typed_of terms.new t ≡ literal_of (datum_of_value value) (option_map plain_kind kind)) }
     ensures stays { Stays terms.old terms.new }
     ensures held { IfOk result (λ t. HasExpr terms.new t.expr) }
 {
@@ -65,7 +66,8 @@ fn column_at(terms: &mut Terms, number: usize, kind: Kind) -> Result<Typed, Allo
 /// The column that a thing is.
 #[tactic(auto, using(crate::proofs::Gathering::gathering))]
 fn as_column(thing: Thing<'_>, terms: &mut Terms, faults: &mut Faults) -> Result<Typed, AllocError>
-    ensures bound { IfOk result (λ t. Gathers (names.one_column (thing_of thing.entry ∷ [])) faults.old faults.new (typed_of terms.new t)) }
+    ensures bound { IfOk result
+        (λ t. Gathers (names.one_column (thing_of thing.entry ∷ [])) faults.old faults.new (typed_of terms.new t)) }
     ensures stays { Stays terms.old terms.new }
     ensures held { IfOk result (λ t. HasExpr terms.new t.expr) }
 {
@@ -85,7 +87,8 @@ fn one_column(
     terms: &mut Terms,
     faults: &mut Faults,
 ) -> Result<Typed, AllocError>
-    ensures bound { IfOk result (λ t. Gathers (names.one_column (things_of things.now)) faults.old faults.new (typed_of terms.new t)) }
+    ensures bound { IfOk result
+        (λ t. Gathers (names.one_column (things_of things.now)) faults.old faults.new (typed_of terms.new t)) }
     ensures stays { Stays terms.old terms.new }
     ensures held { IfOk result (λ t. HasExpr terms.new t.expr) }
 {
@@ -106,7 +109,9 @@ pub(crate) fn column(
     terms: &mut Terms,
     faults: &mut Faults,
 ) -> Result<Typed, AllocError>
-    ensures bound { IfOk result (λ t. Gathers (names.one_column (names.things (scope_of scope.now) (named_of named.entry))) faults.old faults.new (typed_of terms.new t)) }
+    ensures bound { IfOk result
+        (λ t. Gathers (names.one_column (names.things (scope_of scope.now) (named_of named.entry))) faults.old
+        faults.new (typed_of terms.new t)) }
     ensures stays { Stays terms.old terms.new }
     ensures held { IfOk result (λ t. HasExpr terms.new t.expr) }
 {
@@ -117,7 +122,9 @@ pub(crate) fn column(
 /// What stands in the place of a literal that is out of range.
 #[tactic(auto, using(crate::proofs::Gathering::gathering))]
 fn out_of_range(kind: Kind, terms: &mut Terms, faults: &mut Faults) -> Result<Typed, AllocError>
-    ensures bound { IfOk result (λ t. Gathers (names.unless true ValueOutOfRange (literal_of datum.Null (Some (plain_kind kind)))) faults.old faults.new (typed_of terms.new t)) }
+    ensures bound { IfOk result
+        (λ t. Gathers (names.unless true ValueOutOfRange (literal_of datum.Null (Some (plain_kind kind)))) faults.old
+        faults.new (typed_of terms.new t)) }
     ensures stays { Stays terms.old terms.new }
     ensures held { IfOk result (λ t. HasExpr terms.new t.expr) }
 {
@@ -133,7 +140,8 @@ pub(crate) fn number(
     terms: &mut Terms,
     faults: &mut Faults,
 ) -> Result<Typed, AllocError>
-    ensures bound { IfOk result (λ t. Gathers (number_literal is_negative digits.now) faults.old faults.new (typed_of terms.new t)) }
+    ensures bound { IfOk result
+        (λ t. Gathers (number_literal is_negative digits.now) faults.old faults.new (typed_of terms.new t)) }
     ensures stays { Stays terms.old terms.new }
     ensures held { IfOk result (λ t. HasExpr terms.new t.expr) }
 {
@@ -145,7 +153,8 @@ pub(crate) fn number(
 
 /// A text.
 pub(crate) fn text(memory: Memory, quoted: &str, terms: &mut Terms) -> Result<Typed, AllocError>
-    ensures bound { IfOk result (λ t. typed_of terms.new t ≡ names.typed (bound.Literal (datum.Text (content 39 quoted.now))) datum.Texts) }
+    ensures bound { IfOk result
+        (λ t. typed_of terms.new t ≡ names.typed (bound.Literal (datum.Text (content 39 quoted.now))) datum.Texts) }
     ensures stays { Stays terms.old terms.new }
     ensures held { IfOk result (λ t. HasExpr terms.new t.expr) }
 {
@@ -161,7 +170,9 @@ pub(crate) fn date(
     terms: &mut Terms,
     faults: &mut Faults,
 ) -> Result<Typed, AllocError>
-    ensures bound { IfOk result (λ t. Gathers (names.literal datum.Days datum.Day (calendar.read_date (content 39 quoted.now))) faults.old faults.new (typed_of terms.new t)) }
+    ensures bound { IfOk result
+        (λ t. Gathers (names.literal datum.Days datum.Day (calendar.read_date (content 39 quoted.now))) faults.old
+        faults.new (typed_of terms.new t)) }
     ensures stays { Stays terms.old terms.new }
     ensures held { IfOk result (λ t. HasExpr terms.new t.expr) }
 {
@@ -180,7 +191,9 @@ pub(crate) fn timestamp(
     terms: &mut Terms,
     faults: &mut Faults,
 ) -> Result<Typed, AllocError>
-    ensures bound { IfOk result (λ t. Gathers (names.literal datum.Moments datum.Moment (calendar.read_timestamp (content 39 quoted.now))) faults.old faults.new (typed_of terms.new t)) }
+    ensures bound { IfOk result
+        (λ t. Gathers (names.literal datum.Moments datum.Moment (calendar.read_timestamp (content 39 quoted.now)))
+        faults.old faults.new (typed_of terms.new t)) }
     ensures stays { Stays terms.old terms.new }
     ensures held { IfOk result (λ t. HasExpr terms.new t.expr) }
 {

@@ -29,8 +29,8 @@ fn or_bad_moment(moment: Option<i64>, faults: &mut Faults) -> i64
     }
 }
 
-/// The moment of a TIMESTAMP literal by its quoted text, in microseconds since 1970-01-01. A fault where it reads as none. The only error
-/// is a refused growth.
+/// The moment of a TIMESTAMP literal by its quoted text, in microseconds since 1970-01-01. A fault where it reads as
+/// none. The only error is a refused growth.
 pub fn moment(memory: Memory, quoted: &str, faults: &mut Faults) -> Result<i64, AllocError>
     ensures bound { IfOk result (λ m. Gathers (binding.moment (content 39 quoted.now)) faults.old faults.new m) }
     ensures within { IfOk result IsMoment }

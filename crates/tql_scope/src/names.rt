@@ -25,13 +25,6 @@ pub fn is_meant(qualifier: Option<&str>, known: &Known<'_>) -> bool
     }
 }
 
-/// Whether this is the name of the column.
-fn is_named(column: &Column, name: &str) -> bool
-    ensures { result ≡ same_text name.now (string_bytes column.now.name) }
-{
-    name == column.name.as_str()
-}
-
 /// Adds the columns of this name in one reference.
 fn columns_named<'a>(
     name: &str,
@@ -43,7 +36,7 @@ fn columns_named<'a>(
 {
     let columns: &'a [Column] = known.table.columns();
     for (index, column) in columns.iter().enumerate() {
-        if is_named(column, name) {
+        if column.is_named(name) {
             found.push(Thing::Column(known.offset + index, column))?;
         }
     }
@@ -74,7 +67,8 @@ fn periods_named<'a>(
     found: &mut Vec<Thing<'a>, Memory>,
 ) -> Result<(), AllocError>
     ensures { IfOk result (λ _. things_of found.new.items ≡ things_of found.old.items
-        ++ names.periods_named name.now known.now.offset known.now.table.now.columns (listed known.now.table.now.application)) }
+        ++ names.periods_named name.now known.now.offset known.now.table.now.columns
+        (listed known.now.table.now.application)) }
 {
     if let Some(application) = known.table.application() {
         if is_called(application, name) {
@@ -95,7 +89,9 @@ fn things_in<'a>(
     known: &Known<'a>,
     found: &mut Vec<Thing<'a>, Memory>,
 ) -> Result<(), AllocError>
-    ensures { IfOk result (λ _. things_of found.new.items ≡ things_of found.old.items ++ names.things_in name.now (known_of known.now)) }
+    ensures { IfOk result
+        (λ _. things_of found.new.items ≡ things_of found.old.items
+        ++ names.things_in name.now (known_of known.now)) }
 {
     columns_named(name, known, found)?;
     periods_named(name, known, found)
@@ -108,7 +104,10 @@ fn things_called<'a>(
     qualifier: Option<&str>,
     name: &str,
 ) -> Result<Vec<Thing<'a>, Memory>, AllocError>
-    ensures { IfOk result (λ v. things_of v.items ≡ names.things (scope_of scope.now) (record { qualifier = option_map text_of qualifier.entry; name = name.now })) }
+    ensures { IfOk result
+        (λ v. things_of v.items
+        ≡ names.things (scope_of scope.now)
+        (record { qualifier = option_map text_of qualifier.entry; name = name.now })) }
 {
     let mut found = Vec::new(memory);
     for known in scope {

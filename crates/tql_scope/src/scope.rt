@@ -6,7 +6,8 @@ use tql_catalog::table_def::TableDef;
 use tql_expr::terms::ExprId;
 use tql_value::value::Kind;
 
-/// A table reference in scope: how it is known, its table, and the number of the first of its columns. A scope is a slice of these.
+/// A table reference in scope: how it is known, its table, and the number of the first of its columns. A scope is a
+/// slice of these.
 #[derive(Clone, Copy)]
 pub struct Known<'a> {
     pub name: &'a str,

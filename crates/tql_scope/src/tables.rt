@@ -34,7 +34,9 @@ pub fn table_number(
     name: Name<'_>,
     faults: &mut Faults,
 ) -> Result<usize, AllocError>
-    ensures { IfOk result (λ place. Gathers (binding.table_number (definitions_of catalog.now) (name_of name.entry)) faults.old faults.new place) }
+    ensures { IfOk result
+        (λ place. Gathers (binding.table_number (definitions_of catalog.now) (name_of name.entry))
+        faults.old faults.new place) }
 {
     let name = meant(memory, name)?;
     Ok(or_no_table(catalog.place_of(&name), faults))

@@ -23,13 +23,12 @@ use Rattle.tql_expr.specs.declared.terms.Terms.{Terms}
 use Rattle.tql_scope.specs.Gathered.{Gathers}
 use Rattle.tql_scope.specs.Scopes.{known_of, scope_of}
 use Rattle.tql_scope.specs.declared.scope.Known.{Known}
-use Rattle.tql_scope.proofs.Gathering.{bound}
+use Rattle.tql_scope.proofs.Gathering.{bound, sound_here}
 use Rattle.tql_filter.proofs.Lists.{conds_kept, conds_there}
 use Rattle.tql_select.specs.From.{source_by}
 use Rattle.tql_select.specs.From.{AddsJoin, HasJoins, IsPlaced, joined_of, kind_in, on_in, reference_in, source_of}
 use Rattle.tql_select.specs.declared.from.Linked.{Linked}
 use Rattle.tql_select.specs.declared.sources.Source as code
-use Rattle.tql_select.proofs.ReferenceLaws.{sound_here}
 
 -- ---- a reference
 

@@ -16,13 +16,12 @@ use Rattle.tql_bound.specs.declared.question.Join.{Join}
 use Rattle.tql_expr.specs.Meaning.{HasCond, Stays}
 use Rattle.tql_expr.specs.declared.terms.Terms.{Terms}
 use Rattle.tql_scope.specs.Gathered.{Gathers}
-use Rattle.tql_scope.proofs.Gathering.{bound}
+use Rattle.tql_scope.proofs.Gathering.{bound, sound_here}
 use Rattle.tql_select.specs.From.{HasJoins, linked_of}
 use Rattle.tql_select.specs.declared.from.Linked as code
 use Rattle.tql_select.specs.Selecting.{Clauses, clauses, selected, selected_by, selected_over, unrepeated}
 use Rattle.tql_select.specs.Shown.{Shown, shown, shown_by}
 use Rattle.tql_select.proofs.ChainLaws.{chains_kept}
-use Rattle.tql_select.proofs.ReferenceLaws.{sound_here}
 
 -- ---- the parts are the whole
 

@@ -8,11 +8,7 @@ use Rattle.tql_spec.specs.Names.{Checked, ◌>>=◌, sound, refuse_if}
 use Rattle.tql_spec.specs.Refusal.{Refusal, FormNotAllowedHere}
 use Rattle.tql_spec.specs.Syntax.{MomentTree, AsOfTree}
 use Rattle.tql_scope.specs.Gathered.{Gathers}
-use Rattle.tql_scope.proofs.Gathering.{after_nil, bound}
-
--- a value without a fault
-pub sound_here : {B : Type 0} (x : B) (now : Option Refusal) → Gathers (sound x) now now x
-sound_here x now = record { value = refl; least = sym (after_nil now) }
+use Rattle.tql_scope.proofs.Gathering.{sound_here, bound}
 
 -- whether something is missing, told by whether it is there
 pub missing : {X : Type 0} (o : Option X) (b : Bool) → b ≡ is_some o → is_none o ≡ not b

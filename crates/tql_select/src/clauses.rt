@@ -21,8 +21,8 @@ use tql_scope::scope::Known;
 use tql_tree::statement::Select;
 use tql_value::refusal::Refusal;
 
-/// The conjuncts of WHERE, the grouping columns, none of them where there is no GROUP BY, and nothing where the query is not grouped, the
-/// conjuncts of HAVING, and the output columns.
+/// The conjuncts of WHERE, the grouping columns, none of them where there is no GROUP BY, and nothing where the query
+/// is not grouped, the conjuncts of HAVING, and the output columns.
 pub struct Clauses {
     pub filter: Vec<CondId, Memory>,
     pub grouping: Option<Vec<usize, Memory>>,
@@ -56,7 +56,8 @@ impl Clauses {
     ) -> Asked
         requires joined { All (λ c. All (λ j. All (HasCond terms) j.on.items) c.joins.items) chains.items }
         requires held { HoldsClauses terms self }
-        ensures { asked_of result ≡ selected_by (map (bound.chain_of terms) chains.entry.items) is_distinct (clauses_of terms self)
+        ensures { asked_of result ≡ selected_by (map (bound.chain_of terms) chains.entry.items)
+            is_distinct (clauses_of terms self)
             (map bound.order_of ordering.entry.items) }
     {
         let Clauses {
@@ -92,9 +93,9 @@ fn grouping_of(is_grouped: bool, groups: Vec<usize, Memory>) -> Option<Vec<usize
     if is_grouped { Some(groups) } else { None }
 }
 
-/// The clauses of a query, over the references in scope. Faults: a name is unknown or ambiguous; kinds do not fit; a literal is out of
-/// range; an aggregate in WHERE or inside an aggregate; in a grouped query `*`, or outside the aggregates a column that is none of the
-/// grouping ones. The only error is a refused growth.
+/// The clauses of a query, over the references in scope. Faults: a name is unknown or ambiguous; kinds do not fit; a
+/// literal is out of range; an aggregate in WHERE or inside an aggregate; in a grouped query `*`, or outside the
+/// aggregates a column that is none of the grouping ones. The only error is a refused growth.
 pub fn bound_clauses(
     memory: Memory,
     scope: &[Known<'_>],
@@ -102,7 +103,9 @@ pub fn bound_clauses(
     terms: &mut Terms,
     faults: &mut Faults,
 ) -> Result<Clauses, AllocError>
-    ensures bound { IfOk result (λ x. Gathers (clauses (scope_of scope.now) (select_of select.now)) faults.old faults.new (clauses_of terms.new x)) }
+    ensures bound { IfOk result
+        (λ x. Gathers (clauses (scope_of scope.now) (select_of select.now)) faults.old
+        faults.new (clauses_of terms.new x)) }
     ensures stays { Stays terms.old terms.new }
     ensures held { IfOk result (λ x. HoldsClauses terms.new x) }
 {

@@ -9,7 +9,8 @@ ghost use Rattle.tql_expr.specs.Meaning.{Stays};
 ghost use Rattle.tql_tree.specs.Statements.{chain_of, ref_of};
 ghost use Rattle.tql_scope.specs.Gathered.{Gathers};
 ghost use Rattle.tql_scope.specs.Scopes.{scope_of};
-ghost use Rattle.tql_select.specs.From.{linked_of, name_in, names_in, names_of, BeginsChain, BindsChain, HasJoins, IsPlaced, PushesChain};
+ghost use Rattle.tql_select.specs.From.{linked_of, name_in, names_in, names_of, BeginsChain, BindsChain, HasJoins};
+ghost use Rattle.tql_select.specs.From.{IsPlaced, PushesChain};
 
 use crate::joins::add_join;
 use crate::sources::bound_source;
@@ -43,7 +44,8 @@ fn first_linked<'a>(
     requires nothing { nothing.now ≡ no_table }
     requires named { name.now ≡ name_in (ref_of written) }
     requires narrow { All (λ d. length d.columns ≤ 64) (definitions_of catalog.now) }
-    ensures bound { IfOk result (λ l. BeginsChain (definitions_of catalog.now) (ref_of written.entry) faults.old faults.new l) }
+    ensures bound { IfOk result
+        (λ l. BeginsChain (definitions_of catalog.now) (ref_of written.entry) faults.old faults.new l) }
 {
     let source = bound_source(memory, catalog, nothing, name, 0, written, faults)?;
     let mut scope: Vec<Known<'a>, Memory> = Vec::new(memory);
@@ -72,7 +74,8 @@ fn bound_chain<'a>(
     requires named { map string_bytes names.now ≡ names_in (chain_of written.now) }
     requires few { chain_length (chain_of written.now) ≤ 8 }
     requires narrow { All (λ d. length d.columns ≤ 64) (definitions_of catalog.now) }
-    ensures binds { IfOk result (λ l. BindsChain (definitions_of catalog.now) (chain_of written.now) faults.old faults.new terms.new l) }
+    ensures binds { IfOk result
+        (λ l. BindsChain (definitions_of catalog.now) (chain_of written.now) faults.old faults.new terms.new l) }
     ensures stays { Stays terms.old terms.new }
 {
     let mut linked = first_linked(
@@ -114,7 +117,9 @@ fn push_chain<'a>(
     requires named { map string_bytes names.now ≡ names_in (chain_of written.now) }
     requires few { chain_length (chain_of written.now) ≤ 8 }
     requires narrow { All (λ d. length d.columns ≤ 64) (definitions_of catalog.now) }
-    ensures pushes { IfOk result (λ _. PushesChain (definitions_of catalog.now) (chain_of written.now) faults.old faults.new terms.new all.old.items all.new.items) }
+    ensures pushes { IfOk result
+        (λ _. PushesChain (definitions_of catalog.now) (chain_of written.now) faults.old faults.new
+        terms.new all.old.items all.new.items) }
     ensures stays { Stays terms.old terms.new }
 {
     let linked = bound_chain(memory, catalog, nothing, names, written, terms, faults)?;
@@ -122,10 +127,11 @@ fn push_chain<'a>(
     Ok(())
 }
 
-/// The chains of FROM bound, from the left: the first and those behind it, whose references are known by these names (ISO/IEC 9075-2:2011,
-/// 7.5 and 7.7). Where a table is not found, binding goes on over `nothing`. Faults: no table has the name; FOR SYSTEM_TIME on a table that
-/// is not system-versioned; a literal that reads as no moment or is out of range; in an ON a name that is unknown or ambiguous, kinds that
-/// do not fit, an aggregate. The only error is a refused growth.
+/// The chains of FROM bound, from the left: the first and those behind it, whose references are known by these names
+/// (ISO/IEC 9075-2:2011, 7.5 and 7.7). Where a table is not found, binding goes on over `nothing`. Faults: no table
+/// has the name; FOR SYSTEM_TIME on a table that is not system-versioned; a literal that reads as no moment or is out
+/// of range; in an ON a name that is unknown or ambiguous, kinds that do not fit, an aggregate. The only error is a
+/// refused growth.
 pub fn chains<'a>(
     memory: Memory,
     catalog: &'a Catalog,
@@ -140,7 +146,9 @@ pub fn chains<'a>(
     requires named { names_of names.now ≡ map names_in (chain_of first.now ∷ map chain_of more.now) }
     requires few { chain_length (chain_of first.now) + sum_by chain_length (map chain_of more.now) ≤ 8 }
     requires narrow { All (λ d. length d.columns ≤ 64) (definitions_of catalog.now) }
-    ensures bound { IfOk result (λ v. Gathers (check_each (binding.chain (definitions_of catalog.now)) (chain_of first.now ∷ map chain_of more.now)) faults.old faults.new (map (linked_of terms.new) v.items)) }
+    ensures bound { IfOk result
+        (λ v. Gathers (check_each (binding.chain (definitions_of catalog.now))
+        (chain_of first.now ∷ map chain_of more.now)) faults.old faults.new (map (linked_of terms.new) v.items)) }
     ensures stays { Stays terms.old terms.new }
     ensures held { IfOk result (λ v. All (HasJoins terms.new) v.items) }
     ensures placed { IfOk result (λ v. All IsPlaced v.items) }

@@ -59,21 +59,24 @@ fn group_column(
     named: &Named<'_>,
     faults: &mut Faults,
 ) -> Result<usize, AllocError>
-    ensures { IfOk result (λ n. Gathers (binding.group_column (scope_of scope.now) (named_of named.now)) faults.old faults.new n) }
+    ensures { IfOk result
+        (λ n. Gathers (binding.group_column (scope_of scope.now) (named_of named.now)) faults.old faults.new n) }
 {
     let found = things(memory, scope, *named)?;
     Ok(only_column(&found, faults))
 }
 
-/// The numbers of the columns of GROUP BY (ISO/IEC 9075-2:2011, 7.9). A fault where a name is not that of exactly one column. The only
-/// error is a refused growth.
+/// The numbers of the columns of GROUP BY (ISO/IEC 9075-2:2011, 7.9). A fault where a name is not that of exactly one
+/// column. The only error is a refused growth.
 pub fn group_columns(
     memory: Memory,
     scope: &[Known<'_>],
     written: &[Named<'_>],
     faults: &mut Faults,
 ) -> Result<Vec<usize, Memory>, AllocError>
-    ensures { IfOk result (λ v. Gathers (check_each (binding.group_column (scope_of scope.now)) (map named_of written.now)) faults.old faults.new v.items) }
+    ensures { IfOk result
+        (λ v. Gathers (check_each (binding.group_column (scope_of scope.now)) (map named_of written.now))
+        faults.old faults.new v.items) }
 {
     let mut numbers = Vec::with_capacity(memory, written.len())?;
     for index in 0..written.len() {
@@ -114,7 +117,8 @@ fn finds_any_in(terms: &Terms, search: Search<'_>, conjuncts: &[CondId]) -> bool
 pub fn is_grouped(select: &Select<'_>, terms: &Terms, items: &[ExprId], having: &[CondId]) -> bool
     requires items { All (HasExpr terms.now) items.now }
     requires having { All (HasCond terms.now) having.now }
-    ensures { result ≡ binding.is_grouped (select_of select.now) (map (expr terms.now) items.now) (map (cond terms.now) having.now) }
+    ensures { result ≡ binding.is_grouped (select_of select.now) (map (expr terms.now) items.now)
+        (map (cond terms.now) having.now) }
 {
     !select.grouping.is_empty()
         || select.having.is_some()
@@ -139,7 +143,8 @@ fn has_loose(
 ) -> bool
     requires items { All (HasExpr terms.now) items.now }
     requires having { All (HasCond terms.now) having.now }
-    ensures { result ≡ (binding.is_star (select_of select.now).items || list_any (binding.is_loose groups.now) (map (expr terms.now) items.now)
+    ensures { result ≡ (binding.is_star (select_of select.now).items
+        || list_any (binding.is_loose groups.now) (map (expr terms.now) items.now)
         || list_any (has_expr (binding.is_loose groups.now)) (map (cond terms.now) having.now)) }
 {
     is_star(&select.items)
@@ -147,8 +152,8 @@ fn has_loose(
         || finds_any_in(terms, Search::Loose(groups), having)
 }
 
-/// Whether an aggregate stands inside an aggregate, or in a grouped query `*` or a column that is none of the grouping ones stands outside
-/// the aggregates (ISO/IEC 9075-2:2011, 7.12).
+/// Whether an aggregate stands inside an aggregate, or in a grouped query `*` or a column that is none of the
+/// grouping ones stands outside the aggregates (ISO/IEC 9075-2:2011, 7.12).
 pub fn has_grouping_fault(
     is_grouped: bool,
     groups: &[usize],
@@ -159,7 +164,8 @@ pub fn has_grouping_fault(
 ) -> bool
     requires items { All (HasExpr terms.now) items.now }
     requires having { All (HasCond terms.now) having.now }
-    ensures { result ≡ binding.grouping_faults is_grouped groups.now (select_of select.now) (map (expr terms.now) items.now) (map (cond terms.now) having.now) }
+    ensures { result ≡ binding.grouping_faults is_grouped groups.now (select_of select.now)
+        (map (expr terms.now) items.now) (map (cond terms.now) having.now) }
 {
     finds_any(terms, Search::Nested, items)
         || finds_any_in(terms, Search::Nested, having)

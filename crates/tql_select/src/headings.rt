@@ -25,7 +25,8 @@ fn own_heading(
     value: &Expr<'_>,
     position: usize,
 ) -> Result<String<Memory>, AllocError>
-    ensures { IfOk result (λ h. string_bytes h ≡ binding.heading_by None (names.sole_name (expr_of value.now)) position) }
+    ensures { IfOk result
+        (λ h. string_bytes h ≡ binding.heading_by None (names.sole_name (expr_of value.now)) position) }
 {
     match sole_name(value) {
         Some(named) => meant(memory, named.name),
@@ -33,14 +34,16 @@ fn own_heading(
     }
 }
 
-/// The heading of an item at a position, counted from 1: its alias; else the column's name, where it is a column alone; else `C` and the
-/// position. The only error is a refused growth.
+/// The heading of an item at a position, counted from 1: its alias; else the column's name, where it is a column
+/// alone; else `C` and the position. The only error is a refused growth.
 pub fn heading(
     memory: Memory,
     item: &Item<'_>,
     position: usize,
 ) -> Result<String<Memory>, AllocError>
-    ensures { IfOk result (λ h. string_bytes h ≡ binding.heading_by (item_of item.now).alias (names.sole_name (item_of item.now).value) position) }
+    ensures { IfOk result
+        (λ h. string_bytes h ≡ binding.heading_by (item_of item.now).alias
+        (names.sole_name (item_of item.now).value) position) }
 {
     match item.alias {
         Some(alias) => meant(memory, alias),

@@ -51,7 +51,9 @@ fn on(
     terms: &mut Terms,
     faults: &mut Faults,
 ) -> Result<Vec<CondId, Memory>, AllocError>
-    ensures bound { IfOk result (λ v. Gathers (on_in (scope_of scope.now) (join_of join.now)) faults.old faults.new (map (cond terms.new) v.items)) }
+    ensures bound { IfOk result
+        (λ v. Gathers (on_in (scope_of scope.now) (join_of join.now)) faults.old faults.new
+        (map (cond terms.new) v.items)) }
     ensures stays { Stays terms.old terms.new }
     ensures held { IfOk result (λ v. All (HasCond terms.new) v.items) }
 {
@@ -62,7 +64,8 @@ fn on(
     }
 }
 
-/// One more join of a chain, of a reference that is known by this name: its ON sees the references so far and the one joined.
+/// One more join of a chain, of a reference that is known by this name: its ON sees the references so far and the one
+/// joined.
 pub(crate) fn add_join<'a>(
     memory: Memory,
     catalog: &'a Catalog,
@@ -79,7 +82,9 @@ pub(crate) fn add_join<'a>(
     requires narrow { All (λ d. length d.columns ≤ 64) (definitions_of catalog.now) }
     requires held { HasJoins terms.old linked.old }
     requires placed { IsPlaced linked.old }
-    ensures adds { IfOk result (λ _. AddsJoin (definitions_of catalog.now) (join_of join.now) faults.old faults.new terms.old terms.new linked.old linked.new) }
+    ensures adds { IfOk result
+        (λ _. AddsJoin (definitions_of catalog.now) (join_of join.now) faults.old faults.new terms.old
+        terms.new linked.old linked.new) }
     ensures stays { Stays terms.old terms.new }
 {
     let source = bound_source(

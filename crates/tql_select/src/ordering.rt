@@ -66,7 +66,9 @@ fn heading_place(
     name: Name<'_>,
     faults: &mut Faults,
 ) -> Result<usize, AllocError>
-    ensures { IfOk result (λ i. Gathers (binding.key_place (map string_bytes headings.now) (ByHeading (name_of name.entry))) faults.old faults.new i) }
+    ensures { IfOk result
+        (λ i. Gathers (binding.key_place (map string_bytes headings.now) (ByHeading (name_of name.entry)))
+        faults.old faults.new i) }
 {
     let name = meant(memory, name)?;
     let places = places_of(memory, headings, name.as_str())?;
@@ -106,7 +108,9 @@ fn key_place(
     key: KeyName<'_>,
     faults: &mut Faults,
 ) -> Result<usize, AllocError>
-    ensures { IfOk result (λ i. Gathers (binding.key_place (map string_bytes headings.now) (key_name_of key.entry)) faults.old faults.new i) }
+    ensures { IfOk result
+        (λ i. Gathers (binding.key_place (map string_bytes headings.now) (key_name_of key.entry))
+        faults.old faults.new i) }
 {
     match key {
         KeyName::Heading(name) => heading_place(memory, headings, name, faults),
@@ -121,7 +125,9 @@ fn order_key(
     key: OrderTree<'_>,
     faults: &mut Faults,
 ) -> Result<OrderKey, AllocError>
-    ensures { IfOk result (λ k. Gathers (binding.order_key (map string_bytes headings.now) (order_of key.entry)) faults.old faults.new (bound.order_of k)) }
+    ensures { IfOk result
+        (λ k. Gathers (binding.order_key (map string_bytes headings.now) (order_of key.entry))
+        faults.old faults.new (bound.order_of k)) }
 {
     let column = key_place(memory, headings, key.key, faults)?;
     Ok(OrderKey {
@@ -130,15 +136,18 @@ fn order_key(
     })
 }
 
-/// The keys of ORDER BY: each names the output column with a heading, or at a position counted from 1. A fault where a heading is not that
-/// of exactly one column, and where no column is at a position. The only error is a refused growth.
+/// The keys of ORDER BY: each names the output column with a heading, or at a position counted from 1. A fault where
+/// a heading is not that of exactly one column, and where no column is at a position. The only error is a refused
+/// growth.
 pub fn order_keys(
     memory: Memory,
     headings: &[String<Memory>],
     keys: &[OrderTree<'_>],
     faults: &mut Faults,
 ) -> Result<Vec<OrderKey, Memory>, AllocError>
-    ensures { IfOk result (λ v. Gathers (check_each (binding.order_key (map string_bytes headings.now)) (map order_of keys.now)) faults.old faults.new (map bound.order_of v.items)) }
+    ensures { IfOk result
+        (λ v. Gathers (check_each (binding.order_key (map string_bytes headings.now)) (map order_of keys.now))
+        faults.old faults.new (map bound.order_of v.items)) }
 {
     let mut bound = Vec::with_capacity(memory, keys.len())?;
     for index in 0..keys.len() {

@@ -21,7 +21,8 @@ use tql_scope::scope::Known;
 use tql_tree::statement::{Item, Items};
 use tql_value::value::Kind;
 
-/// The output columns of a select list: their values, their headings, and their kinds, each missing where it is not known.
+/// The output columns of a select list: their values, their headings, and their kinds, each missing where it is not
+/// known.
 #[derive(Drop)]
 pub struct SelectList {
     pub items: Vec<ExprId, Memory>,
@@ -53,7 +54,9 @@ fn push_item(
     terms: &mut Terms,
     faults: &mut Faults,
 ) -> Result<(), AllocError>
-    ensures pushes { IfOk result (λ _. PushesItem (scope_of scope.now) (item_of item.now) faults.old faults.new terms.new outputs.old outputs.new) }
+    ensures pushes { IfOk result
+        (λ _. PushesItem (scope_of scope.now) (item_of item.now) faults.old faults.new
+        terms.new outputs.old outputs.new) }
     ensures stays { Stays terms.old terms.new }
 {
     let value = sum(memory, scope, &item.value, terms, faults)?;
@@ -73,7 +76,9 @@ fn these(
     terms: &mut Terms,
     faults: &mut Faults,
 ) -> Result<SelectList, AllocError>
-    ensures bound { IfOk result (λ x. Gathers (shown (scope_of scope.now) (TheseItems (item_of first.now) (map item_of more.now))) faults.old faults.new (outputs_of terms.new x)) }
+    ensures bound { IfOk result
+        (λ x. Gathers (shown (scope_of scope.now) (TheseItems (item_of first.now) (map item_of more.now))) faults.old
+        faults.new (outputs_of terms.new x)) }
     ensures stays { Stays terms.old terms.new }
     ensures held { IfOk result (λ x. All (HasExpr terms.new) x.items.items) }
 {
@@ -94,7 +99,9 @@ fn push_column(
     terms: &mut Terms,
 ) -> Result<(), AllocError>
     requires { All (HasExpr terms.old) outputs.old.items.items }
-    ensures pushes { IfOk result (λ _. PushesOutputs (column_output number (column_of column.now) ∷ []) terms.old terms.new outputs.old outputs.new) }
+    ensures pushes { IfOk result
+        (λ _. PushesOutputs (column_output number (column_of column.now) ∷ []) terms.old
+        terms.new outputs.old outputs.new) }
     ensures stays { Stays terms.old terms.new }
 {
     let value = terms.push_column(number)?;
@@ -113,7 +120,9 @@ fn push_columns(
     terms: &mut Terms,
 ) -> Result<(), AllocError>
     requires { All (HasExpr terms.old) outputs.old.items.items }
-    ensures pushes { IfOk result (λ _. PushesOutputs (binding.all_columns_from known.now.offset known.now.table.now.columns) terms.old terms.new outputs.old outputs.new) }
+    ensures pushes { IfOk result
+        (λ _. PushesOutputs (binding.all_columns_from known.now.offset known.now.table.now.columns) terms.old
+        terms.new outputs.old outputs.new) }
     ensures stays { Stays terms.old terms.new }
 {
     let columns = known.table.columns();
@@ -146,8 +155,8 @@ fn all_columns(
     Ok(outputs)
 }
 
-/// The output columns of a select list: what they are, their headings, and their kinds. Faults: a name is unknown or ambiguous; kinds do
-/// not fit; a literal is out of range. The only error is a refused growth.
+/// The output columns of a select list: what they are, their headings, and their kinds. Faults: a name is unknown or
+/// ambiguous; kinds do not fit; a literal is out of range. The only error is a refused growth.
 pub fn outputs(
     memory: Memory,
     scope: &[Known<'_>],
@@ -155,7 +164,9 @@ pub fn outputs(
     terms: &mut Terms,
     faults: &mut Faults,
 ) -> Result<SelectList, AllocError>
-    ensures bound { IfOk result (λ x. Gathers (shown (scope_of scope.now) (items_of items.now)) faults.old faults.new (outputs_of terms.new x)) }
+    ensures bound { IfOk result
+        (λ x. Gathers (shown (scope_of scope.now) (items_of items.now)) faults.old
+        faults.new (outputs_of terms.new x)) }
     ensures stays { Stays terms.old terms.new }
     ensures held { IfOk result (λ x. All (HasExpr terms.new) x.items.items) }
 {

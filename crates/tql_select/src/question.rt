@@ -60,7 +60,9 @@ fn question_over(
     requires named { names_of names.now ≡ map names_in ((select_of select.now).first ∷ (select_of select.now).more) }
     requires few { reference_count (select_of select.now) ≤ 8 }
     requires narrow { All (λ d. length d.columns ≤ 64) (definitions_of catalog.now) }
-    ensures { IfOk result (λ x. Gathers (binding.select (definitions_of catalog.now) (select_of select.now) (map order_of keys.now)) faults.old faults.new (asked_of x)) }
+    ensures { IfOk result
+        (λ x. Gathers (binding.select (definitions_of catalog.now) (select_of select.now) (map order_of keys.now))
+        faults.old faults.new (asked_of x)) }
 {
     let mut terms = Terms::new(memory);
     let linked = chains(
@@ -84,10 +86,11 @@ fn question_over(
     Ok(clauses.into_question(terms, chains, select.is_distinct, ordering))
 }
 
-/// The question of a query with its names bound (ISO/IEC 9075-2:2011, 7.16 and 14.3). Faults: no table has the name; FOR SYSTEM_TIME on a
-/// table that is not system-versioned; a literal that reads as no moment or is out of range; a name that is unknown, ambiguous or repeated;
-/// kinds that do not fit; an aggregate in WHERE, in an ON or inside an aggregate; in a grouped query `*`, or outside the aggregates a column
-/// that is none of the grouping ones. The only error is a refused growth.
+/// The question of a query with its names bound (ISO/IEC 9075-2:2011, 7.16 and 14.3). Faults: no table has the name;
+/// FOR SYSTEM_TIME on a table that is not system-versioned; a literal that reads as no moment or is out of range; a
+/// name that is unknown, ambiguous or repeated; kinds that do not fit; an aggregate in WHERE, in an ON or inside an
+/// aggregate; in a grouped query `*`, or outside the aggregates a column that is none of the grouping ones. The only
+/// error is a refused growth.
 pub fn question(
     memory: Memory,
     catalog: &Catalog,
@@ -97,7 +100,9 @@ pub fn question(
 ) -> Result<Asked, AllocError>
     requires few { reference_count (select_of select.now) ≤ 8 }
     requires narrow { All (λ d. length d.columns ≤ 64) (definitions_of catalog.now) }
-    ensures { IfOk result (λ x. Gathers (binding.select (definitions_of catalog.now) (select_of select.now) (map order_of keys.now)) faults.old faults.new (asked_of x)) }
+    ensures { IfOk result
+        (λ x. Gathers (binding.select (definitions_of catalog.now) (select_of select.now) (map order_of keys.now))
+        faults.old faults.new (asked_of x)) }
 {
     let names = reference_names(memory, &select.first, &select.more)?;
     let nothing = TableDef::nothing(memory);

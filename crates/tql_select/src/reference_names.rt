@@ -24,8 +24,8 @@ fn chain_names(
     Ok(names)
 }
 
-/// The names by which the references of FROM are known, a list for each chain: the first, and those behind it. The only error is a refused
-/// growth.
+/// The names by which the references of FROM are known, a list for each chain: the first, and those behind it. The
+/// only error is a refused growth.
 pub fn reference_names(
     memory: Memory,
     first: &ChainTree<'_>,

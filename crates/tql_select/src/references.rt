@@ -24,15 +24,16 @@ fn refuse_unversioned(definition: &TableDef, faults: &mut Faults)
     faults.refuse_if(!definition.is_versioned(), Refusal::FormNotAllowedHere);
 }
 
-/// Which versions a FOR SYSTEM_TIME clause asks for (ISO/IEC 9075-2:2011, 7.6). Faults: the table is not system-versioned; a literal reads
-/// as no moment. The only error is a refused growth.
+/// Which versions a FOR SYSTEM_TIME clause asks for (ISO/IEC 9075-2:2011, 7.6). Faults: the table is not
+/// system-versioned; a literal reads as no moment. The only error is a refused growth.
 pub fn when(
     memory: Memory,
     definition: &TableDef,
     span: Span<'_>,
     faults: &mut Faults,
 ) -> Result<When, AllocError>
-    ensures { IfOk result (λ w. Gathers (binding.when definition.now (span_of span.entry)) faults.old faults.new (when_of w)) }
+    ensures { IfOk result
+        (λ w. Gathers (binding.when definition.now (span_of span.entry)) faults.old faults.new (when_of w)) }
 {
     match span {
         Span::None => Ok(When::Now),
@@ -58,7 +59,8 @@ pub fn when(
 
 /// The name by which a reference is known: its alias, or its table's name. The only error is a refused growth.
 pub fn known_as(memory: Memory, reference: RefTree<'_>) -> Result<String<Memory>, AllocError>
-    ensures { IfOk result (λ name. string_bytes name ≡ binding.known_as (ref_of reference.entry) (ref_of reference.entry).alias) }
+    ensures { IfOk result
+        (λ name. string_bytes name ≡ binding.known_as (ref_of reference.entry) (ref_of reference.entry).alias) }
 {
     match reference.alias {
         Some(alias) => meant(memory, alias),

@@ -3,7 +3,6 @@ ghost use Rattle.std.specs.Prelude.{◌≡◌, ◌<◌, ◌≤◌, ◌+◌, ◌+
 ghost use Rattle.tql_spec.specs.Binding as binding;
 ghost use Rattle.tql_spec.specs.Creation as creation;
 ghost use Rattle.tql_spec.specs.Names as names;
-ghost use Rattle.tql_spec.specs.Words.{same_text};
 ghost use Rattle.tql_scope.specs.Scopes.{known_of, scope_of};
 ghost use Rattle.tql_select.specs.From.{IsPlaced, IsWhole};
 
@@ -11,6 +10,7 @@ use crate::from::Linked;
 use std::alloc::AllocError;
 use tql_memory::Memory;
 use tql_scope::scope::Known;
+use tql_scope::texts::is_same_text;
 
 /// A reference whose columns stand behind so many more.
 fn moved<'a>(known: &Known<'a>, before: usize) -> Known<'a>
@@ -31,7 +31,9 @@ fn push_moved<'a>(
     scope: &mut Vec<Known<'a>, Memory>,
 ) -> Result<(), AllocError>
     requires { All (λ k. before + (k.offset + length k.table.now.columns) < 2 ^ 64) known.now }
-    ensures { IfOk result (λ _. scope_of scope.new.items ≡ scope_of scope.old.items ++ map (binding.moved before) (scope_of known.now)) }
+    ensures { IfOk result
+        (λ _. scope_of scope.new.items ≡ scope_of scope.old.items
+        ++ map (binding.moved before) (scope_of known.now)) }
 {
     for reference in known {
         scope.push(moved(reference, before))?;
@@ -39,8 +41,8 @@ fn push_moved<'a>(
     Ok(())
 }
 
-/// All references of a query in scope: those of each chain, whose columns stand behind those of the chains before it. The only error is a
-/// refused growth.
+/// All references of a query in scope: those of each chain, whose columns stand behind those of the chains before it.
+/// The only error is a refused growth.
 pub fn whole_scope<'a>(
     memory: Memory,
     linked: &[Linked<'a>],
@@ -56,13 +58,6 @@ pub fn whole_scope<'a>(
         width += chain.width;
     }
     Ok(scope)
-}
-
-/// Whether two names are one.
-fn is_same_text(name: &str, other: &str) -> bool
-    ensures { result ≡ same_text name.now other.now }
-{
-    name == other
 }
 
 /// Whether a reference is known by this name.

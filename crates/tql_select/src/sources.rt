@@ -25,8 +25,9 @@ pub struct Source<'a> {
     pub known: Known<'a>,
 }
 
-/// A table reference bound, known by this name, whose columns begin at this number. Faults: no table has the name; FOR SYSTEM_TIME on a
-/// table that is not system-versioned; a literal that reads as no moment. The only error is a refused growth.
+/// A table reference bound, known by this name, whose columns begin at this number. Faults: no table has the name;
+/// FOR SYSTEM_TIME on a table that is not system-versioned; a literal that reads as no moment. The only error is a
+/// refused growth.
 pub(crate) fn bound_source<'a>(
     memory: Memory,
     catalog: &'a Catalog,
@@ -40,7 +41,9 @@ pub(crate) fn bound_source<'a>(
     requires named { name.now ≡ name_in (ref_of written) }
     requires fits { offset + 64 < 2 ^ 64 }
     requires narrow { All (λ d. length d.columns ≤ 64) (definitions_of catalog.now) }
-    ensures bound { IfOk result (λ s. Gathers (binding.source (definitions_of catalog.now) offset (ref_of written.entry)) faults.old faults.new (source_of s)) }
+    ensures bound { IfOk result
+        (λ s. Gathers (binding.source (definitions_of catalog.now) offset (ref_of written.entry))
+        faults.old faults.new (source_of s)) }
     ensures placed { IfOk result (λ s. s.known.offset + length s.known.table.now.columns ≡ offset + s.reference.width) }
     ensures narrow { IfOk result (λ s. s.reference.width ≤ 64) }
 {

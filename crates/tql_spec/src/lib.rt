@@ -5,7 +5,8 @@ ghost use Rattle.std.specs.Prelude.{ℕ, List};
 ghost use Rattle.tql_spec.specs.Datum.{Day, Moment};
 ghost use Rattle.tql_spec.specs.Period.{FormulasAreSets, PartsAreSets, Period, PointFormulaIsSet};
 ghost use Rattle.tql_spec.specs.ChangeLaws.{ChangesKeepNoOrder, ChangesByParts, InsertsKeepNoOrder};
-ghost use Rattle.tql_spec.specs.QueryLaws.{JoinsKeepNoOrder, GroupsKeepNoOrder, DistinctKeepsNoOrder, OrderIsOne, AnswersKeepNoOrder};
+ghost use Rattle.tql_spec.specs.QueryLaws.{JoinsKeepNoOrder, GroupsKeepNoOrder, DistinctKeepsNoOrder, OrderIsOne};
+ghost use Rattle.tql_spec.specs.QueryLaws.{AnswersKeepNoOrder};
 ghost use Rattle.tql_spec.specs.Expression.{SafeConditionsAreJudged};
 ghost use Rattle.tql_spec.specs.Constraint.{KeyTestIsRight, ReferenceTestIsRight};
 ghost use Rattle.tql_spec.specs.Run.{RefusalsKeepState, RunsKeepConstraints};
@@ -13,7 +14,8 @@ ghost use Rattle.tql_spec.specs.Lines.{StatementsInPlace};
 ghost use Rattle.tql_spec.specs.Token.{HasOneTokenList};
 ghost use Rattle.tql_spec.specs.Spans.{ReadsBySpans, SteadyRangesAgree};
 ghost use Rattle.tql_spec.specs.Reached.{ReachedAreInOrder, ReachedFit, ReachedAreSteady, ReachedReadBySpans};
-ghost use Rattle.tql_spec.specs.TypingLaws.{ValuesAreOfKind, BoundAreTyped, BagsAreTyped, StepsKeepTypes, ReachedAreTyped, OwnPeriodsArePoints};
+ghost use Rattle.tql_spec.specs.TypingLaws.{ValuesAreOfKind, BoundAreTyped, BagsAreTyped, StepsKeepTypes};
+ghost use Rattle.tql_spec.specs.TypingLaws.{ReachedAreTyped, OwnPeriodsArePoints};
 ghost use Rattle.tql_spec.specs.AtPoints.{CopyTestsAreRight, RunsKeepPoints, ReachedHoldAtPoints};
 
 /// Each part of a period holds the points that it is named for.
@@ -59,8 +61,8 @@ pub fn one_token_list()
     ensures { HasOneTokenList }
 {}
 
-/// Over copies whose moments fall, AS OF reads the copy whose span holds the moment, a range the copies that it meets, and a
-/// row ends where it is first lacked.
+/// Over copies whose moments fall, AS OF reads the copy whose span holds the moment, a range the copies that it
+/// meets, and a row ends where it is first lacked.
 pub fn questions_by_spans()
     ensures { ReadsBySpans }
 {}
@@ -76,8 +78,8 @@ pub fn commits_in_order()
     ensures fit { ReachedFit }
 {}
 
-/// In every state that a run reaches a row has one multiplicity in all copies that have it, and one that is gone does not
-/// come back.
+/// In every state that a run reaches a row has one multiplicity in all copies that have it, and one that is gone does
+/// not come back.
 pub fn steady_rows()
     ensures { ReachedAreSteady }
 {}
@@ -95,37 +97,39 @@ pub fn constraints_in_runs()
     ensures reached { ReachedHoldAtPoints }
 {}
 
-/// An UPDATE or a DELETE does the same whatever the order in which the rows are kept: the same bag of rows, the same count and
-/// the same fault.
+/// An UPDATE or a DELETE does the same whatever the order in which the rows are kept: the same bag of rows, the same
+/// count and the same fault.
 pub fn changes_keep_no_order()
     ensures { ChangesKeepNoOrder }
 {}
 
-/// An INSERT does the same whatever the order of the rows that it is given: the same bag of rows, the same count and the same fault.
+/// An INSERT does the same whatever the order of the rows that it is given: the same bag of rows, the same count and
+/// the same fault.
 pub fn inserts_keep_no_order()
     ensures { InsertsKeepNoOrder }
 {}
 
-/// Where nothing that an UPDATE or a DELETE evaluates is out of range, the rows after it are those that it leaves and the new ones.
+/// Where nothing that an UPDATE or a DELETE evaluates is out of range, the rows after it are those that it leaves and
+/// the new ones.
 pub fn changes_by_parts()
     ensures { ChangesByParts }
 {}
 
-/// What passes conjuncts, and what a join gives, is the same bag, or out of range as well, whatever the order in which the rows of
-/// either side are kept.
+/// What passes conjuncts, and what a join gives, is the same bag, or out of range as well, whatever the order in
+/// which the rows of either side are kept.
 pub fn joins_keep_no_order()
     ensures { JoinsKeepNoOrder }
 {}
 
-/// Rows without their repeats are the same bag whatever the order in which the rows are kept, and for any keys a bag has one list in
-/// order, since rows that tie are equal.
+/// Rows without their repeats are the same bag whatever the order in which the rows are kept, and for any keys a bag
+/// has one list in order, since rows that tie are equal.
 pub fn order_is_one()
     ensures distinct { DistinctKeepsNoOrder }
     ensures order { OrderIsOne }
 {}
 
-/// What a grouped query shows depends on the bag of its rows alone: the same bag of rows, or out of range as well, whatever the
-/// order in which the rows of its groups are kept.
+/// What a grouped query shows depends on the bag of its rows alone: the same bag of rows, or out of range as well,
+/// whatever the order in which the rows of its groups are kept.
 pub fn groups_keep_no_order()
     ensures { GroupsKeepNoOrder }
 {}
@@ -135,9 +139,10 @@ pub fn answers_keep_no_order()
     ensures { AnswersKeepNoOrder }
 {}
 
-/// Values are of their columns' kinds, or null. The value of a bound expression is of its kind, a statement without a fault is bound to
-/// one that gives each column values of its kind, and steps keep this; so it is in every state that a run reaches. There questions find
-/// rows of these kinds too, and the ends of a row's application period are its points, as dates or as timestamps.
+/// Values are of their columns' kinds, or null. The value of a bound expression is of its kind, a statement without a
+/// fault is bound to one that gives each column values of its kind, and steps keep this; so it is in every state that
+/// a run reaches. There questions find rows of these kinds too, and the ends of a row's application period are its
+/// points, as dates or as timestamps.
 pub fn kinds_are_kept()
     ensures expressions { ValuesAreOfKind }
     ensures bound { BoundAreTyped }

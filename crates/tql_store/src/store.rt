@@ -1,15 +1,21 @@
-ghost use Rattle.std.specs.Prelude.{◌≡◌, ◌↔◌, Bool, ℕ, ℤ, ◌+ℤ◌, pos, ◌<◌, ◌++◌, ◌+◌, ◌<ℤ◌, nat_eq, if◌then◌else◌, [], map, filter, length, All, IsNone, IsSome, IsTrue, is_some, Some, None, IfOk, OnOk, OnErr, IfErr, Err};
+ghost use Rattle.std.specs.Prelude.{◌≡◌, ◌↔◌, Bool, ℕ, ℤ, ◌+ℤ◌, pos, ◌<◌, ◌++◌, ◌+◌, ◌<ℤ◌, nat_eq, if◌then◌else◌, []};
+ghost use Rattle.std.specs.Prelude.{map, filter, length, All, IsNone, IsSome, IsTrue, is_some, Some, None, IfOk, OnOk};
+ghost use Rattle.std.specs.Prelude.{OnErr, IfErr, Err};
 ghost use Rattle.tql_spec.specs.Calendar.{high};
 ghost use Rattle.tql_spec.specs.Bag.{SameBag};
 ghost use Rattle.tql_spec.specs.Definition.{Stamped};
 ghost use Rattle.tql_rows.specs.Changes.{alive, closing, fresh, holds, is_current, pruned, replaced, undone, Under};
-ghost use Rattle.tql_rows.specs.Held.{AtRest, InTurn, AreRemovable as AreRemovableRows, IsJudged, live as live_rows, versions as all_versions};
-ghost use Rattle.tql_store.specs.Held.{Held, live, named, AreRemovable, moment_or_high, has_table as table_there, is_versioned as table_versioned, table_count as tables_there};
+ghost use Rattle.tql_rows.specs.Held.{AtRest, InTurn, AreRemovable as AreRemovableRows, IsJudged, live as live_rows};
+ghost use Rattle.tql_rows.specs.Held.{versions as all_versions};
+ghost use Rattle.tql_store.specs.Held.{Held, live, named, AreRemovable, moment_or_high, has_table as table_there};
+ghost use Rattle.tql_store.specs.Held.{is_versioned as table_versioned, table_count as tables_there};
 ghost use Rattle.tql_store.specs.Orderly.{table_at, IsNoted, HasTurned};
 ghost use Rattle.tql_store.specs.Places.{place_of, is_brief};
 ghost use Rattle.tql_rows.specs.Readings.{version_shown as version_of};
 ghost use Rattle.tql_store.specs.Views.{Names, NamesOnce};
-ghost use Rattle.tql_store.specs.Represents.{Represents, BeginCopies, ChangeReplaces, CommitAppends, ReplacesVersions, RollbackRestores, AddsTable, AddKeepsCopies, DropEmpties, Takes, AnswersAsOf, AnswersFromTo, AnswersNow};
+ghost use Rattle.tql_store.specs.Represents.{Represents, BeginCopies, ChangeReplaces, CommitAppends, ReplacesVersions};
+ghost use Rattle.tql_store.specs.Represents.{RollbackRestores, AddsTable, AddKeepsCopies, DropEmpties, Takes};
+ghost use Rattle.tql_store.specs.Represents.{AnswersAsOf, AnswersFromTo, AnswersNow};
 ghost use Rattle.tql_rows.specs.Readings.{asked};
 ghost use Rattle.tql_rows.specs.declared.readings.When.TheVariants as when;
 ghost use Rattle.tql_store.specs.declared.tables.Place.TheVariants.{Free};
@@ -53,13 +59,17 @@ impl Delta {
         ensures turned { HasTurned moment self.table rows.old rows.new }
         ensures noted { OnOk result (IsNoted self.table touched.old.items touched.new.items) }
         ensures versions { OnOk result (SameBag (live_rows (table_at rows.new self.table))
-            (filter alive (closing moment self.removed.items (table_at rows.old self.table).current ++ (table_at rows.old self.table).closed)
+            (filter alive (closing moment self.removed.items (table_at rows.old self.table).current
+            ++ (table_at rows.old self.table).closed)
             ++ map (λ row. fresh moment (map datum_of_value row.items)) self.added.items)) }
-        ensures judged { OnOk result ((gone : Stamped → Bool) → IsJudged gone self.removed.items (table_at rows.old self.table)
+        ensures judged { OnOk result ((gone : Stamped → Bool)
+            → IsJudged gone self.removed.items (table_at rows.old self.table)
             → SameBag (live_rows (table_at rows.new self.table))
-            (replaced moment gone (map (λ row. map datum_of_value row.items) self.added.items) (live_rows (table_at rows.old self.table)))) }
+            (replaced moment gone (map (λ row. map datum_of_value row.items) self.added.items)
+            (live_rows (table_at rows.old self.table)))) }
         ensures err { OnErr result (map all_versions rows.new ≡ map all_versions rows.old) }
-        ensures err_rest { OnErr result ((last : _) → AtRest last (table_at rows.old self.table) → AtRest last (table_at rows.new self.table)) }
+        ensures err_rest { OnErr result ((last : _) → AtRest last (table_at rows.old self.table)
+            → AtRest last (table_at rows.new self.table)) }
         ensures err_touched { OnErr result (touched.new.items ≡ touched.old.items) }
         ensures refusal { IfErr result (λ e. e ≡ OutOfMemory) }
     {
@@ -194,8 +204,8 @@ impl<I: IntervalIndex> Store<I> {
         }
     }
 
-    /// Adds a table, empty at every moment (this project's choice), at a number below 1,000 where none stands. Refused where memory is, and
-    /// then nothing is changed.
+    /// Adds a table, empty at every moment (this project's choice), at a number below 1,000 where none stands.
+    /// Refused where memory is, and then nothing is changed.
     pub fn add_table(&mut self, versioned: bool) -> Result<TableId, Refusal>
         requires { tables_there self.old < 1000 }
         ensures ok { IfOk result (λ table. AddsTable versioned table self.old self.new) }
@@ -293,7 +303,8 @@ impl<I: IntervalIndex> Store<I> {
         ensures tables { self.new.tables ≡ self.old.tables }
         ensures working { self.new.working ≡ None }
         ensures last { self.new.last ≡ self.old.last }
-        ensures versions { (t : ℕ) (m : ℤ) → self.old.working ≡ Some m → SameBag (live self.new t) (undone m (live self.old t)) }
+        ensures versions { (t : ℕ) (m : ℤ) → self.old.working ≡ Some m
+            → SameBag (live self.new t) (undone m (live self.old t)) }
         ensures copies { RollbackRestores self.old self.new }
     {
         let moment = self.moment();
@@ -306,7 +317,8 @@ impl<I: IntervalIndex> Store<I> {
     /// (ISO/IEC 9075-2:2011, 7.6). Refused where memory is.
     pub fn as_of(&self, table: TableId, t: i64) -> Result<Vec<Version<'_>, Memory>, Refusal>
         requires { IsTrue (table_versioned self.now table) }
-        ensures versions { IfOk result (λ found. SameBag (map version_of found.items) (filter (holds t) (live self.now table))) }
+        ensures versions { IfOk result
+            (λ found. SameBag (map version_of found.items) (filter (holds t) (live self.now table))) }
         ensures ids { IfOk result (λ found. All (Names self.now table) found.items) }
         ensures copies { IfOk result (λ found. AnswersAsOf self.now table t (map version_of found.items)) }
         ensures memory { IfErr result (λ e. e ≡ OutOfMemory) }
@@ -324,7 +336,8 @@ impl<I: IntervalIndex> Store<I> {
         b: i64,
     ) -> Result<Vec<Version<'_>, Memory>, Refusal>
         requires { IsTrue (table_versioned self.now table) }
-        ensures versions { IfOk result (λ found. SameBag (map version_of found.items) (filter (asked (when.FromTo a b)) (live self.now table))) }
+        ensures versions { IfOk result
+            (λ found. SameBag (map version_of found.items) (filter (asked (when.FromTo a b)) (live self.now table))) }
         ensures ids { IfOk result (λ found. All (Names self.now table) found.items) }
         ensures copies { IfOk result (λ found. AnswersFromTo self.now table a b (map version_of found.items)) }
         ensures memory { IfErr result (λ e. e ≡ OutOfMemory) }
@@ -342,9 +355,12 @@ impl<I: IntervalIndex> Store<I> {
         b: i64,
     ) -> Result<Vec<Version<'_>, Memory>, Refusal>
         requires { IsTrue (table_versioned self.now table) }
-        ensures versions { IfOk result (λ found. SameBag (map version_of found.items) (filter (asked (when.Between a b)) (live self.now table))) }
+        ensures versions { IfOk result
+            (λ found. SameBag (map version_of found.items)
+            (filter (asked (when.Between a b)) (live self.now table))) }
         ensures ids { IfOk result (λ found. All (Names self.now table) found.items) }
-        ensures copies { IfOk result (λ found. AnswersFromTo self.now table a (b +ℤ pos 1) (map version_of found.items)) }
+        ensures copies { IfOk result
+            (λ found. AnswersFromTo self.now table a (b +ℤ pos 1) (map version_of found.items)) }
         ensures memory { IfErr result (λ e. e ≡ OutOfMemory) }
     {
         let found = self.rows[usize::from(table.number())].between(self.memory, a, b)?;
@@ -354,7 +370,8 @@ impl<I: IntervalIndex> Store<I> {
     /// The rows of a table now, each as a version that is not closed. Refused where memory is.
     pub fn current(&self, table: TableId) -> Result<Vec<Version<'_>, Memory>, Refusal>
         requires { IsTrue (table_there self.now table) }
-        ensures versions { IfOk result (λ found. SameBag (map version_of found.items) (filter is_current (live self.now table))) }
+        ensures versions { IfOk result
+            (λ found. SameBag (map version_of found.items) (filter is_current (live self.now table))) }
         ensures ids { IfOk result (λ found. All (Names self.now table) found.items) }
         ensures once { IfOk result (λ found. NamesOnce self.now table is_current found.items) }
         ensures copies { IfOk result (λ found. AnswersNow self.now table (map version_of found.items)) }

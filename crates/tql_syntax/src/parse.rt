@@ -43,9 +43,9 @@ fn most_open(tokens: &[Token<'_>]) -> usize
 
 /// Reads the tokens of one statement, all of them, however wide it is.
 ///
-/// More than 64 parentheses open at once are refused first, as nested too deep, and then tokens that spell no statement, as not a
-/// statement. Where memory runs out, that is the refusal. The grammar is a part of the SQL of ISO/IEC 9075-2:2011; the limit, and
-/// `AT` with a moment, are this project's choice.
+/// More than 64 parentheses open at once are refused first, as nested too deep, and then tokens that spell no
+/// statement, as not a statement. Where memory runs out, that is the refusal. The grammar is a part of the SQL of
+/// ISO/IEC 9075-2:2011; the limit, and `AT` with a moment, are this project's choice.
 pub fn spelled<'a>(memory: Memory, tokens: &[Token<'a>]) -> Result<Tree<'a>, Refusal>
     ensures { Spells (map token_of tokens.now) result }
 {
@@ -62,8 +62,8 @@ pub fn spelled<'a>(memory: Memory, tokens: &[Token<'a>]) -> Result<Tree<'a>, Ref
 
 /// Reads the tokens of one statement, all of them.
 ///
-/// Refused as `spelled` refuses; and then more than 64 columns of a table, or more than 8 table references in a FROM clause, as too
-/// many.
+/// Refused as `spelled` refuses; and then more than 64 columns of a table, or more than 8 table references in a FROM
+/// clause, as too many.
 pub fn parse<'a>(memory: Memory, tokens: &[Token<'a>]) -> Result<Tree<'a>, Refusal>
     ensures { Parses (map token_of tokens.now) result }
 {

@@ -17,9 +17,9 @@ fn spelled_text(memory: Memory, text: &str) -> Result<Tree<'_>, Refusal>
     spelled(memory, &tokens)
 }
 
-/// Reads the text of a finished statement, without its `;`, however wide the statement is. Refused are, the first of them: over
-/// 1,048,576 bytes, bytes that are not UTF-8, over 64 parentheses open at once, a text that is no statement. Where memory runs out, that
-/// is the refusal.
+/// Reads the text of a finished statement, without its `;`, however wide the statement is. Refused are, the first of
+/// them: over 1,048,576 bytes, bytes that are not UTF-8, over 64 parentheses open at once, a text that is no
+/// statement. Where memory runs out, that is the refusal.
 pub fn read_text(memory: Memory, text: &[u8]) -> Result<Tree<'_>, Refusal>
     ensures { ReadsText text.now result }
 {

@@ -67,8 +67,8 @@ pub struct SignedIn<'a, A: Allocator> {
     pub primary: PrimaryIn<'a, A>,
 }
 
-/// A literal, a column, an expression in parentheses, an aggregate. Numbers are kept by their digits, the other literals by their
-/// quoted text.
+/// A literal, a column, an expression in parentheses, an aggregate. Numbers are kept by their digits, the other
+/// literals by their quoted text.
 #[cycle(expression)]
 #[derive(Drop)]
 pub enum PrimaryIn<'a, A: Allocator> {

@@ -11,8 +11,8 @@ use tql_value::refusal::Refusal;
 impl Name<'_> {
     ghost use Rattle.tql_tree.specs.Expressions.{name_of};
 
-    /// The name that is meant: a word in upper case, or what stands in the quotes, each doubled quote once. The only error is a
-    /// refused growth.
+    /// The name that is meant: a word in upper case, or what stands in the quotes, each doubled quote once. The only
+    /// error is a refused growth.
     pub fn meant(self, memory: Memory) -> Result<String<Memory>, Refusal>
         ensures value { IfOk result (λ name. string_bytes name ≡ name_of self.entry) }
         ensures memory { IfErr result (λ e. e ≡ OutOfMemory) }

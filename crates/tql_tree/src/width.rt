@@ -1,7 +1,8 @@
 //! How wide a statement is: the columns of a CREATE, the table references of a FROM clause.
 ghost use Rattle.std.specs.Prelude.{◌≡◌, nat_lt};
 ghost use Rattle.tql_spec.specs.Syntax as tree;
-ghost use Rattle.tql_tree.specs.Statements.{element_of, chain_of, select_of, create_of, insert_of, query_of, statement_of};
+ghost use Rattle.tql_tree.specs.Statements.{element_of, chain_of, select_of, create_of, insert_of, query_of};
+ghost use Rattle.tql_tree.specs.Statements.{statement_of};
 
 use crate::statement::{Chain, CreateTree, Element, Insert, Query, Rows, Select, Statement};
 
@@ -70,7 +71,8 @@ fn is_wide_query(query: &Query<'_>) -> bool
     is_wide_select(&query.select)
 }
 
-/// Whether a statement has more than 64 columns, or more than 8 table references. Both limits are this project's choice.
+/// Whether a statement has more than 64 columns, or more than 8 table references. Both limits are this project's
+/// choice.
 pub fn is_too_wide(statement: &Statement<'_>) -> bool
     ensures { result ≡ tree.is_too_wide (statement_of statement.now) }
 {

@@ -1,5 +1,6 @@
 ghost use Rattle.std.specs.Prelude.{◌≡◌, ◌↔◌, ◌/◌, ◌%◌, ◌<◌, IsTrue, IfSome, MatchOption, Some, false};
-ghost use Rattle.tql_spec.specs.Calendar.{is_date, days_after_start, where_true, date_after_start, day_count, day_parts as parts_of_day, moment_day, moment_micros, micros_of_time};
+ghost use Rattle.tql_spec.specs.Calendar.{is_date, days_after_start, where_true, date_after_start, day_count};
+ghost use Rattle.tql_spec.specs.Calendar.{day_parts as parts_of_day, moment_day, moment_micros, micros_of_time};
 ghost use Rattle.tql_value.specs.JiffDate.{HasParts, IsDateOf};
 ghost use Rattle.tql_value.specs.Points.{IsDay, IsMoment};
 

@@ -1,6 +1,10 @@
-ghost use Rattle.std.specs.Prelude.{◌≡◌, ◌+◌, ◌*◌, ◌<◌, ◌≤◌, ◌^◌, length, drop, IsTrue, IfSome, All, Some, None, if◌then◌else◌, pos, ◌-ℤ◌, ◌&&◌, ◌-◌, ◌++◌, slice_index, replicate};
+ghost use Rattle.std.specs.Prelude.{◌≡◌, ◌+◌, ◌*◌, ◌<◌, ◌≤◌, ◌^◌, length, drop, IsTrue, IfSome, All, Some, None};
+ghost use Rattle.std.specs.Prelude.{if◌then◌else◌, pos, ◌-ℤ◌, ◌&&◌, ◌-◌, ◌++◌, slice_index, replicate};
 ghost use Rattle.std.specs.List.{list_all};
-ghost use Rattle.tql_spec.specs.Calendar.{is_digit, number_of, digits_at as digits, has_byte_at as stands, days_at_start, day_count, read_date as date_read, read_fraction as fraction_read, micros_of, micros_of_time, day_length, read_timestamp as timestamp_read};
+ghost use Rattle.tql_spec.specs.Calendar.{is_digit, number_of, digits_at as digits, has_byte_at as stands};
+ghost use Rattle.tql_spec.specs.Calendar.{days_at_start, day_count, read_date as date_read};
+ghost use Rattle.tql_spec.specs.Calendar.{read_fraction as fraction_read, micros_of, micros_of_time, day_length};
+ghost use Rattle.tql_spec.specs.Calendar.{read_timestamp as timestamp_read};
 ghost use Rattle.tql_value.specs.Literals.{time_read};
 ghost use Rattle.tql_value.specs.Points.{IsDay, IsMoment};
 

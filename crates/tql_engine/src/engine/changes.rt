@@ -45,7 +45,8 @@ impl Engine {
         requires within { insertion.now.table < length (definitions_of self.old.tables) }
         requires typed { IsTypedChange (definitions_of self.old.tables) (insertion_of insertion.now) }
         requires below { IsIdle self.old → HasTimeLeft self.old }
-        ensures { (s : State) → StandsFor self.old s → DoesStep self.new s result (step s (machine.Alter (insertion_of insertion.now))) }
+        ensures { (s : State) → StandsFor self.old s
+            → DoesStep self.new s result (step s (machine.Alter (insertion_of insertion.now))) }
     {
         let delta = match insert_tuples(self.memory, self.table_at(insertion.table), insertion) {
             Ok(delta) => delta,
@@ -65,7 +66,8 @@ impl Engine {
     fn query_delta(&self, insertion: &QueryInsertion) -> Result<Delta, Refusal>
         requires within { insertion.now.table < length (definitions_of self.now.tables) }
         requires placed { IsPlacedQuery (definitions_of self.now.tables) (question_of insertion.now.question) }
-        ensures { (s : State) (p : Table) → StandsFor self.now s → slice_get self.now.tables insertion.now.table ≡ Some p → Adds s p insertion.now result }
+        ensures { (s : State) (p : Table) → StandsFor self.now s
+            → slice_get self.now.tables insertion.now.table ≡ Some p → Adds s p insertion.now result }
     {
         let rows = match self.answer_rows(&insertion.question) {
             Ok(rows) => rows,
@@ -81,7 +83,8 @@ impl Engine {
         requires placed { IsPlacedQuery (definitions_of self.old.tables) (question_of insertion.now.question) }
         requires typed { IsTypedChange (definitions_of self.old.tables) (query_insertion_of insertion.now) }
         requires below { IsIdle self.old → HasTimeLeft self.old }
-        ensures { (s : State) → StandsFor self.old s → DoesStep self.new s result (step s (machine.Alter (query_insertion_of insertion.now))) }
+        ensures { (s : State) → StandsFor self.old s
+            → DoesStep self.new s result (step s (machine.Alter (query_insertion_of insertion.now))) }
     {
         inserts_keep_no_order();
         let delta = match self.query_delta(insertion) {
@@ -101,7 +104,8 @@ impl Engine {
     /// What the current versions of the table make of an UPDATE or DELETE.
     fn delta_of(&self, modification: &Modification) -> Result<Delta, Refusal>
         requires { modification.now.table < length self.now.tables }
-        ensures { (p : Table) → slice_get self.now.tables modification.now.table ≡ Some p → Makes self.now.rows p modification.now result }
+        ensures { (p : Table) → slice_get self.now.tables modification.now.table ≡ Some p
+            → Makes self.now.rows p modification.now result }
     {
         let table = self.table_at(modification.table);
         let found = self.rows.current(table.id)?;
@@ -113,7 +117,8 @@ impl Engine {
         requires within { modification.now.table < length (definitions_of self.old.tables) }
         requires typed { IsTypedChange (definitions_of self.old.tables) (modification_of modification.now) }
         requires below { IsIdle self.old → HasTimeLeft self.old }
-        ensures { (s : State) → StandsFor self.old s → DoesStep self.new s result (step s (machine.Alter (modification_of modification.now))) }
+        ensures { (s : State) → StandsFor self.old s
+            → DoesStep self.new s result (step s (machine.Alter (modification_of modification.now))) }
     {
         changes_keep_no_order();
         changes_by_parts();

@@ -21,8 +21,8 @@ impl Engine {
         !self.rows.is_later(moment)
     }
 
-    /// AT: sets the clock to a moment, in microseconds since 1970-01-01. Refused, with nothing changed, where it is not later than the last
-    /// commit's.
+    /// AT: sets the clock to a moment, in microseconds since 1970-01-01. Refused, with nothing changed, where it is
+    /// not later than the last commit's.
     pub(super) fn at(&mut self, moment: i64) -> Result<Reply, Refusal>
         requires closed { IsIdle self.old }
         requires moment { IsMoment moment }

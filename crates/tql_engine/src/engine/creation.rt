@@ -41,7 +41,8 @@ impl Engine {
         requires closed { IsIdle self.old }
         requires sound { IsSoundTable (definitions_of self.old.tables) definition }
         requires typed { IsTypedDefinition definition }
-        ensures { (s : State) → StandsFor self.old s → DoesStep self.new s result (step s (machine.CreateTable definition)) }
+        ensures { (s : State) → StandsFor self.old s
+            → DoesStep self.new s result (step s (machine.CreateTable definition)) }
     {
         match self.add_table(definition) {
             Ok(()) => Ok(Reply::Done(Verb::CreatedTable, None)),

@@ -13,12 +13,13 @@ impl Engine {
     ghost use Rattle.tql_engine.specs.Allowed.{IsIdle};
     ghost use Rattle.tql_engine.specs.Effects.{Does};
 
-    /// DROP TABLE: the table at this place is gone, with its rows at every moment (this project's choice). It is no commit, and the clock
-    /// stays.
+    /// DROP TABLE: the table at this place is gone, with its rows at every moment (this project's choice). It is no
+    /// commit, and the clock stays.
     pub(super) fn drop_table(&mut self, place: usize) -> Reply
         requires closed { IsIdle self.old }
         requires there { place < length (definitions_of self.old.tables) }
-        ensures { (s : State) → StandsFor self.old s → Does self.new (reply_of result) (step s (machine.DropTable place)) }
+        ensures { (s : State) → StandsFor self.old s
+            → Does self.new (reply_of result) (step s (machine.DropTable place)) }
     {
         let table = self.tables.remove(place);
         self.rows.drop_table(table.id);

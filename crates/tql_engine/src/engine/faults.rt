@@ -1,5 +1,5 @@
-//! The faults of the transaction and the clock. They are asked before the names of a statement are bound: in the order of report they stand
-//! before all faults that binding can give.
+//! The faults of the transaction and the clock. They are asked before the names of a statement are bound: in the
+//! order of report they stand before all faults that binding can give.
 ghost use Rattle.std.specs.Prelude.{◌≡◌, option_map, is_some, is_none, ◌&&◌};
 
 use crate::engine::Engine;
@@ -53,11 +53,12 @@ impl Engine {
         }
     }
 
-    /// The fault of the transaction or the clock that keeps a statement from running, whatever else is wrong with it. AT itself asks
-    /// whether its moment is too early, and COMMIT and ROLLBACK whether a transaction is open.
+    /// The fault of the transaction or the clock that keeps a statement from running, whatever else is wrong with it.
+    /// AT itself asks whether its moment is too early, and COMMIT and ROLLBACK whether a transaction is open.
     pub(super) fn state_fault(&self, statement: &Statement<'_>) -> Option<Refusal>
         ensures { (s : State) → StandsFor self.now s
-            → option_map refusal_of result ≡ first (state_faults s (asked_first (manner (statement_of statement.now)))) }
+            → option_map refusal_of result
+            ≡ first (state_faults s (asked_first (manner (statement_of statement.now)))) }
     {
         match statement {
             Statement::Create(_) | Statement::DropTable(_) | Statement::At(_) => self.open_fault(),

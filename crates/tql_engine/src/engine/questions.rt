@@ -22,8 +22,8 @@ impl Engine {
     ghost use Rattle.tql_engine.specs.Stands.{StandsFor};
     ghost use Rattle.tql_engine.specs.Effects.{DoesStep};
 
-    /// The rows that a query answers, in the order in which they are printed. Refused where an evaluation that is reached leaves 64 bits, or
-    /// for memory.
+    /// The rows that a query answers, in the order in which they are printed. Refused where an evaluation that is
+    /// reached leaves 64 bits, or for memory.
     pub(super) fn answer_rows(
         &self,
         question: &Question,
@@ -41,7 +41,8 @@ impl Engine {
         requires { IsPlacedQuery (definitions_of self.now.tables) (question_of question.now) }
         ensures rows { (s : State) → StandsFor self.now s → Evaluated (λ rows. rows_of rows.rows.items)
             (ordered (question_of question.now).ordering (answer (bag_of s) (question_of question.now))) result }
-        ensures headings { IfOk result (λ rows. map string_bytes rows.headings.items ≡ (question_of question.now).headings) }
+        ensures headings { IfOk result
+            (λ rows. map string_bytes rows.headings.items ≡ (question_of question.now).headings) }
     {
         let plan = plan(self.memory, &self.tables, question)?;
         run(self.memory, &self.rows, &plan)
@@ -50,7 +51,8 @@ impl Engine {
     /// SELECT.
     pub(super) fn ask(&self, question: &Question) -> Result<Reply, Refusal>
         requires { IsPlacedQuery (definitions_of self.now.tables) (question_of question.now) }
-        ensures { (s : State) → StandsFor self.now s → DoesStep self.now s result (step s (machine.Ask (question_of question.now))) }
+        ensures { (s : State) → StandsFor self.now s
+            → DoesStep self.now s result (step s (machine.Ask (question_of question.now))) }
     {
         match self.answered(question) {
             Ok(rows) => Ok(Reply::Table(rows)),

@@ -38,8 +38,8 @@ impl Engine {
         Ok(Reply::Done(Verb::Committed, None))
     }
 
-    /// ROLLBACK: what the open transaction changed is undone, and the clock stays. Takes no memory. Refused, with nothing
-    /// changed, where no transaction is open. ISO/IEC 9075-2:2011, rollback statement.
+    /// ROLLBACK: what the open transaction changed is undone, and the clock stays. Takes no memory. Refused, with
+    /// nothing changed, where no transaction is open. ISO/IEC 9075-2:2011, rollback statement.
     pub fn rollback(&mut self) -> Result<Reply, Refusal>
         ensures answered { (s : State) → StandsFor self.old s → DoesStep self.new s result (step s machine.Rollback) }
         ensures reason { IfErr result (λ e. e ≡ Refusal.NotInThisTransactionState) }

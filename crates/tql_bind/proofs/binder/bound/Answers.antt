@@ -7,7 +7,7 @@ use Rattle.tql_tree.specs.Statements.{query_of, statement_of}
 use Rattle.tql_tree.specs.declared.statement.Query.{Query}
 use Rattle.tql_tree.specs.declared.statement.Statement.{Statement}
 use Rattle.tql_scope.specs.Gathered.{Gathers}
-use Rattle.tql_alter.proofs.Sequences.{sound_here}
+use Rattle.tql_scope.proofs.Gathering.{sound_here}
 use Rattle.tql_bind.proofs.binder.bound.Goals as goal
 
 pub returns-in-StartTransaction-clause-bound : goal.returns-in-StartTransaction-clause-bound

@@ -5,8 +5,7 @@ use Rattle.tql_spec.specs.Names.{sound}
 use Rattle.tql_bound.specs.Questions.{question_of}
 use Rattle.tql_catalog.specs.Tables.{definitions_of}
 use Rattle.tql_scope.specs.Gathered.{Gathers}
-use Rattle.tql_scope.proofs.Gathering.{bound}
-use Rattle.tql_alter.proofs.Sequences.{sound_here}
+use Rattle.tql_scope.proofs.Gathering.{bound, sound_here}
 use Rattle.tql_select.specs.Selecting.{asked_of}
 use Rattle.tql_tree.specs.Statements.{boxed_select_of, order_of, orders_of, select_of}
 use Rattle.tql_tree.specs.declared.statement.OrderKey.{OrderKey}

@@ -5,8 +5,8 @@ use Rattle.tql_tree.specs.Statements.{join_of}
 use Rattle.tql_tree.specs.declared.statement.Join.{Join}
 use Rattle.tql_scope.specs.Gathered.{Gathers}
 use Rattle.tql_scope.specs.Scopes.{scope_of}
+use Rattle.tql_scope.proofs.Gathering.{sound_here}
 use Rattle.tql_select.specs.From.{on_in}
-use Rattle.tql_select.proofs.ReferenceLaws.{sound_here}
 use Rattle.tql_select.proofs.joins.on.Goals as goal
 
 pub returns-in-Cross-clause-bound : goal.returns-in-Cross-clause-bound

@@ -8,7 +8,8 @@ use Rattle.tql_spec.specs.History as history
 use Rattle.tql_tree.specs.Statements.{span_of}
 use Rattle.tql_tree.specs.declared.statement.Span.{Span}
 use Rattle.tql_scope.specs.Gathered.{Gathers}
-use Rattle.tql_select.proofs.ReferenceLaws.{as_of_bound, range_bound, sound_here}
+use Rattle.tql_scope.proofs.Gathering.{sound_here}
+use Rattle.tql_select.proofs.ReferenceLaws.{as_of_bound, range_bound}
 use Rattle.tql_select.proofs.references.when.Goals as goal
 
 pub returns-in-None : goal.returns-in-None
