@@ -1,5 +1,5 @@
-//! How a program of your own uses the engine: it runs a script and tells which statements were refused, asks what was
-//! paid in March as the books had it on two days, and adds up the rows of each answer.
+//! How a program of your own uses the engine: it runs a script and tells which statements were refused, asks what was paid in March as
+//! the books had it on two days, and adds up the rows of each answer.
 #![tactic(auto)]
 
 use std::io;
@@ -7,8 +7,7 @@ use tql::{Engine, Memory, Notes, Reply, Rows, SliceSource, VecSink, View, memory
 
 /// What the office entered, and when; the last line has a slip of the pen.
 const ENTERED: &[u8] = b"
-CREATE TABLE pay (employee INTEGER, cents INTEGER, s TIMESTAMP GENERATED ALWAYS AS ROW START, e
-    TIMESTAMP GENERATED ALWAYS AS ROW END,
+CREATE TABLE pay (employee INTEGER, cents INTEGER, s TIMESTAMP GENERATED ALWAYS AS ROW START, e TIMESTAMP GENERATED ALWAYS AS ROW END,
   PERIOD FOR SYSTEM_TIME (s, e)) WITH SYSTEM VERSIONING;
 AT TIMESTAMP '2011-03-28 09:00:00';
 INSERT INTO pay VALUES (1, 300000), (2, 250000);
