@@ -3,6 +3,7 @@ pub mod ColumnLaws
 pub mod Growing
 pub mod InsertLaws
 pub mod Places
+pub mod PortionLaws
 pub mod Sequences
 pub mod SetLaws
 pub mod TupleLaws

@@ -4,7 +4,7 @@ use Rattle.std.specs.Prelude.{position, slice_index_or, string_bytes, if◌then�
 use Rattle.std.specs.List.{position_from}
 use Rattle.std.proofs.lemmas.Iterator.Adapters.{position_from-zero}
 use Rattle.tql_spec.specs.Words.{same_text}
-use Rattle.tql_spec.specs.Datum.{Ints}
+use Rattle.tql_spec.specs.Datum.{Kind}
 use Rattle.tql_value.specs.Views.{plain_kind}
 use Rattle.tql_spec.specs.Definition as spec
 use Rattle.tql_spec.specs.Definition.{Name, next_place}
@@ -35,13 +35,13 @@ place_from n (c ∷ cs) = ap (λ o. if same_text n (string_bytes c.name) then So
 pub place_of-columns : (n : Name) (columns : List Column) → position (is_called n) columns ≡ number_in n (names_in columns)
 place_of-columns n columns = position_from-zero (is_called n) columns ∙ place_from n columns
 
--- the kind of a column that is there
-kind_at : (columns : List Column) (i : ℕ) (c : Column) → i < length columns
-    → plain_kind (slice_index_or columns i c).kind ≡ slice_index_or (map (λ (k : spec.Column). k.kind) (map column_of columns)) i Ints
-kind_at [] i c h = absurd (omega (arith, h))
-kind_at (x ∷ xs) zero c h = refl
-kind_at (x ∷ xs) (suc i) c h = kind_at xs i c (omega (arith, h))
+-- the kind of a column that is there, and of none another
+kind_at : (other : Kind) (columns : List Column) (i : ℕ) (c : Column) → i < length columns
+    → plain_kind (slice_index_or columns i c).kind ≡ slice_index_or (map (λ (k : spec.Column). k.kind) (map column_of columns)) i other
+kind_at other [] i c h = absurd (omega (arith, h))
+kind_at other (x ∷ xs) zero c h = refl
+kind_at other (x ∷ xs) (suc i) c h = kind_at other xs i c (omega (arith, h))
 
-pub kind_there : (columns : List Column) (i : ℕ) (c : Column) → i < length columns → c ≡ slice_index_or columns i c
-    → plain_kind c.kind ≡ slice_index_or (map (λ (k : spec.Column). k.kind) (map column_of columns)) i Ints
-kind_there columns i c h e = ap (λ (k : Column). plain_kind k.kind) e ∙ kind_at columns i c h
+pub kind_there : (other : Kind) (columns : List Column) (i : ℕ) (c : Column) → i < length columns → c ≡ slice_index_or columns i c
+    → plain_kind c.kind ≡ slice_index_or (map (λ (k : spec.Column). k.kind) (map column_of columns)) i other
+kind_there other columns i c h e = ap (λ (k : Column). plain_kind k.kind) e ∙ kind_at other columns i c h

@@ -1,13 +1,13 @@
 //! DELETE.
-ghost use Rattle.std.specs.Prelude.{IfOk, None};
-ghost use Rattle.tql_spec.specs.Binding as binding;
+ghost use Rattle.std.specs.Prelude.{IfOk};
+ghost use Rattle.tql_spec.specs.Binding.{bind};
 ghost use Rattle.tql_spec.specs.Machine.{Alter};
 ghost use Rattle.tql_bound.specs.Changes.{modification_of};
 ghost use Rattle.tql_catalog.specs.Tables.{definitions_of};
-ghost use Rattle.tql_tree.specs.Expressions.{name_of};
-ghost use Rattle.tql_tree.specs.Statements.{filter_of};
+ghost use Rattle.tql_tree.specs.Statements.{delete_of};
 ghost use Rattle.tql_scope.specs.Gathered.{Gathers};
 
+use crate::portion::portion;
 use crate::sets::own_reference;
 use std::alloc::AllocError;
 use tql_bound::change::{Modification, Work};
@@ -20,27 +20,29 @@ use tql_scope::faults::Faults;
 use tql_scope::tables::table_number;
 use tql_tree::statement::Delete;
 
-/// A DELETE of no portion. Faults: no table has the name; a name of WHERE is unknown or ambiguous; its kinds do not
-/// fit; an aggregate stands in it; a literal is out of range.
+/// A DELETE. Faults: no table has the name; those of `portion`; a name of WHERE is unknown or ambiguous; its kinds do
+/// not fit; an aggregate stands in it; a literal is out of range.
 pub fn delete_rows(
     memory: Memory,
     catalog: &Catalog,
     delete: &Delete<'_>,
     faults: &mut Faults,
 ) -> Result<Modification, AllocError>
-    ensures { IfOk result (λ x. Gathers
-        (binding.delete (definitions_of catalog.now) (name_of delete.now.table) None (filter_of delete.now.filter))
-        faults.old faults.new
+    ensures { IfOk result
+        (λ x. Gathers (bind (definitions_of catalog.now) (delete_of delete.now)) faults.old faults.new
         (Alter (modification_of x))) }
 {
     let table = table_number(memory, catalog, delete.table, faults)?;
     let nothing = TableDef::nothing(memory);
-    let scope = [own_reference(catalog.definition_or(table, &nothing))];
+    let definition = catalog.definition_or(table, &nothing);
+    let portion = portion(memory, definition, delete.portion, faults)?;
+    let scope = [own_reference(definition)];
     let mut terms = Terms::new(memory);
     let conjuncts = plain_filter(memory, &scope, &delete.filter, &mut terms, faults)?;
     Ok(Modification {
         terms,
         table,
+        portion,
         work: Work::Remove,
         conjuncts,
     })

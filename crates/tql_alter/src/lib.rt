@@ -6,6 +6,7 @@ pub mod columns;
 pub mod delete;
 pub mod insert;
 pub mod insert_query;
+pub mod portion;
 pub mod sets;
 mod tuples;
 pub mod update;

@@ -2,4 +2,3 @@ pub mod Gathered
 pub mod Placed
 pub mod PlacedQueries
 pub mod Room
-pub mod RunningTrees

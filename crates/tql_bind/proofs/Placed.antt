@@ -5,7 +5,6 @@ use Rattle.tql_spec.specs.Binding.{bind, insert_columns, select, table_number}
 use Rattle.tql_spec.specs.Definition.{TableDef, table_at}
 use Rattle.tql_spec.specs.Machine.{Alter, Ask, Bound, Change, CreateTable, DropTable, InsertQuery, SetClock, Start, Commit, Rollback, changed_table}
 use Rattle.tql_spec.specs.Refusal.{first}
-use Rattle.tql_spec.specs.Running.{does_run}
 use Rattle.tql_spec.specs.Syntax.{AtTree, CommitTree, CreateTree, DeleteTree, DropTree, InsertSelect, InsertValues, QueryTree, RollbackTree, StartTree, Statement, UpdateTree}
 use Rattle.tql_bind.specs.Bounds.{HasMoment, IsSound, bound_of, is_creation}
 use Rattle.tql_bind.specs.Placed.{IsPlacedQuery}
@@ -31,24 +30,24 @@ IsPlaced defs Start = Unit {0}
 IsPlaced defs Commit = Unit {0}
 IsPlaced defs Rollback = Unit {0}
 
-pub placed : (defs : List TableDef) (s : Statement) → IsTrue (does_run s) → (bind defs s).faults ≡ [] → IsPlaced defs (bind defs s).value
-placed defs (CreateTree n x xs versioned) runs e = tt
-placed defs (DropTree n) runs e = table_there defs n (front_none (table_number defs n).faults _ e)
-placed defs (InsertValues n ns t ts) runs e = (table_there defs n (front_none (table_number defs n).faults _ e), tt)
-placed defs (InsertSelect n ns s) runs e =
+pub placed : (defs : List TableDef) (s : Statement) → (bind defs s).faults ≡ [] → IsPlaced defs (bind defs s).value
+placed defs (CreateTree n x xs versioned) e = tt
+placed defs (DropTree n) e = table_there defs n (front_none (table_number defs n).faults _ e)
+placed defs (InsertValues n ns t ts) e = (table_there defs n (front_none (table_number defs n).faults _ e), tt)
+placed defs (InsertSelect n ns s) e =
     let t = table_number defs n in
     let columns = insert_columns (table_at defs t.value) ns in
     let asked = select defs s [] in (
       table_there defs n (front_none t.faults _ e),
       query_placed defs s [] (front_none asked.faults _ (behind_none columns.faults _ (behind_none t.faults _ e))),
     )
-placed defs (UpdateTree n p s ss c) runs e = (table_there defs n (front_none (table_number defs n).faults _ e), tt)
-placed defs (DeleteTree n p c) runs e = (table_there defs n (front_none (table_number defs n).faults _ e), tt)
-placed defs (QueryTree s keys) runs e = query_placed defs s keys (front_none (select defs s keys).faults _ e)
-placed defs StartTree runs e = tt
-placed defs CommitTree runs e = tt
-placed defs RollbackTree runs e = tt
-placed defs (AtTree t) runs e = tt
+placed defs (UpdateTree n p s ss c) e = (table_there defs n (front_none (table_number defs n).faults _ e), tt)
+placed defs (DeleteTree n p c) e = (table_there defs n (front_none (table_number defs n).faults _ e), tt)
+placed defs (QueryTree s keys) e = query_placed defs s keys (front_none (select defs s keys).faults _ e)
+placed defs StartTree e = tt
+placed defs CommitTree e = tt
+placed defs RollbackTree e = tt
+placed defs (AtTree t) e = tt
 
 -- ---- the code's
 
@@ -78,7 +77,7 @@ sound_by defs s statement.Commit other is timed there = tt
 sound_by defs s statement.Rollback other is timed there = tt
 
 -- what is bound without a fault is right
-pub sound_where_clean : (defs : List TableDef) (s : Statement) (b : bound.Bound) → IsTrue (does_run s) → IsTrue (not (is_creation s)) → first (bind defs s).faults ≡ None → (bind defs s).value ≡ bound_of b → HasMoment b
+pub sound_where_clean : (defs : List TableDef) (s : Statement) (b : bound.Bound) → IsTrue (not (is_creation s)) → first (bind defs s).faults ≡ None → (bind defs s).value ≡ bound_of b → HasMoment b
     → IsSound defs b
-sound_where_clean defs s b runs other none is timed =
-    sound_by defs s b other is timed (subst (IsPlaced defs) is (placed defs s runs (none_present (bind defs s).faults none)))
+sound_where_clean defs s b other none is timed =
+    sound_by defs s b other is timed (subst (IsPlaced defs) is (placed defs s (none_present (bind defs s).faults none)))

@@ -1,7 +1,7 @@
 //! The names of a statement, bound.
 ghost use Rattle.std.specs.Prelude.{◌≤◌, All, IsFalse, IsTrue, IfOk, length, not};
 ghost use Rattle.tql_spec.specs.Binding.{bind};
-ghost use Rattle.tql_spec.specs.Running.{does_run};
+ghost use Rattle.tql_spec.specs.Running.{makes_no_constraint};
 ghost use Rattle.tql_spec.specs.Syntax.{is_too_wide};
 ghost use Rattle.tql_catalog.specs.Tables.{definitions_of};
 ghost use Rattle.tql_tree.specs.Statements.{create_of, statement_of};
@@ -10,10 +10,12 @@ ghost use Rattle.tql_define.specs.Binds.{Binds};
 ghost use Rattle.tql_bind.specs.Bounds.{HasMoment, IsSound, bound_of, is_creation};
 
 use crate::bound::Bound;
-use crate::changes::{delete, insert, update};
 use crate::drop_table::bind_drop;
+use crate::insertions::insert;
 use crate::questions::ask;
 use std::alloc::AllocError;
+use tql_alter::delete::delete_rows;
+use tql_alter::update::update_rows;
 use tql_catalog::catalog::Catalog;
 use tql_define::create::new_table;
 use tql_memory::Memory;
@@ -24,7 +26,7 @@ use tql_value::refusal::Refusal;
 
 /// CREATE TABLE with its names bound.
 fn create(memory: Memory, tables: &Catalog, create: &CreateTree<'_>) -> Result<Bound, Refusal>
-    requires runs { IsTrue (does_run (create_of create.now)) }
+    requires plain { IsTrue (makes_no_constraint (create_of create.now)) }
     requires narrow { IsFalse (is_too_wide (create_of create.now)) }
     ensures binds { Binds bound_of (bind (definitions_of tables.now) (create_of create.now)) result }
     ensures sound { IfOk result (IsSound (definitions_of tables.now)) }
@@ -43,7 +45,6 @@ fn bound(
     statement: &Statement<'_>,
     faults: &mut Faults,
 ) -> Result<Bound, AllocError>
-    requires runs { IsTrue (does_run (statement_of statement.now)) }
     requires other { IsTrue (not (is_creation (statement_of statement.now))) }
     requires narrow { IsFalse (is_too_wide (statement_of statement.now)) }
     requires tables { All (λ d. length d.columns ≤ 64) (definitions_of tables.now) }
@@ -60,11 +61,11 @@ fn bound(
         }
         Statement::Insert(tree) => insert(memory, tables, tree, faults),
         Statement::Update(tree) => {
-            let modification = update(memory, tables, tree, faults)?;
+            let modification = update_rows(memory, tables, tree, faults)?;
             Ok(Bound::Modify(modification))
         }
         Statement::Delete(tree) => {
-            let modification = delete(memory, tables, tree, faults)?;
+            let modification = delete_rows(memory, tables, tree, faults)?;
             Ok(Bound::Modify(modification))
         }
         Statement::Query(tree) => {
@@ -83,7 +84,6 @@ fn bound(
 
 /// A statement other than CREATE TABLE, bound without a fault, or the first of its faults.
 fn faultless(memory: Memory, tables: &Catalog, statement: &Statement<'_>) -> Result<Bound, Refusal>
-    requires runs { IsTrue (does_run (statement_of statement.now)) }
     requires other { IsTrue (not (is_creation (statement_of statement.now))) }
     requires narrow { IsFalse (is_too_wide (statement_of statement.now)) }
     requires tables { All (λ d. length d.columns ≤ 64) (definitions_of tables.now) }
@@ -99,10 +99,10 @@ fn faultless(memory: Memory, tables: &Catalog, statement: &Statement<'_>) -> Res
 }
 
 /// The statement with its names bound: one of at most 64 columns or 8 table references, over tables of at most 64
-/// columns. Refused: the first of the faults of names, kinds, forms and literals that are present, in the order of
-/// report; or memory.
+/// columns; CREATE TABLE without keys, references and checks, which are not bound yet. Refused: the first of the faults
+/// of names, kinds, forms and literals that are present, in the order of report; or memory.
 pub fn bind(memory: Memory, tables: &Catalog, statement: &Statement<'_>) -> Result<Bound, Refusal>
-    requires runs { IsTrue (does_run (statement_of statement.now)) }
+    requires plain { IsTrue (makes_no_constraint (statement_of statement.now)) }
     requires narrow { IsFalse (is_too_wide (statement_of statement.now)) }
     requires tables { All (λ d. length d.columns ≤ 64) (definitions_of tables.now) }
     ensures binds { Binds bound_of (bind (definitions_of tables.now) (statement_of statement.now)) result }

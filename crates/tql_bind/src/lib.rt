@@ -3,6 +3,6 @@
 
 pub mod binder;
 pub mod bound;
-mod changes;
 mod drop_table;
+mod insertions;
 mod questions;

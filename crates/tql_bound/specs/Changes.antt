@@ -1,8 +1,9 @@
 -- The machine's changes that bound ones stand for.
-use Rattle.std.specs.Prelude.{List, map, Vec, None}
+use Rattle.std.specs.Prelude.{List, map, option_map, Vec}
 use Rattle.tql_spec.specs.Expression as tree
 use Rattle.tql_spec.specs.Machine as machine
 use Rattle.tql_spec.specs.Machine.{InsertTuples, InsertQuery, Modify}
+use Rattle.tql_period.specs.Points.{points_of}
 use Rattle.tql_expr.specs.Meaning.{expr, cond}
 use Rattle.tql_expr.specs.declared.terms.ExprId.{ExprId}
 use Rattle.tql_expr.specs.declared.terms.Terms.{Terms}
@@ -24,6 +25,6 @@ insertion_of x = InsertTuples x.table x.columns.items (map (tuple_of x.terms) x.
 abbrev pub query_insertion_of : QueryInsertion → machine.Change
 query_insertion_of x = InsertQuery x.table x.columns.items (question_of x.question)
 
--- UPDATE and DELETE, of no portion
+-- UPDATE and DELETE, of a portion or of none
 abbrev pub modification_of : Modification → machine.Change
-modification_of x = Modify x.table None (work_of x.terms x.work) (map (cond x.terms) x.conjuncts.items)
+modification_of x = Modify x.table (option_map points_of x.portion) (work_of x.terms x.work) (map (cond x.terms) x.conjuncts.items)

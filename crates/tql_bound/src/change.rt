@@ -6,6 +6,7 @@ ghost use Rattle.tql_bound.specs.Works.{sets_of};
 use crate::question::Question;
 use tql_expr::terms::{CondId, ExprId, Terms};
 use tql_memory::Memory;
+use tql_period::period::Period;
 
 /// New rows of a table, by its place among the tables: the columns that are given values, by their numbers from 0,
 /// and for each row the expressions of these values.
@@ -56,11 +57,12 @@ pub enum Work {
     Remove,
 }
 
-/// UPDATE or DELETE of a table, by its place among the tables: what becomes of the rows of which all conjuncts are
-/// true.
+/// UPDATE or DELETE of a table, by its place among the tables: the portion of its application period that is changed,
+/// or none where all is, and what becomes of the rows of which all conjuncts are true.
 pub struct Modification {
     pub terms: Terms,
     pub table: usize,
+    pub portion: Option<Period>,
     pub work: Work,
     pub conjuncts: Vec<CondId, Memory>,
     ghost held: { All (λ a. HasExpr terms a.value) (sets_of work) },
@@ -72,6 +74,7 @@ impl Drop for Modification {
         let Modification {
             terms,
             table: _,
+            portion: _,
             work,
             conjuncts,
         } = self;

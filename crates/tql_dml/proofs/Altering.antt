@@ -20,7 +20,7 @@ use Rattle.tql_value.specs.Points.{IsPrintable}
 use Rattle.tql_value.specs.Refusals.{refusal_of}
 use Rattle.tql_value.specs.declared.refusal.Refusal.{Refusal}
 use Rattle.tql_value.specs.declared.refusal.Refusal.TheVariants as r
-use Rattle.tql_dml.specs.Alters.{Gives, Alters, added_rows, tuples_in, rows_in, conds_in, modified, fates, coming, gone, IsVersionOf}
+use Rattle.tql_dml.specs.Alters.{Gives, Alters, added_rows, tuples_in, rows_in, portion_in, conds_in, modified, fates, coming, gone, IsVersionOf, AreTyped}
 use Rattle.tql_dml.specs.Cells.{stored_cells, rows_faults}
 use Rattle.tql_expr.specs.Evaluated.{Fails}
 use Rattle.tql_value.specs.Views.{rows_of}
@@ -83,12 +83,12 @@ of_values d id x o p result e h = subst (λ o. Alters id [] (λ m. (added_rows d
 
 -- what a modification does to versions
 abbrev pub parts_of : TableDef → List Version → Modification → Option Parts
-parts_of d found x = parts d (work_of x.terms x.work) (conds_in x) found
+parts_of d found x = parts d (portion_in x) (work_of x.terms x.work) (conds_in x) found
 
 -- the fates of the versions, where all is evaluated
 told : (d : TableDef) (found : List Version) (x : Modification) (p : Parts) (m : ℤ) → parts_of d found x ≡ Some p
     → (fs : List Fate) × ((fates d found x m ≡ Some fs) × Told fs (gone d x found) p)
-told d found x p m e = agreed (fates d found x m) (gone d x found) (parts_of d found x) p e (fates_agree d m (work_of x.terms x.work) (conds_in x) found)
+told d found x p m e = agreed (fates d found x m) (gone d x found) (parts_of d found x) p e (fates_agree d m (portion_in x) (work_of x.terms x.work) (conds_in x) found)
 
 -- the outcome of fates
 outcome_is : (d : TableDef) (found : List Version) (x : Modification) (fs : List Fate) (m : ℤ) → fates d found x m ≡ Some fs → modified d found x m ≡ outcome_of d (rows_in found) (Some fs)
@@ -99,7 +99,7 @@ modify_ends : (d : TableDef) (id : ℕ) (found : List Version) (x : Modification
     → Alters id (gone d x found) (λ m. coming (fates d found x m)) (modified d found x) (Err e)
 modify_ends d id found x r.OutOfMemory f = tt
 modify_ends d id found x r.ValueOutOfRange f = λ m.
-    let none : fates d found x m ≡ None = disagreed (fates d found x m) (gone d x found) (parts_of d found x) f (fates_agree d m (work_of x.terms x.work) (conds_in x) found) in
+    let none : fates d found x m ≡ None = disagreed (fates d found x m) (gone d x found) (parts_of d found x) f (fates_agree d m (portion_in x) (work_of x.terms x.work) (conds_in x) found) in
     ap (λ o. first (outcome_of d (rows_in found) o).faults) none
 modify_ends d id found x _ f = absurd f
 
@@ -113,7 +113,7 @@ modify_faults : (d : TableDef) (found : List Version) (x : Modification) (p : Pa
     → o ≡ first (rows_faults d p.come) → first (modified d found x m).faults ≡ o
 modify_faults d found x p o m s h e f =
     let t = told d found x p m e in
-    let fits : PartsFit d (Some p) = subst (PartsFit d) e (parts_fit d (work_of x.terms x.work) (conds_in x) found s h) in
+    let fits : PartsFit d (Some p) = subst (PartsFit d) e (parts_fit d (portion_in x) (work_of x.terms x.work) (conds_in x) found s h) in
     let cells : map (λ (r : Stamped). r.cells) (change.new_rows t.0) ≡ p.come = t.1.1.come in
     ap (λ (y : Outcome). first y.faults) (outcome_is d found x t.0 m t.1.0)
     ∙ ap first (stored_faults d (change.new_rows t.0) s (subst (Fit d) (sym cells) fits))
@@ -144,5 +144,5 @@ modify_gives d id found x p delta s h v table removed rows count faults = record
 
 -- what comes fits the table
 pub modify_fits : (d : TableDef) (found : List Version) (x : Modification) (p : Parts) (rows : List Row) → IsDefinition d → AreRows d found → parts_of d found x ≡ Some p → rows ≡ p.come
-    → None ≡ first (rows_faults d p.come) → All (IsVersionOf d) found → All (IsRowOf d) rows
-modify_fits d found x p rows s h v is none f = subst (All (IsRowOf d)) (sym is) (coming_fit d x.terms x.work (conds_in x) found p s h v none f)
+    → None ≡ first (rows_faults d p.come) → All (IsVersionOf d) found → AreTyped d found x → All (IsRowOf d) rows
+modify_fits d found x p rows s h v is none f k = subst (All (IsRowOf d)) (sym is) (coming_fit d (portion_in x) x.terms x.work (conds_in x) found p s h v none f k)

@@ -4,9 +4,10 @@ use Rattle.std.proofs.Common.{sym, ap, subst, append_assoc, ◌∙◌, drop}
 use Rattle.std.proofs.lemmas.List.{drop_more, map-append}
 use Rattle.tql_spec.specs.Words.{◌>>=◌, with_front, map_all}
 use Rattle.tql_spec.specs.Datum.{Row}
+use Rattle.tql_spec.specs.Period.{Period}
 use Rattle.tql_spec.specs.Definition.{TableDef, Stamped, stamped, without_generated, shown}
 use Rattle.tql_spec.specs.Expression.{Cond}
-use Rattle.tql_spec.specs.Change.{Work, Fate, Replaced, made_of, is_touched, fate, fate_where, new_rows, touched_count}
+use Rattle.tql_spec.specs.Change.{Work, Fate, Replaced, made_of, is_touched, pieces, fate, fate_where, new_rows, touched_count}
 use Rattle.tql_rows.specs.Readings.{version_shown as version_of}
 use Rattle.tql_rows.specs.declared.version.Version.{Version}
 use Rattle.tql_dml.specs.Alters.{is_yes, rows_in}
@@ -20,14 +21,14 @@ joined p (Some q) None = refl
 joined p (Some q) (Some r) = λ i. Some (record { gone = sym (append_assoc p.gone q.gone r.gone) i; come = sym (append_assoc p.come q.come r.come) i })
 
 -- one more version
-pub one_more_version : (d : TableDef) (work : Work) (conds : List Cond) (vs : List Version) (i : ℕ) (v : Version) (p n : Parts) (all : Option Parts)
-    → i < length vs → v ≡ slice_index_or vs i v → before p (part_of d work conds v.id (shown d (version_of v).row)) ≡ Some n
-    → before p (parts d work conds (drop i vs)) ≡ all → before n (parts d work conds (drop (i + 1) vs)) ≡ all
-one_more_version d work conds vs i v p n all l is e h =
-    let rest = parts d work conds (drop (i + 1) vs) in
+pub one_more_version : (d : TableDef) (portion : Option Period) (work : Work) (conds : List Cond) (vs : List Version) (i : ℕ) (v : Version) (p n : Parts) (all : Option Parts)
+    → i < length vs → v ≡ slice_index_or vs i v → before p (part_of d portion work conds v.id (shown d (version_of v).row)) ≡ Some n
+    → before p (parts d portion work conds (drop i vs)) ≡ all → before n (parts d portion work conds (drop (i + 1) vs)) ≡ all
+one_more_version d portion work conds vs i v p n all l is e h =
+    let rest = parts d portion work conds (drop (i + 1) vs) in
     let this : drop i vs ≡ v ∷ drop (i + 1) vs = drop_more vs i v l ∙ ap {B = List Version} (λ w. w ∷ drop (i + 1) vs) (sym is) in
-    ap (λ o. o >>= λ x. before x rest) (sym e) ∙ sym (joined p (part_of d work conds v.id (shown d (version_of v).row)) rest)
-    ∙ ap (λ ws. before p (parts d work conds ws)) (sym this) ∙ h
+    ap (λ o. o >>= λ x. before x rest) (sym e) ∙ sym (joined p (part_of d portion work conds v.id (shown d (version_of v).row)) rest)
+    ∙ ap (λ ws. before p (parts d portion work conds ws)) (sym this) ∙ h
 
 -- ---- the fates
 
@@ -58,29 +59,29 @@ touched d m made id fs ids p t = record {
   count = ap suc t.count;
 }
 
-step : (d : TableDef) (m : ℤ) (v : Version) (kept : List Version) (t : Option Bool) (made : Option (List Row)) (fs : Option (List Fate)) (q : Option Parts) → Agree fs (ids_of kept) q
-    → Agree (with_front (t >>= λ b. fate_where b (made >>= λ rs. Some (Replaced (map (stamped d m) rs)))) fs) (ids_of (cond (is_yes t) (v ∷ kept) kept))
-    ((t >>= λ b. part_where b (made >>= λ rs. Some (record { gone = v.id ∷ []; come = map (without_generated d.system) rs }))) >>= λ p. before p q)
-step d m v kept None made fs q h = tt
-step d m v kept (Some true) None fs q h = tt
-step d m v kept (Some true) (Some rs) None None h = tt
-step d m v kept (Some true) (Some rs) None (Some q) h = absurd h
-step d m v kept (Some true) (Some rs) (Some fs) None h = absurd h
-step d m v kept (Some true) (Some rs) (Some fs) (Some q) h = touched d m rs v.id fs (ids_of kept) q h
-step d m v kept (Some false) made None None h = tt
-step d m v kept (Some false) made None (Some q) h = absurd h
-step d m v kept (Some false) made (Some fs) None h = absurd h
-step d m v kept (Some false) made (Some fs) (Some q) h = record { come = h.come; gone = h.gone; count = h.count }
+step : (d : TableDef) (m : ℤ) (cut : List Row → List Row) (v : Version) (kept : List Version) (t : Option Bool) (made : Option (List Row)) (fs : Option (List Fate)) (q : Option Parts) → Agree fs (ids_of kept) q
+    → Agree (with_front (t >>= λ b. fate_where b (made >>= λ rs. Some (Replaced (map (stamped d m) (cut rs))))) fs) (ids_of (cond (is_yes t) (v ∷ kept) kept))
+    ((t >>= λ b. part_where b (made >>= λ rs. Some (record { gone = v.id ∷ []; come = map (without_generated d.system) (cut rs) }))) >>= λ p. before p q)
+step d m cut v kept None made fs q h = tt
+step d m cut v kept (Some true) None fs q h = tt
+step d m cut v kept (Some true) (Some rs) None None h = tt
+step d m cut v kept (Some true) (Some rs) None (Some q) h = absurd h
+step d m cut v kept (Some true) (Some rs) (Some fs) None h = absurd h
+step d m cut v kept (Some true) (Some rs) (Some fs) (Some q) h = touched d m (cut rs) v.id fs (ids_of kept) q h
+step d m cut v kept (Some false) made None None h = tt
+step d m cut v kept (Some false) made None (Some q) h = absurd h
+step d m cut v kept (Some false) made (Some fs) None h = absurd h
+step d m cut v kept (Some false) made (Some fs) (Some q) h = record { come = h.come; gone = h.gone; count = h.count }
 
 -- the fates of versions' rows say what goes and comes
-pub fates_agree : (d : TableDef) (m : ℤ) (work : Work) (conds : List Cond) (vs : List Version)
-    → Agree (map_all (λ r. fate d m None work conds (shown d r)) (rows_in vs))
-    (ids_of (filter (λ (v : Version). is_yes (is_touched d None conds (shown d (version_of v).row))) vs)) (parts d work conds vs)
-fates_agree d m work conds [] = record { come = refl; gone = refl; count = refl }
-fates_agree d m work conds (v ∷ vs) =
+pub fates_agree : (d : TableDef) (m : ℤ) (portion : Option Period) (work : Work) (conds : List Cond) (vs : List Version)
+    → Agree (map_all (λ r. fate d m portion work conds (shown d r)) (rows_in vs))
+    (ids_of (filter (λ (v : Version). is_yes (is_touched d portion conds (shown d (version_of v).row))) vs)) (parts d portion work conds vs)
+fates_agree d m portion work conds [] = record { come = refl; gone = refl; count = refl }
+fates_agree d m portion work conds (v ∷ vs) =
     let row : Row = shown d (version_of v).row in
-    step d m v (filter (λ (w : Version). is_yes (is_touched d None conds (shown d (version_of w).row))) vs) (is_touched d None conds row) (made_of work row)
-    (map_all (λ r. fate d m None work conds (shown d r)) (rows_in vs)) (parts d work conds vs) (fates_agree d m work conds vs)
+    step d m (pieces d portion row) v (filter (λ (w : Version). is_yes (is_touched d portion conds (shown d (version_of w).row))) vs) (is_touched d portion conds row) (made_of work row)
+    (map_all (λ r. fate d m portion work conds (shown d r)) (rows_in vs)) (parts d portion work conds vs) (fates_agree d m portion work conds vs)
 
 -- where all is evaluated, so are the fates
 pub agreed : (fs : Option (List Fate)) (ids : List ℕ) (q : Option Parts) (p : Parts) → q ≡ Some p → Agree fs ids q → (gs : List Fate) × ((fs ≡ Some gs) × Told gs ids p)

@@ -1,18 +1,20 @@
 -- The widths of rows: as they are stored, as they are shown, and as assignments make them; and the faults of rows of their width.
 use Rattle.std.specs.Prelude.{◌≡◌, refl, ℕ, ◌+◌, ◌<◌, ◌≤◌, ◌≢◌, ℤ, Bool, true, false, nat_lt, List, [], ◌∷◌, ◌++◌, map, length, insert, slice_set, All, Option, Some, None, ⊤, if◌then◌else◌}
-use Rattle.std.specs.List.{flat_map}
-use Rattle.std.proofs.Common.{sym, ap, ◌∙◌, arith}
+use Rattle.std.specs.List.{flat_map, AllByRecursion}
+use Rattle.std.proofs.Common.{sym, ap, ◌∙◌, arith, inl, inr}
 use Rattle.std.proofs.lemmas.List.{length-map, length-set}
 use Rattle.std.proofs.lemmas.List.Edits.{length-insert}
-use Rattle.std.proofs.lemmas.List.Elements.{All-head, All-tail, All-append, All-push, All-nil}
+use Rattle.std.proofs.lemmas.List.Elements.{All-head, All-tail, All-append, All-nil, All-from_recursion}
 use borrow.Author.Tests.{ltb-true, ltb-false}
 use Rattle.tql_spec.specs.Words.{◌>>=◌}
 use Rattle.tql_spec.specs.Datum.{Row, Moment}
 use Rattle.tql_spec.specs.Calendar.{high}
 use Rattle.tql_spec.specs.Definition.{Column, System, TableDef, Stamped, with_generated, without_generated, shown, cell}
-use Rattle.tql_spec.specs.Expression.{Cond, eval}
+use Rattle.tql_spec.specs.Expression.{Cond}
 use Rattle.tql_spec.specs.Refusal.{PeriodNotRising, fault_if}
-use Rattle.tql_spec.specs.Change.{Assignment, Work, Set, Remove, assigned, is_touched, row_faults, cell_faults}
+use Rattle.tql_spec.specs.Change.{Work, made_of, pieces, is_touched, row_faults, cell_faults}
+use Rattle.tql_spec.specs.Period.{Period}
+use Rattle.tql_spec.proofs.Widths.{AllWide, made_wide, pieces_wide}
 use Rattle.tql_spec.specs.Binding.{all_assignable}
 use Rattle.tql_catalog.specs.Defined.{IsDefinition}
 use Rattle.tql_catalog.specs.Rows.{has_system, stored_width}
@@ -65,19 +67,6 @@ without_width d row s k = ap length (kept_cells d row s k) ∙ length-map (all_a
 
 -- ---- rows that a modification makes
 
--- the row, if there is one, has so many values
-abbrev Wide : ℕ → Option Row → Type 0
-Wide n None = ⊤
-Wide n (Some row) = length row ≡ n
-
-assigned_width : (old row : Row) (sets : List Assignment) (n : ℕ) → length row ≡ n → Wide n (assigned old row sets)
-assigned_width old row [] n h = h
-assigned_width old row (a ∷ rest) n h =
-    elim (eval [] old a.value) as (λ o. Wide n (o >>= λ v. assigned old (slice_set row a.column v) rest)) [
-      | None ↦ tt
-      | Some v ↦ assigned_width old (slice_set row a.column v) rest n (length-set row a.column v ∙ h)
-    ]
-
 -- the rows that come have the width of stored ones
 abbrev pub Fit : TableDef → List Row → Type 0
 Fit d rows = All (λ (cells : Row). length cells ≡ stored_width d) rows
@@ -86,20 +75,25 @@ abbrev pub PartsFit : TableDef → Option Parts → Type 0
 PartsFit d None = ⊤
 PartsFit d (Some p) = Fit d p.come
 
-set_fits : (d : TableDef) (id : ℕ) (o : Option Row) → IsDefinition d → Wide (length d.columns) o
-    → PartsFit d (o >>= (λ new. Some (new ∷ [])) >>= λ made. Some (record { gone = id ∷ []; come = map (without_generated d.system) made }))
-set_fits d id None s h = tt
-set_fits d id (Some row) s h =
-    All-push (λ (cells : Row). length cells ≡ stored_width d) [] (without_generated d.system row) (All-nil (λ (cells : Row). length cells ≡ stored_width d)) (without_width d row s h)
-
 pub both_fit : (d : TableDef) (p q : Option Parts) → PartsFit d p → PartsFit d q → PartsFit d (p >>= λ x. before x q)
 both_fit d None q h k = tt
 both_fit d (Some x) None h k = tt
 both_fit d (Some x) (Some y) h k = All-append (λ (cells : Row). length cells ≡ stored_width d) x.come y.come h k
 
-touched_fits : (d : TableDef) (work : Work) (id : ℕ) (row : Row) → IsDefinition d → length row ≡ length d.columns → PartsFit d (touched_part d work id row)
-touched_fits d (Set sets) id row s h = set_fits d id (assigned row row sets) s (assigned_width row row sets (length d.columns) h)
-touched_fits d Remove id row s h = All-nil (λ (cells : Row). length cells ≡ stored_width d)
+-- full rows are stored
+all_fit : (d : TableDef) (rows : List Row) → IsDefinition d → AllWide (length d.columns) rows → AllByRecursion (λ (cells : Row). length cells ≡ stored_width d) (map (without_generated d.system) rows)
+all_fit d [] s h = tt
+all_fit d (x ∷ xs) s h = (without_width d x s (h x (inl refl)), all_fit d xs s (λ y m. h y (inr m)))
+
+touched_fits : (d : TableDef) (portion : Option Period) (work : Work) (id : ℕ) (row : Row) → IsDefinition d → length row ≡ length d.columns → PartsFit d (touched_part d portion work id row)
+touched_fits d portion work id row s h = at_made (made_of work row) refl
+  where
+    at_made : (o : Option (List Row)) → made_of work row ≡ o
+        → PartsFit d (o >>= λ made. Some (record { gone = id ∷ []; come = map (without_generated d.system) (pieces d portion row made) }))
+    at_made None e = tt
+    at_made (Some made) e =
+        All-from_recursion (λ (cells : Row). length cells ≡ stored_width d) (map (without_generated d.system) (pieces d portion row made))
+        (all_fit d (pieces d portion row made) s (λ x m. pieces_wide d portion row made (made_wide work row made e) x m ∙ h))
 
 where_fits : (d : TableDef) (t : Option Bool) (o : Option Parts) → PartsFit d o → PartsFit d (t >>= λ b. part_where b o)
 where_fits d None o h = tt
@@ -110,15 +104,15 @@ where_fits d (Some false) o h = All-nil (λ (cells : Row). length cells ≡ stor
 abbrev pub AreRows : TableDef → List Version → Type 0
 AreRows d found = All (λ (v : Version). length v.row.now ≡ stored_width d) found
 
-pub parts_fit : (d : TableDef) (work : Work) (conds : List Cond) (found : List Version) → IsDefinition d → AreRows d found → PartsFit d (parts d work conds found)
-parts_fit d work conds [] s h = All-nil (λ (cells : Row). length cells ≡ stored_width d)
-parts_fit d work conds (v ∷ vs) s h =
+pub parts_fit : (d : TableDef) (portion : Option Period) (work : Work) (conds : List Cond) (found : List Version) → IsDefinition d → AreRows d found → PartsFit d (parts d portion work conds found)
+parts_fit d portion work conds [] s h = All-nil (λ (cells : Row). length cells ≡ stored_width d)
+parts_fit d portion work conds (v ∷ vs) s h =
     let row : Row = shown d (version_of v).row in
     let wide : length row ≡ length d.columns =
     shown_width d (version_of v).row s (length-map v.row.now datum_of_value ∙ All-head (λ (w : Version). length w.row.now ≡ stored_width d) v vs h) in
-    both_fit d (part_of d work conds v.id row) (parts d work conds vs)
-    (where_fits d (is_touched d None conds row) (touched_part d work v.id row) (touched_fits d work v.id row s wide))
-    (parts_fit d work conds vs s (All-tail (λ (w : Version). length w.row.now ≡ stored_width d) v vs h))
+    both_fit d (part_of d portion work conds v.id row) (parts d portion work conds vs)
+    (where_fits d (is_touched d portion conds row) (touched_part d portion work v.id row) (touched_fits d portion work v.id row s wide))
+    (parts_fit d portion work conds vs s (All-tail (λ (w : Version). length w.row.now ≡ stored_width d) v vs h))
 
 -- ---- their faults
 

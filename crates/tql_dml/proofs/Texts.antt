@@ -1,14 +1,20 @@
 -- New rows have values that have texts, where those that they are computed on have.
-use Rattle.std.specs.Prelude.{◌≡◌, ℕ, suc, Bool, true, false, nat_lt, List, [], ◌∷◌, map, remove, slice_set, take, drop, All, Vec, Option, Some, None, ⊤, if◌then◌else◌}
-use Rattle.std.proofs.Common.{subst, arith}
+use Rattle.std.specs.Prelude.{◌≡◌, refl, ℕ, suc, IsTrue, is_some, Bool, true, false, nat_lt, List, [], ◌∷◌, map, remove, slice_set, take, drop, All, Vec, Option, Some, None, ⊤, if◌then◌else◌}
+use Rattle.std.specs.List.{AllByRecursion}
+use Rattle.std.proofs.Common.{sym, subst, arith, inl, inr}
 use Rattle.std.proofs.lemmas.Int.{ints}
-use Rattle.std.proofs.lemmas.List.Elements.{All-head, All-tail, All-append, All-push, All-nil, All-set, All-take, All-drop}
+use Rattle.std.proofs.lemmas.List.Elements.{All-head, All-tail, All-append, All-nil, All-set, All-take, All-drop, All-from_recursion}
 use Rattle.tql_spec.specs.Words.{◌>>=◌, map_all}
 use Rattle.tql_spec.specs.Datum.{Row}
 use Rattle.tql_spec.specs.Calendar.{high}
-use Rattle.tql_spec.specs.Definition.{System, TableDef, without_generated, shown}
-use Rattle.tql_spec.specs.Expression.{Cond, eval}
-use Rattle.tql_spec.specs.Change.{assigned, is_touched}
+use Rattle.tql_spec.specs.Definition.{System, TableDef, without_generated, shown, period_of}
+use Rattle.tql_spec.specs.Expression.{Cond, eval, passes}
+use Rattle.tql_spec.specs.Change.{Work, assigned, is_touched, made_of, pieces}
+use Rattle.tql_spec.specs.Bag.{In}
+use Rattle.tql_spec.specs.Creation.{kinds_of}
+use Rattle.tql_spec.specs.Period.{Period, share_a_point}
+use Rattle.tql_spec.specs.Typing.{AreOfKinds, HasPeriod, IsTypedDefinition}
+use Rattle.tql_spec.specs.TypingLaws.{IsTypedWork}
 use Rattle.tql_spec.specs.Refusal.{first}
 use Rattle.tql_bound.specs.Changes.{tuple_of}
 use Rattle.tql_bound.specs.Works.{assignment_of, work_of}
@@ -16,17 +22,18 @@ use Rattle.tql_bound.specs.declared.change.Assignment.{Assignment}
 use Rattle.tql_bound.specs.declared.change.Work as code
 use Rattle.tql_bound.specs.declared.change.Work.TheVariants as work
 use Rattle.tql_catalog.specs.Defined.{IsDefinition}
-use Rattle.tql_catalog.specs.Rows.{IsRowOf}
+use Rattle.tql_catalog.specs.Rows.{IsRowOf, RisesBy}
 use Rattle.tql_expr.specs.Meaning.{expr}
 use Rattle.tql_expr.specs.declared.terms.ExprId.{ExprId}
 use Rattle.tql_expr.specs.declared.terms.Terms.{Terms}
 use Rattle.tql_rows.specs.Readings.{version_shown as version_of}
 use Rattle.tql_rows.specs.declared.version.Version.{Version}
 use Rattle.tql_value.specs.Points.{IsPrintable, IsMoment}
-use Rattle.tql_dml.specs.Alters.{IsVersionOf}
+use Rattle.tql_dml.specs.Alters.{IsVersionOf, IsTypedFor}
 use Rattle.tql_dml.specs.Cells.{rows_faults}
 use Rattle.tql_dml.specs.Parts.{Parts, before, touched_part, part_where, part_of, parts}
 use Rattle.tql_expr.proofs.Printing.{OptionPrints, RowPrints, RowsPrint, expr_prints, eval_prints, values_print, rows_front_print, generated_prints}
+use Rattle.tql_dml.proofs.PieceTexts.{pieces_print}
 use Rattle.tql_dml.proofs.Rising.{rows_fit}
 use Rattle.tql_dml.proofs.Rows.{AreRows, PartsFit, parts_fit}
 
@@ -69,39 +76,91 @@ abbrev PartsPrint : Option Parts → Type 0
 PartsPrint None = ⊤
 PartsPrint (Some p) = All (All IsPrintable) p.come
 
-set_prints : (d : TableDef) (id : ℕ) (o : Option Row) → RowPrints o
-    → PartsPrint (o >>= (λ new. Some (new ∷ [])) >>= λ made. Some (record { gone = id ∷ []; come = map (without_generated d.system) made }))
-set_prints d id None h = tt
-set_prints d id (Some row) h = All-push (All IsPrintable) [] (without_generated d.system row) (All-nil (All IsPrintable)) (without_prints d.system row h)
-
 both_print : (p q : Option Parts) → PartsPrint p → PartsPrint q → PartsPrint (p >>= λ x. before x q)
 both_print None q h k = tt
 both_print (Some x) None h k = tt
 both_print (Some x) (Some y) h k = All-append (All IsPrintable) x.come y.come h k
 
-touched_prints : (d : TableDef) (t : Terms) (w : code.Work) (id : ℕ) (row : Row) → All IsPrintable row → PartsPrint (touched_part d (work_of t w) id row)
-touched_prints d t (work.Set sets) id row h = set_prints d id (assigned row row (map (assignment_of t) sets.items)) (assigned_prints t row row sets.items h h)
-touched_prints d t work.Remove id row h = All-nil (All IsPrintable)
+-- the rows that are made
+made_print : (t : Terms) (w : code.Work) (row : Row) (made : List Row) → All IsPrintable row → made_of (work_of t w) row ≡ Some made → (x : Row) → In x made → All IsPrintable x
+made_print t work.Remove row made h e x m = let q : [] ≡ made = cc in absurd (subst (λ (xs : List Row). In x xs) (sym q) m)
+made_print t (work.Set sets) row made h e x m = at_row (assigned row row (map (assignment_of t) sets.items)) (assigned_prints t row row sets.items h h) e
+  where
+    at_row : (o : Option Row) → RowPrints o → (o >>= λ new. Some (new ∷ [])) ≡ Some made → All IsPrintable x
+    at_row None k q = absurd (cc)
+    at_row (Some new) k q =
+        let same : new ∷ [] ≡ made = cc in
+        elim (subst (λ (xs : List Row). In x xs) (sym same) m) [ inl z ↦ subst (All IsPrintable) (sym z) k | inr z ↦ absurd z ]
 
-where_prints : (b : Option Bool) (o : Option Parts) → PartsPrint o → PartsPrint (b >>= λ b. part_where b o)
+-- full rows, without their generated columns
+all_print : (d : TableDef) (rows : List Row) → ((x : Row) → In x rows → All IsPrintable x) → AllByRecursion (All IsPrintable) (map (without_generated d.system) rows)
+all_print d [] h = tt
+all_print d (x ∷ xs) h = (without_prints d.system x (h x (inl refl)), all_print d xs (λ y m. h y (inr m)))
+
+-- what replaces a touched row
+touched_print : (d : TableDef) (portion : Option Period) (work : Work) (id : ℕ) (row : Row)
+    → ((made : List Row) → made_of work row ≡ Some made → (x : Row) → In x (pieces d portion row made) → All IsPrintable x)
+    → PartsPrint (touched_part d portion work id row)
+touched_print d portion work id row h = by_made (made_of work row) h
+  where
+    by_made : (o : Option (List Row)) → ((made : List Row) → o ≡ Some made → (x : Row) → In x (pieces d portion row made) → All IsPrintable x)
+        → PartsPrint (o >>= λ made. Some (record { gone = id ∷ []; come = map (without_generated d.system) (pieces d portion row made) }))
+    by_made None k = tt
+    by_made (Some made) k = All-from_recursion (All IsPrintable) (map (without_generated d.system) (pieces d portion row made)) (all_print d (pieces d portion row made) (k made refl))
+
+where_prints : (t : Option Bool) (o : Option Parts) → (t ≡ Some true → PartsPrint o) → PartsPrint (t >>= λ b. part_where b o)
 where_prints None o h = tt
-where_prints (Some true) o h = h
+where_prints (Some true) o h = h refl
 where_prints (Some false) o h = All-nil (All IsPrintable)
 
-parts_print : (d : TableDef) (t : Terms) (w : code.Work) (conds : List Cond) (found : List Version) → All (IsVersionOf d) found → PartsPrint (parts d (work_of t w) conds found)
-parts_print d t w conds [] h = All-nil (All IsPrintable)
-parts_print d t w conds (v ∷ vs) h =
+-- a row that a change of a portion touches shares a point with it
+shares : (d : TableDef) (portion : Period) (conds : List Cond) (row : Row) → is_touched d (Some portion) conds row ≡ Some true → share_a_point (period_of d row) portion ≡ true
+shares d portion conds row e = by_point (share_a_point (period_of d row) portion) e
+  where
+    by_point : (b : Bool) → (if b then passes [] row conds else Some false) ≡ Some true → b ≡ true
+    by_point true q = refl
+    by_point false q = absurd (cc)
+
+-- no null stands in the period of a row that is a version's
+has_period : (d : TableDef) (v : Version) → IsVersionOf d v → HasPeriod d (shown d (version_of v).row)
+has_period d v f a q =
+    let rising : RisesBy (Some a) (shown d (version_of v).row) = subst (λ o. RisesBy o (shown d (version_of v).row)) q (f.cells.rising v.start high) in (rising.start, rising.end)
+
+version_prints : (d : TableDef) (portion : Option Period) (t : Terms) (w : code.Work) (conds : List Cond) (v : Version) → IsVersionOf d v
+    → (IsTrue (is_some portion) → IsTypedDefinition d × IsTypedWork d portion (work_of t w) × AreOfKinds (kinds_of d) (shown d (version_of v).row))
+    → PartsPrint (part_of d portion (work_of t w) conds v.id (shown d (version_of v).row))
+version_prints d portion t w conds v f k =
+    where_prints (is_touched d portion conds row) (touched_part d portion (work_of t w) v.id row) (λ q. touched_print d portion (work_of t w) v.id row (by_portion portion k q))
+  where
+    row : Row
+    row = shown d (version_of v).row
+
+    prints : All IsPrintable row
+    prints = generated_prints d.system (version_of v).row.cells v.start high f.cells.printable f.start high_is_moment
+
+    by_portion : (p : Option Period) → (IsTrue (is_some p) → IsTypedDefinition d × IsTypedWork d p (work_of t w) × AreOfKinds (kinds_of d) row)
+        → is_touched d p conds row ≡ Some true → (made : List Row) → made_of (work_of t w) row ≡ Some made → (x : Row) → In x (pieces d p row made) → All IsPrintable x
+    by_portion None k q made e x m = made_print t w row made prints e x m
+    by_portion (Some p) k q made e x m =
+        let typed = k refl in
+        pieces_print d typed.0 p (work_of t w) typed.1 row (record { kinds = typed.2; period = has_period d v f; prints = prints }) (shares d p conds row q) made e
+        (made_print t w row made prints e) x m
+
+parts_print : (d : TableDef) (portion : Option Period) (t : Terms) (w : code.Work) (conds : List Cond) (found : List Version) → All (IsVersionOf d) found
+    → (IsTrue (is_some portion) → IsTypedFor d found portion (work_of t w)) → PartsPrint (parts d portion (work_of t w) conds found)
+parts_print d portion t w conds [] h k = All-nil (All IsPrintable)
+parts_print d portion t w conds (v ∷ vs) h k =
     let row : Row = shown d (version_of v).row in
-    let f : IsVersionOf d v = All-head (IsVersionOf d) v vs h in
-    both_print (part_of d (work_of t w) conds v.id row) (parts d (work_of t w) conds vs)
-    (where_prints (is_touched d None conds row) (touched_part d (work_of t w) v.id row)
-    (touched_prints d t w v.id row (generated_prints d.system (version_of v).row.cells v.start high f.cells.printable f.start high_is_moment)))
-    (parts_print d t w conds vs (All-tail (IsVersionOf d) v vs h))
+    let typed : Version → Type 0 = λ (u : Version). AreOfKinds (kinds_of d) (shown d (version_of u).row) in
+    both_print (part_of d portion (work_of t w) conds v.id row) (parts d portion (work_of t w) conds vs)
+    (version_prints d portion t w conds v (All-head (IsVersionOf d) v vs h) (λ s. ((k s).definition, (k s).gives, All-head typed v vs (k s).rows)))
+    (parts_print d portion t w conds vs (All-tail (IsVersionOf d) v vs h) (λ s. record { definition = (k s).definition; gives = (k s).gives; rows = All-tail typed v vs (k s).rows }))
 
 -- the rows that come fit the table where those that go do
-pub coming_fit : (d : TableDef) (t : Terms) (w : code.Work) (conds : List Cond) (found : List Version) (p : Parts) → IsDefinition d → AreRows d found → parts d (work_of t w) conds found ≡ Some p
-    → None ≡ first (rows_faults d p.come) → All (IsVersionOf d) found → All (IsRowOf d) p.come
-coming_fit d t w conds found p s r e none h =
-    let wide : PartsFit d (Some p) = subst (PartsFit d) e (parts_fit d (work_of t w) conds found s r) in
-    let prints : PartsPrint (Some p) = subst PartsPrint e (parts_print d t w conds found h) in
+pub coming_fit : (d : TableDef) (portion : Option Period) (t : Terms) (w : code.Work) (conds : List Cond) (found : List Version) (p : Parts) → IsDefinition d → AreRows d found
+    → parts d portion (work_of t w) conds found ≡ Some p → None ≡ first (rows_faults d p.come) → All (IsVersionOf d) found
+    → (IsTrue (is_some portion) → IsTypedFor d found portion (work_of t w)) → All (IsRowOf d) p.come
+coming_fit d portion t w conds found p s r e none h k =
+    let wide : PartsFit d (Some p) = subst (PartsFit d) e (parts_fit d portion (work_of t w) conds found s r) in
+    let prints : PartsPrint (Some p) = subst PartsPrint e (parts_print d portion t w conds found h k) in
     rows_fit d p.come s wide prints none

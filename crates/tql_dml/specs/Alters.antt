@@ -1,12 +1,17 @@
 -- What INSERT, UPDATE and DELETE do to the rows of a table.
-use Rattle.std.specs.Prelude.{◌≡◌, ℕ, ℤ, Bool, false, List, [], map, filter, Option, Some, None, Result, Ok, Err, ⊤}
+use Rattle.std.specs.Prelude.{◌≡◌, ℕ, ℤ, All, IsTrue, is_some, Bool, false, List, [], map, filter, Option, option_map, Some, None, Result, Ok, Err, ⊤}
 use Rattle.tql_spec.specs.Words.{map_all}
 use Rattle.tql_spec.specs.Datum.{Row}
+use Rattle.tql_spec.specs.Period.{Period}
 use Rattle.tql_spec.specs.Refusal.{first}
 use Rattle.tql_spec.specs.Definition.{TableDef, Stamped, shown}
 use Rattle.tql_spec.specs.Expression.{Cond, eval}
 use Rattle.tql_spec.specs.Change.{Outcome, Fate, Work, fate, is_touched}
 use Rattle.tql_spec.specs.Change as change
+use Rattle.tql_spec.specs.Creation.{kinds_of}
+use Rattle.tql_spec.specs.Typing.{AreOfKinds, IsTypedDefinition}
+use Rattle.tql_spec.specs.TypingLaws.{IsTypedWork}
+use Rattle.tql_period.specs.Points.{points_of}
 use Rattle.tql_bound.specs.Changes.{tuple_of}
 use Rattle.tql_bound.specs.Works.{work_of}
 use Rattle.tql_bound.specs.declared.change.Insertion.{Insertion}
@@ -64,13 +69,17 @@ work_in x = work_of x.terms x.work
 abbrev pub conds_in : Modification → List Cond
 conds_in x = map (cond x.terms) x.conjuncts.items
 
+-- the portion of a modification
+abbrev pub portion_in : Modification → Option Period
+portion_in x = option_map points_of x.portion
+
 -- what a modification makes of these rows
 abbrev pub modified : TableDef → List Version → Modification → ℤ → Outcome
-modified d found x m = change.modify d m (rows_in found) None (work_in x) (conds_in x)
+modified d found x m = change.modify d m (rows_in found) (portion_in x) (work_in x) (conds_in x)
 
 -- what becomes of each of them, none where an evaluation is out of range
 abbrev pub fates : TableDef → List Version → Modification → ℤ → Option (List Fate)
-fates d found x m = map_all (λ r. fate d m None (work_in x) (conds_in x) (shown d r)) (rows_in found)
+fates d found x m = map_all (λ r. fate d m (portion_in x) (work_in x) (conds_in x) (shown d r)) (rows_in found)
 
 -- the rows that come
 abbrev pub coming : Option (List Fate) → List Stamped
@@ -84,9 +93,19 @@ is_yes (Some b) = b
 
 -- the versions that go: those whose row is touched
 abbrev pub gone : TableDef → Modification → List Version → List ℕ
-gone d x found = map (λ (v : Version). v.id) (filter (λ (v : Version). is_yes (is_touched d None (conds_in x) (shown d (version_of v).row))) found)
+gone d x found = map (λ (v : Version). v.id) (filter (λ (v : Version). is_yes (is_touched d (portion_in x) (conds_in x) (shown d (version_of v).row))) found)
 
 -- a version of the table's rows: as many cells as are stored, each of which has a text, since a moment that has one
 pub record IsVersionOf (d : TableDef) (v : Version) : Type 0 where
   pub cells : IsRowOf d (version_of v).row.cells
   pub start : IsMoment v.start
+
+-- rows of their columns' kinds, and a change that gives values of these kinds, of a portion none to the period's columns
+pub record IsTypedFor (d : TableDef) (found : List Version) (portion : Option Period) (work : Work) : Type 0 where
+  pub definition : IsTypedDefinition d
+  pub gives : IsTypedWork d portion work
+  pub rows : All (λ (v : Version). AreOfKinds (kinds_of d) (shown d (version_of v).row)) found
+
+-- so for a change of a portion
+abbrev pub AreTyped : TableDef → List Version → Modification → Type 0
+AreTyped d found x = IsTrue (is_some (portion_in x)) → IsTypedFor d found (portion_in x) (work_in x)

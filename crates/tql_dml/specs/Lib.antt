@@ -1,3 +1,4 @@
 pub mod Cells
+pub mod Cutting
 pub mod Alters
 pub mod Parts

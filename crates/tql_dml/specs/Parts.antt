@@ -4,15 +4,12 @@ use Rattle.tql_spec.specs.Words.{◌>>=◌}
 use Rattle.tql_spec.specs.Datum.{Row}
 use Rattle.tql_spec.specs.Definition.{TableDef, without_generated, shown}
 use Rattle.tql_spec.specs.Expression.{Cond}
-use Rattle.tql_spec.specs.Change.{Work, made_of, is_touched}
+use Rattle.tql_spec.specs.Change.{Work, made_of, is_touched, pieces}
+use Rattle.tql_spec.specs.Period.{Period}
 use Rattle.tql_rows.specs.Readings.{version_shown as version_of}
 use Rattle.tql_rows.specs.declared.version.Version.{Version}
 use Rattle.tql_value.specs.Views.{rows_of}
 use Rattle.tql_dml.specs.declared.modification.Changed.{Changed}
-
--- the cells that are stored of a row that is made
-abbrev pub stored_of : TableDef → Option Row → Option Row
-stored_of d made = made >>= λ row. Some (without_generated d.system row)
 
 -- versions that go, by their ids, and the cells of rows that come
 pub record Parts : Type 0 where
@@ -28,9 +25,15 @@ abbrev pub before : Parts → Option Parts → Option Parts
 before p None = None
 before p (Some q) = Some (record { gone = p.gone ++ q.gone; come = p.come ++ q.come })
 
--- a version whose row is touched goes, and what it becomes comes
-abbrev pub touched_part : TableDef → Work → ℕ → Row → Option Parts
-touched_part d work id row = made_of work row >>= λ made. Some (record { gone = id ∷ []; come = map (without_generated d.system) made })
+-- these rows come too, where they are there
+abbrev pub with_rows : Parts → Option (List Row) → Option Parts
+with_rows p None = None
+with_rows p (Some rows) = Some (record { gone = p.gone; come = p.come ++ rows })
+
+-- a version whose row is touched goes, and what it becomes comes, with its parts before and after the portion
+abbrev pub touched_part : TableDef → Option Period → Work → ℕ → Row → Option Parts
+touched_part d portion work id row =
+    made_of work row >>= λ made. Some (record { gone = id ∷ []; come = map (without_generated d.system) (pieces d portion row made) })
 
 -- one that is not touched stays
 abbrev pub part_where : Bool → Option Parts → Option Parts
@@ -38,13 +41,14 @@ part_where true o = o
 part_where false o = Some no_part
 
 -- what a modification does to a version, none where an evaluation is out of range
-abbrev pub part_of : TableDef → Work → List Cond → ℕ → Row → Option Parts
-part_of d work conds id row = is_touched d None conds row >>= λ b. part_where b (touched_part d work id row)
+abbrev pub part_of : TableDef → Option Period → Work → List Cond → ℕ → Row → Option Parts
+part_of d portion work conds id row = is_touched d portion conds row >>= λ b. part_where b (touched_part d portion work id row)
 
 -- and to several
-abbrev pub parts : TableDef → Work → List Cond → List Version → Option Parts
-parts d work conds [] = Some no_part
-parts d work conds (v ∷ vs) = part_of d work conds v.id (shown d (version_of v).row) >>= λ p. before p (parts d work conds vs)
+abbrev pub parts : TableDef → Option Period → Work → List Cond → List Version → Option Parts
+parts d portion work conds [] = Some no_part
+parts d portion work conds (v ∷ vs) =
+    part_of d portion work conds v.id (shown d (version_of v).row) >>= λ p. before p (parts d portion work conds vs)
 
 -- what is gathered so far
 abbrev pub parts_in : Changed → Parts

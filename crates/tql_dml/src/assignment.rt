@@ -1,14 +1,17 @@
-//! The row that an UPDATE makes of another.
-ghost use Rattle.std.specs.Prelude.{◌≡◌, All, map, IfOk, IfErr};
+//! The row that an UPDATE makes of another, and what a change of a portion leaves of one.
+ghost use Rattle.std.specs.Prelude.{◌≡◌, All, map, option_map, IfOk, IfErr};
 ghost use Rattle.tql_spec.specs.Change.{assigned};
+ghost use Rattle.tql_spec.specs.Definition.{with_period, without_generated};
+ghost use Rattle.tql_period.specs.Points.{points_of};
 ghost use Rattle.tql_bound.specs.Works.{assignment_of};
 ghost use Rattle.tql_expr.specs.Meaning.{HasExpr};
 ghost use Rattle.tql_value.specs.declared.refusal.Refusal.TheVariants.{OutOfMemory};
 ghost use Rattle.tql_expr.specs.Evaluated.{Evaluated};
 ghost use Rattle.tql_cells.specs.Shown.{shown_by};
 ghost use Rattle.tql_value.specs.Views.{row_of};
-ghost use Rattle.tql_dml.specs.Parts.{stored_of};
+ghost use Rattle.tql_dml.specs.Cutting.{stored_of};
 
+use crate::periods::put_period;
 use crate::spread::{drop_generated, put};
 use tql_bound::change::Assignment;
 use tql_catalog::table_def::TableDef;
@@ -17,6 +20,7 @@ use tql_expr::columns::Columns;
 use tql_expr::terms::Terms;
 use tql_expr::values::value_on;
 use tql_memory::Memory;
+use tql_period::period::Period;
 use tql_value::refusal::Refusal;
 use tql_value::value::Value;
 
@@ -53,20 +57,41 @@ fn assign(
 }
 
 /// The cells of the row that assignments make of a row: its values, with each assigned column set to a value that is
-/// computed on the old row; without the generated columns.
+/// computed on the old row; within a part of its application period, or wholly; without the generated columns.
 pub(crate) fn changed_row(
     memory: Memory,
     terms: &Terms,
     definition: &TableDef,
     sets: &[Assignment],
     old: &StoredRow<'_>,
+    part: Option<Period>,
 ) -> Result<Vec<Value, Memory>, Refusal>
     requires { All (λ a. HasExpr terms.now a.value) sets.now }
-    ensures { Evaluated (λ cells. row_of cells.items) (stored_of definition.now
+    ensures { Evaluated (λ cells. row_of cells.items) (stored_of definition.now (option_map points_of part)
         (assigned (shown_by old.now) (shown_by old.now) (map (assignment_of terms.now) sets.now))) result }
 {
     let mut cells = copied(memory, old)?;
     assign(memory, terms, sets, old, &mut cells)?;
+    if let Some(part) = part {
+        put_period(definition, part, &mut cells);
+    }
+    drop_generated(&mut cells, definition.system());
+    Ok(cells)
+}
+
+/// The cells of a row's old values within a part of its application period, without the generated columns.
+pub(crate) fn left_row(
+    memory: Memory,
+    definition: &TableDef,
+    row: &StoredRow<'_>,
+    part: Period,
+) -> Result<Vec<Value, Memory>, Refusal>
+    ensures row { IfOk result (λ cells. row_of cells.items
+        ≡ without_generated definition.now.system (with_period definition.now (points_of part) (shown_by row.now))) }
+    ensures memory { IfErr result (λ e. e ≡ OutOfMemory) }
+{
+    let mut cells = copied(memory, row)?;
+    put_period(definition, part, &mut cells);
     drop_generated(&mut cells, definition.system());
     Ok(cells)
 }

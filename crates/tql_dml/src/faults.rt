@@ -3,7 +3,7 @@ ghost use Rattle.std.specs.Prelude.{◌≡◌, ◌&&◌, map, option_map, slice_
 ghost use Rattle.std.specs.List.{list_any};
 ghost use Rattle.tql_spec.specs.Calendar.{high};
 ghost use Rattle.tql_spec.specs.Datum.{is_null};
-ghost use Rattle.tql_spec.specs.Definition.{with_generated, point_of};
+ghost use Rattle.tql_spec.specs.Definition.{with_generated};
 ghost use Rattle.tql_spec.specs.Refusal.{first};
 ghost use Rattle.tql_spec.specs.Change.{is_too_long as too_long};
 ghost use Rattle.tql_catalog.specs.Defined.{IsDefinition};
@@ -15,6 +15,7 @@ ghost use Rattle.tql_dml.specs.Cells.{lacks_a_value as lacking_in};
 ghost use Rattle.tql_dml.specs.Cells.{falls as falling, falls_by, has_falling_period as falling_in};
 
 use crate::generated::generated_places;
+use crate::periods::point;
 use tql_catalog::definition::{Application, Column};
 use tql_catalog::table_def::TableDef;
 use tql_cells::stored::StoredRow;
@@ -82,17 +83,6 @@ fn lacks_a_value(columns: &[Column], stored: &[usize], row: &[Value]) -> bool
         .iter()
         .zip(row)
         .any(|(number, value)| is_lacking_at(columns, *number, value))
-}
-
-/// The point that a value is, in days or microseconds since 1970-01-01; 0 for what is none.
-fn point(value: View<'_>) -> i64
-    ensures { result ≡ point_of (datum_of_view value.entry) }
-{
-    match value {
-        View::Day(day) => day,
-        View::Moment(moment) => moment,
-        View::Null | View::Int(_) | View::Text(_) => 0,
-    }
 }
 
 /// Whether two points are there, and the first is not before the second.

@@ -6,5 +6,6 @@ mod faults;
 mod generated;
 pub mod insertion;
 pub mod modification;
+mod periods;
 mod spread;
 mod values;

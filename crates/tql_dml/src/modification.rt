@@ -1,22 +1,28 @@
 //! UPDATE and DELETE.
-ghost use Rattle.std.specs.Prelude.{◌≡◌, All, length, IfOk};
+ghost use Rattle.std.specs.Prelude.{◌≡◌, All, length, option_map, IfOk, Some};
 ghost use Rattle.tql_spec.specs.Definition.{shown};
 ghost use Rattle.tql_catalog.specs.Rows.{IsRowOf, stored_width};
 ghost use Rattle.tql_rows.specs.Readings.{version_shown as version_of};
-ghost use Rattle.tql_dml.specs.Alters.{Alters, modified, fates, coming, gone, work_in, conds_in, IsVersionOf};
+ghost use Rattle.tql_dml.specs.Alters.{Alters, modified, fates, coming, gone, portion_in, work_in, conds_in};
+ghost use Rattle.tql_dml.specs.Alters.{IsVersionOf, AreTyped};
+ghost use Rattle.tql_dml.specs.Cutting.{IsCut, left_cells, made_cells};
+ghost use Rattle.tql_period.specs.Points.{points_of};
 ghost use Rattle.tql_expr.specs.Evaluated.{Evaluated};
 ghost use Rattle.tql_cells.specs.Shown.{shown_by};
 ghost use Rattle.tql_value.specs.Views.{rows_of};
-ghost use Rattle.tql_dml.specs.Parts.{before, touched_part, part_of, parts, parts_in};
+ghost use Rattle.tql_dml.specs.Parts.{before, with_rows, touched_part, part_of, parts, parts_in};
 
-use crate::assignment::changed_row;
+use crate::assignment::{changed_row, left_row};
 use crate::faults::first_fault;
 use crate::generated::generated_places;
+use crate::periods::cut;
 use tql_bound::change::{Modification, Work};
 use tql_catalog::catalog::Table;
 use tql_catalog::table_def::TableDef;
 use tql_cells::stored::StoredRow;
 use tql_memory::Memory;
+use tql_period::period::Period;
+use tql_period::pieces::Pieces;
 use tql_rows::version::{HIGH, Version};
 use tql_store::store::Delta;
 use tql_value::refusal::Refusal;
@@ -68,27 +74,67 @@ fn shown_row<'a>(definition: &TableDef, version: Version<'a>) -> StoredRow<'a>
     }
 }
 
-/// Adds what becomes of a row that the modification touches: its version goes, and under UPDATE its new row comes.
+/// Adds a row's old values within a part of its application period, where it has that part.
+fn add_left(
+    memory: Memory,
+    definition: &TableDef,
+    row: &StoredRow<'_>,
+    part: Option<Period>,
+    changed: &mut Changed,
+) -> Result<(), Refusal>
+    ensures { Evaluated (λ _. parts_in changed.new)
+        (with_rows (parts_in changed.old) (Some (left_cells definition.now (shown_by row.now) part))) result }
+{
+    if let Some(part) = part {
+        let left = left_row(memory, definition, row, part)?;
+        changed.added.push(left)?;
+    }
+    Ok(())
+}
+
+/// Adds what a touched row becomes, within a part of its application period or wholly: under UPDATE its new row.
+fn add_made(
+    memory: Memory,
+    definition: &TableDef,
+    modification: &Modification,
+    row: &StoredRow<'_>,
+    part: Option<Period>,
+    changed: &mut Changed,
+) -> Result<(), Refusal>
+    ensures { Evaluated (λ _. parts_in changed.new) (with_rows (parts_in changed.old)
+        (made_cells definition.now (option_map points_of part) (work_in modification.now) (shown_by row.now))) result }
+{
+    match &modification.work {
+        Work::Remove => Ok(()),
+        Work::Set(sets) => {
+            let terms = &modification.terms;
+            let new = changed_row(memory, terms, definition, sets, row, part)?;
+            changed.added.push(new)?;
+            Ok(())
+        }
+    }
+}
+
+/// Adds what becomes of a row that the modification touches: its version goes, and in its place comes under UPDATE its
+/// new row; of a change of a portion, within that, and before and after it its old values.
 fn touch(
     memory: Memory,
     definition: &TableDef,
     modification: &Modification,
     id: usize,
     row: &StoredRow<'_>,
+    cut: Pieces,
     changed: &mut Changed,
 ) -> Result<(), Refusal>
+    requires { IsCut definition.now (portion_in modification.now) (shown_by row.now) cut }
     ensures { Evaluated (λ _. parts_in changed.new) (before (parts_in changed.old)
-        (touched_part definition.now (work_in modification.now) id (shown_by row.now))) result }
+        (touched_part definition.now (portion_in modification.now) (work_in modification.now) id (shown_by row.now)))
+        result }
 {
     changed.removed.push(id)?;
-    match &modification.work {
-        Work::Remove => Ok(()),
-        Work::Set(sets) => {
-            let new = changed_row(memory, &modification.terms, definition, sets, row)?;
-            changed.added.push(new)?;
-            Ok(())
-        }
-    }
+    add_left(memory, definition, row, cut.before, changed)?;
+    add_made(memory, definition, modification, row, cut.inside, changed)?;
+    add_left(memory, definition, row, cut.after, changed)
 }
 
 /// Adds what becomes of a version.
@@ -100,12 +146,23 @@ fn add_version(
     changed: &mut Changed,
 ) -> Result<(), Refusal>
     ensures { Evaluated (λ _. parts_in changed.new) (before (parts_in changed.old)
-        (part_of definition.now (work_in modification.now) (conds_in modification.now) version.entry.id
-        (shown definition.now (version_of version.entry).row))) result }
+        (part_of definition.now (portion_in modification.now) (work_in modification.now) (conds_in modification.now)
+        version.entry.id (shown definition.now (version_of version.entry).row))) result }
 {
     let row = shown_row(definition, version);
+    let Some(pieces) = cut(definition, modification.portion, &row) else {
+        return Ok(());
+    };
     if modification.terms.passes(&modification.conjuncts, &row)? {
-        touch(memory, definition, modification, version.id, &row, changed)?;
+        touch(
+            memory,
+            definition,
+            modification,
+            version.id,
+            &row,
+            pieces,
+            changed,
+        )?;
     }
     Ok(())
 }
@@ -118,7 +175,8 @@ fn changes(
     found: &[Version<'_>],
 ) -> Result<Changed, Refusal>
     ensures { Evaluated parts_in
-        (parts definition.now (work_in modification.now) (conds_in modification.now) found.now) result }
+        (parts definition.now (portion_in modification.now) (work_in modification.now) (conds_in modification.now)
+        found.now) result }
 {
     let mut changed = Changed {
         removed: Vec::new(memory),
@@ -131,9 +189,12 @@ fn changes(
 }
 
 /// The change that UPDATE or DELETE makes of these versions, the current ones of the table: those whose row is touched
-/// go, and under UPDATE the row that each becomes comes. Refused, the first of them over all rows: an evaluation out of
-/// range, a text longer than its column takes, a NULL in a column that takes none, an application period that does not
-/// rise; memory. Nothing is changed. Where the versions are rows of the table, so are those that come.
+/// go, and under UPDATE the row that each becomes comes. Of a change of a portion a row is touched where its
+/// application period shares a point with the portion; what it becomes is kept within the portion, and its old values
+/// come before and after it (ISO/IEC 9075-2:2011, 14.9 and 14.14). Refused, the first of them over all rows: an
+/// evaluation out of range, a text longer than its column takes, a NULL in a column that takes none, an application
+/// period that does not rise; memory. Nothing is changed. Where the versions are rows of the table, and a portion's
+/// values are of their columns' kinds, so are those that come.
 pub fn modify(
     memory: Memory,
     table: &Table,
@@ -145,6 +206,7 @@ pub fn modify(
         (λ m. coming (fates table.now.definition found.now modification.now m))
         (modified table.now.definition found.now modification.now) result }
     ensures fits { All (IsVersionOf table.now.definition) found.now
+        → AreTyped table.now.definition found.now modification.now
         → IfOk result (λ delta. All (IsRowOf table.now.definition) (rows_of delta.added.items)) }
 {
     let definition = &table.definition;

@@ -21,7 +21,7 @@ use Rattle.tql_bound.specs.Works.{work_of}
 use Rattle.tql_bound.specs.declared.change.Modification.{Modification}
 use Rattle.tql_catalog.specs.Tables.{definitions_of}
 use Rattle.tql_catalog.specs.declared.catalog.Table.{Table}
-use Rattle.tql_dml.specs.Alters.{Alters, Gives, gone, fates, coming, modified, conds_in, IsVersionOf}
+use Rattle.tql_dml.specs.Alters.{Alters, Gives, gone, fates, coming, modified, portion_in, conds_in, IsVersionOf}
 use Rattle.tql_dml.specs.Alters as dml
 use Rattle.tql_store.specs.Held as store
 use Rattle.tql_store.specs.Held.{AreRemovable}
@@ -127,16 +127,16 @@ module _ (no_order : ChangesKeepNoOrder) (by_parts : ChangesByParts) (h : Held) 
   work = work_of x.terms x.work
 
   abbrev outcome : Outcome
-  outcome = modify p.definition moment rows None work (conds_in x)
+  outcome = modify p.definition moment rows (portion_in x) work (conds_in x)
 
   modify_is : step s (Alter (modification_of x)) ≡ unless_refused (first outcome.faults) s (Done (verb_of_work work) (Some outcome.count)) (with_table_rows s x.table outcome.rows)
   modify_is =
       change_step h s (modification_of x) st below
-      ∙ altered_by s (modification_of x) outcome (defined_all h s st) (ap {B = Outcome} (λ d. modify d moment rows None work (conds_in x)) (definition_law h s x.table p st there))
+      ∙ altered_by s (modification_of x) outcome (defined_all h s st) (ap {B = Outcome} (λ d. modify d moment rows (portion_in x) work (conds_in x)) (definition_law h s x.table p st there))
 
   module _ (found : List code.Version) (answers : AnswersNow h.rows p.id (map version_of found)) where
     same : SameOutcome (modified p.definition found x moment) outcome
-    same = no_order p.definition moment (dml.rows_in found) rows None work (conds_in x) (same_rows h s x.table p found st there answers)
+    same = no_order p.definition moment (dml.rows_in found) rows (portion_in x) work (conds_in x) (same_rows h s x.table p found st there answers)
 
     -- refused for the first fault
     pub modify_refused : (f : spec.Refusal) → ((m : ℤ) → first (modified p.definition found x m).faults ≡ Some f) → Does h (Refused f) (step s (Alter (modification_of x)))
@@ -145,15 +145,15 @@ module _ (no_order : ChangesKeepNoOrder) (by_parts : ChangesByParts) (h : Held) 
         (modify_is ∙ ap (λ q. unless_refused q s (Done (verb_of_work work) (Some outcome.count)) (with_table_rows s x.table outcome.rows)) (sym same.fault ∙ k moment)) (refuses h s f st)
 
     -- the state after it
-    pub rows_modified : (added : List Row) (removed : List ℕ) (r : store.Held) (after : ℤ) → AreRowsOf p.definition added → Judged h.rows p.id (touches p.definition (conds_in x)) removed
+    pub rows_modified : (added : List Row) (removed : List ℕ) (r : store.Held) (after : ℤ) → AreRowsOf p.definition added → Judged h.rows p.id (touches p.definition (portion_in x) (conds_in x)) removed
         → ChangesRows h.rows.working h.next after p.id removed added h.rows r
         → ((m : ℤ) → map (λ (y : Stamped). y.cells) (coming (fates p.definition found x m)) ≡ added) → ((m : ℤ) → first (modified p.definition found x m).faults ≡ None)
         → StandsFor (record { tables = h.tables; rows = r; next = after }) (with_table_rows s x.table outcome.rows)
     rows_modified added removed r after fit judged c cells sound =
-        let gone : Stamped → Bool = touches p.definition (conds_in x) in
+        let gone : Stamped → Bool = touches p.definition (portion_in x) (conds_in x) in
         let old : RowsFit p.definition rows = rows_fit h.tables x.table p there (working_now s).copy (copy_fits h s st) in
         let bag : SameBag (rows_after moment gone added rows) outcome.rows =
-        rows_made no_order by_parts p.definition moment work (conds_in x) (dml.rows_in found) rows added (same_rows h s x.table p found st there answers) (sound moment) (cells moment) in
+        rows_made no_order by_parts p.definition moment (portion_in x) work (conds_in x) (dml.rows_in found) rows added (same_rows h s x.table p found st there answers) (sound moment) (cells moment) in
         let changed : StandsFor (record { tables = h.tables; rows = r; next = after }) (with_table_rows s x.table (rows_after moment gone added rows)) =
         change_law h s x.table p gone removed added r after st there below fit judged c in
         let news : RowsFit p.definition (rows_after moment gone added rows) =
@@ -165,7 +165,7 @@ module _ (no_order : ChangesKeepNoOrder) (by_parts : ChangesByParts) (h : Held) 
         dated = moment_dated h s st below
 
     -- and the reply
-    pub modify_does : (added : List Row) (removed : List ℕ) (r : store.Held) (after : ℤ) (count : ℕ) → AreRowsOf p.definition added → Judged h.rows p.id (touches p.definition (conds_in x)) removed
+    pub modify_does : (added : List Row) (removed : List ℕ) (r : store.Held) (after : ℤ) (count : ℕ) → AreRowsOf p.definition added → Judged h.rows p.id (touches p.definition (portion_in x) (conds_in x)) removed
         → ChangesRows h.rows.working h.next after p.id removed added h.rows r
         → ((m : ℤ) → map (λ (y : Stamped). y.cells) (coming (fates p.definition found x m)) ≡ added) → ((m : ℤ) → first (modified p.definition found x m).faults ≡ None)
         → ((m : ℤ) → count ≡ (modified p.definition found x m).count)
@@ -222,9 +222,9 @@ table_there (q ∷ ps) (ℕ.suc t) l = table_there ps t (omega (arith, l))
 -- the ids of the versions that go
 pub gone_removable : (h : store.Held) (p : Table) (x : Modification) (delta : Delta) → Made h p x (Ok delta) → AreRemovable h p.id delta.removed.items
 gone_removable h p x delta k =
-    subst (AreRemovable h p.id) (sym k.alters.removed) (removable h p.id (λ (v : code.Version). touches p.definition (conds_in x) (version_of v).row) k.found k.names k.once)
+    subst (AreRemovable h p.id) (sym k.alters.removed) (removable h p.id (λ (v : code.Version). touches p.definition (portion_in x) (conds_in x) (version_of v).row) k.found k.names k.once)
 
-pub gone_judged : (h : store.Held) (p : Table) (x : Modification) (delta : Delta) → Made h p x (Ok delta) → Judged h p.id (touches p.definition (conds_in x)) delta.removed.items
+pub gone_judged : (h : store.Held) (p : Table) (x : Modification) (delta : Delta) → Made h p x (Ok delta) → Judged h p.id (touches p.definition (portion_in x) (conds_in x)) delta.removed.items
 gone_judged h p x delta k =
-    subst (Judged h p.id (touches p.definition (conds_in x))) (sym k.alters.removed)
-    (judged h p.id (touches p.definition (conds_in x)) k.found k.names k.once)
+    subst (Judged h p.id (touches p.definition (portion_in x) (conds_in x))) (sym k.alters.removed)
+    (judged h p.id (touches p.definition (portion_in x) (conds_in x)) k.found k.names k.once)

@@ -35,7 +35,7 @@ all_members P [] k = tt
 all_members P (x ∷ xs) k = (k x (inl refl), all_members P xs (λ r m. k r (inr m)))
 
 -- a member of a bag is one of any list that is the same bag
-member_of_same : {xs ys : List Stamped} (r : Stamped) → SameBag xs ys → In r xs → In r ys
+pub member_of_same : {xs ys : List Stamped} (r : Stamped) → SameBag xs ys → In r xs → In r ys
 member_of_same {xs} {ys} r b m = there_if r ys (subst (λ n. 0 < n) (b.totals (λ s. cond (same_stamped r s) 1 0)) (times_some r xs m))
 
 -- rows fit in any order

@@ -1,12 +1,34 @@
--- An engine that does a step of the machine is sound: the step keeps the kinds of values.
-use Rattle.std.proofs.Common.{◌≡◌, sym, subst, List}
-use Rattle.tql_spec.specs.Definition.{TableDef}
-use Rattle.tql_spec.specs.Machine.{State, Bound, Reply, step}
-use Rattle.tql_spec.specs.TypingLaws.{IsTypedBound}
+-- An engine that does a step of the machine is sound, since the step keeps the kinds of values; and what a change reads is of its kinds.
+use Rattle.std.proofs.Common.{◌≡◌, refl, sym, ap, subst, ◌∙◌, ℕ, List, [], ◌∷◌, length, All, map, Option, Some, None, inl, inr}
+use Rattle.std.specs.Prelude.{ℤ, slice_get}
+use Rattle.std.specs.List.{AllByRecursion}
+use Rattle.std.proofs.lemmas.List.Elements.{All-from_recursion}
+use Rattle.tql_spec.specs.Bag.{In, SameBag}
+use Rattle.tql_spec.specs.Creation.{kinds_of}
+use Rattle.tql_spec.specs.Definition.{Stamped, TableDef, shown, table_at}
+use Rattle.tql_spec.specs.History.{Entry, rows_in}
+use Rattle.tql_spec.specs.Machine.{State, Bound, Reply, step, newest_copy}
+use Rattle.tql_spec.specs.Typing.{AreOfKinds, IsTyped, IsTypedDefinition, IsTypedState}
+use Rattle.tql_spec.specs.TypingLaws.{IsTypedBound, IsTypedChange, IsTypedWork}
 use Rattle.tql_spec.proofs.KindRuns.{steps_keep}
+use Rattle.tql_bound.specs.Changes.{modification_of}
+use Rattle.tql_bound.specs.declared.change.Modification.{Modification}
 use Rattle.tql_catalog.specs.Tables.{definitions_of}
+use Rattle.tql_catalog.specs.declared.catalog.Table.{Table}
+use Rattle.tql_dml.specs.Alters as dml
+use Rattle.tql_dml.specs.Alters.{AreTyped, portion_in, work_in}
+use Rattle.tql_rows.specs.Readings.{version_shown as version_of}
+use Rattle.tql_rows.specs.declared.version.Version as code
+use Rattle.tql_store.specs.Represents.{AnswersNow}
 use Rattle.tql_engine.specs.Effects.{Does}
 use Rattle.tql_engine.specs.Stands.{Held, StandsFor, IsSound}
+use Rattle.tql_engine.proofs.ChangeKeeps.{working_rows}
+use Rattle.tql_engine.proofs.Doing.{none_there}
+use Rattle.tql_engine.proofs.Modifying.{same_rows}
+use Rattle.tql_engine.proofs.Standing.{definition_law}
+use Rattle.tql_engine.proofs.Swapping.{member_of_same}
+
+-- ---- steps
 
 pub sound_after : (old new : Held) (sound : IsSound old) (b : Bound) (reply : Reply) → IsTypedBound (definitions_of old.tables) b
     → Does new reply (step sound.state b) → IsSound new
@@ -16,4 +38,36 @@ sound_after old new sound b reply bound does =
       state = (step sound.state b).1;
       stands = does.stands;
       typed = steps_keep.steps sound.state b sound.typed (subst (λ (ds : List TableDef). IsTypedBound ds b) same bound);
+    }
+
+-- ---- what a change reads
+
+-- the rows of the working copy
+working_typed : (defs : List TableDef) (es : List Entry) (next : ℤ) (o : Option Entry)
+    → (let s : State = record { definitions = defs; history = es; next = next; transaction = o } in
+    IsTypedState s → (t : ℕ) (r : Stamped) → In r (working_rows s t) → IsTyped (table_at defs t) r)
+working_typed defs es next (Some e) typed t r m = typed.rows e (inl refl) t r m
+working_typed defs [] next None typed t r m = absurd (subst (In r) (none_there defs t) m)
+working_typed defs (e ∷ older) next None typed t r m = typed.rows e (inl refl) t r m
+
+-- those of the versions that were read
+each_typed : (d : TableDef) (found : List code.Version) → ((r : Stamped) → In r (dml.rows_in found) → IsTyped d r)
+    → AllByRecursion (λ (v : code.Version). AreOfKinds (kinds_of d) (shown d (version_of v).row)) found
+each_typed d [] h = tt
+each_typed d (v ∷ vs) h = (h (version_of v).row (inl refl), each_typed d vs (λ r m. h r (inr m)))
+
+pub read_typed : (h : Held) (s : State) (p : Table) (x : Modification) (found : List code.Version) → StandsFor h s → IsTypedState s
+    → IsTypedChange (definitions_of h.tables) (modification_of x) → slice_get h.tables x.table ≡ Some p → AnswersNow h.rows p.id (map version_of found)
+    → AreTyped p.definition found x
+read_typed h s p x found st typed bound there answers portion =
+    let here : table_at s.definitions x.table ≡ p.definition = definition_law h s x.table p st there in
+    let work : IsTypedWork (table_at (definitions_of h.tables) x.table) (portion_in x) (work_in x) = bound in
+    let same : table_at (definitions_of h.tables) x.table ≡ p.definition = ap (λ (ds : List TableDef). table_at ds x.table) (sym st.fits.definitions) ∙ here in
+    let rows : (r : Stamped) → In r (dml.rows_in found) → IsTyped p.definition r = λ r m.
+    subst (λ (d : TableDef). IsTyped d r) here
+    (working_typed s.definitions s.history s.next s.transaction typed x.table r (member_of_same r (same_rows h s x.table p found st there answers) m)) in
+    record {
+      definition = subst IsTypedDefinition here (typed.definitions x.table);
+      gives = subst (λ (d : TableDef). IsTypedWork d (portion_in x) (work_in x)) same work;
+      rows = All-from_recursion (λ (v : code.Version). AreOfKinds (kinds_of p.definition) (shown p.definition (version_of v).row)) found (each_typed p.definition found rows);
     }

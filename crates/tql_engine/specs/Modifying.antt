@@ -3,7 +3,7 @@ use Rattle.std.specs.Prelude.{List, map, All, Result, Ok, Err, IfOk, ⊤}
 use Rattle.tql_bound.specs.declared.change.Modification.{Modification}
 use Rattle.tql_catalog.specs.Rows.{IsRowOf}
 use Rattle.tql_catalog.specs.declared.catalog.Table.{Table}
-use Rattle.tql_dml.specs.Alters.{Alters, gone, fates, coming, modified, IsVersionOf}
+use Rattle.tql_dml.specs.Alters.{Alters, gone, fates, coming, modified, IsVersionOf, AreTyped}
 use Rattle.tql_value.specs.Views.{rows_of}
 use Rattle.tql_store.specs.Represents.{AnswersNow}
 use Rattle.tql_store.specs.Held.{Held}
@@ -22,7 +22,7 @@ pub record Made (h : Held) (p : Table) (x : Modification) (result : Result Delta
   pub once : NamesOnce h p.id is_current found
   pub answers : AnswersNow h p.id (map version_of found)
   pub alters : Alters p.id (gone p.definition x found) (λ m. coming (fates p.definition found x m)) (modified p.definition found x) result
-  pub fits : All (IsVersionOf p.definition) found → IfOk result (λ delta. All (IsRowOf p.definition) (rows_of delta.added.items))
+  pub fits : All (IsVersionOf p.definition) found → AreTyped p.definition found x → IfOk result (λ delta. All (IsRowOf p.definition) (rows_of delta.added.items))
 
 -- by its result; memory may have run out
 abbrev pub Makes : Held → Table → Modification → Result Delta Refusal → Type 0

@@ -194,7 +194,7 @@ portion_period_late d (Some n) = period_late d d.application n
 
 portion_late : (d : TableDef) (p : Option PortionTree) → AreLate (portion d p).faults
 portion_late d None = none
-portion_late d (Some p) = portion_period_late d p.period ⊗ misfit _ ⊗ rising_late (read_point p.from) (read_point p.to) ⊗ none
+portion_late d (Some p) = portion_period_late d p.period ⊗ misfit _ ⊗ rising_late (read_point p.from) (read_point p.to)
 
 assignment_late : (d : TableDef) (s : SetTree) → AreLate (assignment d s).faults
 assignment_late d s = number_late (names_of d) s.column ⊗ cell_late (own_scope d) s.value ⊗ misfit _ ⊗ none

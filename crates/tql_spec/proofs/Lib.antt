@@ -15,7 +15,7 @@ pub mod InOrder
 pub mod Copies
 pub mod Steady
 mod SteadyRuns
-mod Widths
+pub mod Widths
 mod WidthRuns
 pub mod OneMeaning
 pub mod Constraints
@@ -45,7 +45,7 @@ pub mod RowKinds
 pub mod RowChanges
 mod ChangeKinds
 pub mod KindRuns
-mod CreateKinds
+pub mod CreateKinds
 mod BoundKinds
 mod JoinKinds
 mod ChainKinds

@@ -104,7 +104,7 @@ number_second i j is = either (i == j)
     either false = number_first i is
 
 -- what a work makes of a row of the table's kinds
-made_kinds : (d : TableDef) (portion : Option Period) (work : Work) → IsTypedWork d portion work → (row : Row)
+pub made_kinds : (d : TableDef) (portion : Option Period) (work : Work) → IsTypedWork d portion work → (row : Row)
     → AreOfKinds (kinds_of d) row
     → (made : List Row) → made_of work row ≡ Some made → AllOfKinds d made
 made_kinds d portion Work.Remove w row h made e x m = let q : [] ≡ made = cc in absurd
@@ -123,7 +123,7 @@ made_kinds d portion (Work.Set sets) w row h made e x m = at_row (assigned row r
         ]
 
 -- in a change of a portion it keeps the columns of the period
-made_periods : (d : TableDef) (p : Period) (work : Work) → IsTypedWork d (Some p) work → (row : Row) → HasPeriod d row
+pub made_periods : (d : TableDef) (p : Period) (work : Work) → IsTypedWork d (Some p) work → (row : Row) → HasPeriod d row
     → (made : List Row) → made_of work row ≡ Some made → (x : Row) → In x made → HasPeriod d x
 made_periods d p Work.Remove w row h made e x m a q = let z : [] ≡ made = cc in absurd
     (subst (λ (xs : List Row). In x xs) (sym z) m)

@@ -127,11 +127,11 @@ with_period_length None p row = refl
 with_period_length (Some a) p row = length-set (slice_set row a.start _) a.end _ ∙ length-set row a.start _
 
 -- rows of so many cells
-abbrev AllWide : ℕ → List Row → Type 0
+abbrev pub AllWide : ℕ → List Row → Type 0
 AllWide n rows = (row : Row) → In row rows → length row ≡ n
 
 -- what a row is made into is as wide
-made_wide : (work : Work) (row : Row) (made : List Row) → made_of work row ≡ Some made → AllWide (length row) made
+pub made_wide : (work : Work) (row : Row) (made : List Row) → made_of work row ≡ Some made → AllWide (length row) made
 made_wide Work.Remove row made e x m = let q : [] ≡ made = cc in absurd (subst (λ (xs : List Row). In x xs) (sym q) m)
 made_wide (Work.Set sets) row made e x m = at_row (assigned row row sets) (assigned_length row row sets) e x m
   where
@@ -143,7 +143,7 @@ made_wide (Work.Set sets) row made e x m = at_row (assigned row row sets) (assig
         elim (subst (λ (xs : List Row). In x xs) (sym same) m) [ inl z ↦ ap length z ∙ h new refl | inr z ↦ absurd z ]
 
 -- so are the parts that a portion leaves
-pieces_wide : (d : TableDef) (portion : Option Period) (row : Row) (made : List Row) → AllWide (length row) made
+pub pieces_wide : (d : TableDef) (portion : Option Period) (row : Row) (made : List Row) → AllWide (length row) made
     → AllWide (length row) (pieces d portion row made)
 pieces_wide d None row made h x m = h x m
 pieces_wide d (Some portion) row made h x m = elim

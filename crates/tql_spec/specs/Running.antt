@@ -13,6 +13,11 @@ is_plain_element (ColumnElement c) = true
 is_plain_element (PeriodElement n start end) = true
 is_plain_element _ = false
 
+-- whether a statement is no CREATE TABLE with keys, references or checks
+abbrev pub makes_no_constraint : Statement → Bool
+makes_no_constraint (CreateTree n e es versioned) = list_all is_plain_element (e ∷ es)
+makes_no_constraint _ = true
+
 -- whether a statement runs
 abbrev pub does_run : Statement → Bool
 does_run (CreateTree n e es versioned) = list_all is_plain_element (e ∷ es)

@@ -28,4 +28,4 @@ returns-in-None-clause-sound c =
     let s = statement_of c.args.statement.now in
     let b : Binds bound_of (bind defs s) (Ok c.in_ok-bound.bound) =
     clean bound_of (bind defs s) c.none-faults.result c.bound.new.faults c.in_ok-bound.bound c.none-faults.ensures (sym c.least.ensures ∙ ap (option_map refusal_of) c.in-None.is) c.in_ok-bound.ensures.bound in
-    sound_where_clean defs s c.in_ok-bound.bound c.requires.runs c.requires.other b.0 b.1 c.in_ok-bound.ensures.within
+    sound_where_clean defs s c.in_ok-bound.bound c.requires.other b.0 b.1 c.in_ok-bound.ensures.within

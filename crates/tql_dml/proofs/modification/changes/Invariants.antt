@@ -1,11 +1,11 @@
 use Rattle.std.proofs.Common.{◌≡◌, drop}
 use Rattle.tql_bound.specs.Works.{work_of}
-use Rattle.tql_dml.specs.Alters.{conds_in}
+use Rattle.tql_dml.specs.Alters.{portion_in, conds_in}
 use Rattle.tql_dml.specs.Parts.{before, parts, parts_in}
 use Rattle.tql_dml.proofs.modification.changes.Given as goal
 
 -- what was gathered so far, before what the versions that are left give, is what all give
 abbrev pub invariant-loop-version : goal.invariant-loop-version
 invariant-loop-version l =
-    before (parts_in l.changed) (parts l.definition (work_of l.modification.terms l.modification.work) (conds_in l.modification) (drop l.version-index l.found))
-    ≡ parts l.definition (work_of l.modification.terms l.modification.work) (conds_in l.modification) l.found
+    before (parts_in l.changed) (parts l.definition (portion_in l.modification) (work_of l.modification.terms l.modification.work) (conds_in l.modification) (drop l.version-index l.found))
+    ≡ parts l.definition (portion_in l.modification) (work_of l.modification.terms l.modification.work) (conds_in l.modification) l.found

@@ -15,6 +15,7 @@ use Rattle.tql_engine.specs.Fitting.{IsNarrow}
 use Rattle.tql_engine.specs.Stands.{Held, StandsFor}
 use Rattle.tql_engine.proofs.Printing.{does_print}
 use Rattle.tql_define.specs.Binds.{Binds}
+use Rattle.tql_engine.proofs.RunningLaws.{makes_none}
 use Rattle.tql_engine.proofs.Joining.{state_does, bound_allowed, bound_does, refusal_does}
 use Rattle.tql_engine.proofs.engine.Engine.execute.Goals as goal
 
@@ -68,6 +69,9 @@ returns-in-Err-clause-answered c s st =
     let tables = ap (λ (h : Held). definitions_of h.tables) (sym c.self.view_is) in
     let binds = subst (λ (ds : List TableDef). Binds bound_of (bind ds t) (Err c.in-Err.fault)) (sym (st.fits.definitions ∙ tables)) c.in-Err.ensures.binds in
     refusal_does bound_of c.args.self.now s t c.in-Err.fault st (ap (option_map refusal_of) (sym c.in_default.is) ∙ c.state_fault.ensures s st) binds
+
+pub bind-requires-clause-plain : goal.bind-requires-clause-plain
+bind-requires-clause-plain c = makes_none (statement_of c.args.statement.now) c.requires.runs
 
 pub bind-requires-clause-tables : goal.bind-requires-clause-tables
 bind-requires-clause-tables c =

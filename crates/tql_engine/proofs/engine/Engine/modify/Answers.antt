@@ -19,7 +19,7 @@ use Rattle.tql_engine.proofs.MomentFits.{clock_reads, clock_under, after_reads}
 use Rattle.tql_engine.proofs.Standing.{place_law, there_law}
 use Rattle.tql_engine.proofs.ChangeKeeps.{kept_law}
 use Rattle.tql_engine.proofs.Modifying.{modify_errs, modify_does, read_fit, table_there, gone_removable, gone_judged}
-use Rattle.tql_engine.proofs.Typed.{sound_after}
+use Rattle.tql_engine.proofs.Typed.{read_typed, sound_after}
 use Rattle.tql_engine.proofs.engine.Engine.modify.Goals as goal
 
 pub delta_of-requires : goal.delta_of-requires
@@ -62,12 +62,13 @@ invariant_of-self c =
     let removed : List ℕ = c.in-Ok.delta.removed.items in
     let after = c.in-Ok-change_rows.next in
     let below = subst (λ (h : Held). IsNone h.rows.working → h.next <ℤ high) (sym c.self.view_is) c.requires.below in
-    let fit = recursion_from_All (IsRowOf p.definition) rows (made.fits (read_fit _ s x.table p made.found st there made.answers)) in
+    let bound = subst (λ (h : Held). IsTypedChange (definitions_of h.tables) (modification_of x)) (sym c.self.view_is) c.requires.typed in
+    let fit = recursion_from_All (IsRowOf p.definition) rows
+    (made.fits (read_fit _ s x.table p made.found st there made.answers) (read_typed _ s p x made.found st c.self.invariant.typed bound there made.answers)) in
     let old = c.self.inside.rows in
     let new = c.change_rows.new.store in
     let clocked = subst (λ n. ChangesRows old.working n after c.in-Ok.delta.table removed rows old new) (clock_reads _ s st) c.in-Ok-change_rows.ensures.ok in
     let done = subst (λ i. ChangesRows old.working c.self.inside.next after i removed rows old new) made.alters.table clocked in
-    let bound = subst (λ (h : Held). IsTypedChange (definitions_of h.tables) (modification_of x)) (sym c.self.view_is) c.requires.typed in
     rw (after_reads _ s after p.id removed rows new st below done)
     (sound_after _ _ c.self.invariant (Alter (modification_of x)) _ bound
     (modify_does c.changes_keep_no_order.ensures c.changes_by_parts.ensures _ s p x st there below made.found made.answers rows removed new after c.in-Ok.delta.count fit (gone_judged old p x c.in-Ok.delta made) done made.alters.added made.alters.sound made.alters.count))
@@ -92,7 +93,11 @@ returns-in-Ok-change_rows c s st =
     let removed : List ℕ = c.in-Ok.delta.removed.items in
     let after = c.in-Ok-change_rows.next in
     let below = subst (λ (h : Held). IsNone h.rows.working → h.next <ℤ high) (sym c.self.view_is) c.requires.below in
-    let fit = recursion_from_All (IsRowOf p.definition) rows (made.fits (read_fit _ s x.table p made.found back there made.answers)) in
+    let bound = subst (λ (h : Held). IsTypedChange (definitions_of h.tables) (modification_of x)) (sym c.self.view_is) c.requires.typed in
+    let own : State = c.self.invariant.state in
+    let stands = c.self.invariant.stands in
+    let fit = recursion_from_All (IsRowOf p.definition) rows
+    (made.fits (read_fit _ own x.table p made.found stands there made.answers) (read_typed _ own p x made.found stands c.self.invariant.typed bound there made.answers)) in
     let old = c.self.inside.rows in
     let new = c.change_rows.new.store in
     let clocked = subst (λ n. ChangesRows old.working n after c.in-Ok.delta.table removed rows old new) (clock_reads _ s back) c.in-Ok-change_rows.ensures.ok in

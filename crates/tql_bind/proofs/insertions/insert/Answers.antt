@@ -10,7 +10,7 @@ use Rattle.tql_tree.specs.Statements.{insert_by, names_of, select_of}
 use Rattle.tql_tree.specs.declared.expression.Name.{Name}
 use Rattle.tql_tree.specs.declared.statement.Rows.{Rows}
 use Rattle.tql_tree.specs.declared.statement.Select.{Select}
-use Rattle.tql_bind.proofs.changes.insert.Goals as goal
+use Rattle.tql_bind.proofs.insertions.insert.Goals as goal
 
 pub returns-in_ok-insertion-in-Select-clause-bound : goal.returns-in_ok-insertion-in-Select-clause-bound
 returns-in_ok-insertion-in-Select-clause-bound c =

@@ -1,26 +1,20 @@
-//! INSERT, UPDATE and DELETE.
-ghost use Rattle.std.specs.Prelude.{◌≤◌, All, IfOk, IsFalse, IsTrue, length};
+//! INSERT.
+ghost use Rattle.std.specs.Prelude.{◌≤◌, All, IfOk, IsFalse, length};
 ghost use Rattle.tql_spec.specs.Binding.{bind};
-ghost use Rattle.tql_spec.specs.Machine.{Alter};
-ghost use Rattle.tql_spec.specs.Running.{does_run};
-ghost use Rattle.tql_bound.specs.Changes.{modification_of};
 ghost use Rattle.tql_catalog.specs.Tables.{definitions_of};
-ghost use Rattle.tql_tree.specs.Statements.{delete_of, insert_of, update_of};
+ghost use Rattle.tql_tree.specs.Statements.{insert_of};
 ghost use Rattle.tql_scope.specs.Gathered.{Gathers};
 ghost use Rattle.tql_spec.specs.Syntax.{is_too_wide};
 ghost use Rattle.tql_bind.specs.Bounds.{HasMoment, bound_of};
 
 use crate::bound::Bound;
 use std::alloc::AllocError;
-use tql_alter::delete::delete_rows;
 use tql_alter::insert::insert_values;
 use tql_alter::insert_query::insert_select;
-use tql_alter::update::update_rows;
-use tql_bound::change::Modification;
 use tql_catalog::catalog::Catalog;
 use tql_memory::Memory;
 use tql_scope::faults::Faults;
-use tql_tree::statement::{Delete, Insert, Rows, Update};
+use tql_tree::statement::{Insert, Rows};
 
 /// INSERT with its names bound. Faults: no table has the name; a column of the list is unknown or repeated; a tuple
 /// has another number of cells than columns, or a cell of another kind than its column; a generated column in the
@@ -63,37 +57,4 @@ pub(crate) fn insert(
             Ok(Bound::InsertFrom(insertion))
         }
     }
-}
-
-/// UPDATE with its names bound. Faults: no table has the name; a column of SET is unknown or repeated, or a name
-/// unknown or ambiguous; kinds that do not fit; a generated column in SET, an aggregate; a literal out of range. The
-/// only error is a refused growth.
-pub(crate) fn update(
-    memory: Memory,
-    tables: &Catalog,
-    update: &Update<'_>,
-    faults: &mut Faults,
-) -> Result<Modification, AllocError>
-    requires { IsTrue (does_run (update_of update.now)) }
-    ensures { IfOk result
-        (λ x. Gathers (bind (definitions_of tables.now) (update_of update.now)) faults.old
-        faults.new (Alter (modification_of x))) }
-{
-    update_rows(memory, tables, update, faults)
-}
-
-/// DELETE with its names bound. Faults: no table has the name; a name unknown or ambiguous; kinds that do not fit; an
-/// aggregate; a literal out of range. The only error is a refused growth.
-pub(crate) fn delete(
-    memory: Memory,
-    tables: &Catalog,
-    delete: &Delete<'_>,
-    faults: &mut Faults,
-) -> Result<Modification, AllocError>
-    requires { IsTrue (does_run (delete_of delete.now)) }
-    ensures { IfOk result
-        (λ x. Gathers (bind (definitions_of tables.now) (delete_of delete.now)) faults.old
-        faults.new (Alter (modification_of x))) }
-{
-    delete_rows(memory, tables, delete, faults)
 }

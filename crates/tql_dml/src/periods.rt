@@ -1,0 +1,83 @@
+//! The application periods of rows, and the parts into which a portion cuts them.
+ghost use Rattle.std.specs.Prelude.{◌≡◌, option_map, slice_get};
+ghost use Rattle.tql_spec.specs.Definition.{cell, period_of, point_like, point_of, with_period};
+ghost use Rattle.tql_spec.specs.Period.{where_rising};
+ghost use Rattle.tql_period.specs.Points.{points_of};
+ghost use Rattle.tql_cells.specs.Shown.{shown_by};
+ghost use Rattle.tql_value.specs.Views.{datum_of_value, datum_of_view, row_of};
+ghost use Rattle.tql_dml.specs.Cutting.{Cuts};
+
+use crate::spread::put;
+use tql_catalog::table_def::TableDef;
+use tql_cells::stored::StoredRow;
+use tql_expr::columns::Columns;
+use tql_period::period::Period;
+use tql_period::pieces::{Pieces, split};
+use tql_value::value::{Value, View};
+
+/// The point that a value is, in days or microseconds since 1970-01-01; 0 for what is none.
+pub(crate) fn point(value: View<'_>) -> i64
+    ensures { result ≡ point_of (datum_of_view value.entry) }
+{
+    match value {
+        View::Day(day) => day,
+        View::Moment(moment) => moment,
+        View::Null | View::Int(_) | View::Text(_) => 0,
+    }
+}
+
+/// The application period of a row; none where it does not rise, or the table has none.
+fn period(definition: &TableDef, row: &StoredRow<'_>) -> Option<Period>
+    ensures { option_map points_of result ≡ where_rising (period_of definition.now (shown_by row.now)) }
+{
+    let application = definition.application()?;
+    let start = point(row.column(application.start));
+    let end = point(row.column(application.end));
+    Period::new(start, end)
+}
+
+/// The parts into which the portion of a change, or none, cuts a row: before it, within it, and after it; where it
+/// leaves the row whole, none of the three. None where the portion shares no point with the row's period.
+pub(crate) fn cut(
+    definition: &TableDef,
+    portion: Option<Period>,
+    row: &StoredRow<'_>,
+) -> Option<Pieces>
+    ensures { Cuts definition.now (option_map points_of portion) (shown_by row.now) result }
+{
+    let Some(portion) = portion else {
+        return Some(Pieces {
+            before: None,
+            inside: None,
+            after: None,
+        });
+    };
+    let pieces = split(period(definition, row)?, portion);
+    if pieces.inside.is_some() {
+        Some(pieces)
+    } else {
+        None
+    }
+}
+
+/// The point as a value of the kind of the one at a place.
+fn like(cells: &[Value], place: usize, point: i64) -> Value
+    ensures { datum_of_value result ≡ point_like (cell (row_of cells.now) place) point }
+{
+    match cells.get(place) {
+        Some(Value::Day(_)) => Value::Day(point),
+        _ => Value::Moment(point),
+    }
+}
+
+/// Puts another application period into a row of all columns.
+pub(crate) fn put_period(definition: &TableDef, period: Period, cells: &mut [Value])
+    ensures { row_of cells.new ≡ with_period definition.now (points_of period) (row_of cells.old) }
+{
+    if let Some(application) = definition.application() {
+        let start = like(cells, application.start, period.start);
+        let end = like(cells, application.end, period.end);
+        put(cells, application.start, start);
+        put(cells, application.end, end);
+    }
+}
