@@ -15,14 +15,20 @@ use Rattle.tql_scope.proofs.Gathering.{bound}
 use Rattle.tql_alter.specs.Portions.{differs}
 
 -- the period that is named, the kinds of the points, and the points
-pub portion_bound : (d : TableDef) (p : PortionTree) (k : Option Kind) (b : Bool) (from to : Option ℤ) (old mid last new : Option Refusal) (x : Option Period)
+pub portion_bound : (d : TableDef) (p : PortionTree) (k : Option Kind) (b : Bool) (from to : Option ℤ)
+    (old mid last new : Option Refusal) (x : Option Period)
     → Gathers (portion_period d p.period) old mid k → b ≡ differs k p → Gathers (refuse_if b TypesDoNotFit) mid last tt
-    → from ≡ read_point p.from → to ≡ read_point p.to → Gathers (rising from to) last new x → Gathers (portion d (Some p)) old new x
+    → from ≡ read_point p.from → to ≡ read_point p.to → Gathers (rising from to) last new x
+    → Gathers (portion d (Some p)) old new x
 portion_bound d p k b from to old mid last new x period is other f t points =
     let at_points : Checked (Option Period) = rising (read_point p.from) (read_point p.to) in
-    let points_bound : Gathers at_points last new x = subst (λ (o : Option ℤ). Gathers (rising (read_point p.from) o) last new x) t (subst (λ (o : Option ℤ). Gathers (rising o to) last new x) f points) in
-    let refused : Gathers (refuse_if (differs k p) TypesDoNotFit) mid last tt = subst (λ (c : Bool). Gathers (refuse_if c TypesDoNotFit) mid last tt) is other in
-    bound (portion_period d p.period) (λ k. refuse_if (differs k p) TypesDoNotFit >>= λ u. at_points) old mid new k x period
+    let points_bound : Gathers at_points last new x =
+        subst (λ (o : Option ℤ). Gathers (rising (read_point p.from) o) last new x) t
+        (subst (λ (o : Option ℤ). Gathers (rising o to) last new x) f points) in
+    let refused : Gathers (refuse_if (differs k p) TypesDoNotFit) mid last tt =
+        subst (λ (c : Bool). Gathers (refuse_if c TypesDoNotFit) mid last tt) is other in
+    bound (portion_period d p.period) (λ k. refuse_if (differs k p) TypesDoNotFit >>= λ u. at_points) old mid new k x
+        period
     (bound (refuse_if (differs k p) TypesDoNotFit) (λ u. at_points) mid last new tt x refused points_bound)
 
 -- where there is a portion, SET is asked for the period's columns

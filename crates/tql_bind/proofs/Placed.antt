@@ -3,9 +3,11 @@ use Rattle.std.proofs.Common.{◌≡◌, ◌<◌, subst, ℕ, List, [], length, 
 use Rattle.std.specs.Prelude.{IsTrue, not}
 use Rattle.tql_spec.specs.Binding.{bind, insert_columns, select, table_number}
 use Rattle.tql_spec.specs.Definition.{TableDef, table_at}
-use Rattle.tql_spec.specs.Machine.{Alter, Ask, Bound, Change, CreateTable, DropTable, InsertQuery, SetClock, Start, Commit, Rollback, changed_table}
+use Rattle.tql_spec.specs.Machine.{Alter, Ask, Bound, Change, CreateTable, DropTable, InsertQuery, SetClock, Start}
+use Rattle.tql_spec.specs.Machine.{Commit, Rollback, changed_table}
 use Rattle.tql_spec.specs.Refusal.{first}
-use Rattle.tql_spec.specs.Syntax.{AtTree, CommitTree, CreateTree, DeleteTree, DropTree, InsertSelect, InsertValues, QueryTree, RollbackTree, StartTree, Statement, UpdateTree}
+use Rattle.tql_spec.specs.Syntax.{AtTree, CommitTree, CreateTree, DeleteTree, DropTree, InsertSelect, InsertValues}
+use Rattle.tql_spec.specs.Syntax.{QueryTree, RollbackTree, StartTree, Statement, UpdateTree}
 use Rattle.tql_bind.specs.Bounds.{HasMoment, IsSound, bound_of, is_creation}
 use Rattle.tql_bind.specs.Placed.{IsPlacedQuery}
 use Rattle.tql_bind.specs.declared.bound.Bound as bound
@@ -51,7 +53,8 @@ placed defs (AtTree t) e = tt
 
 -- ---- the code's
 
-creates_none : (defs : List TableDef) (s : Statement) (d : TableDef) → IsTrue (not (is_creation s)) → (bind defs s).value ≡ CreateTable d → ⊥
+creates_none : (defs : List TableDef) (s : Statement) (d : TableDef) → IsTrue (not (is_creation s))
+    → (bind defs s).value ≡ CreateTable d → ⊥
 creates_none defs (CreateTree n x xs versioned) d other is = cc
 creates_none defs (DropTree n) d other is = cc
 creates_none defs (InsertValues n ns t ts) d other is = cc
@@ -64,7 +67,8 @@ creates_none defs CommitTree d other is = cc
 creates_none defs RollbackTree d other is = cc
 creates_none defs (AtTree t) d other is = cc
 
-sound_by : (defs : List TableDef) (s : Statement) (b : bound.Bound) → IsTrue (not (is_creation s)) → (bind defs s).value ≡ bound_of b → HasMoment b → IsPlaced defs (bound_of b) → IsSound defs b
+sound_by : (defs : List TableDef) (s : Statement) (b : bound.Bound) → IsTrue (not (is_creation s))
+    → (bind defs s).value ≡ bound_of b → HasMoment b → IsPlaced defs (bound_of b) → IsSound defs b
 sound_by defs s (statement.CreateTable d) other is timed there = absurd (creates_none defs s d other is)
 sound_by defs s (statement.DropTable t) other is timed there = there
 sound_by defs s (statement.Insert x) other is timed there = there.0
@@ -77,7 +81,8 @@ sound_by defs s statement.Commit other is timed there = tt
 sound_by defs s statement.Rollback other is timed there = tt
 
 -- what is bound without a fault is right
-pub sound_where_clean : (defs : List TableDef) (s : Statement) (b : bound.Bound) → IsTrue (not (is_creation s)) → first (bind defs s).faults ≡ None → (bind defs s).value ≡ bound_of b → HasMoment b
+pub sound_where_clean : (defs : List TableDef) (s : Statement) (b : bound.Bound) → IsTrue (not (is_creation s))
+    → first (bind defs s).faults ≡ None → (bind defs s).value ≡ bound_of b → HasMoment b
     → IsSound defs b
 sound_where_clean defs s b other none is timed =
     sound_by defs s b other is timed (subst (IsPlaced defs) is (placed defs s (none_present (bind defs s).faults none)))

@@ -27,4 +27,5 @@ query_insertion_of x = InsertQuery x.table x.columns.items (question_of x.questi
 
 -- UPDATE and DELETE, of a portion or of none
 abbrev pub modification_of : Modification → machine.Change
-modification_of x = Modify x.table (option_map points_of x.portion) (work_of x.terms x.work) (map (cond x.terms) x.conjuncts.items)
+modification_of x = Modify x.table (option_map points_of x.portion) (work_of x.terms x.work)
+    (map (cond x.terms) x.conjuncts.items)

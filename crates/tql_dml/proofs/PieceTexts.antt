@@ -1,5 +1,6 @@
 -- What a change of a portion makes of a row has values that have texts: each part's period lies within the row's.
-use Rattle.std.specs.Prelude.{◌≡◌, refl, ℕ, ℤ, ◌≤ℤ◌, Bool, true, false, IsTrue, List, [], ◌∷◌, ◌++◌, map, All, Option, Some, None, if◌then◌else◌}
+use Rattle.std.specs.Prelude.{◌≡◌, refl, ℕ, ℤ, ◌≤ℤ◌, Bool, true, false, IsTrue, List, [], ◌∷◌, ◌++◌, map, All, Option}
+use Rattle.std.specs.Prelude.{Some, None, if◌then◌else◌}
 use Rattle.std.proofs.Common.{sym, ap, subst, ◌∙◌, arith, inl, inr}
 use Rattle.std.proofs.lemmas.Int.{ints, clamps}
 use Rattle.std.proofs.lemmas.List.Elements.{All-set}
@@ -40,7 +41,8 @@ moment_between : (s e p : ℤ) → IsMoment s → IsMoment e → s ≤ℤ p → 
 moment_between s e p h k l m = let low = h.0 in let up = k.1 in (omega (arith, ints), omega (arith, ints))
 
 -- a point between those of a row's period has a text in another row's columns of it
-start_prints : (d : TableDef) (a : Application) (row other : Row) → d.application ≡ Some a → IsTrue (are_ends (column_kind d a.start) (column_kind d a.end)) → IsRight d row → IsRight d other
+start_prints : (d : TableDef) (a : Application) (row other : Row) → d.application ≡ Some a
+    → IsTrue (are_ends (column_kind d a.start) (column_kind d a.end)) → IsRight d row → IsRight d other
     → (p : ℤ) → (period_of d row).start ≤ℤ p → p ≤ℤ (period_of d row).end
     → IsPrintable (point_like (cell other a.start) p) × IsPrintable (point_like (cell other a.end) p)
 start_prints d a row other q ends h k p from to = by_kinds (column_kind d a.start) (column_kind d a.end) refl refl ends
@@ -50,7 +52,8 @@ start_prints d a row other q ends h k p from to = by_kinds (column_kind d a.star
     by_kinds Days Days s e t =
         let of_row = own_points.days d a row q h.kinds h.period in
         let of_other = own_points.days d a other q k.kinds k.period in
-        let low : IsDay (period_of d row).start = subst IsPrintable (of_row.0 s) (printable_cell row a.start h.prints) in
+        let low : IsDay (period_of d row).start =
+            subst IsPrintable (of_row.0 s) (printable_cell row a.start h.prints) in
         let up : IsDay (period_of d row).end = subst IsPrintable (of_row.1 e) (printable_cell row a.end h.prints) in
         let day : IsDay p = day_between (period_of d row).start (period_of d row).end p low up from to in (
           subst (λ v. IsPrintable (point_like v p)) (sym (of_other.0 s)) day,
@@ -59,7 +62,8 @@ start_prints d a row other q ends h k p from to = by_kinds (column_kind d a.star
     by_kinds Moments Moments s e t =
         let of_row = own_points.moments d a row q h.kinds h.period in
         let of_other = own_points.moments d a other q k.kinds k.period in
-        let low : IsMoment (period_of d row).start = subst IsPrintable (of_row.0 s) (printable_cell row a.start h.prints) in
+        let low : IsMoment (period_of d row).start =
+            subst IsPrintable (of_row.0 s) (printable_cell row a.start h.prints) in
         let up : IsMoment (period_of d row).end = subst IsPrintable (of_row.1 e) (printable_cell row a.end h.prints) in
         let moment : IsMoment p = moment_between (period_of d row).start (period_of d row).end p low up from to in (
           subst (λ v. IsPrintable (point_like v p)) (sym (of_other.0 s)) moment,
@@ -75,7 +79,8 @@ start_prints d a row other q ends h k p from to = by_kinds (column_kind d a.star
     by_kinds Moments Days s e t = absurd (cc)
 
 -- a row with such a period
-within_prints : (d : TableDef) → IsTypedDefinition d → (row other : Row) → IsRight d row → IsRight d other → (p : Period) → LiesWithin (period_of d row) p
+within_prints : (d : TableDef) → IsTypedDefinition d → (row other : Row) → IsRight d row → IsRight d other
+    → (p : Period) → LiesWithin (period_of d row) p
     → All IsPrintable (with_period d p other)
 within_prints d t row other h k p w = by_application d.application refl
   where
@@ -83,8 +88,10 @@ within_prints d t row other h k p w = by_application d.application refl
     by_application None q = k.prints
     by_application (Some a) q =
         let ends = (t.application a q).kinds in
-        let first : IsPrintable (point_like (cell other a.start) p.start) = (start_prints d a row other q ends h k p.start w.start_from w.start_to).0 in
-        let last : IsPrintable (point_like (cell other a.end) p.end) = (start_prints d a row other q ends h k p.end w.end_from w.end_to).1 in
+        let first : IsPrintable (point_like (cell other a.start) p.start) =
+            (start_prints d a row other q ends h k p.start w.start_from w.start_to).0 in
+        let last : IsPrintable (point_like (cell other a.end) p.end) =
+            (start_prints d a row other q ends h k p.end w.end_from w.end_to).1 in
         All-set IsPrintable _ a.end (point_like (cell other a.end) p.end) last
         (All-set IsPrintable other a.start (point_like (cell other a.start) p.start) first k.prints)
 
@@ -98,21 +105,29 @@ in_any x p m = by_rises (rises x) refl m
     by_rises false r m = absurd m
 
 before_within : (x : Period) (f : ℤ) → rises (before f x) ≡ true → LiesWithin x (before f x)
-before_within x f r = record { start_from = grind (arith, ints, clamps); start_to = grind (arith, ints, clamps); end_from = grind (arith, ints, clamps); end_to = grind (arith, ints, clamps) }
+before_within x f r = record { start_from = grind (arith, ints, clamps); start_to =
+    grind (arith, ints, clamps); end_from = grind (arith, ints, clamps); end_to = grind (arith, ints, clamps) }
 
 after_within : (x : Period) (g : ℤ) → rises (after g x) ≡ true → LiesWithin x (after g x)
-after_within x g r = record { start_from = grind (arith, ints, clamps); start_to = grind (arith, ints, clamps); end_from = grind (arith, ints, clamps); end_to = grind (arith, ints, clamps) }
+after_within x g r = record { start_from = grind (arith, ints, clamps); start_to =
+    grind (arith, ints, clamps); end_from = grind (arith, ints, clamps); end_to = grind (arith, ints, clamps) }
 
 inside_within : (x portion : Period) → share_a_point x portion ≡ true → LiesWithin x (inside portion x)
-inside_within x portion r = record { start_from = grind (arith, ints, clamps); start_to = grind (arith, ints, clamps); end_from = grind (arith, ints, clamps); end_to = grind (arith, ints, clamps) }
+inside_within x portion r =
+    record { start_from = grind (arith, ints, clamps); start_to = grind (arith, ints, clamps); end_from = grind
+    (arith, ints, clamps); end_to = grind (arith, ints, clamps) }
 
 -- the rows that replace a touched one
-pub pieces_print : (d : TableDef) → IsTypedDefinition d → (portion : Period) (work : Work) → IsTypedWork d (Some portion) work → (row : Row) → IsRight d row
-    → share_a_point (period_of d row) portion ≡ true → (made : List Row) → made_of work row ≡ Some made → ((x : Row) → In x made → All IsPrintable x)
+pub pieces_print : (d : TableDef) → IsTypedDefinition d → (portion : Period) (work : Work)
+    → IsTypedWork d (Some portion) work → (row : Row) → IsRight d row
+    → share_a_point (period_of d row) portion ≡ true → (made : List Row) → made_of work row ≡ Some made
+    → ((x : Row) → In x made → All IsPrintable x)
     → (x : Row) → In x (pieces d (Some portion) row made) → All IsPrintable x
 pieces_print d t portion work w row h shared made e prints x m = elim
-    (in_either x (map (λ p. with_period d p row) (if_any (before portion.start y)) ++ map (λ r. with_period d (inside portion y) r) made) rest m) [
-      | inl n ↦ elim (in_either x (map (λ p. with_period d p row) (if_any (before portion.start y))) (map (λ r. with_period d (inside portion y) r) made) n) [
+    (in_either x (map (λ p. with_period d p row) (if_any (before portion.start y)) ++ map
+    (λ r. with_period d (inside portion y) r) made) rest m) [
+      | inl n ↦ elim (in_either x (map (λ p. with_period d p row) (if_any (before portion.start y)))
+          (map (λ r. with_period d (inside portion y) r) made) n) [
         | inl i ↦ own (before portion.start y) (before_within y portion.start) i
         | inr i ↦ let j = in_image (λ r. with_period d (inside portion y) r) x made i in
             subst (All IsPrintable) (sym j.2) (within_prints d t row j.0 h (record {
@@ -130,8 +145,10 @@ pieces_print d t portion work w row h shared made e prints x m = elim
     rest : List Row
     rest = map (λ p. with_period d p row) (if_any (after portion.end y))
 
-    own : (p : Period) → (rises p ≡ true → LiesWithin y p) → In x (map (λ p. with_period d p row) (if_any p)) → All IsPrintable x
+    own : (p : Period) → (rises p ≡ true → LiesWithin y p) → In x (map (λ p. with_period d p row) (if_any p))
+        → All IsPrintable x
     own p lies n =
         let i = in_image (λ p. with_period d p row) x (if_any p) n in
         let k = in_any p i.0 i.1 in
-        subst (All IsPrintable) (sym (i.2 ∙ ap (λ z. with_period d z row) k.1)) (within_prints d t row row h h p (lies k.0))
+        subst (All IsPrintable) (sym (i.2
+            ∙ ap (λ z. with_period d z row) k.1)) (within_prints d t row row h h p (lies k.0))

@@ -1,5 +1,7 @@
--- The widths of rows: as they are stored, as they are shown, and as assignments make them; and the faults of rows of their width.
-use Rattle.std.specs.Prelude.{◌≡◌, refl, ℕ, ◌+◌, ◌<◌, ◌≤◌, ◌≢◌, ℤ, Bool, true, false, nat_lt, List, [], ◌∷◌, ◌++◌, map, length, insert, slice_set, All, Option, Some, None, ⊤, if◌then◌else◌}
+-- The widths of rows: as they are stored, as they are shown, and of those that replace others; and the faults of rows of
+-- their width.
+use Rattle.std.specs.Prelude.{◌≡◌, refl, ℕ, ◌+◌, ◌<◌, ◌≤◌, ◌≢◌, ℤ, Bool, true, false, nat_lt, List, [], ◌∷◌, ◌++◌}
+use Rattle.std.specs.Prelude.{map, length, insert, slice_set, All, Option, Some, None, ⊤, if◌then◌else◌}
 use Rattle.std.specs.List.{flat_map, AllByRecursion}
 use Rattle.std.proofs.Common.{sym, ap, ◌∙◌, arith, inl, inr}
 use Rattle.std.proofs.lemmas.List.{length-map, length-set}
@@ -35,8 +37,10 @@ kept_width d s = ap length (kept_columns d s) ∙ length-map (all_assignable d) 
 
 -- ---- rows as they are shown
 
-two_inserted : (s : System) (cells : Row) (n : ℕ) (m e : ℤ) (b : Bool) → nat_lt s.start s.end ≡ b → Within s n → length cells + 2 ≡ n
-    → length (if b then insert (insert cells s.start (Moment m)) s.end (Moment e) else insert (insert cells s.end (Moment e)) s.start (Moment m)) ≡ n
+two_inserted : (s : System) (cells : Row) (n : ℕ) (m e : ℤ) (b : Bool) → nat_lt s.start s.end ≡ b → Within s n
+    → length cells + 2 ≡ n
+    → length (if b then insert (insert cells s.start (Moment m)) s.end (Moment e) else insert
+    (insert cells s.end (Moment e)) s.start (Moment m)) ≡ n
 two_inserted s cells n m e true h w k =
     let l : s.start < s.end = ltb-true s.start s.end h in
     let i = w.end in
@@ -49,7 +53,8 @@ two_inserted s cells n m e false h w k =
     let o = length-insert cells s.end (Moment e) (omega arith) in
     let p = length-insert (insert cells s.end (Moment e)) s.start (Moment m) (omega arith) in omega arith
 
-generated_width : (s : Option System) (cs : List Column) (cells : Row) (m e : ℤ) → has_system s (length cs) ≡ true → length cells ≡ length (kept s cs)
+generated_width : (s : Option System) (cs : List Column) (cells : Row) (m e : ℤ) → has_system s (length cs) ≡ true
+    → length cells ≡ length (kept s cs)
     → length (with_generated s cells m e) ≡ length cs
 generated_width None cs cells m e h k = k
 generated_width (Some s) cs cells m e h k =
@@ -58,11 +63,14 @@ generated_width (Some s) cs cells m e h k =
     two_inserted s cells (length cs) m e (nat_lt s.start s.end) refl w (omega arith)
 
 -- a row as it is shown has all columns
-pub shown_width : (d : TableDef) (r : Stamped) → IsDefinition d → length r.cells ≡ stored_width d → length (shown d r) ≡ length d.columns
-shown_width d r s k = generated_width d.system d.columns r.cells r.start high (has_its_system d s) (k ∙ sym (kept_width d s))
+pub shown_width : (d : TableDef) (r : Stamped) → IsDefinition d → length r.cells ≡ stored_width d
+    → length (shown d r) ≡ length d.columns
+shown_width d r s k = generated_width d.system d.columns r.cells r.start high (has_its_system d s) (k
+    ∙ sym (kept_width d s))
 
 -- and without the generated ones it is stored
-without_width : (d : TableDef) (row : Row) → IsDefinition d → length row ≡ length d.columns → length (without_generated d.system row) ≡ stored_width d
+without_width : (d : TableDef) (row : Row) → IsDefinition d → length row ≡ length d.columns
+    → length (without_generated d.system row) ≡ stored_width d
 without_width d row s k = ap length (kept_cells d row s k) ∙ length-map (all_assignable d) (cell row)
 
 -- ---- rows that a modification makes
@@ -81,19 +89,24 @@ both_fit d (Some x) None h k = tt
 both_fit d (Some x) (Some y) h k = All-append (λ (cells : Row). length cells ≡ stored_width d) x.come y.come h k
 
 -- full rows are stored
-all_fit : (d : TableDef) (rows : List Row) → IsDefinition d → AllWide (length d.columns) rows → AllByRecursion (λ (cells : Row). length cells ≡ stored_width d) (map (without_generated d.system) rows)
+all_fit : (d : TableDef) (rows : List Row) → IsDefinition d → AllWide (length d.columns) rows
+    → AllByRecursion (λ (cells : Row). length cells ≡ stored_width d) (map (without_generated d.system) rows)
 all_fit d [] s h = tt
 all_fit d (x ∷ xs) s h = (without_width d x s (h x (inl refl)), all_fit d xs s (λ y m. h y (inr m)))
 
-touched_fits : (d : TableDef) (portion : Option Period) (work : Work) (id : ℕ) (row : Row) → IsDefinition d → length row ≡ length d.columns → PartsFit d (touched_part d portion work id row)
+touched_fits : (d : TableDef) (portion : Option Period) (work : Work) (id : ℕ) (row : Row) → IsDefinition d
+    → length row ≡ length d.columns → PartsFit d (touched_part d portion work id row)
 touched_fits d portion work id row s h = at_made (made_of work row) refl
   where
     at_made : (o : Option (List Row)) → made_of work row ≡ o
-        → PartsFit d (o >>= λ made. Some (record { gone = id ∷ []; come = map (without_generated d.system) (pieces d portion row made) }))
+        → PartsFit d (o >>= λ made. Some
+        (record { gone = id ∷ []; come = map (without_generated d.system) (pieces d portion row made) }))
     at_made None e = tt
     at_made (Some made) e =
-        All-from_recursion (λ (cells : Row). length cells ≡ stored_width d) (map (without_generated d.system) (pieces d portion row made))
-        (all_fit d (pieces d portion row made) s (λ x m. pieces_wide d portion row made (made_wide work row made e) x m ∙ h))
+        All-from_recursion (λ (cells : Row). length cells ≡ stored_width d)
+            (map (without_generated d.system) (pieces d portion row made))
+        (all_fit d (pieces d portion row made) s
+        (λ x m. pieces_wide d portion row made (made_wide work row made e) x m ∙ h))
 
 where_fits : (d : TableDef) (t : Option Bool) (o : Option Parts) → PartsFit d o → PartsFit d (t >>= λ b. part_where b o)
 where_fits d None o h = tt
@@ -104,14 +117,17 @@ where_fits d (Some false) o h = All-nil (λ (cells : Row). length cells ≡ stor
 abbrev pub AreRows : TableDef → List Version → Type 0
 AreRows d found = All (λ (v : Version). length v.row.now ≡ stored_width d) found
 
-pub parts_fit : (d : TableDef) (portion : Option Period) (work : Work) (conds : List Cond) (found : List Version) → IsDefinition d → AreRows d found → PartsFit d (parts d portion work conds found)
+pub parts_fit : (d : TableDef) (portion : Option Period) (work : Work) (conds : List Cond) (found : List Version)
+    → IsDefinition d → AreRows d found → PartsFit d (parts d portion work conds found)
 parts_fit d portion work conds [] s h = All-nil (λ (cells : Row). length cells ≡ stored_width d)
 parts_fit d portion work conds (v ∷ vs) s h =
     let row : Row = shown d (version_of v).row in
     let wide : length row ≡ length d.columns =
-    shown_width d (version_of v).row s (length-map v.row.now datum_of_value ∙ All-head (λ (w : Version). length w.row.now ≡ stored_width d) v vs h) in
+    shown_width d (version_of v).row s (length-map v.row.now datum_of_value
+        ∙ All-head (λ (w : Version). length w.row.now ≡ stored_width d) v vs h) in
     both_fit d (part_of d portion work conds v.id row) (parts d portion work conds vs)
-    (where_fits d (is_touched d portion conds row) (touched_part d portion work v.id row) (touched_fits d portion work v.id row s wide))
+    (where_fits d (is_touched d portion conds row) (touched_part d portion work v.id row)
+    (touched_fits d portion work v.id row s wide))
     (parts_fit d portion work conds vs s (All-tail (λ (w : Version). length w.row.now ≡ stored_width d) v vs h))
 
 -- ---- their faults
@@ -121,7 +137,10 @@ pub stored_faults : (d : TableDef) (rs : List Stamped) → IsDefinition d → Fi
     → flat_map (λ r. row_faults d (shown d r)) rs ≡ rows_faults d (map (λ (r : Stamped). r.cells) rs)
 stored_faults d [] s h = refl
 stored_faults d (r ∷ rs) s h =
-    let wide : length r.cells ≡ length (kept d.system d.columns) = All-head (λ (cells : Row). length cells ≡ stored_width d) r.cells _ h ∙ sym (kept_width d s) in
+    let wide : length r.cells ≡ length (kept d.system d.columns) =
+        All-head (λ (cells : Row). length cells ≡ stored_width d) r.cells _ h ∙ sym (kept_width d s) in
     let here : row_faults d (shown d r) ≡ faults_of d r.cells =
-    plain_faults d r s wide ∙ ap (λ cs. cell_faults cs r.cells ++ fault_if (has_falling_period d r.cells) PeriodNotRising) (kept_columns d s) in
+    plain_faults d r s wide
+        ∙ ap (λ cs. cell_faults cs r.cells ++ fault_if (has_falling_period d r.cells) PeriodNotRising)
+        (kept_columns d s) in
     λ i. here i ++ stored_faults d rs s (All-tail (λ (cells : Row). length cells ≡ stored_width d) r.cells _ h) i

@@ -1,5 +1,6 @@
 -- What INSERT, UPDATE and DELETE do to the rows of a table.
-use Rattle.std.specs.Prelude.{◌≡◌, ℕ, ℤ, All, IsTrue, is_some, Bool, false, List, [], map, filter, Option, option_map, Some, None, Result, Ok, Err, ⊤}
+use Rattle.std.specs.Prelude.{◌≡◌, ℕ, ℤ, All, IsTrue, is_some, Bool, false, List, [], map, filter, Option, option_map}
+use Rattle.std.specs.Prelude.{Some, None, Result, Ok, Err, ⊤}
 use Rattle.tql_spec.specs.Words.{map_all}
 use Rattle.tql_spec.specs.Datum.{Row}
 use Rattle.tql_spec.specs.Period.{Period}
@@ -28,7 +29,8 @@ use Rattle.tql_value.specs.declared.refusal.Refusal.TheVariants.{OutOfMemory}
 use Rattle.tql_value.specs.Views.{rows_of}
 
 -- what a change gives: which versions go, the rows that come, their count, and no fault, whatever the moment
-pub record Gives (id : ℕ) (gone : List ℕ) (new : ℤ → List Stamped) (outcome : ℤ → Outcome) (delta : Delta) : Type 0 where
+pub record Gives (id : ℕ) (gone : List ℕ) (new : ℤ → List Stamped) (outcome : ℤ
+    → Outcome) (delta : Delta) : Type 0 where
   pub table : delta.table ≡ id
   pub removed : delta.removed.items ≡ gone
   pub added : (m : ℤ) → map (λ (r : Stamped). r.cells) (new m) ≡ rows_of delta.added.items
@@ -93,14 +95,16 @@ is_yes (Some b) = b
 
 -- the versions that go: those whose row is touched
 abbrev pub gone : TableDef → Modification → List Version → List ℕ
-gone d x found = map (λ (v : Version). v.id) (filter (λ (v : Version). is_yes (is_touched d (portion_in x) (conds_in x) (shown d (version_of v).row))) found)
+gone d x found = map (λ (v : Version). v.id)
+    (filter (λ (v : Version). is_yes (is_touched d (portion_in x) (conds_in x) (shown d (version_of v).row))) found)
 
 -- a version of the table's rows: as many cells as are stored, each of which has a text, since a moment that has one
 pub record IsVersionOf (d : TableDef) (v : Version) : Type 0 where
   pub cells : IsRowOf d (version_of v).row.cells
   pub start : IsMoment v.start
 
--- rows of their columns' kinds, and a change that gives values of these kinds, of a portion none to the period's columns
+-- rows of their columns' kinds, and a change that gives values of these kinds, of a portion none to the columns of the
+-- period
 pub record IsTypedFor (d : TableDef) (found : List Version) (portion : Option Period) (work : Work) : Type 0 where
   pub definition : IsTypedDefinition d
   pub gives : IsTypedWork d portion work

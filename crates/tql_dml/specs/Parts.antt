@@ -33,7 +33,8 @@ with_rows p (Some rows) = Some (record { gone = p.gone; come = p.come ++ rows })
 -- a version whose row is touched goes, and what it becomes comes, with its parts before and after the portion
 abbrev pub touched_part : TableDef → Option Period → Work → ℕ → Row → Option Parts
 touched_part d portion work id row =
-    made_of work row >>= λ made. Some (record { gone = id ∷ []; come = map (without_generated d.system) (pieces d portion row made) })
+    made_of work row >>= λ made. Some
+        (record { gone = id ∷ []; come = map (without_generated d.system) (pieces d portion row made) })
 
 -- one that is not touched stays
 abbrev pub part_where : Bool → Option Parts → Option Parts
@@ -42,7 +43,8 @@ part_where false o = Some no_part
 
 -- what a modification does to a version, none where an evaluation is out of range
 abbrev pub part_of : TableDef → Option Period → Work → List Cond → ℕ → Row → Option Parts
-part_of d portion work conds id row = is_touched d portion conds row >>= λ b. part_where b (touched_part d portion work id row)
+part_of d portion work conds id row =
+    is_touched d portion conds row >>= λ b. part_where b (touched_part d portion work id row)
 
 -- and to several
 abbrev pub parts : TableDef → Option Period → Work → List Cond → List Version → Option Parts

@@ -1,5 +1,6 @@
 -- What a modification makes of the rows of a table, from what it made of the versions that were read.
-use Rattle.std.proofs.Common.{◌≡◌, refl, ap, sym, subst, ◌∙◌, ℕ, Bool, true, false, List, [], ◌∷◌, ◌++◌, map, filter, cond, Option, Some, None}
+use Rattle.std.proofs.Common.{◌≡◌, refl, ap, sym, subst, ◌∙◌, ℕ, Bool, true, false, List, [], ◌∷◌, ◌++◌, map, filter}
+use Rattle.std.proofs.Common.{cond, Option, Some, None}
 use Rattle.std.specs.Prelude.{ℤ, not}
 use Rattle.std.proofs.lemmas.List.{map-append}
 use Rattle.tql_spec.specs.Bag.{SameBag}
@@ -10,7 +11,8 @@ use Rattle.tql_spec.specs.Period.{Period}
 use Rattle.tql_spec.specs.Refusal.{first}
 use Rattle.tql_spec.specs.Definition.{Stamped, TableDef, shown, stamped}
 use Rattle.tql_spec.specs.Expression.{Cond}
-use Rattle.tql_spec.specs.Change.{Outcome, Fate, Untouched, Replaced, Work, fate, fate_where, made_of, pieces, is_touched, after_fates, new_rows, outcome_of, modify}
+use Rattle.tql_spec.specs.Change.{Outcome, Fate, Untouched, Replaced, Work, fate, fate_where, made_of, pieces}
+use Rattle.tql_spec.specs.Change.{is_touched, after_fates, new_rows, outcome_of, modify}
 use Rattle.tql_spec.specs.ChangeLaws.{goes, SameOutcome, ChangesKeepNoOrder, ChangesByParts}
 use Rattle.tql_store.specs.Changes.{rows_after}
 use Rattle.tql_dml.specs.Alters.{is_yes, coming}
@@ -19,7 +21,8 @@ use Rattle.tql_engine.proofs.ChangeKeeps.{begun_at}
 -- ---- lists of what may be missing
 
 -- both parts of a list that is there
-front : {A : Type 0} (o : Option A) (os : Option (List A)) (zs : List A) → with_front o os ≡ Some zs → (y : A) × (ys : List A) × (o ≡ Some y) × (os ≡ Some ys) × (zs ≡ y ∷ ys)
+front : {A : Type 0} (o : Option A) (os : Option (List A)) (zs : List A) → with_front o os ≡ Some zs
+    → (y : A) × (ys : List A) × (o ≡ Some y) × (os ≡ Some ys) × (zs ≡ y ∷ ys)
 front None os zs e = absurd (cc)
 front (Some y) None zs e = absurd (cc)
 front {A} (Some y) (Some ys) zs e = (y, ys, refl, refl, same (y ∷ ys) zs e)
@@ -32,7 +35,8 @@ abbrev pub touches : TableDef → Option Period → List Cond → Stamped → Bo
 touches d portion conds r = is_yes (is_touched d portion conds (shown d r))
 
 -- the laws of changes, as tql_spec states them
-module _ (no_order : ChangesKeepNoOrder) (by_parts : ChangesByParts) (d : TableDef) (m : ℤ) (portion : Option Period) (work : Work) (conds : List Cond) where
+module _ (no_order : ChangesKeepNoOrder) (by_parts : ChangesByParts) (d : TableDef) (m : ℤ) (portion : Option Period)
+    (work : Work) (conds : List Cond) where
   -- what becomes of a row
   abbrev fate_of : Stamped → Option Fate
   fate_of r = fate d m portion work conds (shown d r)
@@ -42,22 +46,27 @@ module _ (no_order : ChangesKeepNoOrder) (by_parts : ChangesByParts) (d : TableD
   abbrev made_fate : Row → List Row → Option Fate
   made_fate row made = Some (Replaced (map (stamped d m) (pieces d portion row made)))
 
-  goes_by : (row : Row) (o : Option Bool) (made : Option (List Row)) (y : Fate) → (o >>= λ b. fate_where b (made >>= made_fate row)) ≡ Some y
+  goes_by : (row : Row) (o : Option Bool) (made : Option (List Row)) (y : Fate)
+      → (o >>= λ b. fate_where b (made >>= made_fate row)) ≡ Some y
       → goes (o >>= λ b. fate_where b (made >>= made_fate row)) ≡ is_yes o
   goes_by row None made y e = absurd (cc)
   goes_by row (Some false) made y e = refl
   goes_by row (Some true) None y e = absurd (cc)
   goes_by row (Some true) (Some rows) y e = refl
 
-  stay_by : (a b : Bool) (r : Stamped) (xs ys : List Stamped) → a ≡ b → xs ≡ ys → cond (not a) (r ∷ xs) xs ≡ cond (not b) (r ∷ ys) ys
+  stay_by : (a b : Bool) (r : Stamped) (xs ys : List Stamped) → a ≡ b → xs ≡ ys
+      → cond (not a) (r ∷ xs) xs ≡ cond (not b) (r ∷ ys) ys
   stay_by a b r xs ys e f = λ i. cond (not (e i)) (r ∷ f i) (f i)
 
   -- so the same rows stay
-  same_stay : (rows : List Stamped) (fs : List Fate) → map_all fate_of rows ≡ Some fs → filter (λ r. not (goes (fate_of r))) rows ≡ filter (λ r. not (touches d portion conds r)) rows
+  same_stay : (rows : List Stamped) (fs : List Fate) → map_all fate_of rows ≡ Some fs
+      → filter (λ r. not (goes (fate_of r))) rows ≡ filter (λ r. not (touches d portion conds r)) rows
   same_stay [] fs e = refl
   same_stay (r ∷ rows) fs e =
       let k = front (fate_of r) (map_all fate_of rows) fs e in
-      stay_by (goes (fate_of r)) (touches d portion conds r) r _ _ (goes_by (shown d r) (is_touched d portion conds (shown d r)) (made_of work (shown d r)) k.0 k.2) (same_stay rows k.1 k.3)
+      stay_by (goes (fate_of r)) (touches d portion conds r) r _ _
+          (goes_by (shown d r) (is_touched d portion conds (shown d r)) (made_of work (shown d r)) k.0 k.2)
+          (same_stay rows k.1 k.3)
 
   -- ---- new rows begin at the moment
 
@@ -73,7 +82,8 @@ module _ (no_order : ChangesKeepNoOrder) (by_parts : ChangesByParts) (d : TableD
   begun_both [] ys p q = q
   begun_both (x ∷ xs) ys p q =
       (λ i. p i ++ q i)
-      ∙ sym (map-append (λ (cells : Row). record { cells = cells; start = m }) (map (λ (r : Stamped). r.cells) (x ∷ xs)) (map (λ (r : Stamped). r.cells) ys))
+      ∙ sym (map-append (λ (cells : Row). record { cells = cells; start = m })
+      (map (λ (r : Stamped). r.cells) (x ∷ xs)) (map (λ (r : Stamped). r.cells) ys))
       ∙ ap (begun_at m) (sym (map-append (λ (r : Stamped). r.cells) (x ∷ xs) ys))
 
   -- the new rows of a fate
@@ -81,14 +91,16 @@ module _ (no_order : ChangesKeepNoOrder) (by_parts : ChangesByParts) (d : TableD
   news Untouched = []
   news (Replaced new) = new
 
-  news_begun : (row : Row) (o : Option Bool) (made : Option (List Row)) (y : Fate) → (o >>= λ b. fate_where b (made >>= made_fate row)) ≡ Some y → Begun (news y)
+  news_begun : (row : Row) (o : Option Bool) (made : Option (List Row)) (y : Fate)
+      → (o >>= λ b. fate_where b (made >>= made_fate row)) ≡ Some y → Begun (news y)
   news_begun row None made y e = absurd (cc)
   news_begun row (Some false) made y e = subst (λ z. Begun (news z)) (inside Untouched y e) refl
     where
       inside : (u v : Fate) → Some u ≡ Some v → u ≡ v
       inside u v e = cc
   news_begun row (Some true) None y e = absurd (cc)
-  news_begun row (Some true) (Some rows) y e = subst (λ z. Begun (news z)) (inside _ y e) (begun_stamped (pieces d portion row rows))
+  news_begun row (Some true) (Some rows) y e =
+      subst (λ z. Begun (news z)) (inside _ y e) (begun_stamped (pieces d portion row rows))
     where
       inside : (u v : Fate) → Some u ≡ Some v → u ≡ v
       inside u v e = cc
@@ -105,20 +117,25 @@ module _ (no_order : ChangesKeepNoOrder) (by_parts : ChangesByParts) (d : TableD
   all_begun (r ∷ rows) fs e =
       let k = front (fate_of r) (map_all fate_of rows) fs e in
       subst (λ gs. Begun (new_rows gs)) (sym k.4)
-      (front_begun k.0 k.1 (news_begun (shown d r) (is_touched d portion conds (shown d r)) (made_of work (shown d r)) k.0 k.2) (all_begun rows k.1 k.3))
+      (front_begun k.0 k.1
+      (news_begun (shown d r) (is_touched d portion conds (shown d r)) (made_of work (shown d r)) k.0 k.2)
+      (all_begun rows k.1 k.3))
 
   -- ---- the rows after it
 
   -- where there is no fault, no fate is missing
-  fates_there : (rows : List Stamped) (o : Option (List Fate)) → map_all fate_of rows ≡ o → first (modify d m rows portion work conds).faults ≡ None → (fs : List Fate) × (o ≡ Some fs)
+  fates_there : (rows : List Stamped) (o : Option (List Fate)) → map_all fate_of rows ≡ o
+      → first (modify d m rows portion work conds).faults ≡ None → (fs : List Fate) × (o ≡ Some fs)
   fates_there rows None e k = absurd (missing rows e k)
     where
-      missing : (xs : List Stamped) → map_all fate_of xs ≡ None → first (modify d m xs portion work conds).faults ≡ None → ⊥
+      missing : (xs : List Stamped) → map_all fate_of xs ≡ None
+          → first (modify d m xs portion work conds).faults ≡ None → ⊥
       missing xs e k = cc
   fates_there rows (Some fs) e k = (fs, refl)
 
   -- the rows that stay, and those that come, begun at the moment
-  made_after : (rows : List Stamped) (fs : List Fate) (added : List Row) → map_all fate_of rows ≡ Some fs → map (λ (r : Stamped). r.cells) (new_rows fs) ≡ added
+  made_after : (rows : List Stamped) (fs : List Fate) (added : List Row) → map_all fate_of rows ≡ Some fs
+      → map (λ (r : Stamped). r.cells) (new_rows fs) ≡ added
       → SameBag (after_fates rows fs) (rows_after m (touches d portion conds) added rows)
   made_after rows fs added e cells =
       let parts = by_parts d m rows portion work conds fs e in
@@ -127,18 +144,25 @@ module _ (no_order : ChangesKeepNoOrder) (by_parts : ChangesByParts) (d : TableD
       parts
 
   -- what it makes of any rows that are the same bag as those that were read
-  pub rows_made : (read rows : List Stamped) (added : List Row) → SameBag read rows → first (modify d m read portion work conds).faults ≡ None
+  pub rows_made : (read rows : List Stamped) (added : List Row) → SameBag read rows
+      → first (modify d m read portion work conds).faults ≡ None
       → map (λ (r : Stamped). r.cells) (coming (map_all fate_of read)) ≡ added
       → SameBag (rows_after m (touches d portion conds) added rows) (modify d m rows portion work conds).rows
   rows_made read rows added b sound cells =
       let k = fates_there read (map_all fate_of read) refl sound in
-      let same : SameOutcome (modify d m read portion work conds) (modify d m rows portion work conds) = no_order d m read rows portion work conds b in
-      let made : (modify d m read portion work conds).rows ≡ after_fates read k.0 = outcome_rows (map_all fate_of read) k.0 k.1 in
-      let come : map (λ (r : Stamped). r.cells) (new_rows k.0) ≡ added = ap (λ o. map (λ (r : Stamped). r.cells) (coming o)) (sym k.1) ∙ cells in
-      same-trans (same-append (same-filter (λ r. not (touches d portion conds r)) (same-sym b)) (same-refl (begun_at m added)))
-      (same-trans (same-sym (made_after read k.0 added k.1 come)) (subst (λ xs. SameBag xs (modify d m rows portion work conds).rows) made same.rows))
+      let same : SameOutcome (modify d m read portion work conds) (modify d m rows portion work conds) =
+          no_order d m read rows portion work conds b in
+      let made : (modify d m read portion work conds).rows ≡ after_fates read k.0 =
+          outcome_rows (map_all fate_of read) k.0 k.1 in
+      let come : map (λ (r : Stamped). r.cells) (new_rows k.0) ≡ added =
+          ap (λ o. map (λ (r : Stamped). r.cells) (coming o)) (sym k.1) ∙ cells in
+      same-trans (same-append (same-filter (λ r. not (touches d portion conds r)) (same-sym b))
+          (same-refl (begun_at m added)))
+      (same-trans (same-sym (made_after read k.0 added k.1 come))
+      (subst (λ xs. SameBag xs (modify d m rows portion work conds).rows) made same.rows))
     where
-      outcome_rows : (o : Option (List Fate)) (fs : List Fate) → o ≡ Some fs → (outcome_of d read o).rows ≡ after_fates read fs
+      outcome_rows : (o : Option (List Fate)) (fs : List Fate) → o ≡ Some fs
+          → (outcome_of d read o).rows ≡ after_fates read fs
       outcome_rows None fs e = absurd (cc)
       outcome_rows (Some gs) fs e = ap (after_fates read) (inside gs fs e)
         where

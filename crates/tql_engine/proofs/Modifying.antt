@@ -1,5 +1,6 @@
 -- UPDATE and DELETE, from what was made of the versions that the table has now.
-use Rattle.std.proofs.Common.{◌≡◌, ◌<◌, refl, ap, sym, subst, ◌∙◌, arith, ℕ, Bool, List, [], ◌∷◌, map, filter, length, Option, Some, None, Ok, Err}
+use Rattle.std.proofs.Common.{◌≡◌, ◌<◌, refl, ap, sym, subst, ◌∙◌, arith, ℕ, Bool, List, [], ◌∷◌, map, filter, length}
+use Rattle.std.proofs.Common.{Option, Some, None, Ok, Err}
 use Rattle.std.specs.Prelude.{ℤ, ◌≤ℤ◌, ◌<ℤ◌, not, IsNone, All, slice_get, Result}
 use Rattle.std.specs.List.{AllByRecursion}
 use Rattle.std.proofs.lemmas.Int.{ints}
@@ -15,7 +16,8 @@ use Rattle.tql_spec.specs.Change.{Outcome, modify}
 use Rattle.tql_spec.specs.ChangeLaws.{SameOutcome, ChangesKeepNoOrder, ChangesByParts}
 use Rattle.tql_spec.specs.Refusal as spec
 use Rattle.tql_spec.specs.Refusal.{first}
-use Rattle.tql_spec.specs.Machine.{State, Done, Refused, Alter, step, unless_refused, entries, newest_copy, verb_of_work}
+use Rattle.tql_spec.specs.Machine.{State, Done, Refused, Alter, step, unless_refused, entries, newest_copy}
+use Rattle.tql_spec.specs.Machine.{verb_of_work}
 use Rattle.tql_bound.specs.Changes.{modification_of}
 use Rattle.tql_bound.specs.Works.{work_of}
 use Rattle.tql_bound.specs.declared.change.Modification.{Modification}
@@ -40,7 +42,8 @@ use Rattle.tql_engine.specs.Fitting.{RowsFit, CopyFits}
 use Rattle.tql_engine.specs.Modifying.{Made, Makes}
 use Rattle.tql_engine.specs.Stands.{Held, StandsFor, copies_of, working_of}
 use Rattle.tql_engine.proofs.Asked.{rows_fit, seen_law}
-use Rattle.tql_engine.proofs.ChangeKeeps.{working_now, working_rows, with_table_rows, AreRowsOf, begun_at, change_law, last_fits, rows_both, rows_left, begun_fit}
+use Rattle.tql_engine.proofs.ChangeKeeps.{working_now, working_rows, with_table_rows, AreRowsOf, begun_at, change_law}
+use Rattle.tql_engine.proofs.ChangeKeeps.{last_fits, rows_both, rows_left, begun_fit}
 use Rattle.tql_engine.proofs.Added.{altered_by}
 use Rattle.tql_engine.proofs.Faults.{refused}
 use Rattle.tql_engine.proofs.Standing.{definition_law}
@@ -51,12 +54,14 @@ use Rattle.tql_engine.proofs.Swapping.{rows_fit_same, swapped}
 -- ---- the rows that a change sees
 
 -- the rows of the newest copy, each as a current version
-newest_now : (defs : List TableDef) (t : ℕ) (es : List Entry) → current (table_history t es) ≡ completed still (rows_in (newest_copy defs es) t)
+newest_now : (defs : List TableDef) (t : ℕ) (es : List Entry)
+    → current (table_history t es) ≡ completed still (rows_in (newest_copy defs es) t)
 newest_now defs t [] = ap (completed still) (sym (none_there defs t))
 newest_now defs t (e ∷ older) = refl
 
 now_by : (defs : List TableDef) (es : List Entry) (next : ℤ) (t : ℕ) (o : Option Entry)
-    → (let s : State = record { definitions = defs; history = es; next = next; transaction = o } in current (table_history t (entries s)) ≡ completed still (working_rows s t))
+    → (let s : State = record { definitions = defs; history = es; next = next; transaction = o } in current
+    (table_history t (entries s)) ≡ completed still (working_rows s t))
 now_by defs es next t None = newest_now defs t es
 now_by defs es next t (Some e) = refl
 
@@ -69,19 +74,24 @@ rows_read [] = refl
 rows_read (v ∷ vs) = ap {B = List Stamped} (λ xs. (version_of v).row ∷ xs) (rows_read vs)
 
 -- the rows that were read are those that the change sees
-pub same_rows : (h : Held) (s : State) (t : ℕ) (p : Table) (found : List code.Version) → StandsFor h s → slice_get h.tables t ≡ Some p → AnswersNow h.rows p.id (map version_of found)
+pub same_rows : (h : Held) (s : State) (t : ℕ) (p : Table) (found : List code.Version) → StandsFor h s
+    → slice_get h.tables t ≡ Some p → AnswersNow h.rows p.id (map version_of found)
     → SameBag (dml.rows_in found) (working_rows s t)
 same_rows h s t p found st e answers =
-    let now : current (table_history t (entries s)) ≡ completed still (working_rows s t) = now_by s.definitions s.history s.next t s.transaction in
+    let now : current (table_history t (entries s)) ≡ completed still (working_rows s t) =
+        now_by s.definitions s.history s.next t s.transaction in
     let same : SameBag (map version_of found) (completed still (working_rows s t)) =
-    subst (SameBag (map version_of found)) (ap current (seen_law h s t p st e) ∙ now) (answers (copies_of h.tables s.history) (working_of h.tables s.transaction) st.stands) in
+    subst (SameBag (map version_of found)) (ap current (seen_law h s t p st e)
+        ∙ now) (answers (copies_of h.tables s.history) (working_of h.tables s.transaction) st.stands) in
     subst (λ xs. SameBag xs (working_rows s t)) (sym (rows_read found))
-    (subst (SameBag (map (λ (v : Version). v.row) (map version_of found))) (rows_of_completed (working_rows s t)) (same-map (λ (v : Version). v.row) same))
+    (subst (SameBag (map (λ (v : Version). v.row) (map version_of found))) (rows_of_completed (working_rows s t))
+    (same-map (λ (v : Version). v.row) same))
 
 -- ---- the working copy fits
 
 copy_fits_by : (h : Held) (defs : List TableDef) (es : List Entry) (next : ℤ) (o : Option Entry)
-    → (let s : State = record { definitions = defs; history = es; next = next; transaction = o } in StandsFor h s → CopyFits (definitions_of h.tables) (working_now s).copy)
+    → (let s : State = record { definitions = defs; history = es; next = next; transaction = o } in StandsFor h s
+    → CopyFits (definitions_of h.tables) (working_now s).copy)
 copy_fits_by h defs es next None f = last_fits (definitions_of h.tables) defs es f.fits.definitions f.fits.rows
 copy_fits_by h defs es next (Some e) f = f.fits.working
 
@@ -91,31 +101,41 @@ copy_fits h s f = copy_fits_by h s.definitions s.history s.next s.transaction f
 -- the moment of a change is one of the calendar, below the highest
 dated_by : (h : Held) (defs : List TableDef) (es : List Entry) (next : ℤ) (o : Option Entry)
     → (let s : State = record { definitions = defs; history = es; next = next; transaction = o } in
-    StandsFor h s → (IsNone h.rows.working → h.next <ℤ high) → (first_moment ≤ℤ (working_now s).moment) × ((working_now s).moment <ℤ high))
-dated_by h defs es next None f below = (f.not_before, subst (λ n. n <ℤ high) f.clock (below (subst IsNone (sym f.opened) refl)))
-dated_by h defs es next (Some e) f below = (subst (λ n. first_moment ≤ℤ n) (sym f.dated.0) f.not_before, subst (λ n. n <ℤ high) (sym f.dated.0) f.dated.1)
+    StandsFor h s → (IsNone h.rows.working → h.next <ℤ high)
+        → (first_moment ≤ℤ (working_now s).moment) × ((working_now s).moment <ℤ high))
+dated_by h defs es next None f below =
+    (f.not_before, subst (λ n. n <ℤ high) f.clock (below (subst IsNone (sym f.opened) refl)))
+dated_by h defs es next (Some e) f below =
+    (subst (λ n. first_moment ≤ℤ n) (sym f.dated.0) f.not_before, subst (λ n. n <ℤ high) (sym f.dated.0) f.dated.1)
 
-pub moment_dated : (h : Held) (s : State) → StandsFor h s → (IsNone h.rows.working → h.next <ℤ high) → (first_moment ≤ℤ (working_now s).moment) × ((working_now s).moment <ℤ high)
+pub moment_dated : (h : Held) (s : State) → StandsFor h s → (IsNone h.rows.working → h.next <ℤ high)
+    → (first_moment ≤ℤ (working_now s).moment) × ((working_now s).moment <ℤ high)
 moment_dated h s f below = dated_by h s.definitions s.history s.next s.transaction f below
 
 -- the versions that were read are rows of the table
-versions_of : (d : TableDef) (found : List code.Version) → RowsFit d (dml.rows_in found) → AllByRecursion (IsVersionOf d) found
+versions_of : (d : TableDef) (found : List code.Version) → RowsFit d (dml.rows_in found)
+    → AllByRecursion (IsVersionOf d) found
 versions_of d [] f = tt
 versions_of d (v ∷ vs) f =
     let low = f.0.not_before in
     let up = f.0.below in
     (record { cells = f.0.cells; start = (low, omega (arith, ints)) }, versions_of d vs f.1)
 
-pub read_fit : (h : Held) (s : State) (t : ℕ) (p : Table) (found : List code.Version) → StandsFor h s → slice_get h.tables t ≡ Some p → AnswersNow h.rows p.id (map version_of found)
+pub read_fit : (h : Held) (s : State) (t : ℕ) (p : Table) (found : List code.Version) → StandsFor h s
+    → slice_get h.tables t ≡ Some p → AnswersNow h.rows p.id (map version_of found)
     → All (IsVersionOf p.definition) found
 read_fit h s t p found st e answers =
     All-from_recursion (IsVersionOf p.definition) found
     (versions_of p.definition found
-    (rows_fit_same p.definition (working_rows s t) (dml.rows_in found) (same-sym (same_rows h s t p found st e answers)) (rows_fit h.tables t p e (working_now s).copy (copy_fits h s st))))
+    (rows_fit_same p.definition (working_rows s t) (dml.rows_in found)
+    (same-sym (same_rows h s t p found st e answers))
+    (rows_fit h.tables t p e (working_now s).copy (copy_fits h s st))))
 
 -- ---- what the machine does
 
-module _ (no_order : ChangesKeepNoOrder) (by_parts : ChangesByParts) (h : Held) (s : State) (p : Table) (x : Modification) (st : StandsFor h s) (there : slice_get h.tables x.table ≡ Some p) (below : IsNone h.rows.working → h.next <ℤ high) where
+module _ (no_order : ChangesKeepNoOrder) (by_parts : ChangesByParts) (h : Held) (s : State) (p : Table)
+    (x : Modification) (st : StandsFor h s) (there : slice_get h.tables x.table ≡ Some p)
+    (below : IsNone h.rows.working → h.next <ℤ high) where
   -- the moment, and the rows that the change sees
   abbrev moment : ℤ
   moment = (working_now s).moment
@@ -129,53 +149,74 @@ module _ (no_order : ChangesKeepNoOrder) (by_parts : ChangesByParts) (h : Held) 
   abbrev outcome : Outcome
   outcome = modify p.definition moment rows (portion_in x) work (conds_in x)
 
-  modify_is : step s (Alter (modification_of x)) ≡ unless_refused (first outcome.faults) s (Done (verb_of_work work) (Some outcome.count)) (with_table_rows s x.table outcome.rows)
+  modify_is : step s (Alter (modification_of x)) ≡ unless_refused (first outcome.faults) s
+      (Done (verb_of_work work) (Some outcome.count)) (with_table_rows s x.table outcome.rows)
   modify_is =
       change_step h s (modification_of x) st below
-      ∙ altered_by s (modification_of x) outcome (defined_all h s st) (ap {B = Outcome} (λ d. modify d moment rows (portion_in x) work (conds_in x)) (definition_law h s x.table p st there))
+      ∙ altered_by s (modification_of x) outcome (defined_all h s st)
+      (ap {B = Outcome} (λ d. modify d moment rows (portion_in x) work (conds_in x))
+      (definition_law h s x.table p st there))
 
   module _ (found : List code.Version) (answers : AnswersNow h.rows p.id (map version_of found)) where
     same : SameOutcome (modified p.definition found x moment) outcome
-    same = no_order p.definition moment (dml.rows_in found) rows (portion_in x) work (conds_in x) (same_rows h s x.table p found st there answers)
+    same = no_order p.definition moment (dml.rows_in found) rows (portion_in x) work (conds_in x)
+        (same_rows h s x.table p found st there answers)
 
     -- refused for the first fault
-    pub modify_refused : (f : spec.Refusal) → ((m : ℤ) → first (modified p.definition found x m).faults ≡ Some f) → Does h (Refused f) (step s (Alter (modification_of x)))
+    pub modify_refused : (f : spec.Refusal) → ((m : ℤ) → first (modified p.definition found x m).faults ≡ Some f)
+        → Does h (Refused f) (step s (Alter (modification_of x)))
     modify_refused f k =
         by_step h (Refused f) (step s (Alter (modification_of x))) (refused f s)
-        (modify_is ∙ ap (λ q. unless_refused q s (Done (verb_of_work work) (Some outcome.count)) (with_table_rows s x.table outcome.rows)) (sym same.fault ∙ k moment)) (refuses h s f st)
+        (modify_is ∙ ap (λ q. unless_refused q s (Done (verb_of_work work) (Some outcome.count))
+        (with_table_rows s x.table outcome.rows)) (sym same.fault ∙ k moment)) (refuses h s f st)
 
     -- the state after it
-    pub rows_modified : (added : List Row) (removed : List ℕ) (r : store.Held) (after : ℤ) → AreRowsOf p.definition added → Judged h.rows p.id (touches p.definition (portion_in x) (conds_in x)) removed
+    pub rows_modified : (added : List Row) (removed : List ℕ) (r : store.Held) (after : ℤ)
+        → AreRowsOf p.definition added → Judged h.rows p.id (touches p.definition (portion_in x) (conds_in x)) removed
         → ChangesRows h.rows.working h.next after p.id removed added h.rows r
-        → ((m : ℤ) → map (λ (y : Stamped). y.cells) (coming (fates p.definition found x m)) ≡ added) → ((m : ℤ) → first (modified p.definition found x m).faults ≡ None)
+        → ((m : ℤ) → map (λ (y : Stamped). y.cells) (coming (fates p.definition found x m)) ≡ added)
+        → ((m : ℤ) → first (modified p.definition found x m).faults ≡ None)
         → StandsFor (record { tables = h.tables; rows = r; next = after }) (with_table_rows s x.table outcome.rows)
     rows_modified added removed r after fit judged c cells sound =
         let gone : Stamped → Bool = touches p.definition (portion_in x) (conds_in x) in
-        let old : RowsFit p.definition rows = rows_fit h.tables x.table p there (working_now s).copy (copy_fits h s st) in
+        let old : RowsFit p.definition rows =
+            rows_fit h.tables x.table p there (working_now s).copy (copy_fits h s st) in
         let bag : SameBag (rows_after moment gone added rows) outcome.rows =
-        rows_made no_order by_parts p.definition moment (portion_in x) work (conds_in x) (dml.rows_in found) rows added (same_rows h s x.table p found st there answers) (sound moment) (cells moment) in
-        let changed : StandsFor (record { tables = h.tables; rows = r; next = after }) (with_table_rows s x.table (rows_after moment gone added rows)) =
+        rows_made no_order by_parts p.definition moment (portion_in x) work (conds_in x) (dml.rows_in found) rows
+            added (same_rows h s x.table p found st there answers) (sound moment) (cells moment) in
+        let changed : StandsFor (record { tables = h.tables; rows = r; next = after })
+            (with_table_rows s x.table (rows_after moment gone added rows)) =
         change_law h s x.table p gone removed added r after st there below fit judged c in
         let news : RowsFit p.definition (rows_after moment gone added rows) =
-        rows_both p.definition (filter (λ y. not (gone y)) rows) (begun_at moment added) (rows_left p.definition (λ y. not (gone y)) rows old) (begun_fit p.definition moment added dated.0 dated.1 fit) in
-        swapped (record { tables = h.tables; rows = r; next = after }) x.table p there (rows_after moment gone added rows) outcome.rows bag
-        (rows_fit_same p.definition (rows_after moment gone added rows) outcome.rows bag news) s (copy_fits h s st) changed
+        rows_both p.definition (filter (λ y. not (gone y)) rows) (begun_at moment added)
+            (rows_left p.definition (λ y. not (gone y)) rows old)
+            (begun_fit p.definition moment added dated.0 dated.1 fit) in
+        swapped (record { tables = h.tables; rows = r; next = after }) x.table p there
+            (rows_after moment gone added rows) outcome.rows bag
+        (rows_fit_same p.definition (rows_after moment gone added rows) outcome.rows bag news) s (copy_fits h s st)
+        changed
       where
         dated : (first_moment ≤ℤ moment) × (moment <ℤ high)
         dated = moment_dated h s st below
 
     -- and the reply
-    pub modify_does : (added : List Row) (removed : List ℕ) (r : store.Held) (after : ℤ) (count : ℕ) → AreRowsOf p.definition added → Judged h.rows p.id (touches p.definition (portion_in x) (conds_in x)) removed
+    pub modify_does : (added : List Row) (removed : List ℕ) (r : store.Held) (after : ℤ) (count : ℕ)
+        → AreRowsOf p.definition added → Judged h.rows p.id (touches p.definition (portion_in x) (conds_in x)) removed
         → ChangesRows h.rows.working h.next after p.id removed added h.rows r
-        → ((m : ℤ) → map (λ (y : Stamped). y.cells) (coming (fates p.definition found x m)) ≡ added) → ((m : ℤ) → first (modified p.definition found x m).faults ≡ None)
+        → ((m : ℤ) → map (λ (y : Stamped). y.cells) (coming (fates p.definition found x m)) ≡ added)
+        → ((m : ℤ) → first (modified p.definition found x m).faults ≡ None)
         → ((m : ℤ) → count ≡ (modified p.definition found x m).count)
-        → Does (record { tables = h.tables; rows = r; next = after }) (Done (verb_of_work work) (Some count)) (step s (Alter (modification_of x)))
+        → Does (record { tables = h.tables; rows = r; next = after }) (Done (verb_of_work work) (Some count))
+        (step s (Alter (modification_of x)))
     modify_does added removed r after count fit judged c cells sound n =
-        by_step (record { tables = h.tables; rows = r; next = after }) (Done (verb_of_work work) (Some count)) (step s (Alter (modification_of x)))
+        by_step (record { tables = h.tables; rows = r; next = after }) (Done (verb_of_work work) (Some count))
+            (step s (Alter (modification_of x)))
         (Done (verb_of_work work) (Some count), with_table_rows s x.table outcome.rows)
         (modify_is
-        ∙ ap (λ q. unless_refused q s (Done (verb_of_work work) (Some outcome.count)) (with_table_rows s x.table outcome.rows)) (sym same.fault ∙ sound moment)
-        ∙ (λ i. (Done (verb_of_work work) (Some (sym (n moment ∙ same.count) i)), with_table_rows s x.table outcome.rows)))
+        ∙ ap (λ q. unless_refused q s (Done (verb_of_work work) (Some outcome.count))
+        (with_table_rows s x.table outcome.rows)) (sym same.fault ∙ sound moment)
+        ∙ (λ i. (Done (verb_of_work work) (Some (sym (n moment ∙ same.count) i)), with_table_rows s x.table
+        outcome.rows)))
         (record { replies = refl; stands = rows_modified added removed r after fit judged c cells sound })
 
   -- whatever it was refused for
@@ -186,16 +227,21 @@ module _ (no_order : ChangesKeepNoOrder) (by_parts : ChangesByParts) (h : Held) 
   modify_errs r.UnfinishedStatement k = modify_refused k.found k.answers (refusal_of r.UnfinishedStatement) k.alters
   modify_errs r.NestedTooDeep k = modify_refused k.found k.answers (refusal_of r.NestedTooDeep) k.alters
   modify_errs r.NotAStatement k = modify_refused k.found k.answers (refusal_of r.NotAStatement) k.alters
-  modify_errs r.TooManyColumnsOrTables k = modify_refused k.found k.answers (refusal_of r.TooManyColumnsOrTables) k.alters
-  modify_errs r.NotInThisTransactionState k = modify_refused k.found k.answers (refusal_of r.NotInThisTransactionState) k.alters
+  modify_errs r.TooManyColumnsOrTables k =
+      modify_refused k.found k.answers (refusal_of r.TooManyColumnsOrTables) k.alters
+  modify_errs r.NotInThisTransactionState k =
+      modify_refused k.found k.answers (refusal_of r.NotInThisTransactionState) k.alters
   modify_errs r.MomentNotAllowed k = modify_refused k.found k.answers (refusal_of r.MomentNotAllowed) k.alters
   modify_errs r.ReadersAreOpen k = modify_refused k.found k.answers (refusal_of r.ReadersAreOpen) k.alters
-  modify_errs r.TableUnknownOrAlreadyThere k = modify_refused k.found k.answers (refusal_of r.TableUnknownOrAlreadyThere) k.alters
-  modify_errs r.NameUnknownAmbiguousOrRepeated k = modify_refused k.found k.answers (refusal_of r.NameUnknownAmbiguousOrRepeated) k.alters
+  modify_errs r.TableUnknownOrAlreadyThere k =
+      modify_refused k.found k.answers (refusal_of r.TableUnknownOrAlreadyThere) k.alters
+  modify_errs r.NameUnknownAmbiguousOrRepeated k =
+      modify_refused k.found k.answers (refusal_of r.NameUnknownAmbiguousOrRepeated) k.alters
   modify_errs r.TypesDoNotFit k = modify_refused k.found k.answers (refusal_of r.TypesDoNotFit) k.alters
   modify_errs r.FormNotAllowedHere k = modify_refused k.found k.answers (refusal_of r.FormNotAllowedHere) k.alters
   modify_errs r.TableIsReferenced k = modify_refused k.found k.answers (refusal_of r.TableIsReferenced) k.alters
-  modify_errs r.TooManyTablesOrReaders k = modify_refused k.found k.answers (refusal_of r.TooManyTablesOrReaders) k.alters
+  modify_errs r.TooManyTablesOrReaders k =
+      modify_refused k.found k.answers (refusal_of r.TooManyTablesOrReaders) k.alters
   modify_errs r.BeforeTheHorizon k = modify_refused k.found k.answers (refusal_of r.BeforeTheHorizon) k.alters
   modify_errs r.ReaderNotUsable k = modify_refused k.found k.answers (refusal_of r.ReaderNotUsable) k.alters
   modify_errs r.ValueOutOfRange k = modify_refused k.found k.answers (refusal_of r.ValueOutOfRange) k.alters
@@ -208,7 +254,8 @@ module _ (no_order : ChangesKeepNoOrder) (by_parts : ChangesByParts) (h : Held) 
 
 -- ---- by its result
 
-pub makes_of : (h : store.Held) (p : Table) (x : Modification) (result : Result Delta Refusal) → Made h p x result → Makes h p x result
+pub makes_of : (h : store.Held) (p : Table) (x : Modification) (result : Result Delta Refusal) → Made h p x result
+    → Makes h p x result
 makes_of h p x (Ok delta) k = k
 makes_of h p x (Err r.OutOfMemory) k = tt
 makes_of h p x (Err _) k = k
@@ -220,11 +267,15 @@ table_there (q ∷ ps) ℕ.zero l = (q, refl)
 table_there (q ∷ ps) (ℕ.suc t) l = table_there ps t (omega (arith, l))
 
 -- the ids of the versions that go
-pub gone_removable : (h : store.Held) (p : Table) (x : Modification) (delta : Delta) → Made h p x (Ok delta) → AreRemovable h p.id delta.removed.items
+pub gone_removable : (h : store.Held) (p : Table) (x : Modification) (delta : Delta) → Made h p x (Ok delta)
+    → AreRemovable h p.id delta.removed.items
 gone_removable h p x delta k =
-    subst (AreRemovable h p.id) (sym k.alters.removed) (removable h p.id (λ (v : code.Version). touches p.definition (portion_in x) (conds_in x) (version_of v).row) k.found k.names k.once)
+    subst (AreRemovable h p.id) (sym k.alters.removed)
+        (removable h p.id (λ (v : code.Version). touches p.definition (portion_in x) (conds_in x) (version_of v).row)
+        k.found k.names k.once)
 
-pub gone_judged : (h : store.Held) (p : Table) (x : Modification) (delta : Delta) → Made h p x (Ok delta) → Judged h p.id (touches p.definition (portion_in x) (conds_in x)) delta.removed.items
+pub gone_judged : (h : store.Held) (p : Table) (x : Modification) (delta : Delta) → Made h p x (Ok delta)
+    → Judged h p.id (touches p.definition (portion_in x) (conds_in x)) delta.removed.items
 gone_judged h p x delta k =
     subst (Judged h p.id (touches p.definition (portion_in x) (conds_in x))) (sym k.alters.removed)
     (judged h p.id (touches p.definition (portion_in x) (conds_in x)) k.found k.names k.once)

@@ -1,7 +1,8 @@
 -- What the statements that run are.
 use Rattle.std.specs.Prelude.{refl, IsTrue}
 use Rattle.tql_spec.specs.Running.{does_run, makes_no_constraint}
-use Rattle.tql_spec.specs.Syntax.{Statement, CreateTree, DropTree, InsertValues, InsertSelect, UpdateTree, DeleteTree, QueryTree, StartTree, CommitTree, RollbackTree, AtTree}
+use Rattle.tql_spec.specs.Syntax.{Statement, CreateTree, DropTree, InsertValues, InsertSelect, UpdateTree, DeleteTree}
+use Rattle.tql_spec.specs.Syntax.{QueryTree, StartTree, CommitTree, RollbackTree, AtTree}
 
 -- they make no keys, references or checks
 pub makes_none : (s : Statement) → IsTrue (does_run s) → IsTrue (makes_no_constraint s)

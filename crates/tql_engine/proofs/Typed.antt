@@ -1,5 +1,7 @@
--- An engine that does a step of the machine is sound, since the step keeps the kinds of values; and what a change reads is of its kinds.
-use Rattle.std.proofs.Common.{◌≡◌, refl, sym, ap, subst, ◌∙◌, ℕ, List, [], ◌∷◌, length, All, map, Option, Some, None, inl, inr}
+-- An engine that does a step of the machine is sound, since the step keeps the kinds of values; and what a change reads is
+-- of its table's kinds.
+use Rattle.std.proofs.Common.{◌≡◌, refl, sym, ap, subst, ◌∙◌, ℕ, List, [], ◌∷◌, length, All, map, Option, Some, None}
+use Rattle.std.proofs.Common.{inl, inr}
 use Rattle.std.specs.Prelude.{ℤ, slice_get}
 use Rattle.std.specs.List.{AllByRecursion}
 use Rattle.std.proofs.lemmas.List.Elements.{All-from_recursion}
@@ -30,7 +32,8 @@ use Rattle.tql_engine.proofs.Swapping.{member_of_same}
 
 -- ---- steps
 
-pub sound_after : (old new : Held) (sound : IsSound old) (b : Bound) (reply : Reply) → IsTypedBound (definitions_of old.tables) b
+pub sound_after : (old new : Held) (sound : IsSound old) (b : Bound) (reply : Reply)
+    → IsTypedBound (definitions_of old.tables) b
     → Does new reply (step sound.state b) → IsSound new
 sound_after old new sound b reply bound does =
     let same = sym sound.stands.fits.definitions in
@@ -56,18 +59,24 @@ each_typed : (d : TableDef) (found : List code.Version) → ((r : Stamped) → I
 each_typed d [] h = tt
 each_typed d (v ∷ vs) h = (h (version_of v).row (inl refl), each_typed d vs (λ r m. h r (inr m)))
 
-pub read_typed : (h : Held) (s : State) (p : Table) (x : Modification) (found : List code.Version) → StandsFor h s → IsTypedState s
-    → IsTypedChange (definitions_of h.tables) (modification_of x) → slice_get h.tables x.table ≡ Some p → AnswersNow h.rows p.id (map version_of found)
+pub read_typed : (h : Held) (s : State) (p : Table) (x : Modification) (found : List code.Version) → StandsFor h s
+    → IsTypedState s
+    → IsTypedChange (definitions_of h.tables) (modification_of x) → slice_get h.tables x.table ≡ Some p
+    → AnswersNow h.rows p.id (map version_of found)
     → AreTyped p.definition found x
 read_typed h s p x found st typed bound there answers portion =
     let here : table_at s.definitions x.table ≡ p.definition = definition_law h s x.table p st there in
     let work : IsTypedWork (table_at (definitions_of h.tables) x.table) (portion_in x) (work_in x) = bound in
-    let same : table_at (definitions_of h.tables) x.table ≡ p.definition = ap (λ (ds : List TableDef). table_at ds x.table) (sym st.fits.definitions) ∙ here in
+    let same : table_at (definitions_of h.tables) x.table ≡ p.definition =
+        ap (λ (ds : List TableDef). table_at ds x.table) (sym st.fits.definitions) ∙ here in
     let rows : (r : Stamped) → In r (dml.rows_in found) → IsTyped p.definition r = λ r m.
     subst (λ (d : TableDef). IsTyped d r) here
-    (working_typed s.definitions s.history s.next s.transaction typed x.table r (member_of_same r (same_rows h s x.table p found st there answers) m)) in
+    (working_typed s.definitions s.history s.next s.transaction typed x.table r
+    (member_of_same r (same_rows h s x.table p found st there answers) m)) in
     record {
       definition = subst IsTypedDefinition here (typed.definitions x.table);
       gives = subst (λ (d : TableDef). IsTypedWork d (portion_in x) (work_in x)) same work;
-      rows = All-from_recursion (λ (v : code.Version). AreOfKinds (kinds_of p.definition) (shown p.definition (version_of v).row)) found (each_typed p.definition found rows);
+      rows = All-from_recursion
+          (λ (v : code.Version). AreOfKinds (kinds_of p.definition) (shown p.definition (version_of v).row)) found
+          (each_typed p.definition found rows);
     }

@@ -21,8 +21,10 @@ pub record Made (h : Held) (p : Table) (x : Modification) (result : Result Delta
   pub names : All (Names h p.id) found
   pub once : NamesOnce h p.id is_current found
   pub answers : AnswersNow h p.id (map version_of found)
-  pub alters : Alters p.id (gone p.definition x found) (λ m. coming (fates p.definition found x m)) (modified p.definition found x) result
-  pub fits : All (IsVersionOf p.definition) found → AreTyped p.definition found x → IfOk result (λ delta. All (IsRowOf p.definition) (rows_of delta.added.items))
+  pub alters : Alters p.id (gone p.definition x found) (λ m. coming (fates p.definition found x m))
+      (modified p.definition found x) result
+  pub fits : All (IsVersionOf p.definition) found → AreTyped p.definition found x
+      → IfOk result (λ delta. All (IsRowOf p.definition) (rows_of delta.added.items))
 
 -- by its result; memory may have run out
 abbrev pub Makes : Held → Table → Modification → Result Delta Refusal → Type 0

@@ -21,5 +21,6 @@ returns c =
     c.args.faults.now c.table_number.new.faults c.portion.new.faults c.plain_filter.new.faults
     c.in_ok-table.table c.definition_or-definition.result.now (option_map points_of c.in_ok-portion.portion) conds
     c.in_ok-table.ensures c.definition_or-definition.ensures c.in_ok-portion.ensures
-    (subst (λ (k : List Known). Gathers (binding.plain_filter k filter) c.portion.new.faults c.plain_filter.new.faults conds)
+    (subst (λ (k : List Known). Gathers (binding.plain_filter k filter) c.portion.new.faults
+    c.plain_filter.new.faults conds)
     c.own_reference.ensures c.in_ok-conjuncts.ensures.bound)

@@ -15,11 +15,13 @@ pub returns-in-Some-clause-binds : goal.returns-in-Some-clause-binds
 returns-in-Some-clause-binds c =
     let all = bind (definitions_of c.args.tables.now) (statement_of c.args.statement.now) in
     told bound_of all c.in-Some.refusal
-    (first_is all c.none-faults.result c.bound.new.faults (bound_of c.in_ok-bound.bound) c.none-faults.ensures c.in_ok-bound.ensures.bound ∙ sym c.least.ensures ∙ ap (option_map refusal_of) c.in-Some.is)
+    (first_is all c.none-faults.result c.bound.new.faults (bound_of c.in_ok-bound.bound) c.none-faults.ensures
+    c.in_ok-bound.ensures.bound ∙ sym c.least.ensures ∙ ap (option_map refusal_of) c.in-Some.is)
 
 pub returns-in-None-clause-binds : goal.returns-in-None-clause-binds
 returns-in-None-clause-binds c =
-    clean bound_of (bind (definitions_of c.args.tables.now) (statement_of c.args.statement.now)) c.none-faults.result c.bound.new.faults c.in_ok-bound.bound
+    clean bound_of (bind (definitions_of c.args.tables.now) (statement_of c.args.statement.now)) c.none-faults.result
+        c.bound.new.faults c.in_ok-bound.bound
     c.none-faults.ensures (sym c.least.ensures ∙ ap (option_map refusal_of) c.in-None.is) c.in_ok-bound.ensures.bound
 
 pub returns-in-None-clause-sound : goal.returns-in-None-clause-sound
@@ -27,5 +29,6 @@ returns-in-None-clause-sound c =
     let defs = definitions_of c.args.tables.now in
     let s = statement_of c.args.statement.now in
     let b : Binds bound_of (bind defs s) (Ok c.in_ok-bound.bound) =
-    clean bound_of (bind defs s) c.none-faults.result c.bound.new.faults c.in_ok-bound.bound c.none-faults.ensures (sym c.least.ensures ∙ ap (option_map refusal_of) c.in-None.is) c.in_ok-bound.ensures.bound in
+    clean bound_of (bind defs s) c.none-faults.result c.bound.new.faults c.in_ok-bound.bound c.none-faults.ensures
+        (sym c.least.ensures ∙ ap (option_map refusal_of) c.in-None.is) c.in_ok-bound.ensures.bound in
     sound_where_clean defs s c.in_ok-bound.bound c.requires.other b.0 b.1 c.in_ok-bound.ensures.within

@@ -23,16 +23,22 @@ pub current-requires : goal.current-requires
 current-requires c =
     let p : Table = c.table_at-table.result.now in
     let stands = subst (λ h. StandsFor h c.self.invariant.state) c.self.view_is c.self.invariant.stands in
-    subst (λ (h : Held). IsTrue (has_table h.rows p.id)) (sym c.self.view_is) (there_law c.args.self.now c.self.invariant.state c.args.modification.now.table p stands c.table_at-table.ensures)
+    subst (λ (h : Held). IsTrue (has_table h.rows p.id)) (sym c.self.view_is)
+        (there_law c.args.self.now c.self.invariant.state c.args.modification.now.table p stands
+        c.table_at-table.ensures)
 
 pub modify-requires : goal.modify-requires
 modify-requires c =
     let p : Table = c.table_at-table.result.now in
     let x : Modification = c.args.modification.now in
-    let there = subst (λ (h : Held). slice_get h.tables x.table ≡ Some p) (sym c.self.view_is) c.table_at-table.ensures in
-    let fit = read_fit _ c.self.invariant.state x.table p c.in_ok-found.found.items c.self.invariant.stands there c.in_ok-found.ensures.copies in
-    subst (λ (vs : List Version). All (λ (v : Version). length v.row.now ≡ stored_width p.definition) vs) (sym c.deref.ensures.value)
-    (All-weaker (IsVersionOf p.definition) (λ (v : Version). length v.row.now ≡ stored_width p.definition) (λ v k. sym (length-map v.row.now datum_of_value) ∙ k.cells.width) c.in_ok-found.found.items fit)
+    let there = subst (λ (h : Held). slice_get h.tables x.table ≡ Some p) (sym c.self.view_is)
+        c.table_at-table.ensures in
+    let fit = read_fit _ c.self.invariant.state x.table p c.in_ok-found.found.items c.self.invariant.stands there
+        c.in_ok-found.ensures.copies in
+    subst (λ (vs : List Version). All (λ (v : Version). length v.row.now ≡ stored_width p.definition) vs)
+        (sym c.deref.ensures.value)
+    (All-weaker (IsVersionOf p.definition) (λ (v : Version). length v.row.now ≡ stored_width p.definition)
+    (λ v k. sym (length-map v.row.now datum_of_value) ∙ k.cells.width) c.in_ok-found.found.items fit)
 
 pub returns : goal.returns
 returns c p e =
@@ -42,10 +48,14 @@ returns c p e =
     let made : Made c.self.inside.rows q x c.modify.result = record {
       found = c.deref.result.now;
       names = subst (λ (vs : List Version). All (Names c.self.inside.rows q.id) vs) back c.in_ok-found.ensures.ids;
-      once = subst (λ (vs : List Version). NamesOnce c.self.inside.rows q.id is_current vs) back c.in_ok-found.ensures.once;
-      answers = subst (λ (vs : List Version). AnswersNow c.self.inside.rows q.id (map version_of vs)) back c.in_ok-found.ensures.copies;
+      once = subst (λ (vs : List Version). NamesOnce c.self.inside.rows q.id is_current vs) back
+          c.in_ok-found.ensures.once;
+      answers = subst (λ (vs : List Version). AnswersNow c.self.inside.rows q.id (map version_of vs)) back
+          c.in_ok-found.ensures.copies;
       alters = c.modify.ensures.alters;
       fits = c.modify.ensures.fits;
     } in
-    subst (λ (t : Table). Makes c.args.self.now.rows t x c.modify.result) (some_is q p (sym c.table_at-table.ensures ∙ e))
-    (subst (λ (h : Held). Makes h.rows q x c.modify.result) c.self.view_is (makes_of c.self.inside.rows q x c.modify.result made))
+    subst (λ (t : Table). Makes c.args.self.now.rows t x c.modify.result) (some_is q p (sym c.table_at-table.ensures
+        ∙ e))
+    (subst (λ (h : Held). Makes h.rows q x c.modify.result) c.self.view_is
+    (makes_of c.self.inside.rows q x c.modify.result made))
