@@ -37,5 +37,5 @@ returns-clause-bound c =
     head_bound (definitions_of c.args.catalog.now) (name_of update.table) p (first ∷ assignments_of update.more)
     c.args.faults.now c.table_number.new.faults c.portion.new.faults c.set_columns.new.faults c.refuse_if.new.self
         c.assignments.new.faults
-    c.in_ok-table.table d (option_map points_of c.in_ok-portion.period) is bounds
+    c.in_ok-table.table d (option_map points_of c.in_ok-portion.portion) is bounds
     c.in_ok-table.ensures c.definition_or-definition.ensures c.in_ok-portion.ensures columns own assigned
