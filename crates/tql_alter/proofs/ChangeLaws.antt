@@ -30,23 +30,23 @@ pub head_bound : (defs : List TableDef) (n : Name) (p : Option PortionTree) (set
     → Gathers (update_head defs n p sets) old new (record { table = t; portion = r; sets = as' })
 head_bound defs n p sets old a b c e new t d r is as' table there period columns own assigned =
     let last : ℕ → Option Period → List change.Assignment
-        → Checked Assigned = λ t r as'. sound (record { table = t; portion = r; sets = as' }) in
+    → Checked Assigned = λ t r as'. sound (record { table = t; portion = r; sets = as' }) in
     let at_sets : TableDef → ℕ → Option Period
-        → Checked Assigned = λ d t r. check_each (assignment d) sets >>= last t r in
+    → Checked Assigned = λ d t r. check_each (assignment d) sets >>= last t r in
     let at_own : TableDef → ℕ → Option Period → List ℕ
-        → Checked Assigned = λ d t r is. refuse_if (sets_period d p is) FormNotAllowedHere >>= λ u. at_sets d t r in
+    → Checked Assigned = λ d t r is. refuse_if (sets_period d p is) FormNotAllowedHere >>= λ u. at_sets d t r in
     let at_columns : TableDef → ℕ → Option Period
-        → Checked Assigned = λ d t r. assigned_columns d (set_names sets) >>= at_own d t r in
+    → Checked Assigned = λ d t r. assigned_columns d (set_names sets) >>= at_own d t r in
     let at_period : TableDef → ℕ → Checked Assigned = λ d t. portion d p >>= at_columns d t in
     let x : Assigned = record { table = t; portion = r; sets = as' } in
     let sets_bound : Gathers (at_sets d t r) e new x =
-        bound (check_each (assignment d) sets) (last t r) e new new as' x assigned (sound_here x new) in
+    bound (check_each (assignment d) sets) (last t r) e new new as' x assigned (sound_here x new) in
     let own_bound : Gathers (at_own d t r is) c new x =
-        bound (refuse_if (sets_period d p is) FormNotAllowedHere) (λ u. at_sets d t r) c e new tt x own sets_bound in
+    bound (refuse_if (sets_period d p is) FormNotAllowedHere) (λ u. at_sets d t r) c e new tt x own sets_bound in
     let columns_bound : Gathers (at_columns d t r) b new x =
-        bound (assigned_columns d (set_names sets)) (at_own d t r) b c new is x columns own_bound in
+    bound (assigned_columns d (set_names sets)) (at_own d t r) b c new is x columns own_bound in
     let period_bound : Gathers (at_period d t) a new x =
-        bound (portion d p) (at_columns d t) a b new r x period columns_bound in
+    bound (portion d p) (at_columns d t) a b new r x period columns_bound in
     bound (table_number defs n) (λ t. at_period (table_at defs t) t) old a new t x table
     (subst (λ (e : TableDef). Gathers (at_period e t) a new x) there period_bound)
 
@@ -64,7 +64,7 @@ faults_are defs n p sets c =
     let period : List Refusal = (portion d p).faults in
     let columns : List Refusal = (assigned_columns d (set_names sets)).faults in
     let own : List Refusal =
-        (refuse_if (sets_period d p (assigned_columns d (set_names sets)).value) FormNotAllowedHere).faults in
+    (refuse_if (sets_period d p (assigned_columns d (set_names sets)).value) FormNotAllowedHere).faults in
     let assigned : List Refusal = (check_each (assignment d) sets).faults in
     let last : List Refusal = (filtered defs (table_number defs n).value c).faults ++ [] in
     append_assoc table (period ++ (columns ++ (own ++ (assigned ++ [])))) last
@@ -82,7 +82,7 @@ pub update_bound : (defs : List TableDef) (n : Name) (p : Option PortionTree) (s
     → Gathers (update defs n p sets c) old new (Alter (Modify head.table head.portion (change.Set head.sets) conds))
 update_bound defs n p sets c old mid new head conds g h =
     let last : Assigned → List Cond
-        → Checked Bound = λ head conds. sound (Alter (Modify head.table head.portion (change.Set head.sets) conds)) in
+    → Checked Bound = λ head conds. sound (Alter (Modify head.table head.portion (change.Set head.sets) conds)) in
     let x : Bound = Alter (Modify head.table head.portion (change.Set head.sets) conds) in
     let all : Gathers (update_head defs n p sets >>= λ head. filtered defs head.table c >>= last head) old new x =
     bound (update_head defs n p sets) (λ head. filtered defs head.table c >>= last head) old mid new head x g
@@ -98,12 +98,12 @@ pub delete_bound : (defs : List TableDef) (n : Name) (p : Option PortionTree) (c
     → Gathers (delete defs n p c) old new (Alter (Modify t r change.Remove conds))
 delete_bound defs n p c old a b new t d r conds table there period filter =
     let last : ℕ → Option Period → List Cond
-        → Checked Bound = λ t r conds. sound (Alter (Modify t r change.Remove conds)) in
+    → Checked Bound = λ t r conds. sound (Alter (Modify t r change.Remove conds)) in
     let at_filter : TableDef → ℕ → Option Period → Checked Bound = λ d t r. plain_filter (own_scope d) c >>= last t r in
     let at_period : TableDef → ℕ → Checked Bound = λ d t. portion d p >>= at_filter d t in
     let x : Bound = Alter (Modify t r change.Remove conds) in
     let period_bound : Gathers (at_period d t) a new x =
     bound (portion d p) (at_filter d t) a b new r x period
-        (bound (plain_filter (own_scope d) c) (last t r) b new new conds x filter (sound_here x new)) in
+    (bound (plain_filter (own_scope d) c) (last t r) b new new conds x filter (sound_here x new)) in
     bound (table_number defs n) (λ t. at_period (table_at defs t) t) old a new t x table
     (subst (λ (e : TableDef). Gathers (at_period e t) a new x) there period_bound)

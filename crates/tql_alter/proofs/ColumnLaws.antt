@@ -9,7 +9,8 @@ use Rattle.tql_tree.specs.declared.expression.Name.{Name}
 use Rattle.tql_scope.specs.Gathered.{Gathers}
 use Rattle.tql_scope.proofs.Gathering.{after_nil}
 
-pub all_filled : (d : spec.TableDef) (names : List Name) (numbers : List ℕ) (old : Option Refusal) → (length names == 0) ≡ true → numbers ≡ all_assignable d
+pub all_filled : (d : spec.TableDef) (names : List Name) (numbers : List ℕ) (old : Option Refusal)
+    → (length names == 0) ≡ true → numbers ≡ all_assignable d
     → Gathers (insert_columns d (map name_of names)) old old numbers
 all_filled d [] numbers old none all = record { value = all; least = sym (after_nil old) }
 all_filled d (n ∷ ns) numbers old none all = absurd (omega (arith, eqb-true (length (n ∷ ns)) 0 none))

@@ -27,9 +27,9 @@ next_of t i [] = refl
 next_of t i (x ∷ xs) =
     elim (t x) as (λ b. (if b then Some (i + 1) else position_from t (i + 1 + 1) xs) ≡ next_place
     (if b then Some i else position_from t (i + 1) xs)) [
-  | true ↦ ap Some (omega arith)
-  | false ↦ next_of t (i + 1) xs
-]
+      | true ↦ ap Some (omega arith)
+      | false ↦ next_of t (i + 1) xs
+    ]
 
 place_from : (n : Name) (columns : List Column) → position_from (is_called n) 0 columns ≡ number_in n (names_in columns)
 place_from n [] = refl

@@ -23,12 +23,12 @@ pub portion_bound : (d : TableDef) (p : PortionTree) (k : Option Kind) (b : Bool
 portion_bound d p k b from to old mid last new x period is other f t points =
     let at_points : Checked (Option Period) = rising (read_point p.from) (read_point p.to) in
     let points_bound : Gathers at_points last new x =
-        subst (λ (o : Option ℤ). Gathers (rising (read_point p.from) o) last new x) t
-        (subst (λ (o : Option ℤ). Gathers (rising o to) last new x) f points) in
+    subst (λ (o : Option ℤ). Gathers (rising (read_point p.from) o) last new x) t
+    (subst (λ (o : Option ℤ). Gathers (rising o to) last new x) f points) in
     let refused : Gathers (refuse_if (differs k p) TypesDoNotFit) mid last tt =
-        subst (λ (c : Bool). Gathers (refuse_if c TypesDoNotFit) mid last tt) is other in
+    subst (λ (c : Bool). Gathers (refuse_if c TypesDoNotFit) mid last tt) is other in
     bound (portion_period d p.period) (λ k. refuse_if (differs k p) TypesDoNotFit >>= λ u. at_points) old mid new k x
-        period
+    period
     (bound (refuse_if (differs k p) TypesDoNotFit) (λ u. at_points) mid last new tt x refused points_bound)
 
 -- where there is a portion, SET is asked for the period's columns

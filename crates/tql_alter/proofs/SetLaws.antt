@@ -10,6 +10,9 @@ use Rattle.tql_alter.proofs.Growing.{IsKept}
 -- what stays
 pub assignment_is_kept : IsKept assignment_of HasAssigned
 assignment_is_kept = record {
-  same = λ s a h. ap (λ (e : Expr). let x : change.Assignment = record { column = a.column; value = e } in x) (expr_kept s a.value h);
+  same = λ s a h. ap (λ (e : Expr). let x : change.Assignment = record {
+    column = a.column;
+    value = e;
+  } in x) (expr_kept s a.value h);
   there = λ s a h. expr_there s a.value h;
 }

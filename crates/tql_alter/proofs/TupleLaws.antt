@@ -1,5 +1,6 @@
 -- Cells and tuples among growing terms.
-use Rattle.std.specs.Prelude.{◌≡◌, refl, ℕ, ◌<◌, ◌==◌, not, Bool, true, List, [], ◌∷◌, map, length, All, Option, option_map, Vec, Result, Ok, Err, IfOk}
+use Rattle.std.specs.Prelude.{◌≡◌, refl, ℕ, ◌<◌, ◌==◌, not, Bool, true, List, [], ◌∷◌, map, length, All, Option}
+use Rattle.std.specs.Prelude.{option_map, Vec, Result, Ok, Err, IfOk}
 use Rattle.std.specs.declared.alloc.AllocError.{AllocError}
 use Rattle.std.proofs.Common.{sym, ap, ◌∙◌, subst, drop, arith, length-drop}
 use Rattle.std.proofs.Math.Dec.{eqb-suc-zero}
@@ -51,51 +52,66 @@ pub none_for : (kinds : List Kind) (cells : List (Option Kind)) (i : ℕ) → le
     → true ≡ cells_misfit (map plain_kind kinds) (map (option_map plain_kind) (drop i cells))
 none_for kinds cells i none some = misfit kinds (drop i cells) none (simp length-drop (omega arith))
   where
-    misfit : (ks : List Kind) (left : List (Option Kind)) → length ks < 1 → 0 < length left → true ≡ cells_misfit (map plain_kind ks) (map (option_map plain_kind) left)
+    misfit : (ks : List Kind) (left : List (Option Kind)) → length ks < 1 → 0 < length left
+        → true ≡ cells_misfit (map plain_kind ks) (map (option_map plain_kind) left)
     misfit [] [] h k = absurd (omega arith)
     misfit [] (c ∷ cs) h k = refl
     misfit (x ∷ ks) left h k = absurd (omega arith)
 
 -- ---- a tuple
 
-kinds_of_cells : (t : Terms) (cells : List Typed) → map (λ (c : names.Typed). c.kind) (map (typed_of t) cells) ≡ map kind_of cells
+kinds_of_cells : (t : Terms) (cells : List Typed)
+    → map (λ (c : names.Typed). c.kind) (map (typed_of t) cells) ≡ map kind_of cells
 kinds_of_cells t [] = refl
 kinds_of_cells t (c ∷ cs) = ap (λ (ks : List (Option datum.Kind)). kind_of c ∷ ks) (kinds_of_cells t cs)
 
-exprs_of_cells : (t : Terms) (cells : List Typed) → map (λ (c : names.Typed). c.expr) (map (typed_of t) cells) ≡ map (expr t) (map (λ (c : Typed). c.expr) cells)
+exprs_of_cells : (t : Terms) (cells : List Typed)
+    → map (λ (c : names.Typed). c.expr) (map (typed_of t) cells) ≡ map (expr t) (map (λ (c : Typed). c.expr) cells)
 exprs_of_cells t [] = refl
 exprs_of_cells t (c ∷ cs) = ap (λ (es : List Expr). expr t c.expr ∷ es) (exprs_of_cells t cs)
 
-pub tuple_bound : (kinds : List datum.Kind) (w : tree.Tuple) (t : Terms) (old mid now : Option Refusal) (cells : List Typed) (values : List ExprId) (b : Bool)
+pub tuple_bound : (kinds : List datum.Kind) (w : tree.Tuple) (t : Terms) (old mid now : Option Refusal)
+    (cells : List Typed) (values : List ExprId) (b : Bool)
     → Gathers (check_each (cell []) (w.first ∷ w.more)) old mid (map (typed_of t) cells)
-    → b ≡ cells_misfit kinds (map kind_of cells) → Gathers (refuse_if b TypesDoNotFit) mid now tt → values ≡ map (λ (c : Typed). c.expr) cells
+    → b ≡ cells_misfit kinds (map kind_of cells) → Gathers (refuse_if b TypesDoNotFit) mid now tt
+    → values ≡ map (λ (c : Typed). c.expr) cells
     → Gathers (tuple kinds w) old now (map (expr t) values)
 tuple_bound kinds w t old mid now cells values b g asked h is =
     let bounds = map (typed_of t) cells in
     let misfit = cells_misfit kinds (map (λ (c : names.Typed). c.kind) bounds) in
     let same = asked ∙ ap (cells_misfit kinds) (sym (kinds_of_cells t cells)) in
     let made = exprs_of_cells t cells ∙ ap (map (expr t)) (sym is) in
-    bound (check_each (cell []) (w.first ∷ w.more)) (λ (cs : List names.Typed). unless (cells_misfit kinds (map (λ (c : names.Typed). c.kind) cs)) TypesDoNotFit (map (λ (c : names.Typed). c.expr) cs))
+    bound (check_each (cell []) (w.first ∷ w.more))
+    (λ (cs : List names.Typed). unless (cells_misfit kinds (map (λ (c : names.Typed). c.kind) cs)) TypesDoNotFit
+    (map (λ (c : names.Typed). c.expr) cs))
     old mid now bounds (map (expr t) values) g
-    (subst (λ (es : List Expr). Gathers (unless misfit TypesDoNotFit es) mid now (map (expr t) values)) (sym made) (unless_asked b misfit TypesDoNotFit (map (expr t) values) mid now same h))
+    (subst (λ (es : List Expr). Gathers (unless misfit TypesDoNotFit es) mid now (map (expr t) values)) (sym made)
+    (unless_asked b misfit TypesDoNotFit (map (expr t) values) mid now same h))
 
-pub values_there : (t : Terms) (cells : List Typed) (values : List ExprId) → values ≡ map (λ (c : Typed). c.expr) cells → All (HasValue t) cells → All (HasExpr t) values
-values_there t cells values is h = subst (All (HasExpr t)) (sym is) (All-map (HasExpr t) (λ (c : Typed). c.expr) cells h)
+pub values_there : (t : Terms) (cells : List Typed) (values : List ExprId)
+    → values ≡ map (λ (c : Typed). c.expr) cells → All (HasValue t) cells → All (HasExpr t) values
+values_there t cells values is h =
+    subst (All (HasExpr t)) (sym is) (All-map (HasExpr t) (λ (c : Typed). c.expr) cells h)
 
 -- ---- the end of its binding
 
-pub tuple_ok : {A : Type 0} (kinds : List datum.Kind) (w : tree.Tuple) (t : Terms) (old mid now : Option Refusal) (cells asked taken : List Typed) (found seen : List (Option Kind)) (b : Bool) (r : Result (Vec ExprId A) AllocError)
+pub tuple_ok : {A : Type 0} (kinds : List datum.Kind) (w : tree.Tuple) (t : Terms) (old mid now : Option Refusal)
+    (cells asked taken : List Typed) (found seen : List (Option Kind)) (b : Bool) (r : Result (Vec ExprId A) AllocError)
     → Gathers (check_each (cell []) (w.first ∷ w.more)) old mid (map (typed_of t) cells)
-    → asked ≡ cells → map (option_map plain_kind) found ≡ map kind_of asked → seen ≡ found → b ≡ cells_misfit kinds (map (option_map plain_kind) seen) → Gathers (refuse_if b TypesDoNotFit) mid now tt
+    → asked ≡ cells → map (option_map plain_kind) found ≡ map kind_of asked → seen ≡ found
+    → b ≡ cells_misfit kinds (map (option_map plain_kind) seen) → Gathers (refuse_if b TypesDoNotFit) mid now tt
     → taken ≡ cells → IfOk r (λ v. v.items ≡ map (λ (c : Typed). c.expr) taken)
     → IfOk r (λ v. Gathers (tuple kinds w) old now (tuple_of t v))
 tuple_ok kinds w t old mid now cells asked taken found seen b (Ok v) g same kinds_are took_kinds is h took values =
     tuple_bound kinds w t old mid now cells v.items b g
-    (is ∙ ap (λ (ks : List (Option Kind)). cells_misfit kinds (map (option_map plain_kind) ks)) took_kinds ∙ ap (cells_misfit kinds) (kinds_are ∙ ap (map kind_of) same))
+    (is ∙ ap (λ (ks : List (Option Kind)). cells_misfit kinds (map (option_map plain_kind) ks)) took_kinds
+    ∙ ap (cells_misfit kinds) (kinds_are ∙ ap (map kind_of) same))
     h (values ∙ ap (map (λ (c : Typed). c.expr)) took)
 tuple_ok kinds w t old mid now cells asked taken found seen b (Err e) g same kinds_are took_kinds is h took values = tt
 
-pub values_ok : {A : Type 0} (t : Terms) (cells taken : List Typed) (r : Result (Vec ExprId A) AllocError) → taken ≡ cells → IfOk r (λ v. v.items ≡ map (λ (c : Typed). c.expr) taken) → All (HasValue t) cells
+pub values_ok : {A : Type 0} (t : Terms) (cells taken : List Typed) (r : Result (Vec ExprId A) AllocError)
+    → taken ≡ cells → IfOk r (λ v. v.items ≡ map (λ (c : Typed). c.expr) taken) → All (HasValue t) cells
     → IfOk r (HasValues t)
-values_ok t cells taken (Ok v) took values h = values_there t cells v.items (values ∙ ap (map (λ (c : Typed). c.expr)) took) h
+values_ok t cells taken (Ok v) took values h = values_there t cells v.items (values
+    ∙ ap (map (λ (c : Typed). c.expr)) took) h
 values_ok t cells taken (Err e) took values h = tt

@@ -30,5 +30,8 @@ update_head defs n p sets = do
 
 -- what it stands for among these terms
 abbrev pub head_of : Terms → Head → Assigned
-head_of t h = record { table = h.table; portion = option_map points_of h.portion; sets =
-    map (assignment_of t) h.sets.items }
+head_of t h = record {
+  table = h.table;
+  portion = option_map points_of h.portion;
+  sets = map (assignment_of t) h.sets.items;
+}

@@ -8,7 +8,8 @@ use Rattle.tql_bound.specs.Questions.{question_of}
 use Rattle.tql_value.specs.Points.{IsMoment}
 use Rattle.tql_bind.specs.Placed.{IsPlacedQuery}
 use Rattle.tql_bind.specs.declared.bound.Bound.{Bound}
-use Rattle.tql_bind.specs.declared.bound.Bound.TheVariants.{CreateTable, DropTable, Insert as Inserts, InsertFrom, Modify, Ask, SetClock, Start, Commit, Rollback}
+use Rattle.tql_bind.specs.declared.bound.Bound.TheVariants.{CreateTable, DropTable, Insert as Inserts, InsertFrom}
+use Rattle.tql_bind.specs.declared.bound.Bound.TheVariants.{Modify, Ask, SetClock, Start, Commit, Rollback}
 
 -- ---- what they stand for
 

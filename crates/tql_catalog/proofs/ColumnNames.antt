@@ -1,5 +1,6 @@
 -- Columns by name and by number.
-use Rattle.std.proofs.Common.{◌≡◌, refl, ap, sym, ◌∙◌, ℕ, zero, suc, Bool, true, false, List, [], ◌∷◌, map, ◌<◌, length, arith, Bor, Option, Some}
+use Rattle.std.proofs.Common.{◌≡◌, refl, ap, sym, ◌∙◌, ℕ, zero, suc, Bool, true, false, List, [], ◌∷◌, map, ◌<◌}
+use Rattle.std.proofs.Common.{length, arith, Bor, Option, Some}
 use Rattle.std.specs.Prelude.{slice_index_or, string_bytes, option_map, ◌||◌, ◌&&◌, nat_lt}
 use Rattle.std.specs.List.{list_any}
 use Rattle.std.proofs.lemmas.Bool.Decides.{nat_tests}
@@ -30,12 +31,14 @@ any_called n [] = refl
 any_called n (c ∷ cs) = ap (λ (b : Bool). same_text n (string_bytes c.name) || b) (any_called n cs)
 
 -- the kind of a column that is there
-kind_at : (columns : List Column) (i : ℕ) (c : Column) → i < length columns → plain_kind (slice_index_or columns i c).kind ≡ slice_index_or (kinds_in columns) i Ints
+kind_at : (columns : List Column) (i : ℕ) (c : Column) → i < length columns
+    → plain_kind (slice_index_or columns i c).kind ≡ slice_index_or (kinds_in columns) i Ints
 kind_at [] i c h = absurd (omega (arith, h))
 kind_at (x ∷ xs) zero c h = refl
 kind_at (x ∷ xs) (suc i) c h = kind_at xs i c (omega (arith, h))
 
-pub kind_there : (columns : List Column) (i : ℕ) (c : Column) → i < length columns → c ≡ slice_index_or columns i c → plain_kind c.kind ≡ slice_index_or (kinds_in columns) i Ints
+pub kind_there : (columns : List Column) (i : ℕ) (c : Column) → i < length columns → c ≡ slice_index_or columns i c
+    → plain_kind c.kind ≡ slice_index_or (kinds_in columns) i Ints
 kind_there columns i c h e = ap (λ (k : Column). plain_kind k.kind) e ∙ kind_at columns i c h
 
 -- there are as many kinds as columns
@@ -49,23 +52,28 @@ there i width count h e = grind (arith, nat_tests)
 pub moment_there : (columns : List Column) (i : ℕ) (c : Column) → i < length columns → c ≡ slice_index_or columns i c
     → same_kind (plain_kind c.kind) Moments ≡ is_moment_at (kinds_in columns) i
 moment_there columns i c h e =
-    let within : nat_lt i (length (kinds_in columns)) ≡ true = there i (length (kinds_in columns)) (length columns) h (kind_count columns) in
+    let within : nat_lt i (length (kinds_in columns)) ≡ true =
+    there i (length (kinds_in columns)) (length columns) h (kind_count columns) in
     ap (λ (k : Kind). same_kind k Moments) (kind_there columns i c h e)
     ∙ sym (ap (λ (b : Bool). b && same_kind (slice_index_or (kinds_in columns) i Ints) Moments) within)
 
 -- whether the column that is there takes no null
-required_at : (columns : List Column) (i : ℕ) (c : Column) → i < length columns → (slice_index_or columns i c).is_required ≡ slice_index_or (required_in columns) i false
+required_at : (columns : List Column) (i : ℕ) (c : Column) → i < length columns
+    → (slice_index_or columns i c).is_required ≡ slice_index_or (required_in columns) i false
 required_at [] i c h = absurd (omega (arith, h))
 required_at (x ∷ xs) zero c h = refl
 required_at (x ∷ xs) (suc i) c h = required_at xs i c (omega (arith, h))
 
 -- there are as many of these as columns
 pub required_count : (columns : List Column) → length (required_in columns) ≡ length columns
-required_count columns = length-map (map column_of columns) (λ (c : spec.Column). c.required) ∙ length-map columns column_of
+required_count columns = length-map (map column_of columns) (λ (c : spec.Column). c.required)
+    ∙ length-map columns column_of
 
-pub required_there : (columns : List Column) (i : ℕ) (c : Column) → i < length columns → c ≡ slice_index_or columns i c → c.is_required ≡ is_required_at (required_in columns) i
+pub required_there : (columns : List Column) (i : ℕ) (c : Column) → i < length columns
+    → c ≡ slice_index_or columns i c → c.is_required ≡ is_required_at (required_in columns) i
 required_there columns i c h e =
-    let within : nat_lt i (length (required_in columns)) ≡ true = there i (length (required_in columns)) (length columns) h (required_count columns) in
+    let within : nat_lt i (length (required_in columns)) ≡ true =
+    there i (length (required_in columns)) (length columns) h (required_count columns) in
     ap (λ (k : Column). k.is_required) e ∙ required_at columns i c h
     ∙ sym (ap (λ (b : Bool). b && slice_index_or (required_in columns) i false) within)
 
@@ -77,8 +85,10 @@ ends_there columns i j c d h k = λ m. are_ends (kind_at columns i c h m) (kind_
 
 -- whether the application period has this name, where it is its name
 pub period_called : (n : Name) (o : Option (Bor Application)) (a : Bor Application) → o ≡ Some a
-    → same_text n (string_bytes a.now.name) ≡ has_name n (application_name (option_map (λ (b : Bor Application). application_of b.now) o))
+    → same_text n (string_bytes a.now.name) ≡ has_name n
+    (application_name (option_map (λ (b : Bor Application). application_of b.now) o))
 period_called n o a e = sym (
-    ap (λ (p : Option (Bor Application)). has_name n (application_name (option_map (λ (b : Bor Application). application_of b.now) p))) e
+    ap (λ (p : Option (Bor Application)). has_name n
+    (application_name (option_map (λ (b : Bor Application). application_of b.now) p))) e
     ∙ or_false (same_text n (string_bytes a.now.name))
     )

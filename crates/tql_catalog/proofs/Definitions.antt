@@ -1,11 +1,13 @@
 -- What is true of a definition.
-use Rattle.std.specs.Prelude.{refl, Bool, true, false, not, ◌&&◌, ◌++◌, ◌==◌, nat_lt, IsTrue, List, map, length, Option, Some, None, slice_index_or}
+use Rattle.std.specs.Prelude.{refl, Bool, true, false, not, ◌&&◌, ◌++◌, ◌==◌, nat_lt, IsTrue, List, map, length}
+use Rattle.std.specs.Prelude.{Option, Some, None, slice_index_or}
 use Rattle.std.proofs.Common.{subst}
 use Rattle.std.proofs.lemmas.List.{length-map}
 use Rattle.tql_spec.specs.Datum.{Kind, Ints, Moments, same_kind}
 use Rattle.tql_spec.specs.Definition.{Name, Column, System, Application, TableDef}
 use Rattle.tql_spec.specs.Creation.{kinds_of, repeats, application_name}
-use Rattle.tql_catalog.specs.Defined.{IsDefinition, table_of_parts, is_definable, is_system_period, is_application_period}
+use Rattle.tql_catalog.specs.Defined.{IsDefinition, table_of_parts, is_definable, is_system_period}
+use Rattle.tql_catalog.specs.Defined.{is_application_period}
 use Rattle.tql_catalog.specs.Rows.{has_system}
 
 and_left : (a b : Bool) → IsTrue (a && b) → IsTrue a
@@ -17,7 +19,8 @@ and_right true b h = h
 and_right false b h = absurd (cc)
 
 -- columns and periods that can be those of a table are
-pub right : (n : Name) (cs : List Column) (s : Option System) (a : Option Application) → IsTrue (is_definable cs s a) → IsDefinition (table_of_parts n cs s a)
+pub right : (n : Name) (cs : List Column) (s : Option System) (a : Option Application) → IsTrue (is_definable cs s a)
+    → IsDefinition (table_of_parts n cs s a)
 right n cs s a h =
     let names : Bool = not (repeats (map (λ (c : Column). c.name) cs ++ application_name a)) in
     let system : Bool = is_system_period (map (λ (c : Column). c.kind) cs) s in
@@ -31,7 +34,8 @@ right n cs s a h =
       checks = refl;
     }
 
-within : (kinds : List Kind) (s : Option System) → IsTrue (is_system_period kinds s) → IsTrue (has_system s (length kinds))
+within : (kinds : List Kind) (s : Option System) → IsTrue (is_system_period kinds s)
+    → IsTrue (has_system s (length kinds))
 within kinds None h = refl
 within kinds (Some s) h =
     three (nat_lt s.start (length kinds)) (same_kind (slice_index_or kinds s.start Ints) Moments)
@@ -46,4 +50,5 @@ within kinds (Some s) h =
 
 -- the generated columns of a table are two of its columns
 pub has_its_system : (d : TableDef) → IsDefinition d → IsTrue (has_system d.system (length d.columns))
-has_its_system d r = subst (λ n. IsTrue (has_system d.system n)) (length-map d.columns (λ (c : Column). c.kind)) (within (kinds_of d) d.system r.system)
+has_its_system d r = subst (λ n. IsTrue (has_system d.system n)) (length-map d.columns (λ (c : Column). c.kind))
+    (within (kinds_of d) d.system r.system)

@@ -1,5 +1,6 @@
 -- Numbers that are added one by one.
-use Rattle.std.specs.Prelude.{◌≡◌, ℕ, zero, suc, ◌+◌, Bool, not, List, [], ◌∷◌, ◌++◌, map, filter, length, Option, option_map}
+use Rattle.std.specs.Prelude.{◌≡◌, ℕ, zero, suc, ◌+◌, Bool, not, List, [], ◌∷◌, ◌++◌, map, filter, length, Option}
+use Rattle.std.specs.Prelude.{option_map}
 use Rattle.std.specs.List.{range_with_len}
 use Rattle.std.proofs.Common.{sym, ap, ◌∙◌, arith, add-one}
 use Rattle.std.proofs.lemmas.List.{length-map}
@@ -17,12 +18,17 @@ range_more a zero k e = ap {B = List ℕ} (λ i. i ∷ []) (omega arith)
 range_more a (suc n) k e = ap {B = List ℕ} (λ is. a ∷ is) (range_more (a + 1) n k (omega arith))
 
 -- one more number that is tested
-pub one_more_number : (t : ℕ → Bool) (n : ℕ) → filter t (range_with_len 0 n) ++ filter t (n ∷ []) ≡ filter t (range_with_len 0 (n + 1))
-one_more_number t n = sym (ap (λ k. filter t (range_with_len 0 k)) (add-one n) ∙ ap (filter t) (range_more 0 n n (omega arith)) ∙ filter-append t (range_with_len 0 n) (n ∷ []))
+pub one_more_number : (t : ℕ → Bool) (n : ℕ)
+    → filter t (range_with_len 0 n) ++ filter t (n ∷ []) ≡ filter t (range_with_len 0 (n + 1))
+one_more_number t n = sym (ap (λ k. filter t (range_with_len 0 k)) (add-one n)
+    ∙ ap (filter t) (range_more 0 n n (omega arith)) ∙ filter-append t (range_with_len 0 n) (n ∷ []))
 
 -- the numbers that are not generated are those of the table
-pub assigned : (n : Name) (columns : List Column) (system : Option System) (application : Option Application) (numbers : List ℕ) (width : ℕ) → width ≡ length columns
-    → numbers ≡ filter (λ i. not (has_number i (generated_columns (option_map system_of system)))) (range_with_len 0 width)
+pub assigned : (n : Name) (columns : List Column) (system : Option System) (application : Option Application)
+    (numbers : List ℕ) (width : ℕ) → width ≡ length columns
+    → numbers ≡ filter (λ i. not (has_number i (generated_columns (option_map system_of system))))
+    (range_with_len 0 width)
     → numbers ≡ all_assignable (table_of_parts n (map column_of columns) (option_map system_of system) application)
 assigned n columns system application numbers width w e =
-    e ∙ ap (λ k. filter (λ i. not (has_number i (generated_columns (option_map system_of system)))) (range_with_len 0 k)) (w ∙ sym (length-map columns column_of))
+    e ∙ ap (λ k. filter (λ i. not (has_number i (generated_columns (option_map system_of system))))
+    (range_with_len 0 k)) (w ∙ sym (length-map columns column_of))

@@ -1,12 +1,16 @@
--- How the logic stores expressions, conditions and the definitions of tables: each as a tree of numbers that gives it back.
+-- How the logic stores expressions, conditions and the definitions of tables: each as a tree of numbers that gives it
+-- back.
 use Rattle.std.specs.Prelude.{◌≡◌, refl, ℕ, zero, suc, Bool, List, [], ◌∷◌, ℤ, pos, negsuc, Option}
 use Rattle.std.specs.Coded.{Coded, code_by, coded×, coded_ℕ, coded_bool, coded_list, coded_option}
 use Rattle.std.proofs.Common.{ap}
 use base.Stored.{Gv, gnil, gnum, gcons, num}
-use Rattle.tql_spec.specs.Datum.{Datum, Null, Int, Text, Day, Moment, Kind, Ints, Texts, Days, Moments, Comparison, Equals, Differs, Below, AtMost, Above, AtLeast, Operation, Plus, Minus, Times}
-use Rattle.tql_spec.specs.Period.{Relation, Overlaps, Includes, SameAs, Precedes, Succeeds, ImmediatelyPrecedes, ImmediatelySucceeds}
+use Rattle.tql_spec.specs.Datum.{Datum, Null, Int, Text, Day, Moment, Kind, Ints, Texts, Days, Moments, Comparison}
+use Rattle.tql_spec.specs.Datum.{Equals, Differs, Below, AtMost, Above, AtLeast, Operation, Plus, Minus, Times}
+use Rattle.tql_spec.specs.Period.{Relation, Overlaps, Includes, SameAs, Precedes, Succeeds, ImmediatelyPrecedes}
+use Rattle.tql_spec.specs.Period.{ImmediatelySucceeds}
 use Rattle.tql_spec.specs.Expression as e
-use Rattle.tql_spec.specs.Expression.{Function, Count, Sum, Min, Max, Expr, Literal, Negate, Binary, CountRows, Aggregate, Cond, Compare, IsNull, Related, ContainsPoint, Not, And, Or}
+use Rattle.tql_spec.specs.Expression.{Function, Count, Sum, Min, Max, Expr, Literal, Negate, Binary, CountRows}
+use Rattle.tql_spec.specs.Expression.{Aggregate, Cond, Compare, IsNull, Related, ContainsPoint, Not, And, Or}
 use Rattle.tql_spec.specs.Definition.{Name, Column, Application, System, Key, Reference, TableDef}
 
 -- a tree of numbers is its own code
@@ -198,7 +202,8 @@ cond_tree (Not c) = gcons (gnum 1) (cond_tree c)
 cond_tree (Or c d) = gcons (gnum 2) (gcons (cond_tree c) (cond_tree d))
 cond_tree (ContainsPoint a b p) = gcons (gcons gnil (expr_tree a)) (gcons (expr_tree b) (expr_tree p))
 cond_tree (Compare c a b) = gcons (gcons (gnum (comparison_number c)) (expr_tree a)) (expr_tree b)
-cond_tree (Related r a b c d) = gcons (gcons (gcons (gnum (relation_number r)) (expr_tree a)) (expr_tree b)) (gcons (expr_tree c) (expr_tree d))
+cond_tree (Related r a b c d) =
+    gcons (gcons (gcons (gnum (relation_number r)) (expr_tree a)) (expr_tree b)) (gcons (expr_tree c) (expr_tree d))
 
 abbrev cond_of : Gv → Cond
 cond_of (gcons gnil (gcons c d)) = And (cond_of c) (cond_of d)
@@ -207,7 +212,8 @@ cond_of (gcons (gnum (suc zero)) c) = Not (cond_of c)
 cond_of (gcons (gnum (suc (suc n))) (gcons c d)) = Or (cond_of c) (cond_of d)
 cond_of (gcons (gcons gnil a) (gcons b p)) = ContainsPoint (expr_of a) (expr_of b) (expr_of p)
 cond_of (gcons (gcons (gnum n) a) b) = Compare (comparison_at n) (expr_of a) (expr_of b)
-cond_of (gcons (gcons (gcons (gnum n) a) b) (gcons c d)) = Related (relation_at n) (expr_of a) (expr_of b) (expr_of c) (expr_of d)
+cond_of (gcons (gcons (gcons (gnum n) a) b) (gcons c d)) =
+    Related (relation_at n) (expr_of a) (expr_of b) (expr_of c) (expr_of d)
 cond_of _ = IsNull CountRows
 
 pub cond_back : (c : Cond) → cond_of (cond_tree c) ≡ c
@@ -217,7 +223,8 @@ cond_back (Not c) = ap (λ (x : Cond). Not x) (cond_back c)
 cond_back (Or c d) = λ i. Or (cond_back c i) (cond_back d i)
 cond_back (ContainsPoint a b p) = λ i. ContainsPoint (expr_back a i) (expr_back b i) (expr_back p i)
 cond_back (Compare c a b) = λ i. Compare (comparison_back c i) (expr_back a i) (expr_back b i)
-cond_back (Related r a b c d) = λ i. Related (relation_back r i) (expr_back a i) (expr_back b i) (expr_back c i) (expr_back d i)
+cond_back (Related r a b c d) =
+    λ i. Related (relation_back r i) (expr_back a i) (expr_back b i) (expr_back c i) (expr_back d i)
 
 -- ---- definitions
 
@@ -232,11 +239,20 @@ cond_code = code_by Gv coded_tree cond_tree cond_of cond_back
 
 abbrev column_code : Coded Column
 column_code =
-    code_by (Name × (Kind × (Option ℕ × Bool))) (coded× numbers_code (coded× kind_code (coded× (coded_option coded_ℕ) coded_bool)))
-    (λ c. (c.name, (c.kind, (c.limit, c.required)))) (λ p. record { name = p.0; kind = p.1.0; limit = p.1.1.0; required = p.1.1.1 }) (λ _. refl)
+    code_by (Name × (Kind × (Option ℕ × Bool)))
+    (coded× numbers_code (coded× kind_code (coded× (coded_option coded_ℕ) coded_bool)))
+    (λ c. (c.name, (c.kind, (c.limit, c.required)))) (λ p. record {
+      name = p.0;
+      kind = p.1.0;
+      limit = p.1.1.0;
+      required = p.1.1.1;
+    }) (λ _. refl)
 
 abbrev system_code : Coded System
-system_code = code_by (ℕ × ℕ) (coded× coded_ℕ coded_ℕ) (λ s. (s.start, s.end)) (λ p. record { start = p.0; end = p.1 }) (λ _. refl)
+system_code = code_by (ℕ × ℕ) (coded× coded_ℕ coded_ℕ) (λ s. (s.start, s.end)) (λ p. record {
+  start = p.0;
+  end = p.1;
+}) (λ _. refl)
 
 abbrev application_code : Coded Application
 application_code =
@@ -244,11 +260,13 @@ application_code =
     (λ a. (a.name, (a.start, a.end))) (λ p. record { name = p.0; start = p.1.0; end = p.1.1 }) (λ _. refl)
 
 abbrev key_code : Coded Key
-key_code = code_by (List ℕ × Bool) (coded× numbers_code coded_bool) (λ k. (k.columns, k.by_period)) (λ p. record { columns = p.0; by_period = p.1 }) (λ _. refl)
+key_code = code_by (List ℕ × Bool) (coded× numbers_code coded_bool) (λ k. (k.columns, k.by_period))
+    (λ p. record { columns = p.0; by_period = p.1 }) (λ _. refl)
 
 abbrev reference_code : Coded Reference
 reference_code =
-    code_by (List ℕ × (Bool × (Name × List ℕ))) (coded× numbers_code (coded× coded_bool (coded× numbers_code numbers_code)))
+    code_by (List ℕ × (Bool × (Name × List ℕ)))
+    (coded× numbers_code (coded× coded_bool (coded× numbers_code numbers_code)))
     (λ f. (f.columns, (f.by_period, (f.parent, f.parent_columns))))
     (λ p. record { columns = p.0; by_period = p.1.0; parent = p.1.1.0; parent_columns = p.1.1.1 }) (λ _. refl)
 
@@ -258,7 +276,8 @@ Parts = Name × (List Column × (Option System × (Option Application × (List K
 
 abbrev parts_code : Coded Parts
 parts_code =
-    coded× numbers_code (coded× (coded_list column_code) (coded× (coded_option system_code) (coded× (coded_option application_code)
+    coded× numbers_code (coded× (coded_list column_code)
+    (coded× (coded_option system_code) (coded× (coded_option application_code)
     (coded× (coded_list key_code) (coded× (coded_list reference_code) (coded_list cond_code))))))
 
 -- the definition of a table

@@ -1,5 +1,6 @@
 -- What is true of the definition of each table, part by part.
-use Rattle.std.specs.Prelude.{◌≡◌, ℕ, Bool, true, false, not, ◌&&◌, ◌==◌, ◌++◌, nat_lt, IsTrue, List, [], map, length, Option, Some, None, slice_index_or}
+use Rattle.std.specs.Prelude.{◌≡◌, ℕ, Bool, true, false, not, ◌&&◌, ◌==◌, ◌++◌, nat_lt, IsTrue, List, [], map, length}
+use Rattle.std.specs.Prelude.{Option, Some, None, slice_index_or}
 use Rattle.tql_spec.specs.Datum.{Kind, Ints, Moments, same_kind}
 use Rattle.tql_spec.specs.Definition.{Name, Column, System, Application, TableDef}
 use Rattle.tql_spec.specs.Creation.{names_of, kinds_of, repeats, has_number, are_ends, application_name}
@@ -28,7 +29,8 @@ is_application_period columns system None = true
 is_application_period columns system (Some a) =
     let required = map (λ (c : Column). c.required) columns in
     let kinds = map (λ (c : Column). c.kind) columns in
-    is_end_at required system a.start && is_end_at required system a.end && are_ends (slice_index_or kinds a.start Ints) (slice_index_or kinds a.end Ints)
+    is_end_at required system a.start && is_end_at required system a.end && are_ends
+    (slice_index_or kinds a.start Ints) (slice_index_or kinds a.end Ints)
     && not (a.start == a.end)
 
 -- ---- the parts
@@ -83,5 +85,6 @@ table_of_parts n cs s a = record {
 -- whether they can be those of a table
 abbrev pub is_definable : List Column → Option System → Option Application → Bool
 is_definable cs s a =
-    not (repeats (map (λ (c : Column). c.name) cs ++ application_name a)) && is_system_period (map (λ (c : Column). c.kind) cs) s
+    not (repeats (map (λ (c : Column). c.name) cs ++ application_name a)) && is_system_period
+    (map (λ (c : Column). c.kind) cs) s
     && is_application_period cs s a

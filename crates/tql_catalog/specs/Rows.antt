@@ -1,5 +1,6 @@
 -- The columns that may be given values, and the values of rows.
-use Rattle.std.specs.Prelude.{◌≡◌, ℕ, ℤ, Bool, true, not, ◌&&◌, ◌==◌, ◌||◌, false, nat_lt, IsTrue, List, [], ◌∷◌, length, All, Option, Some, None}
+use Rattle.std.specs.Prelude.{◌≡◌, ℕ, ℤ, Bool, true, not, ◌&&◌, ◌==◌, ◌||◌, false, nat_lt, IsTrue, List, [], ◌∷◌}
+use Rattle.std.specs.Prelude.{length, All, Option, Some, None}
 use Rattle.std.specs.List.{list_all}
 use Rattle.tql_spec.specs.Datum.{Row, is_null}
 use Rattle.tql_spec.specs.Period.{rises}
@@ -32,7 +33,8 @@ RisesBy (Some a) row = RisesIn row a
 abbrev pub HasRisingPeriod : TableDef → Row → Type 0
 HasRisingPeriod d cells = (start end : ℤ) → RisesBy d.application (with_generated d.system cells start end)
 
--- the values of a row of the table: those of the columns that are not generated. Each has a text, and the row's application period rises
+-- the values of a row of the table: those of the columns that are not generated. Each has a text, and the row's
+-- application period rises
 pub record IsRowOf (d : TableDef) (cells : Row) : Type 0 where
   pub width : length cells ≡ stored_width d
   pub printable : All IsPrintable cells
@@ -45,4 +47,5 @@ numbers_repeat (i ∷ is) = has_number i is || numbers_repeat is
 
 -- whether a user may give values to these columns: columns of the table, none generated, none twice
 abbrev pub are_assignable : TableDef → List ℕ → Bool
-are_assignable d is = list_all (λ i. nat_lt i (length d.columns) && not (is_generated d i)) is && not (numbers_repeat is)
+are_assignable d is = list_all (λ i. nat_lt i (length d.columns) && not (is_generated d i)) is && not
+    (numbers_repeat is)

@@ -1,5 +1,6 @@
 -- The tables that are there, in the order of their creation.
-use Rattle.std.specs.Prelude.{◌≡◌, ◌≢◌, ◌≤◌, refl, ℕ, ◌++◌, List, map, length, nat_le, is_some, String, string_bytes, All, Option, Some, None, Result, Ok, Err, ⊤}
+use Rattle.std.specs.Prelude.{◌≡◌, ◌≢◌, ◌≤◌, refl, ℕ, ◌++◌, List, map, length, nat_le, is_some, String, string_bytes}
+use Rattle.std.specs.Prelude.{All, Option, Some, None, Result, Ok, Err, ⊤}
 use Rattle.std.specs.List.{AllPairs}
 use Rattle.std.specs.Coded.{Coded, code_by, coded×, coded_ℕ, coded_list}
 use Rattle.tql_spec.specs.Refusal as spec
@@ -13,7 +14,8 @@ use Rattle.tql_catalog.specs.declared.catalog.Table.{Table}
 
 -- how the logic stores tables
 abbrev table_code : Coded Table
-table_code = code_by (TableDef × ℕ) (coded× table_def_code coded_ℕ) (λ t. (t.definition, t.id)) (λ p. record { definition = p.0; id = p.1 }) (λ _. refl)
+table_code = code_by (TableDef × ℕ) (coded× table_def_code coded_ℕ) (λ t. (t.definition, t.id))
+    (λ p. record { definition = p.0; id = p.1 }) (λ _. refl)
 
 abbrev pub tables_code : Coded (List Table)
 tables_code = coded_list table_code
@@ -38,7 +40,9 @@ IsByName entries = map (λ e. string_bytes e.0) entries ≡ map (λ e. e.1.defin
 
 -- the faults of a new table of this name that the tables which are there show
 abbrev pub creation_faults : List TableDef → Name → List spec.Refusal
-creation_faults defs n = fault_if (is_some (place_of n defs)) TableUnknownOrAlreadyThere ++ fault_if (nat_le 1000 (length defs)) TooManyTablesOrReaders
+creation_faults defs n =
+    fault_if (is_some (place_of n defs)) TableUnknownOrAlreadyThere ++ fault_if (nat_le 1000 (length defs))
+    TooManyTablesOrReaders
 
 -- a fault is told; where there is none, only memory is refused
 abbrev pub Tells : {A : Type 0} → Option spec.Refusal → Result A Refusal → Type 0

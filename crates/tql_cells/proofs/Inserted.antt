@@ -3,7 +3,8 @@ use Rattle.std.proofs.Common.{◌≡◌, ℕ, ◌+◌, ◌-◌, ◌<◌, min, �
 use Rattle.std.specs.Prelude.{insert}
 use Rattle.std.proofs.lemmas.Bool.{cases_lt}
 use Rattle.std.proofs.lemmas.List.{take_all, drop_all}
-use Rattle.std.proofs.lemmas.List.Edits.{length-insert, get_or-insert_below, get_or-insert_at, get_or-insert_above, insert_end}
+use Rattle.std.proofs.lemmas.List.Edits.{length-insert, get_or-insert_below, get_or-insert_at, get_or-insert_above}
+use Rattle.std.proofs.lemmas.List.Edits.{insert_end}
 use Rattle.tql_spec.specs.Datum.{Datum, Null, Row}
 use Rattle.tql_spec.specs.Definition.{cell}
 
@@ -26,13 +27,18 @@ length_inserted row i v =
     ap length (clamped row i at v refl) ∙ length-insert row at v (omega arith)
 
 -- what each column then holds
-pub read_before : (row : Row) (i at k : ℕ) (v : Datum) → at ≡ min i (length row) → k < at → cell (insert row i v) k ≡ cell row k
-read_before row i at k v is h = ap (λ r. cell r k) (clamped row i at v is) ∙ get_or-insert_below row at v Null k h (omega arith)
+pub read_before : (row : Row) (i at k : ℕ) (v : Datum) → at ≡ min i (length row) → k < at
+    → cell (insert row i v) k ≡ cell row k
+read_before row i at k v is h = ap (λ r. cell r k) (clamped row i at v is)
+    ∙ get_or-insert_below row at v Null k h (omega arith)
 
 pub read_at : (row : Row) (i at k : ℕ) (v : Datum) → at ≡ min i (length row) → k ≡ at → cell (insert row i v) k ≡ v
-read_at row i at k v is h = ap (λ r. cell r k) (clamped row i at v is) ∙ ap (cell (insert row at v)) h ∙ get_or-insert_at row at v Null (omega arith)
+read_at row i at k v is h = ap (λ r. cell r k) (clamped row i at v is) ∙ ap (cell (insert row at v)) h
+    ∙ get_or-insert_at row at v Null (omega arith)
 
-pub read_behind : (row : Row) (i at k : ℕ) (v : Datum) → at ≡ min i (length row) → at < k → cell (insert row i v) k ≡ cell row (k - 1)
+pub read_behind : (row : Row) (i at k : ℕ) (v : Datum) → at ≡ min i (length row) → at < k
+    → cell (insert row i v) k ≡ cell row (k - 1)
 read_behind row i at k v is h =
     let back : k ≡ k - 1 + 1 = omega arith in
-    ap (λ r. cell r k) (clamped row i at v is) ∙ ap (cell (insert row at v)) back ∙ get_or-insert_above row at v Null (k - 1) (omega arith) (omega arith)
+    ap (λ r. cell r k) (clamped row i at v is) ∙ ap (cell (insert row at v)) back
+    ∙ get_or-insert_above row at v Null (k - 1) (omega arith) (omega arith)

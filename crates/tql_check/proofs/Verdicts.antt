@@ -13,19 +13,25 @@ use Rattle.tql_tree.specs.Trees.{tree_of}
 use Rattle.tql_tree.specs.declared.tree.Tree.{Tree}
 
 -- a statement that keeps within the limits
-pub narrow_checks : (s : State) (text : List ℕ) (t : Tree) → ReadsText text (Ok t) → tree.is_too_wide (tree_of t) ≡ false → Checks s (finished text) Accepted s
+pub narrow_checks : (s : State) (text : List ℕ) (t : Tree) → ReadsText text (Ok t)
+    → tree.is_too_wide (tree_of t) ≡ false → Checks s (finished text) Accepted s
 narrow_checks s text t reads narrow = (inl (Says (tree_of t), (reads.0, reads.1, narrow), refl), refl)
 
 -- a statement that is too wide
-pub wide_checks : (s : State) (text : List ℕ) (t : Tree) → ReadsText text (Ok t) → tree.is_too_wide (tree_of t) ≡ true → Checks s (finished text) (Replied (Refused (refusal_of r.TooManyColumnsOrTables))) s
-wide_checks s text t reads wide = (inl (Faulty (refusal_of r.TooManyColumnsOrTables), (reads.0, (tree_of t, reads.1, wide)), refl), refl)
+pub wide_checks : (s : State) (text : List ℕ) (t : Tree) → ReadsText text (Ok t)
+    → tree.is_too_wide (tree_of t) ≡ true
+    → Checks s (finished text) (Replied (Refused (refusal_of r.TooManyColumnsOrTables))) s
+wide_checks s text t reads wide =
+    (inl (Faulty (refusal_of r.TooManyColumnsOrTables), (reads.0, (tree_of t, reads.1, wide)), refl), refl)
 
 -- a fault of the text
-faulty : (s : State) (text : List ℕ) (e : Refusal) → HasSense IsStatement (finished text) (Faulty (refusal_of e)) → Checks s (finished text) (Replied (Refused (refusal_of e))) s
+faulty : (s : State) (text : List ℕ) (e : Refusal) → HasSense IsStatement (finished text) (Faulty (refusal_of e))
+    → Checks s (finished text) (Replied (Refused (refusal_of e))) s
 faulty s text e sense = (inl (Faulty (refusal_of e), sense, refl), refl)
 
 -- no statement was read
-pub fault_checks : (s : State) (text : List ℕ) (e : Refusal) → ReadsText text (Err e) → Checks s (finished text) (Replied (Refused (refusal_of e))) s
+pub fault_checks : (s : State) (text : List ℕ) (e : Refusal) → ReadsText text (Err e)
+    → Checks s (finished text) (Replied (Refused (refusal_of e))) s
 fault_checks s text r.StatementTooLong why = faulty s text r.StatementTooLong why
 fault_checks s text r.NotUtf8 why = faulty s text r.NotUtf8 why
 fault_checks s text r.NestedTooDeep why = faulty s text r.NestedTooDeep why

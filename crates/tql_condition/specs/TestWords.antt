@@ -3,7 +3,8 @@ use Rattle.std.specs.Prelude.{false, codes, Option, Some, None}
 use Rattle.tql_spec.specs.Token.{Word}
 use Rattle.tql_spec.specs.Syntax.{Sum, Test}
 use Rattle.tql_grammar.specs.Outcome.{Parser, found, into, if_front}
-use Rattle.tql_grammar.specs.ReadingExpressions.{Tested, WholeTest, null_test_at, denied_over, between_over, in_over, period_test_over, as_named}
+use Rattle.tql_grammar.specs.ReadingExpressions.{Tested, WholeTest, null_test_at, denied_over, between_over, in_over}
+use Rattle.tql_grammar.specs.ReadingExpressions.{period_test_over, as_named}
 use Rattle.tql_condition.specs.declared.conditions.TestWord.{TestWord}
 use Rattle.tql_condition.specs.declared.conditions.TestWord.TheVariants as word
 

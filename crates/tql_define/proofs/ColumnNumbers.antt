@@ -1,5 +1,6 @@
 -- The numbers at which names stand.
-use Rattle.std.specs.Prelude.{◌≡◌, refl, ℕ, suc, Bool, true, false, ◌||◌, ◌==◌, nat_lt, List, [], ◌∷◌, map, length, Option, Some, None, slice_index_or, if◌then◌else◌, ◌<◌}
+use Rattle.std.specs.Prelude.{◌≡◌, refl, ℕ, suc, Bool, true, false, ◌||◌, ◌==◌, nat_lt, List, [], ◌∷◌, map, length}
+use Rattle.std.specs.Prelude.{Option, Some, None, slice_index_or, if◌then◌else◌, ◌<◌}
 use Rattle.std.proofs.Common.{ap, ◌∙◌, sym, arith, eqb-true}
 use Rattle.std.proofs.lemmas.Bool.Decides.{nat_tests}
 use Rattle.tql_spec.specs.Words.{same_text}
@@ -27,7 +28,8 @@ pub within : (n : Name) (ms : List Name) (i : ℕ) → number_in n ms ≡ Some i
 within n [] i e = cc
 within n (m ∷ ms) i e = at (λ j. within n ms j) (same_text n m) e
   where
-    at : ((j : ℕ) → number_in n ms ≡ Some j → j < length ms) → (b : Bool) → (if b then Some 0 else next_place (number_in n ms)) ≡ Some i → i < suc (length ms)
+    at : ((j : ℕ) → number_in n ms ≡ Some j → j < length ms) → (b : Bool)
+        → (if b then Some 0 else next_place (number_in n ms)) ≡ Some i → i < suc (length ms)
     at later true f = let k = first_place i f in omega (arith, k)
     at later false f =
         let k = next_some (number_in n ms) i f in
@@ -40,7 +42,8 @@ pub name_at : (n : Name) (ms : List Name) (i : ℕ) → number_in n ms ≡ Some 
 name_at n [] i e = cc
 name_at n (m ∷ ms) i e = at (λ j. name_at n ms j) (same_text n m) refl e
   where
-    at : ((j : ℕ) → number_in n ms ≡ Some j → n ≡ slice_index_or ms j []) → (b : Bool) → same_text n m ≡ b → (if b then Some 0 else next_place (number_in n ms)) ≡ Some i → n ≡ slice_index_or (m ∷ ms) i []
+    at : ((j : ℕ) → number_in n ms ≡ Some j → n ≡ slice_index_or ms j []) → (b : Bool) → same_text n m ≡ b
+        → (if b then Some 0 else next_place (number_in n ms)) ≡ Some i → n ≡ slice_index_or (m ∷ ms) i []
     at later true p f = same_text-is n m p ∙ sym (ap (λ j. slice_index_or (m ∷ ms) j []) (first_place i f))
     at later false p f =
         let k = next_some (number_in n ms) i f in
@@ -50,12 +53,14 @@ never : true ≡ false → ⊥
 never e = cc
 
 -- two names that differ have two numbers
-pub apart : (n m : Name) (ms : List Name) (i j : ℕ) → number_in n ms ≡ Some i → number_in m ms ≡ Some j → same_text n m ≡ false → (i == j) ≡ false
+pub apart : (n m : Name) (ms : List Name) (i j : ℕ) → number_in n ms ≡ Some i → number_in m ms ≡ Some j
+    → same_text n m ≡ false → (i == j) ≡ false
 apart n m ms i j e f h = cases (i == j) refl
   where
     cases : (b : Bool) → (i == j) ≡ b → (i == j) ≡ false
     cases true p =
-        let same : n ≡ m = name_at n ms i e ∙ ap (λ k. slice_index_or ms k []) (eqb-true i j p) ∙ sym (name_at m ms j f) in
+        let same : n ≡ m = name_at n ms i e ∙ ap (λ k. slice_index_or ms k []) (eqb-true i j p)
+        ∙ sym (name_at m ms j f) in
         absurd (never (sym (same_text-self n) ∙ ap (same_text n) same ∙ h))
     cases false p = p
 
@@ -74,7 +79,8 @@ or_true true = refl
 or_true false = refl
 
 -- takes no null, where the name is among those that take none
-pub required_at : (implied : List Name) (n : Name) (cs : List ColumnTree) (i : ℕ) → number_in n (names_in cs) ≡ Some i → has_name n implied ≡ true
+pub required_at : (implied : List Name) (n : Name) (cs : List ColumnTree) (i : ℕ)
+    → number_in n (names_in cs) ≡ Some i → has_name n implied ≡ true
     → slice_index_or (map (λ (c : D.Column). c.required) (map (column implied) cs)) i false ≡ true
 required_at implied n [] i e h = cc
 required_at implied n (c ∷ cs) i e h = at (λ j f. required_at implied n cs j f h) (same_text n c.name) refl e
@@ -82,11 +88,14 @@ required_at implied n (c ∷ cs) i e h = at (λ j f. required_at implied n cs j 
     all : List Bool
     all = map (λ (k : D.Column). k.required) (map (column implied) (c ∷ cs))
 
-    at : ((j : ℕ) → number_in n (names_in cs) ≡ Some j → slice_index_or (map (λ (k : D.Column). k.required) (map (column implied) cs)) j false ≡ true)
-        → (b : Bool) → same_text n c.name ≡ b → (if b then Some 0 else next_place (number_in n (names_in cs))) ≡ Some i → slice_index_or all i false ≡ true
+    at : ((j : ℕ) → number_in n (names_in cs) ≡ Some j
+        → slice_index_or (map (λ (k : D.Column). k.required) (map (column implied) cs)) j false ≡ true)
+        → (b : Bool) → same_text n c.name ≡ b
+        → (if b then Some 0 else next_place (number_in n (names_in cs))) ≡ Some i → slice_index_or all i false ≡ true
     at later true p f =
         ap (λ j. slice_index_or all j false) (first_place i f)
-        ∙ ap (λ (b : Bool). c.required || b) (ap (λ (m : Name). has_name m implied) (sym (same_text-is n c.name p)) ∙ h) ∙ or_true c.required
+        ∙ ap (λ (b : Bool). c.required || b) (ap (λ (m : Name). has_name m implied) (sym (same_text-is n c.name p))
+        ∙ h) ∙ or_true c.required
     at later false p f =
         let k = next_some (number_in n (names_in cs)) i f in
         ap (λ j. slice_index_or all j false) k.1.1 ∙ later k.0 k.1.0

@@ -9,7 +9,8 @@ columns_split (ColumnElement c) es = refl
 columns_split (PeriodElement n s t) es = refl
 columns_split (ConstraintElement c) es = refl
 
-applications_split : (e : Element) (es : List Element) → application_parts (e ∷ es) ≡ application_parts (e ∷ []) ++ application_parts es
+applications_split : (e : Element) (es : List Element)
+    → application_parts (e ∷ es) ≡ application_parts (e ∷ []) ++ application_parts es
 applications_split (ColumnElement c) es = refl
 applications_split (PeriodElement None s t) es = refl
 applications_split (PeriodElement (Some n) s t) es = refl
@@ -22,13 +23,19 @@ systems_split (PeriodElement (Some n) s t) es = refl
 systems_split (ConstraintElement c) es = refl
 
 -- with one more element the columns are those so far and its own
-pub columns_more : (cs : List ColumnTree) (e : Element) (es : List Element) → (cs ++ columns_of (e ∷ [])) ++ columns_of es ≡ cs ++ columns_of (e ∷ es)
-columns_more cs e es = append_assoc cs (columns_of (e ∷ [])) (columns_of es) ∙ ap (λ (xs : List ColumnTree). cs ++ xs) (sym (columns_split e es))
+pub columns_more : (cs : List ColumnTree) (e : Element) (es : List Element)
+    → (cs ++ columns_of (e ∷ [])) ++ columns_of es ≡ cs ++ columns_of (e ∷ es)
+columns_more cs e es = append_assoc cs (columns_of (e ∷ [])) (columns_of es)
+    ∙ ap (λ (xs : List ColumnTree). cs ++ xs) (sym (columns_split e es))
 
 -- and so are the application periods
-pub applications_more : (ps : List PeriodPart) (e : Element) (es : List Element) → (ps ++ application_parts (e ∷ [])) ++ application_parts es ≡ ps ++ application_parts (e ∷ es)
-applications_more ps e es = append_assoc ps (application_parts (e ∷ [])) (application_parts es) ∙ ap (λ (xs : List PeriodPart). ps ++ xs) (sym (applications_split e es))
+pub applications_more : (ps : List PeriodPart) (e : Element) (es : List Element)
+    → (ps ++ application_parts (e ∷ [])) ++ application_parts es ≡ ps ++ application_parts (e ∷ es)
+applications_more ps e es = append_assoc ps (application_parts (e ∷ [])) (application_parts es)
+    ∙ ap (λ (xs : List PeriodPart). ps ++ xs) (sym (applications_split e es))
 
 -- and the system periods
-pub systems_more : (ps : List PeriodPart) (e : Element) (es : List Element) → (ps ++ system_parts (e ∷ [])) ++ system_parts es ≡ ps ++ system_parts (e ∷ es)
-systems_more ps e es = append_assoc ps (system_parts (e ∷ [])) (system_parts es) ∙ ap (λ (xs : List PeriodPart). ps ++ xs) (sym (systems_split e es))
+pub systems_more : (ps : List PeriodPart) (e : Element) (es : List Element)
+    → (ps ++ system_parts (e ∷ [])) ++ system_parts es ≡ ps ++ system_parts (e ∷ es)
+systems_more ps e es = append_assoc ps (system_parts (e ∷ [])) (system_parts es)
+    ∙ ap (λ (xs : List PeriodPart). ps ++ xs) (sym (systems_split e es))

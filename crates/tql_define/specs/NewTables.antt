@@ -1,13 +1,17 @@
 -- Tables that CREATE makes of columns and periods.
-use Rattle.std.specs.Prelude.{ℕ, Bool, not, ◌||◌, ◌==◌, nat_le, List, [], ◌∷◌, ◌++◌, map, length, Some, None, option_map, is_some, if◌then◌else◌, string_bytes, slice_index_or}
+use Rattle.std.specs.Prelude.{ℕ, Bool, not, ◌||◌, ◌==◌, nat_le, List, [], ◌∷◌, ◌++◌, map, length, Some, None}
+use Rattle.std.specs.Prelude.{option_map, is_some, if◌then◌else◌, string_bytes, slice_index_or}
 use Rattle.std.specs.List.{flat_map, list_any, list_all}
 use Rattle.tql_spec.specs.Words.{same_text, listed}
 use Rattle.tql_spec.specs.Datum.{Kind, Ints, Moments, same_kind}
-use Rattle.tql_spec.specs.Refusal.{Refusal, TooManyTablesOrReaders, TableUnknownOrAlreadyThere, NameUnknownAmbiguousOrRepeated, TypesDoNotFit, FormNotAllowedHere, fault_if}
+use Rattle.tql_spec.specs.Refusal.{Refusal, TooManyTablesOrReaders, TableUnknownOrAlreadyThere}
+use Rattle.tql_spec.specs.Refusal.{NameUnknownAmbiguousOrRepeated, TypesDoNotFit, FormNotAllowedHere, fault_if}
 use Rattle.tql_spec.specs.Definition.{Name, TableDef, Application, System, place_of}
 use Rattle.tql_spec.specs.Names.{Checked, ◌>>=◌, sound, refuse_for, refuse_if, check_each}
 use Rattle.tql_spec.specs.Syntax.{ColumnTree, Element}
-use Rattle.tql_spec.specs.Creation.{PeriodPart, are_ends, column_number, has_number, numbers_where, is_row_start, is_row_end, has_bad_number, kind_of_type, repeats, several, column, part_names, first_of}
+use Rattle.tql_spec.specs.Creation.{PeriodPart, are_ends, column_number, has_number, numbers_where, is_row_start}
+use Rattle.tql_spec.specs.Creation.{is_row_end, has_bad_number, kind_of_type, repeats, several, column, part_names}
+use Rattle.tql_spec.specs.Creation.{first_of}
 use Rattle.tql_catalog.specs.Defined.{table_of_parts}
 use Rattle.tql_catalog.specs.Definitions.{application_of, system_of}
 use Rattle.tql_tree.specs.Statements.{type_of, generated_of, element_of, elements_of}
@@ -22,11 +26,20 @@ use Rattle.tql_define.specs.declared.periods.Periods.{Periods}
 
 -- the column
 abbrev pub column_of : NewColumn → ColumnTree
-column_of c = record { name = string_bytes c.name; type_name = type_of c.type_name; required = c.is_required; generated = option_map generated_of c.generated }
+column_of c = record {
+  name = string_bytes c.name;
+  type_name = type_of c.type_name;
+  required = c.is_required;
+  generated = option_map generated_of c.generated;
+}
 
 -- the application period
 abbrev pub application_part : NewApplication → PeriodPart
-application_part p = record { name = Some (string_bytes p.name); start = string_bytes p.start; end = string_bytes p.end }
+application_part p = record {
+  name = Some (string_bytes p.name);
+  start = string_bytes p.start;
+  end = string_bytes p.end;
+}
 
 -- the system period
 abbrev pub system_part : NewSystem → PeriodPart
@@ -89,7 +102,8 @@ system_in cs p = do
   s ← column_number (names_in cs) p.start
   e ← column_number (names_in cs) p.end
   u ← refuse_if (not (same_kind (kind_in cs s) Moments) || not (same_kind (kind_in cs e) Moments)) TypesDoNotFit
-  v ← refuse_if (same_text p.start p.end || not (has_number s (starts_in cs)) || not (has_number e (stops_in cs))) FormNotAllowedHere
+  v ← refuse_if (same_text p.start p.end || not (has_number s (starts_in cs)) || not (has_number e (stops_in cs)))
+      FormNotAllowedHere
   sound (record { start = s; end = e })
 
 -- the names of the application periods
@@ -101,7 +115,8 @@ abbrev pub implied_in : List PeriodPart → List Name
 implied_in ps = flat_map part_names ps
 
 -- the faults of the table as a whole, where it has no constraints
-abbrev pub whole_in : List TableDef → Name → List ColumnTree → (applications systems : List PeriodPart) → Bool → List Refusal
+abbrev pub whole_in : List TableDef → Name → List ColumnTree → (applications systems : List PeriodPart) → Bool
+    → List Refusal
 whole_in defs n cs applications systems versioned =
     fault_if (is_some (place_of n defs)) TableUnknownOrAlreadyThere
     ++ fault_if (repeats (names_in cs ++ names_of_periods applications)) NameUnknownAmbiguousOrRepeated
@@ -109,11 +124,13 @@ whole_in defs n cs applications systems versioned =
     ++ fault_if (list_all (λ (c : ColumnTree). is_some c.generated) cs) FormNotAllowedHere
     ++ fault_if (several applications || several systems) FormNotAllowedHere
     ++ fault_if (not (length systems == (if versioned then 1 else 0))) FormNotAllowedHere
-    ++ fault_if (not (length (starts_in cs) == length systems) || not (length (stops_in cs) == length systems)) FormNotAllowedHere
+    ++ fault_if (not (length (starts_in cs) == length systems) || not (length (stops_in cs) == length systems))
+    FormNotAllowedHere
     ++ fault_if (nat_le 1000 (length defs)) TooManyTablesOrReaders
 
 -- the definition, where it has no constraints, and every fault
-abbrev pub create_in : List TableDef → Name → List ColumnTree → (applications systems : List PeriodPart) → Bool → Checked TableDef
+abbrev pub create_in : List TableDef → Name → List ColumnTree → (applications systems : List PeriodPart) → Bool
+    → Checked TableDef
 create_in defs n cs applications systems versioned = do
   u ← refuse_for (whole_in defs n cs applications systems versioned)
   as' ← check_each (application_in cs) applications
@@ -123,4 +140,5 @@ create_in defs n cs applications systems versioned = do
 -- the table of a draft, with the first of its periods
 abbrev pub table_of : Name → Draft → Periods → TableDef
 table_of n d p =
-    table_of_parts n (map (column (implied_in (applications_in d))) (columns_in d)) (first_of (map system_of p.systems.items)) (first_of (map application_of p.applications.items))
+    table_of_parts n (map (column (implied_in (applications_in d))) (columns_in d))
+    (first_of (map system_of p.systems.items)) (first_of (map application_of p.applications.items))

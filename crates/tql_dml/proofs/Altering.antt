@@ -49,7 +49,7 @@ pub insert_refused : (d : TableDef) (id : ℕ) (js : List ℕ) (tuples rows : Li
     → Alters id [] (λ m. (added_rows d js (Some tuples) m).rows) (added_rows d js (Some tuples)) (Err e)
 insert_refused d id js tuples rows e s is f =
     tells id [] (λ m. (added_rows d js (Some tuples) m).rows) (added_rows d js (Some tuples)) e
-        (λ m. first_of d m js tuples rows (Some (refusal_of e)) s is f)
+    (λ m. first_of d m js tuples rows (Some (refusal_of e)) s is f)
 
 -- rows without a fault are added
 pub insert_adds : (d : TableDef) (id : ℕ) (js : List ℕ) (tuples : List Row) (delta : Delta) → IsDefinition d
@@ -73,11 +73,11 @@ pub insert_fits : (d : TableDef) (js : List ℕ) (tuples rows : List Row) → Is
 insert_fits d js tuples rows s prints is none =
     let wide : Fit d (map (stored_cells d js) tuples) =
     All-map (λ (cells : Row). length cells ≡ stored_width d) (stored_cells d js) tuples
-        (λ k z l. length-stored d js (slice_index_or tuples k z) s) in
+    (λ k z l. length-stored d js (slice_index_or tuples k z) s) in
     let texts : All (All IsPrintable) (map (stored_cells d js) tuples) =
     All-map (All IsPrintable) (stored_cells d js) tuples
-        (All-weaker (All IsPrintable) (λ vs. All IsPrintable (stored_cells d js vs))
-        (λ vs h. stored_prints d js vs s h) tuples prints) in
+    (All-weaker (All IsPrintable) (λ vs. All IsPrintable (stored_cells d js vs))
+    (λ vs h. stored_prints d js vs s h) tuples prints) in
     rows_fit d rows s (subst (Fit d) (sym is) wide) (subst (All (All IsPrintable)) (sym is) texts) none
 
 -- the values of tuples have texts
@@ -118,8 +118,8 @@ modify_ends : (d : TableDef) (id : ℕ) (found : List Version) (x : Modification
 modify_ends d id found x r.OutOfMemory f = tt
 modify_ends d id found x r.ValueOutOfRange f = λ m.
     let none : fates d found x m ≡ None =
-        disagreed (fates d found x m) (gone d x found) (parts_of d found x) f
-        (fates_agree d m (portion_in x) (work_of x.terms x.work) (conds_in x) found) in
+    disagreed (fates d found x m) (gone d x found) (parts_of d found x) f
+    (fates_agree d m (portion_in x) (work_of x.terms x.work) (conds_in x) found) in
     ap (λ o. first (outcome_of d (rows_in found) o).faults) none
 modify_ends d id found x _ f = absurd f
 
@@ -138,7 +138,7 @@ modify_faults : (d : TableDef) (found : List Version) (x : Modification) (p : Pa
 modify_faults d found x p o m s h e f =
     let t = told d found x p m e in
     let fits : PartsFit d (Some p) =
-        subst (PartsFit d) e (parts_fit d (portion_in x) (work_of x.terms x.work) (conds_in x) found s h) in
+    subst (PartsFit d) e (parts_fit d (portion_in x) (work_of x.terms x.work) (conds_in x) found s h) in
     let cells : map (λ (r : Stamped). r.cells) (change.new_rows t.0) ≡ p.come = t.1.1.come in
     ap (λ (y : Outcome). first y.faults) (outcome_is d found x t.0 m t.1.0)
     ∙ ap first (stored_faults d (change.new_rows t.0) s (subst (Fit d) (sym cells) fits))
@@ -151,7 +151,7 @@ pub modify_refused : (d : TableDef) (id : ℕ) (found : List Version) (x : Modif
     → Alters id (gone d x found) (λ m. coming (fates d found x m)) (modified d found x) (Err e)
 modify_refused d id found x p e s h v f =
     tells id (gone d x found) (λ m. coming (fates d found x m)) (modified d found x) e
-        (λ m. modify_faults d found x p (Some (refusal_of e)) m s h v f)
+    (λ m. modify_faults d found x p (Some (refusal_of e)) m s h v f)
 
 -- rows without a fault come
 pub modify_gives : (d : TableDef) (id : ℕ) (found : List Version) (x : Modification) (p : Parts) (delta : Delta)

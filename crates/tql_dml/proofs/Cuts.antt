@@ -90,9 +90,9 @@ some_inside d portion row o p cut is e b i a there = by_part cut.inside refl i t
         let within_is : option_map points_of cut.inside ≡ Some (inside portion x) =
         ap (option_map points_of) k ∙ ap {B = Option Period} (λ y. Some y) (one.1 ∙ ap (inside portion) same) in
         let before_is : points_of_piece cut.before ≡ if_any (before portion.start x) = b
-            ∙ ap (λ y. if_any (before portion.start y)) same in
+        ∙ ap (λ y. if_any (before portion.start y)) same in
         let after_is : points_of_piece cut.after ≡ if_any (after portion.end x) = a
-            ∙ ap (λ y. if_any (after portion.end y)) same in
+        ∙ ap (λ y. if_any (after portion.end y)) same in
         record {
           reached = ap (λ (y : Period). share_a_point y portion) (sym same) ∙ one.0;
           replaced = λ made. λ j.

@@ -21,8 +21,10 @@ joined : (p : Parts) (d r : Option Parts) → before p (d >>= λ q. before q r) 
 joined p None r = refl
 joined p (Some q) None = refl
 joined p (Some q) (Some r) =
-    λ i. Some (record { gone = sym (append_assoc p.gone q.gone r.gone) i; come = sym
-    (append_assoc p.come q.come r.come) i })
+    λ i. Some (record {
+      gone = sym (append_assoc p.gone q.gone r.gone) i;
+      come = sym (append_assoc p.come q.come r.come) i;
+    })
 
 -- one more version
 pub one_more_version : (d : TableDef) (portion : Option Period) (work : Work) (conds : List Cond) (vs : List Version)
@@ -34,9 +36,9 @@ pub one_more_version : (d : TableDef) (portion : Option Period) (work : Work) (c
 one_more_version d portion work conds vs i v p n all l is e h =
     let rest = parts d portion work conds (drop (i + 1) vs) in
     let this : drop i vs ≡ v ∷ drop (i + 1) vs = drop_more vs i v l
-        ∙ ap {B = List Version} (λ w. w ∷ drop (i + 1) vs) (sym is) in
+    ∙ ap {B = List Version} (λ w. w ∷ drop (i + 1) vs) (sym is) in
     ap (λ o. o >>= λ x. before x rest) (sym e)
-        ∙ sym (joined p (part_of d portion work conds v.id (shown d (version_of v).row)) rest)
+    ∙ sym (joined p (part_of d portion work conds v.id (shown d (version_of v).row)) rest)
     ∙ ap (λ ws. before p (parts d portion work conds ws)) (sym this) ∙ h
 
 -- ---- the fates
@@ -99,8 +101,8 @@ fates_agree d m portion work conds [] = record { come = refl; gone = refl; count
 fates_agree d m portion work conds (v ∷ vs) =
     let row : Row = shown d (version_of v).row in
     step d m (pieces d portion row) v
-        (filter (λ (w : Version). is_yes (is_touched d portion conds (shown d (version_of w).row))) vs)
-        (is_touched d portion conds row) (made_of work row)
+    (filter (λ (w : Version). is_yes (is_touched d portion conds (shown d (version_of w).row))) vs)
+    (is_touched d portion conds row) (made_of work row)
     (map_all (λ r. fate d m portion work conds (shown d r)) (rows_in vs)) (parts d portion work conds vs)
     (fates_agree d m portion work conds vs)
 

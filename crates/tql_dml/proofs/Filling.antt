@@ -1,5 +1,7 @@
 -- The cells of a new row: their number, their values, and the row whose values are given in order.
-use Rattle.std.specs.Prelude.{◌≡◌, refl, ℕ, ◌<◌, Bool, true, false, not, ◌&&◌, ◌||◌, ◌==◌, nat_lt, List, [], ◌∷◌, map, filter, length, replicate, slice_set, slice_index_or, All, Vec, nat_eq, IsTrue, Option, Some, None}
+use Rattle.std.specs.Prelude.{◌≡◌, refl, ℕ, ◌<◌, Bool, true, false, not, ◌&&◌, ◌||◌, ◌==◌, nat_lt, List, [], ◌∷◌, map}
+use Rattle.std.specs.Prelude.{filter, length, replicate, slice_set, slice_index_or, All, Vec, nat_eq, IsTrue, Option}
+use Rattle.std.specs.Prelude.{Some, None}
 use Rattle.std.specs.List.{list_all, range_with_len}
 use Rattle.std.proofs.Common.{sym, ap, subst, ◌∙◌, arith}
 use Rattle.std.proofs.lemmas.List.{length-set, length-map, length-replicate, get_or-set_same, get_or-set_other}
@@ -34,7 +36,8 @@ neither_right true b h = absurd cc
 neither_right false b h = h
 
 -- a column that is not filled
-not_filled : (row : Row) (js : List ℕ) (vs : Row) (i : ℕ) → has_number i js ≡ false → cell (filled row js vs) i ≡ cell row i
+not_filled : (row : Row) (js : List ℕ) (vs : Row) (i : ℕ) → has_number i js ≡ false
+    → cell (filled row js vs) i ≡ cell row i
 not_filled row [] vs i h = refl
 not_filled row (j ∷ js) [] i h = refl
 not_filled row (j ∷ js) (v ∷ vs) i h =
@@ -46,17 +49,22 @@ abbrev is_open : TableDef → ℕ → Bool
 is_open d i = nat_lt i (length d.columns) && not (is_generated d i)
 
 -- the cells of the columns that are filled
-filled_cells : (d : TableDef) (row : Row) (js : List ℕ) (vs : Row) → length row ≡ length d.columns → length vs ≡ length js
+filled_cells : (d : TableDef) (row : Row) (js : List ℕ) (vs : Row) → length row ≡ length d.columns
+    → length vs ≡ length js
     → list_all (is_open d) js ≡ true → numbers_repeat js ≡ false → map (cell (filled row js vs)) js ≡ vs
 filled_cells d row [] [] n k o r = refl
 filled_cells d row [] (v ∷ vs) n k o r = absurd (omega arith)
 filled_cells d row (j ∷ js) [] n k o r = absurd (omega arith)
 filled_cells d row (j ∷ js) (v ∷ vs) n k o r =
-    let in_width : j < length d.columns = ltb-true j (length d.columns) (and_left _ _ (and_left (is_open d j) (list_all (is_open d) js) o)) in
+    let in_width : j < length d.columns =
+    ltb-true j (length d.columns) (and_left _ _ (and_left (is_open d j) (list_all (is_open d) js) o)) in
     let here : cell (filled (slice_set row j v) js vs) j ≡ v =
-    not_filled (slice_set row j v) js vs j (neither_left (has_number j js) (numbers_repeat js) r) ∙ get_or-set_same row j v Null (omega arith) in
+    not_filled (slice_set row j v) js vs j (neither_left (has_number j js) (numbers_repeat js) r)
+    ∙ get_or-set_same row j v Null (omega arith) in
     let rest : map (cell (filled (slice_set row j v) js vs)) js ≡ vs =
-    filled_cells d (slice_set row j v) js vs (length-set row j v ∙ n) (omega arith) (and_right (is_open d j) (list_all (is_open d) js) o) (neither_right (has_number j js) (numbers_repeat js) r) in
+    filled_cells d (slice_set row j v) js vs (length-set row j v
+    ∙ n) (omega arith) (and_right (is_open d j) (list_all (is_open d) js) o)
+    (neither_right (has_number j js) (numbers_repeat js) r) in
     λ i. here i ∷ rest i
 
 -- ---- the stored cells
@@ -69,49 +77,66 @@ pub length-row : (d : TableDef) (js : List ℕ) (vs : Row) → length (new_row d
 length-row d js vs = length-filled (replicate (length d.columns) Null) js vs ∙ length-replicate (length d.columns) Null
 
 -- the cells of the columns that are not generated, in order
-pub kept_cells : (d : TableDef) (row : Row) → IsDefinition d → length row ≡ length d.columns → without_generated d.system row ≡ map (cell row) (all_assignable d)
+pub kept_cells : (d : TableDef) (row : Row) → IsDefinition d → length row ≡ length d.columns
+    → without_generated d.system row ≡ map (cell row) (all_assignable d)
 kept_cells d row s k =
     without_is d.system row
-    ∙ subst (λ n. kept d.system row ≡ map (cell row) (filter (λ i. not (has_number i (generated_columns d.system))) (range_with_len 0 n))) k
+    ∙ subst (λ n. kept d.system row ≡ map (cell row)
+    (filter (λ i. not (has_number i (generated_columns d.system))) (range_with_len 0 n))) k
     (kept_law Null d.system row (subst (λ n. has_system d.system n ≡ true) (sym k) (has_its_system d s)))
 
-stored_law : (d : TableDef) (js : List ℕ) (vs : Row) → IsDefinition d → stored_cells d js vs ≡ map (cell (new_row d js vs)) (all_assignable d)
+stored_law : (d : TableDef) (js : List ℕ) (vs : Row) → IsDefinition d
+    → stored_cells d js vs ≡ map (cell (new_row d js vs)) (all_assignable d)
 stored_law d js vs s = kept_cells d (new_row d js vs) s (length-row d js vs)
 
 -- a new row whose values are given for all its columns in order
-pub usual_row : (d : TableDef) (js : List ℕ) (vs : Row) → IsDefinition d → js ≡ all_assignable d → are_assignable d js ≡ true → length vs ≡ length js → stored_cells d js vs ≡ vs
+pub usual_row : (d : TableDef) (js : List ℕ) (vs : Row) → IsDefinition d → js ≡ all_assignable d
+    → are_assignable d js ≡ true → length vs ≡ length js → stored_cells d js vs ≡ vs
 usual_row d js vs s e a k =
     stored_law d js vs s ∙ ap (map (cell (new_row d js vs))) (sym e)
     ∙ filled_cells d (replicate (length d.columns) Null) js vs (length-replicate (length d.columns) Null) k
     (and_left (list_all (is_open d) js) _ a) (not_is (numbers_repeat js) (and_right (list_all (is_open d) js) _ a))
 
-pub length-stored : (d : TableDef) (js : List ℕ) (vs : Row) → IsDefinition d → length (stored_cells d js vs) ≡ length (all_assignable d)
+pub length-stored : (d : TableDef) (js : List ℕ) (vs : Row) → IsDefinition d
+    → length (stored_cells d js vs) ≡ length (all_assignable d)
 length-stored d js vs s = ap length (stored_law d js vs s) ∙ length-map (all_assignable d) (cell (new_row d js vs))
 
 -- the generated columns are two of a row of all columns
-pub system_fits : (d : TableDef) (s : Option System) (n : ℕ) → IsDefinition d → s ≡ d.system → n ≡ length d.columns → IsTrue (has_system s n)
+pub system_fits : (d : TableDef) (s : Option System) (n : ℕ) → IsDefinition d → s ≡ d.system → n ≡ length d.columns
+    → IsTrue (has_system s n)
 system_fits d s n right e w = (λ i. has_system (e i) (w i)) ∙ has_its_system d right
 
 -- ---- values that have texts
 
-printable_filled : (row : Row) (js : List ℕ) (vs : Row) → All IsPrintable row → All IsPrintable vs → All IsPrintable (filled row js vs)
+printable_filled : (row : Row) (js : List ℕ) (vs : Row) → All IsPrintable row → All IsPrintable vs
+    → All IsPrintable (filled row js vs)
 printable_filled row [] vs p q = p
 printable_filled row (j ∷ js) [] p q = p
 printable_filled row (j ∷ js) (v ∷ vs) p q =
-    printable_filled (slice_set row j v) js vs (All-set IsPrintable row j v (All-head IsPrintable v vs q) p) (All-tail IsPrintable v vs q)
+    printable_filled (slice_set row j v) js vs (All-set IsPrintable row j v (All-head IsPrintable v vs q) p)
+    (All-tail IsPrintable v vs q)
 
 -- what is stored
-pub stored_prints : (d : TableDef) (js : List ℕ) (vs : Row) → IsDefinition d → All IsPrintable vs → All IsPrintable (stored_cells d js vs)
+pub stored_prints : (d : TableDef) (js : List ℕ) (vs : Row) → IsDefinition d → All IsPrintable vs
+    → All IsPrintable (stored_cells d js vs)
 stored_prints d js vs s h =
     let row = new_row d js vs in
-    let printable : All IsPrintable row = printable_filled (replicate (length d.columns) Null) js vs (All-replicate IsPrintable (length d.columns) Null tt) h in
-    subst (All IsPrintable) (sym (stored_law d js vs s)) (All-map IsPrintable (cell row) (all_assignable d) (λ k i l. printable_cell row (slice_index_or (all_assignable d) k i) printable))
+    let printable : All IsPrintable row =
+    printable_filled (replicate (length d.columns) Null) js vs
+    (All-replicate IsPrintable (length d.columns) Null tt) h in
+    subst (All IsPrintable) (sym (stored_law d js vs s))
+    (All-map IsPrintable (cell row) (all_assignable d)
+    (λ k i l. printable_cell row (slice_index_or (all_assignable d) k i) printable))
 
 -- new rows whose values are given for all columns in order
-pub usual_rows : {A : Type 0} (d : TableDef) (js : List ℕ) (tuples : List (Vec Value A)) → IsDefinition d → js ≡ all_assignable d → are_assignable d js ≡ true
-    → list_all (λ (t : Vec Value A). nat_eq (length t.items) (length js)) tuples ≡ true → rows_of tuples ≡ map (stored_cells d js) (rows_of tuples)
+pub usual_rows : {A : Type 0} (d : TableDef) (js : List ℕ) (tuples : List (Vec Value A)) → IsDefinition d
+    → js ≡ all_assignable d → are_assignable d js ≡ true
+    → list_all (λ (t : Vec Value A). nat_eq (length t.items) (length js)) tuples ≡ true
+    → rows_of tuples ≡ map (stored_cells d js) (rows_of tuples)
 usual_rows d js [] s e a h = refl
 usual_rows {A} d js (t ∷ ts) s e a h =
-    let wide : length t.items ≡ length js = eqb-true (length t.items) (length js) (and_left (nat_eq (length t.items) (length js)) _ h) in
-    let here : row_of t.items ≡ stored_cells d js (row_of t.items) = sym (usual_row d js (row_of t.items) s e a (length-map t.items datum_of_value ∙ wide)) in
+    let wide : length t.items ≡ length js =
+    eqb-true (length t.items) (length js) (and_left (nat_eq (length t.items) (length js)) _ h) in
+    let here : row_of t.items ≡ stored_cells d js (row_of t.items) =
+    sym (usual_row d js (row_of t.items) s e a (length-map t.items datum_of_value ∙ wide)) in
     λ i. here i ∷ usual_rows d js ts s e a (and_right (nat_eq (length t.items) (length js)) _ h) i

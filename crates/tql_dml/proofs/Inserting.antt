@@ -25,7 +25,8 @@ abbrev pub new_faults : TableDef → ℤ → List ℕ → List Row → List spec
 new_faults d m columns tuples = flat_map (λ r. row_faults d (shown d r)) (new_rows d m columns tuples)
 
 -- the cells of the new rows
-pub new_cells : (d : TableDef) (m : ℤ) (js : List ℕ) (tuples : List Row) → map (λ (r : Stamped). r.cells) (new_rows d m js tuples) ≡ map (stored_cells d js) tuples
+pub new_cells : (d : TableDef) (m : ℤ) (js : List ℕ) (tuples : List Row)
+    → map (λ (r : Stamped). r.cells) (new_rows d m js tuples) ≡ map (stored_cells d js) tuples
 new_cells d m js [] = refl
 new_cells d m js (vs ∷ tuples) = ap {B = List Row} (λ rows. stored_cells d js vs ∷ rows) (new_cells d m js tuples)
 
@@ -37,15 +38,19 @@ kept_columns d s = kept_law no_column d.system d.columns (has_its_system d s)
 one_row : (d : TableDef) (m : ℤ) (js : List ℕ) (vs : Row) → IsDefinition d
     → row_faults d (shown d (stamped d m (new_row d js vs))) ≡ stored_faults d (stored_cells d js vs)
 one_row d m js vs s =
-    let wide : length (stored_cells d js vs) ≡ length (kept d.system d.columns) = length-stored d js vs s ∙ sym (length-map (all_assignable d) _) ∙ ap length (sym (kept_columns d s)) in
+    let wide : length (stored_cells d js vs) ≡ length (kept d.system d.columns) = length-stored d js vs s
+    ∙ sym (length-map (all_assignable d) _) ∙ ap length (sym (kept_columns d s)) in
     plain_faults d (stamped d m (new_row d js vs)) s wide
-    ∙ ap (λ cs. cell_faults cs (stored_cells d js vs) ++ fault_if (has_falling_period d (stored_cells d js vs)) PeriodNotRising) (kept_columns d s)
+    ∙ ap (λ cs. cell_faults cs (stored_cells d js vs) ++ fault_if (has_falling_period d (stored_cells d js vs))
+    PeriodNotRising) (kept_columns d s)
 
-faults_are : (d : TableDef) (m : ℤ) (js : List ℕ) (tuples : List Row) → IsDefinition d → new_faults d m js tuples ≡ rows_faults d (map (stored_cells d js) tuples)
+faults_are : (d : TableDef) (m : ℤ) (js : List ℕ) (tuples : List Row) → IsDefinition d
+    → new_faults d m js tuples ≡ rows_faults d (map (stored_cells d js) tuples)
 faults_are d m js [] s = refl
 faults_are d m js (vs ∷ tuples) s = λ i. one_row d m js vs s i ++ faults_are d m js tuples s i
 
 -- the first fault of the new rows, from that of what is stored
-pub first_of : (d : TableDef) (m : ℤ) (js : List ℕ) (tuples rows : List Row) (o : Option spec.Refusal) → IsDefinition d → rows ≡ map (stored_cells d js) tuples
+pub first_of : (d : TableDef) (m : ℤ) (js : List ℕ) (tuples rows : List Row) (o : Option spec.Refusal)
+    → IsDefinition d → rows ≡ map (stored_cells d js) tuples
     → o ≡ first (rows_faults d rows) → first (new_faults d m js tuples) ≡ o
 first_of d m js tuples rows o s e f = ap first (faults_are d m js tuples s ∙ ap (rows_faults d) (sym e)) ∙ sym f

@@ -1,5 +1,7 @@
 -- A list without its generated places, told by removals and by numbers.
-use Rattle.std.specs.Prelude.{◌≡◌, refl, ℕ, zero, suc, ◌+◌, ◌<◌, ◌≤◌, ◌≢◌, Bool, true, false, not, cond, ◌&&◌, ◌||◌, ◌==◌, nat_lt, List, [], ◌∷◌, map, filter, length, remove, slice_index_or, Option, Some, None, if◌then◌else◌}
+use Rattle.std.specs.Prelude.{◌≡◌, refl, ℕ, zero, suc, ◌+◌, ◌<◌, ◌≤◌, ◌≢◌, Bool, true, false, not, cond, ◌&&◌, ◌||◌}
+use Rattle.std.specs.Prelude.{◌==◌, nat_lt, List, [], ◌∷◌, map, filter, length, remove, slice_index_or, Option, Some}
+use Rattle.std.specs.Prelude.{None, if◌then◌else◌}
 use Rattle.std.specs.List.{range_with_len}
 use Rattle.std.proofs.Common.{sym, ap, ◌∙◌, arith, eq-eqb, ne_eqb}
 use Rattle.std.proofs.lemmas.List.Edits.{length-remove}
@@ -14,14 +16,17 @@ abbrev pub except : {X : Type 0} → (ℕ → Bool) → ℕ → List X → List 
 except t a [] = []
 except t a (x ∷ xs) = if t a then except t (a + 1) xs else x ∷ except t (a + 1) xs
 
-picked : {X : Type 0} (t : ℕ → Bool) (f : ℕ → X) (z : X) (a : ℕ) (xs : List X) → ((k : ℕ) → k < length xs → f (a + k) ≡ slice_index_or xs k z)
+picked : {X : Type 0} (t : ℕ → Bool) (f : ℕ → X) (z : X) (a : ℕ) (xs : List X)
+    → ((k : ℕ) → k < length xs → f (a + k) ≡ slice_index_or xs k z)
     → map f (filter (λ i. not (t i)) (range_with_len a (length xs))) ≡ except t a xs
 picked t f z a [] h = refl
 picked {X} t f z a (x ∷ xs) h =
     let is : List ℕ = filter (λ i. not (t i)) (range_with_len (a + 1) (length xs)) in
     let here : f a ≡ x = ap f (omega arith) ∙ h 0 (omega arith) in
-    let rest : map f is ≡ except t (a + 1) xs = picked t f z (a + 1) xs (λ k l. ap f (omega arith) ∙ h (suc k) (omega arith)) in
-    elim (t a) as (λ b. map f (cond (not b) (a ∷ is) is) ≡ (if b then except t (a + 1) xs else x ∷ except t (a + 1) xs)) [
+    let rest : map f is ≡ except t (a + 1) xs = picked t f z (a + 1) xs (λ k l. ap f (omega arith)
+    ∙ h (suc k) (omega arith)) in
+    elim (t a) as (λ b. map f (cond (not b) (a ∷ is) is) ≡
+    (if b then except t (a + 1) xs else x ∷ except t (a + 1) xs)) [
       | true ↦ rest
       | false ↦ λ i. here i ∷ rest i
     ]
@@ -34,7 +39,8 @@ none_told t a (x ∷ xs) h =
     rw here (ap (λ ys. x ∷ ys) (none_told t (a + 1) xs (λ k. ap t (omega arith) ∙ h (suc k))))
 
 -- a test that tells one place
-one_told : {X : Type 0} (t : ℕ → Bool) (a k : ℕ) (xs : List X) → k < length xs → t (a + k) ≡ true → ((j : ℕ) → j ≢ k → t (a + j) ≡ false)
+one_told : {X : Type 0} (t : ℕ → Bool) (a k : ℕ) (xs : List X) → k < length xs → t (a + k) ≡ true
+    → ((j : ℕ) → j ≢ k → t (a + j) ≡ false)
     → remove xs k ≡ except t a xs
 one_told t a k [] l e h = absurd (omega arith)
 one_told t a zero (x ∷ xs) l e h =
@@ -42,19 +48,23 @@ one_told t a zero (x ∷ xs) l e h =
     rw here (none_told t (a + 1) xs (λ k. ap t (omega arith) ∙ h (suc k) (λ q. omega arith)))
 one_told t a (suc k) (x ∷ xs) l e h =
     let here : t a ≡ false = ap t (omega arith) ∙ h 0 (λ q. omega arith) in
-    rw here (ap (λ ys. x ∷ ys) (one_told t (a + 1) k xs (omega arith) (ap t (omega arith) ∙ e) (λ j q. ap t (omega arith) ∙ h (suc j) (λ r. q (omega arith)))))
+    rw here (ap (λ ys. x ∷ ys) (one_told t (a + 1) k xs (omega arith) (ap t (omega arith)
+    ∙ e) (λ j q. ap t (omega arith) ∙ h (suc j) (λ r. q (omega arith)))))
 
 -- a test that tells two places
-two_told : {X : Type 0} (t : ℕ → Bool) (a i j : ℕ) (xs : List X) → i < j → j < length xs → t (a + i) ≡ true → t (a + j) ≡ true
+two_told : {X : Type 0} (t : ℕ → Bool) (a i j : ℕ) (xs : List X) → i < j → j < length xs → t (a + i) ≡ true
+    → t (a + j) ≡ true
     → ((k : ℕ) → k ≢ i → k ≢ j → t (a + k) ≡ false) → remove (remove xs j) i ≡ except t a xs
 two_told t a i j [] l m e f h = absurd (omega arith)
 two_told t a i zero (x ∷ xs) l m e f h = absurd (omega arith)
 two_told t a zero (suc j) (x ∷ xs) l m e f h =
     let here : t a ≡ true = ap t (omega arith) ∙ e in
-    rw here (one_told t (a + 1) j xs (omega arith) (ap t (omega arith) ∙ f) (λ k q. ap t (omega arith) ∙ h (suc k) (λ r. omega arith) (λ r. q (omega arith))))
+    rw here (one_told t (a + 1) j xs (omega arith) (ap t (omega arith) ∙ f) (λ k q. ap t (omega arith)
+    ∙ h (suc k) (λ r. omega arith) (λ r. q (omega arith))))
 two_told t a (suc i) (suc j) (x ∷ xs) l m e f h =
     let here : t a ≡ false = ap t (omega arith) ∙ h 0 (λ q. omega arith) (λ q. omega arith) in
-    rw here (ap (λ ys. x ∷ ys) (two_told t (a + 1) i j xs (omega arith) (omega arith) (ap t (omega arith) ∙ e) (ap t (omega arith) ∙ f)
+    rw here (ap (λ ys. x ∷ ys) (two_told t (a + 1) i j xs (omega arith) (omega arith) (ap t (omega arith)
+    ∙ e) (ap t (omega arith) ∙ f)
     (λ k q r. ap t (omega arith) ∙ h (suc k) (λ s. q (omega arith)) (λ s. r (omega arith)))))
 
 -- ---- the generated places
@@ -82,7 +92,8 @@ within s width h = record {
   start = ltb-true s.start width (and_left _ _ (and_left _ _ h));
   end = ltb-true s.end width (and_right _ _ (and_left (nat_lt s.start width && nat_lt s.end width) _ h));
   apart = λ e. let same : (s.start == s.end) ≡ true = eq-eqb s.start s.end e in
-      let other : (s.start == s.end) ≡ false = not_is (s.start == s.end) (and_right (nat_lt s.start width && nat_lt s.end width) _ h) in absurd cc;
+      let other : (s.start == s.end) ≡ false =
+      not_is (s.start == s.end) (and_right (nat_lt s.start width && nat_lt s.end width) _ h) in absurd cc;
 }
 
 -- the list without the generated places
@@ -104,15 +115,18 @@ not_told : (s : System) (i : ℕ) → i ≢ s.start → i ≢ s.end → has_numb
 not_told s i p q = rw (ne_eqb i s.start p, ne_eqb i s.end q) refl
 
 kept_of : {X : Type 0} (s : System) (xs : List X) (b : Bool) → nat_lt s.start s.end ≡ b → Within s (length xs)
-    → (if b then remove (remove xs s.end) s.start else remove (remove xs s.start) s.end) ≡ except (λ i. has_number i (generated_columns (Some s))) 0 xs
+    → (if b then remove (remove xs s.end) s.start else remove (remove xs s.start) s.end) ≡ except
+    (λ i. has_number i (generated_columns (Some s))) 0 xs
 kept_of s xs true e w =
-    two_told (λ i. has_number i (generated_columns (Some s))) 0 s.start s.end xs (ltb-true s.start s.end e) w.end (told_start s (0 + s.start) (omega arith)) (told_end s (0 + s.end) (omega arith))
+    two_told (λ i. has_number i (generated_columns (Some s))) 0 s.start s.end xs (ltb-true s.start s.end e) w.end
+    (told_start s (0 + s.start) (omega arith)) (told_end s (0 + s.end) (omega arith))
     (λ k p q. not_told s (0 + k) (λ r. p (omega arith)) (λ r. q (omega arith)))
 kept_of s xs false e w =
     let most : s.end ≤ s.start = ltb-false s.start s.end e in
     let apart : s.start ≢ s.end = w.apart in
     let le : s.end < s.start = omega arith in
-    two_told (λ i. has_number i (generated_columns (Some s))) 0 s.end s.start xs le w.start (told_end s (0 + s.end) (omega arith)) (told_start s (0 + s.start) (omega arith))
+    two_told (λ i. has_number i (generated_columns (Some s))) 0 s.end s.start xs le w.start
+    (told_end s (0 + s.end) (omega arith)) (told_start s (0 + s.start) (omega arith))
     (λ k p q. not_told s (0 + k) (λ r. q (omega arith)) (λ r. p (omega arith)))
 
 all_filtered : (xs : List ℕ) → filter (λ i. not (has_number i [])) xs ≡ xs
@@ -121,12 +135,16 @@ all_filtered (x ∷ xs) = ap {B = List ℕ} (λ ys. x ∷ ys) (all_filtered xs)
 
 -- what is kept stands at the numbers that are not generated
 pub kept_law : {X : Type 0} (z : X) (s : Option System) (xs : List X) → has_system s (length xs) ≡ true
-    → kept s xs ≡ map (λ i. slice_index_or xs i z) (filter (λ i. not (has_number i (generated_columns s))) (range_with_len 0 (length xs)))
+    → kept s xs ≡ map (λ i. slice_index_or xs i z)
+    (filter (λ i. not (has_number i (generated_columns s))) (range_with_len 0 (length xs)))
 kept_law z None xs h =
-    none_told (λ i. false) 0 xs (λ k. refl) ∙ sym (picked (λ i. false) (λ i. slice_index_or xs i z) z 0 xs (λ k l. ap (λ i. slice_index_or xs i z) (omega arith)))
+    none_told (λ i. false) 0 xs (λ k. refl)
+    ∙ sym (picked (λ i. false) (λ i. slice_index_or xs i z) z 0 xs
+    (λ k l. ap (λ i. slice_index_or xs i z) (omega arith)))
 kept_law z (Some s) xs h =
     kept_of s xs (nat_lt s.start s.end) refl (within s (length xs) h)
-    ∙ sym (picked (λ i. has_number i (generated_columns (Some s))) (λ i. slice_index_or xs i z) z 0 xs (λ k l. ap (λ i. slice_index_or xs i z) (omega arith)))
+    ∙ sym (picked (λ i. has_number i (generated_columns (Some s))) (λ i. slice_index_or xs i z) z 0 xs
+    (λ k l. ap (λ i. slice_index_or xs i z) (omega arith)))
 
 -- two of the places are generated
 pub two_less : {X : Type 0} (s : System) (xs : List X) (b : Bool) → nat_lt s.start s.end ≡ b → Within s (length xs)

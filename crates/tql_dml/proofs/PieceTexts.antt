@@ -53,7 +53,7 @@ start_prints d a row other q ends h k p from to = by_kinds (column_kind d a.star
         let of_row = own_points.days d a row q h.kinds h.period in
         let of_other = own_points.days d a other q k.kinds k.period in
         let low : IsDay (period_of d row).start =
-            subst IsPrintable (of_row.0 s) (printable_cell row a.start h.prints) in
+        subst IsPrintable (of_row.0 s) (printable_cell row a.start h.prints) in
         let up : IsDay (period_of d row).end = subst IsPrintable (of_row.1 e) (printable_cell row a.end h.prints) in
         let day : IsDay p = day_between (period_of d row).start (period_of d row).end p low up from to in (
           subst (λ v. IsPrintable (point_like v p)) (sym (of_other.0 s)) day,
@@ -63,7 +63,7 @@ start_prints d a row other q ends h k p from to = by_kinds (column_kind d a.star
         let of_row = own_points.moments d a row q h.kinds h.period in
         let of_other = own_points.moments d a other q k.kinds k.period in
         let low : IsMoment (period_of d row).start =
-            subst IsPrintable (of_row.0 s) (printable_cell row a.start h.prints) in
+        subst IsPrintable (of_row.0 s) (printable_cell row a.start h.prints) in
         let up : IsMoment (period_of d row).end = subst IsPrintable (of_row.1 e) (printable_cell row a.end h.prints) in
         let moment : IsMoment p = moment_between (period_of d row).start (period_of d row).end p low up from to in (
           subst (λ v. IsPrintable (point_like v p)) (sym (of_other.0 s)) moment,
@@ -89,9 +89,9 @@ within_prints d t row other h k p w = by_application d.application refl
     by_application (Some a) q =
         let ends = (t.application a q).kinds in
         let first : IsPrintable (point_like (cell other a.start) p.start) =
-            (start_prints d a row other q ends h k p.start w.start_from w.start_to).0 in
+        (start_prints d a row other q ends h k p.start w.start_from w.start_to).0 in
         let last : IsPrintable (point_like (cell other a.end) p.end) =
-            (start_prints d a row other q ends h k p.end w.end_from w.end_to).1 in
+        (start_prints d a row other q ends h k p.end w.end_from w.end_to).1 in
         All-set IsPrintable _ a.end (point_like (cell other a.end) p.end) last
         (All-set IsPrintable other a.start (point_like (cell other a.start) p.start) first k.prints)
 
@@ -105,17 +105,30 @@ in_any x p m = by_rises (rises x) refl m
     by_rises false r m = absurd m
 
 before_within : (x : Period) (f : ℤ) → rises (before f x) ≡ true → LiesWithin x (before f x)
-before_within x f r = record { start_from = grind (arith, ints, clamps); start_to =
-    grind (arith, ints, clamps); end_from = grind (arith, ints, clamps); end_to = grind (arith, ints, clamps) }
+before_within x f r = record {
+  start_from = grind (arith, ints, clamps);
+  start_to = grind (arith, ints, clamps);
+  end_from = grind (arith, ints, clamps);
+  end_to = grind (arith, ints, clamps);
+}
 
 after_within : (x : Period) (g : ℤ) → rises (after g x) ≡ true → LiesWithin x (after g x)
-after_within x g r = record { start_from = grind (arith, ints, clamps); start_to =
-    grind (arith, ints, clamps); end_from = grind (arith, ints, clamps); end_to = grind (arith, ints, clamps) }
+after_within x g r = record {
+  start_from = grind (arith, ints, clamps);
+  start_to = grind (arith, ints, clamps);
+  end_from = grind (arith, ints, clamps);
+  end_to = grind (arith, ints, clamps);
+}
 
 inside_within : (x portion : Period) → share_a_point x portion ≡ true → LiesWithin x (inside portion x)
 inside_within x portion r =
-    record { start_from = grind (arith, ints, clamps); start_to = grind (arith, ints, clamps); end_from = grind
-    (arith, ints, clamps); end_to = grind (arith, ints, clamps) }
+    record {
+      start_from = grind (arith, ints, clamps);
+      start_to = grind (arith, ints, clamps);
+      end_from = grind
+          (arith, ints, clamps);
+      end_to = grind (arith, ints, clamps);
+    }
 
 -- the rows that replace a touched one
 pub pieces_print : (d : TableDef) → IsTypedDefinition d → (portion : Period) (work : Work)
@@ -128,14 +141,14 @@ pieces_print d t portion work w row h shared made e prints x m = elim
     (λ r. with_period d (inside portion y) r) made) rest m) [
       | inl n ↦ elim (in_either x (map (λ p. with_period d p row) (if_any (before portion.start y)))
           (map (λ r. with_period d (inside portion y) r) made) n) [
-        | inl i ↦ own (before portion.start y) (before_within y portion.start) i
-        | inr i ↦ let j = in_image (λ r. with_period d (inside portion y) r) x made i in
-            subst (All IsPrintable) (sym j.2) (within_prints d t row j.0 h (record {
-              kinds = made_kinds d (Some portion) work w row h.kinds made e j.0 j.1;
-              period = made_periods d portion work w row h.period made e j.0 j.1;
-              prints = prints j.0 j.1;
-            }) (inside portion y) (inside_within y portion shared))
-      ]
+            | inl i ↦ own (before portion.start y) (before_within y portion.start) i
+            | inr i ↦ let j = in_image (λ r. with_period d (inside portion y) r) x made i in
+                subst (All IsPrintable) (sym j.2) (within_prints d t row j.0 h (record {
+                  kinds = made_kinds d (Some portion) work w row h.kinds made e j.0 j.1;
+                  period = made_periods d portion work w row h.period made e j.0 j.1;
+                  prints = prints j.0 j.1;
+                }) (inside portion y) (inside_within y portion shared))
+          ]
       | inr i ↦ own (after portion.end y) (after_within y portion.end) i
     ]
   where
@@ -151,4 +164,4 @@ pieces_print d t portion work w row h shared made e prints x m = elim
         let i = in_image (λ p. with_period d p row) x (if_any p) n in
         let k = in_any p i.0 i.1 in
         subst (All IsPrintable) (sym (i.2
-            ∙ ap (λ z. with_period d z row) k.1)) (within_prints d t row row h h p (lies k.0))
+        ∙ ap (λ z. with_period d z row) k.1)) (within_prints d t row row h h p (lies k.0))

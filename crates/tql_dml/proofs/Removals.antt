@@ -1,7 +1,9 @@
 -- Values taken out of a row, told of their data; and values that are added one by one.
-use Rattle.std.specs.Prelude.{◌≡◌, refl, min, ℕ, suc, ◌+◌, ◌<◌, ◌≤◌, List, [], ◌∷◌, ◌++◌, map, take, drop, remove, length, replicate, Option, Some, option_map, Vec, slice_set, slice_index_or}
+use Rattle.std.specs.Prelude.{◌≡◌, refl, min, ℕ, suc, ◌+◌, ◌<◌, ◌≤◌, List, [], ◌∷◌, ◌++◌, map, take, drop, remove}
+use Rattle.std.specs.Prelude.{length, replicate, Option, Some, option_map, Vec, slice_set, slice_index_or}
 use Rattle.std.proofs.Common.{sym, ap, append_assoc, ◌∙◌, arith, lt-ltb}
-use Rattle.std.proofs.lemmas.List.{drop_more, drop-set-lt, map-append, take-map, drop-map, map_push, replicate_more, length-drop}
+use Rattle.std.proofs.lemmas.List.{drop_more, drop-set-lt, map-append, take-map, drop-map, map_push, replicate_more}
+use Rattle.std.proofs.lemmas.List.{length-drop}
 use borrow.Author.Tests.{le-ltb}
 use Rattle.tql_spec.specs.Datum.{Row, Null}
 use Rattle.tql_spec.specs.Definition.{without_generated}
@@ -16,39 +18,49 @@ pub row_remove : (values : List Value) (i : ℕ) → row_of (remove values i) �
 row_remove values i = map-append datum_of_value (take i values) (drop (suc i) values)
     ∙ (λ j. sym (take-map datum_of_value i values) j ++ sym (drop-map datum_of_value (suc i) values) j)
 
-both_removed : (old mid new : List Value) (i j : ℕ) → row_of mid ≡ remove (row_of old) i → row_of new ≡ remove (row_of mid) j → row_of new ≡ remove (remove (row_of old) i) j
+both_removed : (old mid new : List Value) (i j : ℕ) → row_of mid ≡ remove (row_of old) i
+    → row_of new ≡ remove (row_of mid) j → row_of new ≡ remove (remove (row_of old) i) j
 both_removed old mid new i j e f = f ∙ ap (λ r. remove r j) e
 
 -- ROW END stands further right
-pub end_removed_first : (o : Option System) (s : System) (old mid new : List Value) → o ≡ Some s → s.start < s.end → row_of mid ≡ remove (row_of old) s.end
+pub end_removed_first : (o : Option System) (s : System) (old mid new : List Value) → o ≡ Some s → s.start < s.end
+    → row_of mid ≡ remove (row_of old) s.end
     → row_of new ≡ remove (row_of mid) s.start → row_of new ≡ without_generated (option_map system_of o) (row_of old)
 end_removed_first o s old mid new e l f g = rw (e, lt-ltb s.start s.end l) (both_removed old mid new s.end s.start f g)
 
 -- ROW START stands further right
-pub start_removed_first : (o : Option System) (s : System) (old mid new : List Value) → o ≡ Some s → s.end ≤ s.start → row_of mid ≡ remove (row_of old) s.start
+pub start_removed_first : (o : Option System) (s : System) (old mid new : List Value) → o ≡ Some s → s.end ≤ s.start
+    → row_of mid ≡ remove (row_of old) s.start
     → row_of new ≡ remove (row_of mid) s.end → row_of new ≡ without_generated (option_map system_of o) (row_of old)
-start_removed_first o s old mid new e l f g = rw (e, le-ltb s.start s.end l) (both_removed old mid new s.start s.end f g)
+start_removed_first o s old mid new e l f g =
+    rw (e, le-ltb s.start s.end l) (both_removed old mid new s.start s.end f g)
 
 -- one more null
-pub one_more_null : (row : List Value) (v : Value) (n : ℕ) → datum_of_value v ≡ Null → row_of row ≡ replicate n Null → row_of (row ++ v ∷ []) ≡ replicate (n + 1) Null
+pub one_more_null : (row : List Value) (v : Value) (n : ℕ) → datum_of_value v ≡ Null → row_of row ≡ replicate n Null
+    → row_of (row ++ v ∷ []) ≡ replicate (n + 1) Null
 one_more_null row v n e f = map_push datum_of_value row v ∙ (λ i. f i ++ e i ∷ []) ∙ replicate_more n Null
 
 -- one more value in its column
-pub one_more_filled : (row new : List Value) (js : List ℕ) (values : List Value) (p : ℕ) (v w : Value) (all : Row) → p < length js → p < length values → v ≡ slice_index_or values p v
-    → row_of new ≡ slice_set (row_of row) (slice_index_or js p 0) (datum_of_value v) → filled (row_of row) (drop p js) (row_of (drop p values)) ≡ all
+pub one_more_filled : (row new : List Value) (js : List ℕ) (values : List Value) (p : ℕ) (v w : Value) (all : Row)
+    → p < length js → p < length values → v ≡ slice_index_or values p v
+    → row_of new ≡ slice_set (row_of row) (slice_index_or js p 0) (datum_of_value v)
+    → filled (row_of row) (drop p js) (row_of (drop p values)) ≡ all
     → filled (row_of new) (drop (p + 1) js) (row_of (drop (p + 1) (slice_set values p w))) ≡ all
 one_more_filled row new js values p v w all l k e m h =
-    let rest : drop p values ≡ v ∷ drop (p + 1) values = drop_more values p v k ∙ ap {B = List Value} (λ x. x ∷ drop (p + 1) values) (sym e) in
+    let rest : drop p values ≡ v ∷ drop (p + 1) values = drop_more values p v k
+    ∙ ap {B = List Value} (λ x. x ∷ drop (p + 1) values) (sym e) in
     (λ i. filled (m i) (drop (p + 1) js) (row_of (drop-set-lt (p + 1) values p w (omega arith) i)))
     ∙ sym (λ i. filled (row_of row) (drop_more js p 0 l i) (row_of (rest i))) ∙ h
 
-none_filled : (row : Row) (js : List ℕ) (values : List Value) → min (length js) (length values) ≤ 0 → filled row js (row_of values) ≡ row
+none_filled : (row : Row) (js : List ℕ) (values : List Value) → min (length js) (length values) ≤ 0
+    → filled row js (row_of values) ≡ row
 none_filled row [] values h = refl
 none_filled row (j ∷ js) [] h = refl
 none_filled row (j ∷ js) (v ∷ vs) h = absurd (omega arith)
 
 -- no value or no column is left
-pub all_filled : (row : Row) (js : List ℕ) (values : List Value) (p : ℕ) (all : Row) → min (length js) (length values) ≤ p
+pub all_filled : (row : Row) (js : List ℕ) (values : List Value) (p : ℕ) (all : Row)
+    → min (length js) (length values) ≤ p
     → filled row (drop p js) (row_of (drop p values)) ≡ all → row ≡ all
 all_filled row js values p all past h =
     sym (none_filled row (drop p js) (drop p values) (omega (arith, length-drop p js, length-drop p values))) ∙ h
@@ -56,12 +68,16 @@ all_filled row js values p all past h =
 -- ---- tuples one by one
 
 -- this tuple, and those behind it
-this_tuple : {A : Type 0} (items : List (Vec Value A)) (i : ℕ) (x : Vec Value A) → i < length items → x ≡ slice_index_or items i x → drop i items ≡ x ∷ drop (i + 1) items
+this_tuple : {A : Type 0} (items : List (Vec Value A)) (i : ℕ) (x : Vec Value A) → i < length items
+    → x ≡ slice_index_or items i x → drop i items ≡ x ∷ drop (i + 1) items
 this_tuple {A} items i x l e = drop_more items i x l ∙ ap {B = List (Vec Value A)} (λ y. y ∷ drop (i + 1) items) (sym e)
 
 -- one more row made of its tuple
-pub one_more_row : {A : Type 0} (f : Row → Row) (rows items made : List (Vec Value A)) (i : ℕ) (x y row : Vec Value A) (all : List Row) → i < length items → x ≡ slice_index_or items i x
-    → row_of row.items ≡ f (row_of x.items) → made ≡ rows ++ row ∷ [] → rows_of rows ++ map f (rows_of (drop i items)) ≡ all
+pub one_more_row : {A : Type 0} (f : Row
+    → Row) (rows items made : List (Vec Value A)) (i : ℕ) (x y row : Vec Value A) (all : List Row) → i < length items
+    → x ≡ slice_index_or items i x
+    → row_of row.items ≡ f (row_of x.items) → made ≡ rows ++ row ∷ []
+    → rows_of rows ++ map f (rows_of (drop i items)) ≡ all
     → rows_of made ++ map f (rows_of (drop (i + 1) (slice_set items i y))) ≡ all
 one_more_row f rows items made i x y row all l e m n h =
     let rest : List Row = map f (rows_of (drop (i + 1) items)) in

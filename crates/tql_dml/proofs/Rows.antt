@@ -1,4 +1,5 @@
--- The widths of rows: as they are stored, as they are shown, and of those that replace others; and the faults of rows of
+-- The widths of rows: as they are stored, as they are shown, and of those that replace others; and the faults of rows
+-- of
 -- their width.
 use Rattle.std.specs.Prelude.{◌≡◌, refl, ℕ, ◌+◌, ◌<◌, ◌≤◌, ◌≢◌, ℤ, Bool, true, false, nat_lt, List, [], ◌∷◌, ◌++◌}
 use Rattle.std.specs.Prelude.{map, length, insert, slice_set, All, Option, Some, None, ⊤, if◌then◌else◌}
@@ -104,7 +105,7 @@ touched_fits d portion work id row s h = at_made (made_of work row) refl
     at_made None e = tt
     at_made (Some made) e =
         All-from_recursion (λ (cells : Row). length cells ≡ stored_width d)
-            (map (without_generated d.system) (pieces d portion row made))
+        (map (without_generated d.system) (pieces d portion row made))
         (all_fit d (pieces d portion row made) s
         (λ x m. pieces_wide d portion row made (made_wide work row made e) x m ∙ h))
 
@@ -124,7 +125,7 @@ parts_fit d portion work conds (v ∷ vs) s h =
     let row : Row = shown d (version_of v).row in
     let wide : length row ≡ length d.columns =
     shown_width d (version_of v).row s (length-map v.row.now datum_of_value
-        ∙ All-head (λ (w : Version). length w.row.now ≡ stored_width d) v vs h) in
+    ∙ All-head (λ (w : Version). length w.row.now ≡ stored_width d) v vs h) in
     both_fit d (part_of d portion work conds v.id row) (parts d portion work conds vs)
     (where_fits d (is_touched d portion conds row) (touched_part d portion work v.id row)
     (touched_fits d portion work v.id row s wide))
@@ -138,9 +139,9 @@ pub stored_faults : (d : TableDef) (rs : List Stamped) → IsDefinition d → Fi
 stored_faults d [] s h = refl
 stored_faults d (r ∷ rs) s h =
     let wide : length r.cells ≡ length (kept d.system d.columns) =
-        All-head (λ (cells : Row). length cells ≡ stored_width d) r.cells _ h ∙ sym (kept_width d s) in
+    All-head (λ (cells : Row). length cells ≡ stored_width d) r.cells _ h ∙ sym (kept_width d s) in
     let here : row_faults d (shown d r) ≡ faults_of d r.cells =
     plain_faults d r s wide
-        ∙ ap (λ cs. cell_faults cs r.cells ++ fault_if (has_falling_period d r.cells) PeriodNotRising)
-        (kept_columns d s) in
+    ∙ ap (λ cs. cell_faults cs r.cells ++ fault_if (has_falling_period d r.cells) PeriodNotRising)
+    (kept_columns d s) in
     λ i. here i ++ stored_faults d rs s (All-tail (λ (cells : Row). length cells ≡ stored_width d) r.cells _ h) i

@@ -61,10 +61,10 @@ assigned_prints : (t : Terms) (old row : Row) (sets : List Assignment) → All I
 assigned_prints t old row [] h k = k
 assigned_prints t old row (a ∷ rest) h k =
     let set : OptionPrints (eval [] old (expr t a.value))
-        → RowPrints (eval [] old (expr t a.value) >>= λ v. assigned old (slice_set row a.column v)
-        (map (assignment_of t) rest)) =
+    → RowPrints (eval [] old (expr t a.value) >>= λ v. assigned old (slice_set row a.column v)
+    (map (assignment_of t) rest)) =
     elim (eval [] old (expr t a.value)) as (λ o. OptionPrints o
-        → RowPrints (o >>= λ v. assigned old (slice_set row a.column v) (map (assignment_of t) rest))) [
+    → RowPrints (o >>= λ v. assigned old (slice_set row a.column v) (map (assignment_of t) rest))) [
       | None ↦ λ p. tt
       | Some v ↦ λ p. assigned_prints t old (slice_set row a.column v) rest h (All-set IsPrintable row a.column v p k)
     ] in
@@ -107,7 +107,7 @@ made_print t (work.Set sets) row made h e x m =
     at_row (Some new) k q =
         let same : new ∷ [] ≡ made = cc in
         elim (subst (λ (xs : List Row). In x xs) (sym same) m)
-            [ inl z ↦ subst (All IsPrintable) (sym z) k | inr z ↦ absurd z ]
+        [ inl z ↦ subst (All IsPrintable) (sym z) k | inr z ↦ absurd z ]
 
 -- full rows, without their generated columns
 all_print : (d : TableDef) (rows : List Row) → ((x : Row) → In x rows → All IsPrintable x)
@@ -150,8 +150,8 @@ shares d portion conds row e = by_point (share_a_point (period_of d row) portion
 has_period : (d : TableDef) (v : Version) → IsVersionOf d v → HasPeriod d (shown d (version_of v).row)
 has_period d v f a q =
     let rising : RisesBy (Some a) (shown d (version_of v).row) =
-        subst (λ o. RisesBy o (shown d (version_of v).row)) q (f.cells.rising v.start high) in
-        (rising.start, rising.end)
+    subst (λ o. RisesBy o (shown d (version_of v).row)) q (f.cells.rising v.start high) in
+    (rising.start, rising.end)
 
 version_prints : (d : TableDef) (portion : Option Period) (t : Terms) (w : code.Work) (conds : List Cond)
     (v : Version) → IsVersionOf d v
@@ -160,7 +160,7 @@ version_prints : (d : TableDef) (portion : Option Period) (t : Terms) (w : code.
     → PartsPrint (part_of d portion (work_of t w) conds v.id (shown d (version_of v).row))
 version_prints d portion t w conds v f k =
     where_prints (is_touched d portion conds row) (touched_part d portion (work_of t w) v.id row)
-        (λ q. touched_print d portion (work_of t w) v.id row (by_portion portion k q))
+    (λ q. touched_print d portion (work_of t w) v.id row (by_portion portion k q))
   where
     row : Row
     row = shown d (version_of v).row
@@ -176,7 +176,7 @@ version_prints d portion t w conds v f k =
     by_portion (Some p) k q made e x m =
         let typed = k refl in
         pieces_print d typed.0 p (work_of t w) typed.1 row
-            (record { kinds = typed.2; period = has_period d v f; prints = prints }) (shares d p conds row q) made e
+        (record { kinds = typed.2; period = has_period d v f; prints = prints }) (shares d p conds row q) made e
         (made_print t w row made prints e) x m
 
 parts_print : (d : TableDef) (portion : Option Period) (t : Terms) (w : code.Work) (conds : List Cond)

@@ -47,11 +47,11 @@ touch_is d portion work id row cut k p q s first second = by_made (made_of work 
     by_made (Some made) e =
         let m : List Row = map (within d part) made in
         let q_is : q ≡ record { gone = p.gone ++ id ∷ []; come = p.come ++ map stored b } =
-            inner (record { gone = p.gone ++ id ∷ []; come = p.come ++ map stored b }) q first in
+        inner (record { gone = p.gone ++ id ∷ []; come = p.come ++ map stored b }) q first in
         let s_is : s ≡ record { gone = q.gone; come = q.come ++ map stored m } =
-            inner (record { gone = q.gone; come = q.come ++ map stored m }) s e in
+        inner (record { gone = q.gone; come = q.come ++ map stored m }) s e in
         let lists : ((p.come ++ map stored b) ++ map stored m) ++ map stored a ≡ p.come ++ map stored
-            (pieces d portion row made) =
+        (pieces d portion row made) =
         append_assoc (p.come ++ map stored b) (map stored m) (map stored a)
         ∙ append_assoc p.come (map stored b) (map stored m ++ map stored a)
         ∙ ap (λ (rows : List Row). p.come ++ rows)

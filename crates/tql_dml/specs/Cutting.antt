@@ -36,14 +36,15 @@ abbrev pub made_cells : TableDef → Option Period → Work → Row → Option (
 made_cells d part work row =
     made_of work row >>= λ made. Some (map (without_generated d.system) (map (within d part) made))
 
--- a row that can be touched: what replaces it are its old values before the portion, what it becomes within, and its old
+-- a row that can be touched: what replaces it are its old values before the portion, what it becomes within, and its
+-- old
 -- values after
 pub record IsCut (d : TableDef) (portion : Option Period) (row : Row) (cut : Pieces) : Type 0 where
   pub reached : reaches d portion row ≡ true
   pub replaced : (made : List Row)
       → pieces d portion row made
       ≡ (left d row (points_of_piece cut.before) ++ map (within d (option_map points_of cut.inside)) made) ++ left d
-          row (points_of_piece cut.after)
+      row (points_of_piece cut.after)
 
 -- none where it can not
 abbrev pub Cuts : TableDef → Option Period → Row → Option Pieces → Type 0

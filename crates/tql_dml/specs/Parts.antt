@@ -34,7 +34,7 @@ with_rows p (Some rows) = Some (record { gone = p.gone; come = p.come ++ rows })
 abbrev pub touched_part : TableDef → Option Period → Work → ℕ → Row → Option Parts
 touched_part d portion work id row =
     made_of work row >>= λ made. Some
-        (record { gone = id ∷ []; come = map (without_generated d.system) (pieces d portion row made) })
+    (record { gone = id ∷ []; come = map (without_generated d.system) (pieces d portion row made) })
 
 -- one that is not touched stays
 abbrev pub part_where : Bool → Option Parts → Option Parts

@@ -1,6 +1,8 @@
 -- What a question finds: the versions of the store, as rows that can be printed.
-use Rattle.std.proofs.Common.{◌≡◌, ℕ, zero, suc, Bool, true, false, cond, List, [], ◌∷◌, ◌++◌, map, filter, length, refl, sym, ap, subst, ◌∙◌, arith}
-use Rattle.std.specs.Prelude.{ℤ, pos, ◌+ℤ◌, ◌≤ℤ◌, ◌&&◌, not, int_le, int_lt, nat_lt, insert, slice_get, All, Option, Some, None, if◌then◌else◌}
+use Rattle.std.proofs.Common.{◌≡◌, ℕ, zero, suc, Bool, true, false, cond, List, [], ◌∷◌, ◌++◌, map, filter, length}
+use Rattle.std.proofs.Common.{refl, sym, ap, subst, ◌∙◌, arith}
+use Rattle.std.specs.Prelude.{ℤ, pos, ◌+ℤ◌, ◌≤ℤ◌, ◌&&◌, not, int_le, int_lt, nat_lt, insert, slice_get, All, Option}
+use Rattle.std.specs.Prelude.{Some, None, if◌then◌else◌}
 use Rattle.std.specs.List.{AllByRecursion}
 use Rattle.std.specs.Ordering.{is_gt}
 use Rattle.std.specs.declared.cmp.Ordering.{Ordering}
@@ -10,7 +12,9 @@ use Rattle.tql_spec.specs.Words.{listed}
 use Rattle.tql_spec.specs.Calendar.{first_moment, high}
 use Rattle.tql_spec.specs.Datum.{Datum, Moment, Row}
 use Rattle.tql_spec.specs.Definition.{Stamped, Version, System, TableDef, table_at, with_generated, full}
-use Rattle.tql_spec.specs.History.{Copy, Entry, TableEntry, When, Now, AsOf, FromTo, Between, FallingFrom, has_row, has_version, rows_in, table_history, completed, ends_before, still, meets, as_of_from, found_from, found, versions}
+use Rattle.tql_spec.specs.History.{Copy, Entry, TableEntry, When, Now, AsOf, FromTo, Between, FallingFrom, has_row}
+use Rattle.tql_spec.specs.History.{has_version, rows_in, table_history, completed, ends_before, still, meets}
+use Rattle.tql_spec.specs.History.{as_of_from, found_from, found, versions}
 use Rattle.tql_spec.specs.Machine.{State, entries}
 use Rattle.tql_spec.specs.Query.{OrderKey, placed, row_order, in_order}
 use Rattle.tql_catalog.specs.Tables.{definitions_of}
@@ -28,7 +32,8 @@ use Rattle.tql_engine.proofs.Copies.{history_found}
 -- ---- rows
 
 -- the rows of a table in a copy that fits
-pub rows_fit : (ps : List Table) (t : ℕ) (p : Table) → slice_get ps t ≡ Some p → (copy : Copy) → CopyFits (definitions_of ps) copy → RowsFit p.definition (rows_in copy t)
+pub rows_fit : (ps : List Table) (t : ℕ) (p : Table) → slice_get ps t ≡ Some p → (copy : Copy)
+    → CopyFits (definitions_of ps) copy → RowsFit p.definition (rows_in copy t)
 rows_fit [] t p e copy f = cc
 rows_fit (q ∷ ps) t p e [] f = absurd f
 rows_fit (q ∷ ps) zero p e (rows ∷ copy) f = subst (λ (x : Table). RowsFit x.definition rows) (some_is q p e) f.0
@@ -61,17 +66,26 @@ before_in false m n a b = b
 still_in : EndsInCalendar still
 still_in r = (omega (arith, ints), omega (arith, ints))
 
-ends_in : (e : TableEntry) (ends : Stamped → ℤ) → IsMoment e.moment → EndsInCalendar ends → EndsInCalendar (ends_before e ends)
+ends_in : (e : TableEntry) (ends : Stamped → ℤ) → IsMoment e.moment → EndsInCalendar ends
+    → EndsInCalendar (ends_before e ends)
 ends_in e ends m k r = before_in (has_row e.rows r) (ends r) e.moment (k r) m
 
 module _ (p : TableDef) where
-  completed_fit : (ends : Stamped → ℤ) (rows : List Stamped) → EndsInCalendar ends → RowsFit p rows → VersionsFit p (completed ends rows)
+  completed_fit : (ends : Stamped → ℤ) (rows : List Stamped) → EndsInCalendar ends → RowsFit p rows
+      → VersionsFit p (completed ends rows)
   completed_fit ends [] k f = tt
   completed_fit ends (r ∷ rows) k f =
-      let below = f.0.below in
-      (record { cells = f.0.cells; start = (f.0.not_before, omega (arith, ints)); end = k r }, completed_fit ends rows k f.1)
+      let below = f.0.below in (
+        record {
+          cells = f.0.cells;
+          start = (f.0.not_before, omega (arith, ints));
+          end = k r;
+        },
+        completed_fit ends rows k f.1,
+      )
 
-  either_fit : (b : Bool) (xs ys : List Version) → VersionsFit p xs → VersionsFit p ys → VersionsFit p (if b then xs else ys)
+  either_fit : (b : Bool) (xs ys : List Version) → VersionsFit p xs → VersionsFit p ys
+      → VersionsFit p (if b then xs else ys)
   either_fit true xs ys f g = f
   either_fit false xs ys f g = g
 
@@ -92,20 +106,25 @@ module _ (p : TableDef) where
     abbrev here : Entry → TableEntry
     here e = record { moment = e.moment; rows = rows_in e.copy i }
 
-    as_of_fit : (until : ℤ) (ends : Stamped → ℤ) (m : ℤ) (es : List Entry) → EndsInCalendar ends → EntriesFit ps es → VersionsFit p (as_of_from until ends m (table_history i es))
+    as_of_fit : (until : ℤ) (ends : Stamped → ℤ) (m : ℤ) (es : List Entry) → EndsInCalendar ends → EntriesFit ps es
+        → VersionsFit p (as_of_from until ends m (table_history i es))
     as_of_fit until ends m [] k f = tt
     as_of_fit until ends m (e ∷ es) k f =
-        either_fit (int_le e.moment m && int_lt m until) (completed ends (rows_in e.copy i)) (as_of_from e.moment (ends_before (here e) ends) m (table_history i es))
+        either_fit (int_le e.moment m && int_lt m until) (completed ends (rows_in e.copy i))
+        (as_of_from e.moment (ends_before (here e) ends) m (table_history i es))
         (completed_fit ends (rows_in e.copy i) k (rows e.copy f.0))
         (as_of_fit e.moment (ends_before (here e) ends) m es (ends_in (here e) ends f.1.0 k) f.1.1)
 
-    range_fit : (until : ℤ) (ends : Stamped → ℤ) (a b : ℤ) (es : List Entry) → EndsInCalendar ends → EntriesFit ps es → VersionsFit p (found_from until ends a b (table_history i es))
+    range_fit : (until : ℤ) (ends : Stamped → ℤ) (a b : ℤ) (es : List Entry) → EndsInCalendar ends → EntriesFit ps es
+        → VersionsFit p (found_from until ends a b (table_history i es))
     range_fit until ends a b [] k f = tt
     range_fit until ends a b (e ∷ es) k f =
         let earlier : List Version = found_from e.moment (ends_before (here e) ends) a b (table_history i es) in
         let now : List Version = if meets a b e.moment until then completed ends (rows_in e.copy i) else [] in
         both_fit (filter (λ v. not (has_version earlier v.row)) now) earlier
-        (some_fit (λ v. not (has_version earlier v.row)) now (either_fit (meets a b e.moment until) (completed ends (rows_in e.copy i)) [] (completed_fit ends (rows_in e.copy i) k (rows e.copy f.0)) tt))
+        (some_fit (λ v. not (has_version earlier v.row)) now
+        (either_fit (meets a b e.moment until) (completed ends (rows_in e.copy i)) []
+        (completed_fit ends (rows_in e.copy i) k (rows e.copy f.0)) tt))
         (range_fit e.moment (ends_before (here e) ends) a b es (ends_in (here e) ends f.1.0 k) f.1.1)
 
     now_fit : (es : List Entry) → EntriesFit ps es → VersionsFit p (found Now (table_history i es))
@@ -120,7 +139,8 @@ module _ (p : TableDef) where
 
 -- ---- what an engine that stands for a state finds
 
-past_fit : (ps : List TableDef) (bound : ℤ) (es : List Entry) → bound ≤ℤ high → AreSince first_moment es → FallingFrom bound es → HistoryFits ps es → EntriesFit ps es
+past_fit : (ps : List TableDef) (bound : ℤ) (es : List Entry) → bound ≤ℤ high → AreSince first_moment es
+    → FallingFrom bound es → HistoryFits ps es → EntriesFit ps es
 past_fit ps bound [] top since falls f = tt
 past_fit ps bound (e ∷ es) top since falls f =
     let below = falls.0 in
@@ -128,8 +148,10 @@ past_fit ps bound (e ∷ es) top since falls f =
     (f.0, ((since.0, under), past_fit ps e.moment es under since.1 falls.1 f.1))
 
 -- an open transaction counts as the last commit
-entries_fit_by : (h : Held) (s : State) (o : Option Entry) → StandsFor h s → s.transaction ≡ o → EntriesFit (definitions_of h.tables) (listed o ++ s.history)
-entries_fit_by h s None f e = past_fit (definitions_of h.tables) s.next s.history f.not_after f.since f.falls f.fits.rows
+entries_fit_by : (h : Held) (s : State) (o : Option Entry) → StandsFor h s → s.transaction ≡ o
+    → EntriesFit (definitions_of h.tables) (listed o ++ s.history)
+entries_fit_by h s None f e =
+    past_fit (definitions_of h.tables) s.next s.history f.not_after f.since f.falls f.fits.rows
 entries_fit_by h s (Some x) f e =
     let dated = subst (λ o. IsDated s.next o) e f.dated in
     let low = f.not_before in
@@ -148,25 +170,30 @@ entries_fit h s f = entries_fit_by h s s.transaction f refl
 abbrev versions_found : State → ℕ → When → List Version
 versions_found s t when = found when (table_history t (entries s))
 
-versions_fit : (h : Held) (s : State) (t : ℕ) (p : Table) (when : When) → StandsFor h s → slice_get h.tables t ≡ Some p → VersionsFit p.definition (versions_found s t when)
-versions_fit h s t p when f e = found_fit p.definition (definitions_of h.tables) t (rows_fit h.tables t p e) when (entries s) (entries_fit h s f)
+versions_fit : (h : Held) (s : State) (t : ℕ) (p : Table) (when : When) → StandsFor h s
+    → slice_get h.tables t ≡ Some p → VersionsFit p.definition (versions_found s t when)
+versions_fit h s t p when f e =
+    found_fit p.definition (definitions_of h.tables) t (rows_fit h.tables t p e) when (entries s) (entries_fit h s f)
 
 -- the rows of a table that a question finds; an open transaction counts as the last commit
 abbrev pub rows_when : State → ℕ → When → List Row
 rows_when s t when = versions (table_at s.definitions t) t when (entries s)
 
 -- they are these versions
-rows_are : (h : Held) (s : State) (t : ℕ) (p : Table) (when : When) → StandsFor h s → slice_get h.tables t ≡ Some p → rows_when s t when ≡ map (full p.definition) (versions_found s t when)
+rows_are : (h : Held) (s : State) (t : ℕ) (p : Table) (when : When) → StandsFor h s → slice_get h.tables t ≡ Some p
+    → rows_when s t when ≡ map (full p.definition) (versions_found s t when)
 rows_are h s t p when f e = ap (λ (d : TableDef). map (full d) (versions_found s t when)) (definition_law h s t p f e)
 
 -- the copies that the store answers from are those that the machine does
-seen_copies : (tables : List Table) (es : List Entry) (o : Option Entry) (id : ℕ) → seen_by (open_moment o) (copies_of tables es) (working_of tables o) id ≡ copies_of tables (listed o ++ es) id
+seen_copies : (tables : List Table) (es : List Entry) (o : Option Entry) (id : ℕ)
+    → seen_by (open_moment o) (copies_of tables es) (working_of tables o) id ≡ copies_of tables (listed o ++ es) id
 seen_copies tables es None id = refl
 seen_copies tables es (Some e) id = refl
 
 -- the copies of a table that questions see
 pub seen_law : (h : Held) (s : State) (t : ℕ) (p : Table) → StandsFor h s → slice_get h.tables t ≡ Some p
-    → seen_by h.rows.working (copies_of h.tables s.history) (working_of h.tables s.transaction) p.id ≡ table_history t (entries s)
+    → seen_by h.rows.working (copies_of h.tables s.history) (working_of h.tables s.transaction) p.id ≡ table_history
+    t (entries s)
 seen_law h s t p f e =
     ap (λ (w : Option ℤ). seen_by w (copies_of h.tables s.history) (working_of h.tables s.transaction) p.id) f.opened
     ∙ seen_copies h.tables s.history s.transaction p.id
@@ -177,30 +204,40 @@ seen_law h s t p f e =
 version_prints : (d : TableDef) (v : Version) → VersionFits d v → All IsPrintable (full d v)
 version_prints d v f = generated_prints d.system v.row.cells v.row.start v.end f.cells.printable f.start f.end
 
-versions_print : (d : TableDef) (vs : List Version) → VersionsFit d vs → AllByRecursion (All IsPrintable) (map (full d) vs)
+versions_print : (d : TableDef) (vs : List Version) → VersionsFit d vs
+    → AllByRecursion (All IsPrintable) (map (full d) vs)
 versions_print d [] f = tt
 versions_print d (v ∷ vs) f = (version_prints d v f.0, versions_print d vs f.1)
 
 -- ---- in the printed order
 
-either_all : (P : Row → Type 0) (b : Bool) (xs ys : List Row) → AllByRecursion P xs → AllByRecursion P ys → AllByRecursion P (if b then xs else ys)
+either_all : (P : Row → Type 0) (b : Bool) (xs ys : List Row) → AllByRecursion P xs → AllByRecursion P ys
+    → AllByRecursion P (if b then xs else ys)
 either_all P true xs ys e f = e
 either_all P false xs ys e f = f
 
-placed_all : (P : Row → Type 0) (R : Row → Row → Ordering) (r : Row) (xs : List Row) → P r → AllByRecursion P xs → AllByRecursion P (placed R r xs)
+placed_all : (P : Row → Type 0) (R : Row → Row → Ordering) (r : Row) (xs : List Row) → P r → AllByRecursion P xs
+    → AllByRecursion P (placed R r xs)
 placed_all P R r [] e f = (e, tt)
-placed_all P R r (x ∷ xs) e f = either_all P (is_gt (R r x)) (x ∷ placed R r xs) (r ∷ x ∷ xs) (f.0, placed_all P R r xs e f.1) (e, f)
+placed_all P R r (x ∷ xs) e f =
+    either_all P (is_gt (R r x)) (x ∷ placed R r xs) (r ∷ x ∷ xs) (f.0, placed_all P R r xs e f.1) (e, f)
 
-ordered_all : (P : Row → Type 0) (keys : List OrderKey) (rows : List Row) → AllByRecursion P rows → AllByRecursion P (in_order keys rows)
+ordered_all : (P : Row → Type 0) (keys : List OrderKey) (rows : List Row) → AllByRecursion P rows
+    → AllByRecursion P (in_order keys rows)
 ordered_all P keys [] e = tt
 ordered_all P keys (r ∷ rows) e = placed_all P (row_order keys) r (in_order keys rows) e.0 (ordered_all P keys rows e.1)
 
 -- rows that have texts have them in the printed order
-pub ordered_prints : (keys : List OrderKey) (rows : List Row) → All (All IsPrintable) rows → ArePrintable (in_order keys rows)
-ordered_prints keys rows h = All-from_recursion (All IsPrintable) (in_order keys rows) (ordered_all (All IsPrintable) keys rows (recursion_from_All (All IsPrintable) rows h))
+pub ordered_prints : (keys : List OrderKey) (rows : List Row) → All (All IsPrintable) rows
+    → ArePrintable (in_order keys rows)
+ordered_prints keys rows h =
+    All-from_recursion (All IsPrintable) (in_order keys rows)
+    (ordered_all (All IsPrintable) keys rows (recursion_from_All (All IsPrintable) rows h))
 
 -- the rows that a question finds have texts
-pub found_print : (h : Held) (s : State) (t : ℕ) (p : Table) (when : When) → StandsFor h s → slice_get h.tables t ≡ Some p → All (All IsPrintable) (rows_when s t when)
+pub found_print : (h : Held) (s : State) (t : ℕ) (p : Table) (when : When) → StandsFor h s
+    → slice_get h.tables t ≡ Some p → All (All IsPrintable) (rows_when s t when)
 found_print h s t p when f e =
     subst (All (All IsPrintable)) (sym (rows_are h s t p when f e))
-    (All-from_recursion (All IsPrintable) (map (full p.definition) (versions_found s t when)) (versions_print p.definition (versions_found s t when) (versions_fit h s t p when f e)))
+    (All-from_recursion (All IsPrintable) (map (full p.definition) (versions_found s t when))
+    (versions_print p.definition (versions_found s t when) (versions_fit h s t p when f e)))

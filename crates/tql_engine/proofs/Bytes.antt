@@ -1,5 +1,6 @@
 -- From a run over a source and a sink to one over bytes in memory.
-use Rattle.std.proofs.Common.{◌≡◌, refl, sym, ◌∙◌, ap, subst, ℕ, arith, Bool, true, false, List, [], ◌∷◌, ◌++◌, length, map, Some, Ok, Err, inl, inr, append-nil, length-append, ◌<◌, ◌≤◌}
+use Rattle.std.proofs.Common.{◌≡◌, refl, sym, ◌∙◌, ap, subst, ℕ, arith, Bool, true, false, List, [], ◌∷◌, ◌++◌}
+use Rattle.std.proofs.Common.{length, map, Some, Ok, Err, inl, inr, append-nil, length-append, ◌<◌, ◌≤◌}
 use Rattle.std.specs.Prelude.{◌⊎◌, ◌^◌, ◌-◌, Result, MatchBool}
 use Rattle.tql_spec.specs.Machine.{State, Reply}
 use Rattle.tql_spec.specs.Answer.{Answer, Replied, Accepted}
@@ -9,7 +10,8 @@ use Rattle.tql_spec.specs.Run.{Run, RunBy, Replies}
 use Rattle.tql_result.specs.Devices.{Appends, HasFailed}
 use Rattle.tql_run.specs.Hearing.{HearingChange}
 use Rattle.tql_run.specs.Responding.{Standing}
-use Rattle.tql_run.specs.Runs.{Runs, RunsWhole, StopsReading, NothingRun, SourceChange, SinkChange, Gives, MeetsEnd, MissesEnd, Counts, CutsLast, answered, most_pulls}
+use Rattle.tql_run.specs.Runs.{Runs, RunsWhole, StopsReading, NothingRun, SourceChange, SinkChange, Gives, MeetsEnd}
+use Rattle.tql_run.specs.Runs.{MissesEnd, Counts, CutsLast, answered, most_pulls}
 use Rattle.tql_run.specs.Runs as run
 use Rattle.tql_run.specs.declared.runner.Summary.{Summary}
 use Rattle.tql_run.specs.declared.runner.Fault.{Fault}
@@ -24,11 +26,16 @@ record Replying (old : State) (pieces : List Piece) (answers : List Answer) (new
   all : answers ≡ map Replied replies
   ran : Run old pieces replies new
 
-replying : (old : State) (pieces : List Piece) (answers : List Answer) (new : State) → RunBy Replies old pieces answers new → Replying old pieces answers new
+replying : (old : State) (pieces : List Piece) (answers : List Answer) (new : State)
+    → RunBy Replies old pieces answers new → Replying old pieces answers new
 replying old [] [] new r = record { replies = []; all = refl; ran = r }
 replying old (p ∷ ps) (Replied x ∷ xs) new (mid, a, r) =
     let later = replying mid ps xs new r in
-    record { replies = x ∷ later.replies; all = ap (λ (l : List Answer). Replied x ∷ l) later.all; ran = (mid, a, later.ran) }
+    record {
+      replies = x ∷ later.replies;
+      all = ap (λ (l : List Answer). Replied x ∷ l) later.all;
+      ran = (mid, a, later.ran);
+    }
 replying old (p ∷ ps) (Accepted ∷ xs) new (mid, a, r) = absurd a
 replying old [] (x ∷ xs) new r = absurd r
 replying old (p ∷ ps) [] new r = absurd r
@@ -51,14 +58,16 @@ some_inj : {X : Type 0} (x y : X) → Some x ≡ Some y → x ≡ y
 some_inj x y e = cc
 
 -- where the end was met the script is all of them
-whole_read : (script read : List ℕ) (source : SourceChange) → InMemory script source → Gives source.left_old read source.left_new → MeetsEnd source → read ≡ script
+whole_read : (script read : List ℕ) (source : SourceChange) → InMemory script source
+    → Gives source.left_old read source.left_new → MeetsEnd source → read ≡ script
 whole_read script read source m g e =
     let told = g.told script m.had in
     let none = e.at_end.nothing told.0 told.2 in
     sym (told.1 ∙ ap (λ (l : List ℕ). read ++ l) none ∙ append-nil read)
 
 -- the end is met
-ended : (script read : List ℕ) (source : SourceChange) → InMemory script source → Gives source.left_old read source.left_new → MissesEnd source read → ⊥
+ended : (script read : List ℕ) (source : SourceChange) → InMemory script source
+    → Gives source.left_old read source.left_new → MissesEnd source read → ⊥
 ended script read source m g e = by_cause e.cause
   where
     by_cause : HasFailed source.failures_old source.failures_new ⊎ (most_pulls ≤ length read) → ⊥
@@ -74,14 +83,17 @@ ended script read source m g e = by_cause e.cause
         omega (arith, long, parts, s)
 
 -- the output is what the sink holds
-grown : (old new text : List ℕ) (sink : SinkChange) → sink.held_old ≡ Some old → sink.held_new ≡ Some new → Appends sink.held_old text sink.held_new → new ≡ old ++ text
+grown : (old new text : List ℕ) (sink : SinkChange) → sink.held_old ≡ Some old → sink.held_new ≡ Some new
+    → Appends sink.held_old text sink.held_new → new ≡ old ++ text
 grown old new text sink before now a = some_inj new (old ++ text) (sym now ∙ a.holds old before)
 
 -- ---- by the result
 
-module _ (s : State) (after : Standing) (script old new : List ℕ) (source : SourceChange) (sink : SinkChange) (hearing : HearingChange)
+module _ (s : State) (after : Standing) (script old new : List ℕ) (source : SourceChange) (sink : SinkChange)
+    (hearing : HearingChange)
     (m : InMemory script source) (before : sink.held_old ≡ Some old) (now : sink.held_new ≡ Some new) where
-  whole : (summary : Summary) → RunsWhole Replies s after source sink hearing summary → WritesWhole s after script old new summary
+  whole : (summary : Summary) → RunsWhole Replies s after source sink hearing summary
+      → WritesWhole s after script old new summary
   whole summary r =
       let is = whole_read script r.script source m r.given r.ended in
       let p = replying s (statements r.script) r.answers r.state r.ran in
@@ -89,12 +101,18 @@ module _ (s : State) (after : Standing) (script old new : List ℕ) (source : So
         state = r.state;
         stands = r.stands;
         pushed = answers_text r.answers;
-        writes = (p.replies, subst (λ (x : List ℕ). Run s (statements x) p.replies r.state) is p.ran, ap answers_text p.all ∙ texts_are p.replies);
+        writes = (
+          p.replies,
+          subst (λ (x : List ℕ). Run s (statements x) p.replies r.state) is p.ran,
+          ap answers_text
+              p.all ∙ texts_are p.replies,
+        );
         behind = grown old new (answers_text r.answers) sink before now r.written;
         counts = subst (λ (x : List Answer). Counts summary x) p.all r.counts;
       }
 
-  stopped_at : (r : run.StopsWriting Replies s after source sink hearing) (b : Bool) → source.ended ≡ b → StopsWriting s after script old new
+  stopped_at : (r : run.StopsWriting Replies s after source sink hearing) (b : Bool) → source.ended ≡ b
+      → StopsWriting s after script old new
   stopped_at r true e =
       let meets = subst (λ (b : Bool). MatchBool b (MeetsEnd source) (MissesEnd source r.script)) e r.read in
       let is = whole_read script r.script source m r.given meets in
@@ -112,7 +130,8 @@ module _ (s : State) (after : Standing) (script old new : List ℕ) (source : So
         behind = grown old new r.text sink before now r.written;
       }
     where
-      reached : (replies : List Reply) → r.answers ≡ map Replied replies → CutsLast r.answers r.text ⊎ ((r.rest ≡ []) × (r.text ≡ answers_text r.answers))
+      reached : (replies : List Reply) → r.answers ≡ map Replied replies
+          → CutsLast r.answers r.text ⊎ ((r.rest ≡ []) × (r.text ≡ answers_text r.answers))
           → CutsLast (map Replied replies) r.text ⊎ ((r.rest ≡ []) × (r.text ≡ replies_text replies))
       reached replies all (inl cut) = inl (subst (λ (x : List Answer). CutsLast x r.text) all cut)
       reached replies all (inr (none, is)) = inr (none, is ∙ ap answers_text all ∙ texts_are replies)
@@ -121,7 +140,8 @@ module _ (s : State) (after : Standing) (script old new : List ℕ) (source : So
       absurd (ended script r.script source m r.given misses)
 
   -- what a run over memory leaves
-  pub runs_bytes : (result : Result Summary Fault) → Runs Replies s after source sink hearing result → RunsBytes s after script old new result
+  pub runs_bytes : (result : Result Summary Fault) → Runs Replies s after source sink hearing result
+      → RunsBytes s after script old new result
   runs_bytes (Ok summary) r = whole summary r
   runs_bytes (Err Write) r = stopped_at r source.ended refl
   runs_bytes (Err Memory) r = (r.stands, grown old new [] sink before now r.written ∙ append-nil old)

@@ -1,6 +1,8 @@
 -- A change, or one given up on the way, keeps an engine that stands for a state.
-use Rattle.std.proofs.Common.{◌≡◌, ℕ, zero, suc, Bool, true, false, cond, List, [], ◌∷◌, ◌++◌, map, filter, refl, sym, ap, subst, ◌∙◌, arith}
-use Rattle.std.specs.Prelude.{ℤ, pos, ◌+ℤ◌, ◌≤ℤ◌, ◌<ℤ◌, ◌&&◌, not, nat_eq, slice_get, slice_set, IsNone, Option, Some, None, if◌then◌else◌}
+use Rattle.std.proofs.Common.{◌≡◌, ℕ, zero, suc, Bool, true, false, cond, List, [], ◌∷◌, ◌++◌, map, filter, refl, sym}
+use Rattle.std.proofs.Common.{ap, subst, ◌∙◌, arith}
+use Rattle.std.specs.Prelude.{ℤ, pos, ◌+ℤ◌, ◌≤ℤ◌, ◌<ℤ◌, ◌&&◌, not, nat_eq, slice_get, slice_set, IsNone, Option, Some}
+use Rattle.std.specs.Prelude.{None, if◌then◌else◌}
 use Rattle.std.specs.List.{AllByRecursion}
 use Rattle.std.proofs.lemmas.Int.{ints}
 use Rattle.std.proofs.lemmas.List.{length-map}
@@ -14,7 +16,8 @@ use Rattle.tql_rows.specs.Changes.{is_current}
 use Rattle.tql_rows.specs.Changes.{alive}
 use Rattle.tql_store.specs.Changes.{last_rows, rows_after}
 use Rattle.tql_store.specs.Represents as represents
-use Rattle.tql_store.specs.Represents.{Copies, Working, Represents, BeginCopies, ChangeReplaces, RollbackRestores, Judged}
+use Rattle.tql_store.specs.Represents.{Copies, Working, Represents, BeginCopies, ChangeReplaces, RollbackRestores}
+use Rattle.tql_store.specs.Represents.{Judged}
 use Rattle.tql_store.specs.declared.tables.Place.{Place}
 use Rattle.tql_store.proofs.Judging.{still-judged}
 use Rattle.tql_catalog.specs.Tables.{definitions_of}
@@ -24,7 +27,8 @@ use Rattle.tql_engine.specs.Fitting.{RowsFit, CopyFits, HistoryFits}
 use Rattle.tql_engine.specs.Stands.{Held, StandsFor, ArePlaced, rows_of_id, copies_of, working_of}
 use Rattle.tql_engine.specs.Committing.{CommitsRows, Undoes, ReplacesRows, ChangesRows, KeepsRows}
 use Rattle.tql_engine.proofs.Standing.{some_is}
-use Rattle.tql_engine.proofs.Copies.{rows_found, rows_set, rows_empty, fits_length, same_working, any_working, same_places}
+use Rattle.tql_engine.proofs.Copies.{rows_found, rows_set, rows_empty, fits_length, same_working, any_working}
+use Rattle.tql_engine.proofs.Copies.{same_places}
 use Rattle.tql_engine.proofs.Asked.{rows_fit}
 
 -- ---- the states
@@ -36,7 +40,10 @@ working_now s = working s s.transaction
 -- the state where the working copy has other rows in a table
 abbrev pub with_table_rows : State → ℕ → List Stamped → State
 with_table_rows s t rows =
-    with_working s s.transaction (record { moment = (working_now s).moment; copy = slice_set (working_now s).copy t rows })
+    with_working s s.transaction (record {
+      moment = (working_now s).moment;
+      copy = slice_set (working_now s).copy t rows;
+    })
 
 -- the rows of a table that a change sees
 abbrev pub working_rows : State → ℕ → List Stamped
@@ -53,7 +60,8 @@ AreRowsOf d rows = AllByRecursion (IsRowOf d) rows
 -- ---- the last copy
 
 -- its rows are those of the last copies as the store numbers its tables
-pub last_found : (tables : List Table) (defs : List TableDef) (es : List Entry) (id : ℕ) → last_rows (copies_of tables es id) ≡ rows_of_id tables (newest_copy defs es) id
+pub last_found : (tables : List Table) (defs : List TableDef) (es : List Entry) (id : ℕ)
+    → last_rows (copies_of tables es id) ≡ rows_of_id tables (newest_copy defs es) id
 last_found tables defs [] id = sym (rows_empty tables defs id)
 last_found tables defs (e ∷ older) id = refl
 
@@ -66,7 +74,8 @@ newest_fits ps [] f = empty_fits ps
 newest_fits ps (e ∷ older) f = f.0
 
 -- it fits the tables
-pub last_fits : (ps : List TableDef) (defs : List TableDef) (es : List Entry) → defs ≡ ps → HistoryFits ps es → CopyFits ps (newest_copy defs es)
+pub last_fits : (ps : List TableDef) (defs : List TableDef) (es : List Entry) → defs ≡ ps → HistoryFits ps es
+    → CopyFits ps (newest_copy defs es)
 last_fits ps defs es e f = subst (λ (ds : List TableDef). CopyFits ps (newest_copy ds es)) (sym e) (newest_fits ps es f)
 
 -- ---- the rows that stay and those that come
@@ -83,15 +92,25 @@ rows_left p stays (x ∷ xs) f = chosen (stays x) (rows_left p stays xs f.1)
     chosen true g = (f.0, g)
     chosen false g = g
 
-pub begun_fit : (p : TableDef) (m : ℤ) (rows : List Row) → first_moment ≤ℤ m → m <ℤ high → AreRowsOf p rows → RowsFit p (begun_at m rows)
+pub begun_fit : (p : TableDef) (m : ℤ) (rows : List Row) → first_moment ≤ℤ m → m <ℤ high → AreRowsOf p rows
+    → RowsFit p (begun_at m rows)
 begun_fit p m [] from until f = tt
-begun_fit p m (cells ∷ rows) from until f = (record { cells = f.0; not_before = from; below = until }, begun_fit p m rows from until f.1)
+begun_fit p m (cells ∷ rows) from until f = (
+  record {
+    cells = f.0;
+    not_before = from;
+    below = until;
+  },
+  begun_fit p m rows from until f.1,
+)
 
-pub set_fits : (ps : List Table) (t : ℕ) (p : Table) → slice_get ps t ≡ Some p → (copy : Copy) → CopyFits (definitions_of ps) copy → (rows : List Stamped) → RowsFit p.definition rows
+pub set_fits : (ps : List Table) (t : ℕ) (p : Table) → slice_get ps t ≡ Some p → (copy : Copy)
+    → CopyFits (definitions_of ps) copy → (rows : List Stamped) → RowsFit p.definition rows
     → CopyFits (definitions_of ps) (slice_set copy t rows)
 set_fits [] t p e copy f rows k = cc
 set_fits (q ∷ ps) t p e [] f rows k = absurd f
-set_fits (q ∷ ps) zero p e (old ∷ copy) f rows k = (subst (λ (x : Table). RowsFit x.definition rows) (sym (some_is q p e)) k, f.1)
+set_fits (q ∷ ps) zero p e (old ∷ copy) f rows k =
+    (subst (λ (x : Table). RowsFit x.definition rows) (sym (some_is q p e)) k, f.1)
 set_fits (q ∷ ps) (suc t) p e (old ∷ copy) f rows k = (f.0, set_fits ps t p e copy f.1 rows k)
 
 -- ---- a copy in which rows of one table are replaced
@@ -104,41 +123,56 @@ replaced_rows m gone added copy t = rows_after m gone added (rows_in copy t)
 abbrev pub replaced_copy : ℤ → (Stamped → Bool) → List Row → Copy → ℕ → Copy
 replaced_copy m gone added copy t = slice_set copy t (replaced_rows m gone added copy t)
 
-module _ (rows : store.Held) (ps : List Table) (placed : ArePlaced rows ps) (t : ℕ) (p : Table) (there : slice_get ps t ≡ Some p) where
-  replaced_found : (m : ℤ) (gone : Stamped → Bool) (added : List Row) (copy : Copy) → CopyFits (definitions_of ps) copy → (id : ℕ)
-      → represents.with_rows p.id (rows_after m gone added (rows_of_id ps copy p.id)) (rows_of_id ps copy) id ≡ rows_of_id ps (replaced_copy m gone added copy t) id
+module _ (rows : store.Held) (ps : List Table) (placed : ArePlaced rows ps) (t : ℕ) (p : Table)
+    (there : slice_get ps t ≡ Some p) where
+  replaced_found : (m : ℤ) (gone : Stamped → Bool) (added : List Row) (copy : Copy)
+      → CopyFits (definitions_of ps) copy → (id : ℕ)
+      → represents.with_rows p.id (rows_after m gone added (rows_of_id ps copy p.id)) (rows_of_id ps copy) id ≡
+      rows_of_id ps (replaced_copy m gone added copy t) id
   replaced_found m gone added copy fits id =
-      ap (λ (xs : List Stamped). if nat_eq id p.id then rows_after m gone added xs else rows_of_id ps copy id) (rows_found rows ps t p placed there copy)
-      ∙ sym (rows_set rows ps t p placed there copy (fits_length (definitions_of ps) copy fits ∙ length-map ps (λ (t : Table). t.definition)) (replaced_rows m gone added copy t) id)
+      ap (λ (xs : List Stamped). if nat_eq id p.id then rows_after m gone added xs else rows_of_id ps copy id)
+      (rows_found rows ps t p placed there copy)
+      ∙ sym (rows_set rows ps t p placed there copy (fits_length (definitions_of ps) copy fits
+      ∙ length-map ps (λ (t : Table). t.definition)) (replaced_rows m gone added copy t) id)
 
   -- what stands for the copy stands for the one after the change
-  pub replaced_stands : (r1 r2 : store.Held) (copies : Copies) (copy : Copy) (m : ℤ) (gone : Stamped → Bool) (removed : List ℕ) (added : List Row)
-      → CopyFits (definitions_of ps) copy → r1.working ≡ Some m → Judged r1 p.id gone removed → ChangeReplaces p.id removed added r1 r2
-      → Represents r1 copies (rows_of_id ps copy) → Represents r2 copies (rows_of_id ps (replaced_copy m gone added copy t))
+  pub replaced_stands : (r1 r2 : store.Held) (copies : Copies) (copy : Copy) (m : ℤ) (gone : Stamped
+      → Bool) (removed : List ℕ) (added : List Row)
+      → CopyFits (definitions_of ps) copy → r1.working ≡ Some m → Judged r1 p.id gone removed
+      → ChangeReplaces p.id removed added r1 r2
+      → Represents r1 copies (rows_of_id ps copy)
+      → Represents r2 copies (rows_of_id ps (replaced_copy m gone added copy t))
   replaced_stands r1 r2 copies copy m gone removed added fits is1 judged changes r =
-      same_working r2 copies _ (rows_of_id ps (replaced_copy m gone added copy t)) (replaced_found m gone added copy fits)
+      same_working r2 copies _ (rows_of_id ps (replaced_copy m gone added copy t))
+      (replaced_found m gone added copy fits)
       (changes copies (rows_of_id ps copy) m gone is1 judged r)
 
   -- it fits the tables
-  pub replaced_fits : (m : ℤ) (gone : Stamped → Bool) (added : List Row) (copy : Copy) → first_moment ≤ℤ m → m <ℤ high → AreRowsOf p.definition added
+  pub replaced_fits : (m : ℤ) (gone : Stamped → Bool) (added : List Row) (copy : Copy) → first_moment ≤ℤ m
+      → m <ℤ high → AreRowsOf p.definition added
       → CopyFits (definitions_of ps) copy → CopyFits (definitions_of ps) (replaced_copy m gone added copy t)
   replaced_fits m gone added copy from until ok fits =
       let old : RowsFit p.definition (rows_in copy t) = rows_fit ps t p there copy fits in
       set_fits ps t p there copy fits (replaced_rows m gone added copy t)
-      (rows_both p.definition (filter (λ r. not (gone r)) (rows_in copy t)) (begun_at m added) (rows_left p.definition (λ r. not (gone r)) (rows_in copy t) old)
+      (rows_both p.definition (filter (λ r. not (gone r)) (rows_in copy t)) (begun_at m added)
+      (rows_left p.definition (λ r. not (gone r)) (rows_in copy t) old)
       (begun_fit p.definition m added from until ok))
 
 -- ---- what begins
 
 -- the working copy of a transaction that begins is the last one
-pub begun_stands : (tables : List Table) (defs : List TableDef) (es : List Entry) (old new : store.Held) → BeginCopies old new
-    → Represents old (copies_of tables es) (working_of tables None) → Represents new (copies_of tables es) (rows_of_id tables (newest_copy defs es))
+pub begun_stands : (tables : List Table) (defs : List TableDef) (es : List Entry) (old new : store.Held)
+    → BeginCopies old new
+    → Represents old (copies_of tables es) (working_of tables None)
+    → Represents new (copies_of tables es) (rows_of_id tables (newest_copy defs es))
 begun_stands tables defs es old new begins r =
-    same_working new (copies_of tables es) _ (rows_of_id tables (newest_copy defs es)) (last_found tables defs es) (begins (copies_of tables es) (working_of tables None) r)
+    same_working new (copies_of tables es) _ (rows_of_id tables (newest_copy defs es)) (last_found tables defs es)
+    (begins (copies_of tables es) (working_of tables None) r)
 
 -- ---- the tables stay
 
-pub same_count : (old new : store.Held) (n : ℕ) → new.tables ≡ old.tables → store.table_count old ≡ n → store.table_count new ≡ n
+pub same_count : (old new : store.Held) (n : ℕ) → new.tables ≡ old.tables → store.table_count old ≡ n
+    → store.table_count new ≡ n
 same_count old new n places e = ap (λ (xs : List Place). store.table_count (record old { tables = xs })) places ∙ e
 
 -- ---- the laws
@@ -149,19 +183,38 @@ module _ (h : Held) (defs : List TableDef) (es : List Entry) (next : ℤ) where
   abbrev idle : State
   idle = record { definitions = defs; history = es; next = next; transaction = None }
 
-  own_changed : (t : ℕ) (p : Table) (gone : Stamped → Bool) (removed : List ℕ) (added : List Row) (r : store.Held) → StandsFor h idle → slice_get h.tables t ≡ Some p → next <ℤ high
+  own_changed : (t : ℕ) (p : Table) (gone : Stamped → Bool) (removed : List ℕ) (added : List Row) (r : store.Held)
+      → StandsFor h idle → slice_get h.tables t ≡ Some p → next <ℤ high
       → AreRowsOf p.definition added → Judged h.rows p.id gone removed → CommitsRows next p.id removed added h.rows r
-      → StandsFor (record { tables = h.tables; rows = r; next = next +ℤ pos 1 }) (with_table_rows idle t (rows_after next gone added (working_rows idle t)))
+      → StandsFor (record {
+        tables = h.tables;
+        rows = r;
+        next = next +ℤ pos 1;
+      }) (with_table_rows idle t (rows_after next gone added (working_rows idle t)))
   own_changed t p gone removed added r f there below ok judged c =
       let copy : Copy = newest_copy defs es in
-      let fits : CopyFits (definitions_of h.tables) copy = last_fits (definitions_of h.tables) defs es f.fits.definitions f.fits.rows in
-      let opened : Represents c.opened (copies_of h.tables es) (rows_of_id h.tables copy) = begun_stands h.tables defs es h.rows c.opened c.begins f.stands in
-      let judged1 : Judged c.opened p.id gone removed = still-judged h.rows c.opened p.id gone removed (c.same_names p.id) judged in
-      let changed : Represents c.changed (copies_of h.tables es) (rows_of_id h.tables (replaced_copy next gone added copy t)) =
-      replaced_stands h.rows h.tables f.placed t p there c.opened c.changed (copies_of h.tables es) copy next gone removed added fits c.is_open judged1 c.changes opened in
+      let fits : CopyFits (definitions_of h.tables) copy =
+      last_fits (definitions_of h.tables) defs es f.fits.definitions f.fits.rows in
+      let opened : Represents c.opened (copies_of h.tables es) (rows_of_id h.tables copy) =
+      begun_stands h.tables defs es h.rows c.opened c.begins f.stands in
+      let judged1 : Judged c.opened p.id gone removed =
+      still-judged h.rows c.opened p.id gone removed (c.same_names p.id) judged in
+      let changed : Represents c.changed (copies_of h.tables es)
+      (rows_of_id h.tables (replaced_copy next gone added copy t)) =
+      replaced_stands h.rows h.tables f.placed t p there c.opened c.changed (copies_of h.tables es) copy next gone
+      removed added fits c.is_open judged1 c.changes opened in
       let from = f.not_before in
       record {
-        fits = record { definitions = f.fits.definitions; defined = f.fits.defined; narrow = f.fits.narrow; rows = (replaced_fits h.rows h.tables f.placed t p there next gone added copy from below ok fits, f.fits.rows); working = tt };
+        fits = record {
+          definitions = f.fits.definitions;
+          defined = f.fits.defined;
+          narrow = f.fits.narrow;
+          rows = (
+            replaced_fits h.rows h.tables f.placed t p there next gone added copy from below ok fits,
+            f.fits.rows,
+          );
+          working = tt;
+        };
         clock = refl;
         not_before = omega (arith, ints);
         not_after = omega (arith, ints);
@@ -169,15 +222,18 @@ module _ (h : Held) (defs : List TableDef) (es : List Entry) (next : ℤ) where
         since = (from, f.since);
         opened = c.idle;
         dated = tt;
-        stands = any_working r _ (rows_of_id h.tables (replaced_copy next gone added copy t)) (working_of h.tables None) c.idle
-            (c.commits (copies_of h.tables es) (rows_of_id h.tables (replaced_copy next gone added copy t)) next c.still_open changed);
+        stands = any_working r _ (rows_of_id h.tables (replaced_copy next gone added copy t))
+            (working_of h.tables None) c.idle
+            (c.commits (copies_of h.tables es) (rows_of_id h.tables (replaced_copy next gone added copy t)) next
+            c.still_open changed);
         placed = same_places h.rows r h.tables c.places f.placed;
         count = same_count h.rows r _ c.places f.count;
       }
 
   own_undone : (r : store.Held) → StandsFor h idle → Undoes next h.rows r → StandsFor (record h { rows = r }) idle
   own_undone r f c =
-      let opened : Represents c.opened (copies_of h.tables es) (rows_of_id h.tables (newest_copy defs es)) = begun_stands h.tables defs es h.rows c.opened c.begins f.stands in
+      let opened : Represents c.opened (copies_of h.tables es) (rows_of_id h.tables (newest_copy defs es)) =
+      begun_stands h.tables defs es h.rows c.opened c.begins f.stands in
       record {
         fits = f.fits;
         clock = f.clock;
@@ -187,7 +243,8 @@ module _ (h : Held) (defs : List TableDef) (es : List Entry) (next : ℤ) where
         since = f.since;
         opened = c.idle;
         dated = tt;
-        stands = any_working r (copies_of h.tables es) (rows_of_id h.tables (newest_copy defs es)) (working_of h.tables None) c.idle
+        stands = any_working r (copies_of h.tables es) (rows_of_id h.tables (newest_copy defs es))
+            (working_of h.tables None) c.idle
             (c.restores (copies_of h.tables es) (rows_of_id h.tables (newest_copy defs es)) next c.is_open opened);
         placed = same_places h.rows r h.tables c.places f.placed;
         count = same_count h.rows r _ c.places f.count;
@@ -197,9 +254,16 @@ module _ (h : Held) (defs : List TableDef) (es : List Entry) (next : ℤ) where
   abbrev within : Entry → State
   within e = record { definitions = defs; history = es; next = next; transaction = Some e }
 
-  within_changed : (e : Entry) (t : ℕ) (p : Table) (gone : Stamped → Bool) (removed : List ℕ) (added : List Row) (r : store.Held) → StandsFor h (within e) → slice_get h.tables t ≡ Some p
-      → AreRowsOf p.definition added → Judged h.rows p.id gone removed → ReplacesRows e.moment p.id removed added h.rows r
-      → StandsFor (record { tables = h.tables; rows = r; next = next }) (with_table_rows (within e) t (rows_after e.moment gone added (working_rows (within e) t)))
+  within_changed : (e : Entry) (t : ℕ) (p : Table) (gone : Stamped
+      → Bool) (removed : List ℕ) (added : List Row) (r : store.Held) → StandsFor h (within e)
+      → slice_get h.tables t ≡ Some p
+      → AreRowsOf p.definition added → Judged h.rows p.id gone removed
+      → ReplacesRows e.moment p.id removed added h.rows r
+      → StandsFor (record {
+        tables = h.tables;
+        rows = r;
+        next = next;
+      }) (with_table_rows (within e) t (rows_after e.moment gone added (working_rows (within e) t)))
   within_changed e t p gone removed added r f there ok judged c =
       let from = f.not_before in
       let same = f.dated.0 in
@@ -210,7 +274,9 @@ module _ (h : Held) (defs : List TableDef) (es : List Entry) (next : ℤ) where
           defined = f.fits.defined;
           narrow = f.fits.narrow;
           rows = f.fits.rows;
-          working = replaced_fits h.rows h.tables f.placed t p there e.moment gone added e.copy (subst (λ m. first_moment ≤ℤ m) (sym same) from) (subst (λ m. m <ℤ high) (sym same) below) ok f.fits.working;
+          working = replaced_fits h.rows h.tables f.placed t p there e.moment gone added e.copy
+              (subst (λ m. first_moment ≤ℤ m) (sym same) from) (subst (λ m. m <ℤ high) (sym same) below) ok
+              f.fits.working;
         };
         clock = refl;
         not_before = from;
@@ -219,44 +285,70 @@ module _ (h : Held) (defs : List TableDef) (es : List Entry) (next : ℤ) where
         since = f.since;
         opened = c.still_open;
         dated = f.dated;
-        stands = replaced_stands h.rows h.tables f.placed t p there h.rows r (copies_of h.tables es) e.copy e.moment gone removed added f.fits.working f.opened judged c.changes f.stands;
+        stands = replaced_stands h.rows h.tables f.placed t p there h.rows r (copies_of h.tables es) e.copy e.moment
+            gone removed added f.fits.working f.opened judged c.changes f.stands;
         placed = same_places h.rows r h.tables c.places f.placed;
         count = same_count h.rows r _ c.places f.count;
       }
 
-  changed_by : (o : Option Entry) (t : ℕ) (p : Table) (gone : Stamped → Bool) (removed : List ℕ) (added : List Row) (r : store.Held) (after : ℤ)
+  changed_by : (o : Option Entry) (t : ℕ) (p : Table) (gone : Stamped
+      → Bool) (removed : List ℕ) (added : List Row) (r : store.Held) (after : ℤ)
       → (let s : State = record { definitions = defs; history = es; next = next; transaction = o } in
       StandsFor h s → slice_get h.tables t ≡ Some p → (IsNone h.rows.working → next <ℤ high)
-      → AreRowsOf p.definition added → Judged h.rows p.id gone removed → ChangesRows h.rows.working next after p.id removed added h.rows r
-      → StandsFor (record { tables = h.tables; rows = r; next = after }) (with_table_rows s t (rows_after (working_now s).moment gone added (working_rows s t))))
+      → AreRowsOf p.definition added → Judged h.rows p.id gone removed
+      → ChangesRows h.rows.working next after p.id removed added h.rows r
+      → StandsFor (record {
+        tables = h.tables;
+        rows = r;
+        next = after;
+      }) (with_table_rows s t (rows_after (working_now s).moment gone added (working_rows s t))))
   changed_by None t p gone removed added r after f there below ok judged c =
       let d = subst (λ w. ChangesRows w next after p.id removed added h.rows r) f.opened c in
-      subst (λ n. StandsFor (record { tables = h.tables; rows = r; next = n }) (with_table_rows idle t (rows_after next gone added (working_rows idle t)))) (sym d.1)
+      subst (λ n. StandsFor (record {
+        tables = h.tables;
+        rows = r;
+        next = n;
+      }) (with_table_rows idle t (rows_after next gone added (working_rows idle t)))) (sym d.1)
       (own_changed t p gone removed added r f there (below (subst (λ w. IsNone w) (sym f.opened) refl)) ok judged d.0)
   changed_by (Some e) t p gone removed added r after f there below ok judged c =
       let d = subst (λ w. ChangesRows w next after p.id removed added h.rows r) f.opened c in
-      subst (λ n. StandsFor (record { tables = h.tables; rows = r; next = n }) (with_table_rows (within e) t (rows_after e.moment gone added (working_rows (within e) t)))) (sym d.1)
+      subst (λ n. StandsFor (record {
+        tables = h.tables;
+        rows = r;
+        next = n;
+      }) (with_table_rows (within e) t (rows_after e.moment gone added (working_rows (within e) t))))
+      (sym d.1)
       (within_changed e t p gone removed added r f there ok judged d.0)
 
   kept_by : (o : Option Entry) (r : store.Held)
-      → (let s : State = record { definitions = defs; history = es; next = next; transaction = o } in StandsFor h s → KeepsRows h.rows.working next h.rows r → StandsFor (record h { rows = r }) s)
+      → (let s : State = record { definitions = defs; history = es; next = next; transaction = o } in StandsFor h s
+      → KeepsRows h.rows.working next h.rows r → StandsFor (record h { rows = r }) s)
   kept_by None r f c = own_undone r f (subst (λ w. KeepsRows w next h.rows r) f.opened c)
   kept_by (Some e) r f c =
       let same : r ≡ h.rows = subst (λ w. KeepsRows w next h.rows r) f.opened c in
       subst (λ (x : store.Held). StandsFor (record h { rows = x }) (within e)) (sym same) f
 
 -- rows replaced, in the open transaction or in one of their own
-pub change_law : (h : Held) (s : State) (t : ℕ) (p : Table) (gone : Stamped → Bool) (removed : List ℕ) (added : List Row) (r : store.Held) (after : ℤ) → StandsFor h s
-    → slice_get h.tables t ≡ Some p → (IsNone h.rows.working → h.next <ℤ high) → AreRowsOf p.definition added → Judged h.rows p.id gone removed
+pub change_law : (h : Held) (s : State) (t : ℕ) (p : Table) (gone : Stamped
+    → Bool) (removed : List ℕ) (added : List Row) (r : store.Held) (after : ℤ) → StandsFor h s
+    → slice_get h.tables t ≡ Some p → (IsNone h.rows.working → h.next <ℤ high) → AreRowsOf p.definition added
+    → Judged h.rows p.id gone removed
     → ChangesRows h.rows.working h.next after p.id removed added h.rows r
-    → StandsFor (record { tables = h.tables; rows = r; next = after }) (with_table_rows s t (rows_after (working_now s).moment gone added (working_rows s t)))
+    → StandsFor (record {
+      tables = h.tables;
+      rows = r;
+      next = after;
+    }) (with_table_rows s t (rows_after (working_now s).moment gone added (working_rows s t)))
 change_law h s t p gone removed added r after f there below ok judged c =
-    changed_by h s.definitions s.history s.next s.transaction t p gone removed added r after f there (λ none. subst (λ m. m <ℤ high) f.clock (below none)) ok judged
+    changed_by h s.definitions s.history s.next s.transaction t p gone removed added r after f there
+    (λ none. subst (λ m. m <ℤ high) f.clock (below none)) ok judged
     (subst (λ m. ChangesRows h.rows.working m after p.id removed added h.rows r) f.clock c)
 
 -- a change that was given up
-pub kept_law : (h : Held) (s : State) (r : store.Held) → StandsFor h s → KeepsRows h.rows.working h.next h.rows r → StandsFor (record h { rows = r }) s
-kept_law h s r f c = kept_by h s.definitions s.history s.next s.transaction r f (subst (λ m. KeepsRows h.rows.working m h.rows r) f.clock c)
+pub kept_law : (h : Held) (s : State) (r : store.Held) → StandsFor h s → KeepsRows h.rows.working h.next h.rows r
+    → StandsFor (record h { rows = r }) s
+kept_law h s r f c = kept_by h s.definitions s.history s.next s.transaction r f
+    (subst (λ m. KeepsRows h.rows.working m h.rows r) f.clock c)
 
 -- ---- all rows, or none
 
@@ -269,7 +361,8 @@ none_stays [] = refl
 none_stays (x ∷ xs) = none_stays xs
 
 -- rows that only come
-pub only_added : (m : ℤ) (added : List Row) (rows : List Stamped) → rows_after m (λ (r : Stamped). false) added rows ≡ rows ++ begun_at m added
+pub only_added : (m : ℤ) (added : List Row) (rows : List Stamped)
+    → rows_after m (λ (r : Stamped). false) added rows ≡ rows ++ begun_at m added
 only_added m added rows = ap (λ (xs : List Stamped). xs ++ begun_at m added) (all_stay rows)
 
 -- rows that all go

@@ -1,5 +1,6 @@
 -- A new table keeps an engine that stands for a state.
-use Rattle.std.proofs.Common.{◌≡◌, ℕ, ◌+◌, Bool, true, false, List, [], ◌∷◌, ◌++◌, map, length, refl, sym, ap, subst, ◌∙◌, arith, length-append}
+use Rattle.std.proofs.Common.{◌≡◌, ℕ, ◌+◌, Bool, true, false, List, [], ◌∷◌, ◌++◌, map, length, refl, sym, ap, subst}
+use Rattle.std.proofs.Common.{◌∙◌, arith, length-append}
 use Rattle.std.specs.Prelude.{ℤ, ◌&&◌, not, nat_eq, IsTrue, IsNone, Option, None, is_some, if◌then◌else◌}
 use Rattle.std.specs.List.{AllByRecursion}
 use Rattle.std.proofs.lemmas.Bool.Decides.{nat_tests}
@@ -18,7 +19,8 @@ use Rattle.tql_catalog.specs.Tables.{definitions_of}
 use Rattle.tql_catalog.specs.declared.catalog.Table.{Table}
 use Rattle.tql_catalog.specs.Defined.{IsDefinition}
 use Rattle.tql_engine.specs.Fitting.{CopyFits, HistoryFits, WorkingFits, IsNarrow}
-use Rattle.tql_engine.specs.Stands.{Held, StandsFor, ArePlaced, IsKept, AreSince, is_free, copies_of, open_moment, working_of}
+use Rattle.tql_engine.specs.Stands.{Held, StandsFor, ArePlaced, IsKept, AreSince, is_free, copies_of, open_moment}
+use Rattle.tql_engine.specs.Stands.{working_of}
 use Rattle.tql_engine.proofs.Standing.{closed_law}
 use Rattle.tql_engine.proofs.Copies.{turned, rows_more, fits_length, same_copies, any_working}
 
@@ -30,13 +32,15 @@ copy_more copy = copy ++ [] ∷ []
 abbrev entries_more : List Entry → List Entry
 entries_more es = map (λ (e : Entry). record e { copy = copy_more e.copy }) es
 
-copy_fits : (ps : List TableDef) (p : TableDef) (copy : Copy) → CopyFits ps copy → CopyFits (ps ++ p ∷ []) (copy_more copy)
+copy_fits : (ps : List TableDef) (p : TableDef) (copy : Copy) → CopyFits ps copy
+    → CopyFits (ps ++ p ∷ []) (copy_more copy)
 copy_fits [] p [] f = (tt, tt)
 copy_fits [] p (rows ∷ copy) f = absurd f
 copy_fits (q ∷ ps) p [] f = absurd f
 copy_fits (q ∷ ps) p (rows ∷ copy) f = (f.0, copy_fits ps p copy f.1)
 
-history_fits : (ps : List TableDef) (p : TableDef) (es : List Entry) → HistoryFits ps es → HistoryFits (ps ++ p ∷ []) (entries_more es)
+history_fits : (ps : List TableDef) (p : TableDef) (es : List Entry) → HistoryFits ps es
+    → HistoryFits (ps ++ p ∷ []) (entries_more es)
 history_fits ps p [] f = tt
 history_fits ps p (e ∷ older) f = (copy_fits ps p e.copy f.0, history_fits ps p older f.1)
 
@@ -48,19 +52,28 @@ since_more : (m : ℤ) (es : List Entry) → AreSince m es → AreSince m (entri
 since_more m [] f = tt
 since_more m (e ∷ older) f = (f.0, since_more m older f.1)
 
-copies_more : (tables : List Table) (q : Table) (es : List Entry) (id : ℕ) → HistoryFits (definitions_of tables) es → copies_of tables es id ≡ copies_of (tables ++ q ∷ []) (entries_more es) id
+copies_more : (tables : List Table) (q : Table) (es : List Entry) (id : ℕ) → HistoryFits (definitions_of tables) es
+    → copies_of tables es id ≡ copies_of (tables ++ q ∷ []) (entries_more es) id
 copies_more tables q [] id f = refl
 copies_more tables q (e ∷ older) id f =
-    let long : length e.copy ≡ length tables = fits_length (definitions_of tables) e.copy f.0 ∙ length-map tables (λ (t : Table). t.definition) in
-    λ i. record { moment = e.moment; rows = sym (rows_more tables q e.copy long id) i } ∷ copies_more tables q older id f.1 i
+    let long : length e.copy ≡ length tables = fits_length (definitions_of tables) e.copy f.0
+    ∙ length-map tables (λ (t : Table). t.definition) in
+    λ i. record {
+      moment = e.moment;
+      rows = sym (rows_more tables q e.copy long id) i;
+    } ∷ copies_more tables q older id f.1 i
 
 -- ---- the number of the new table
 
-free_more : (id : ℕ) (ps : List Table) (q : Table) → IsTrue (is_free id ps) → nat_eq q.id id ≡ false → IsTrue (is_free id (ps ++ q ∷ []))
+free_more : (id : ℕ) (ps : List Table) (q : Table) → IsTrue (is_free id ps) → nat_eq q.id id ≡ false
+    → IsTrue (is_free id (ps ++ q ∷ []))
 free_more id [] q f e = ap (λ (b : Bool). not b && true) e
-free_more id (p ∷ ps) q f e = let g = both (not (nat_eq p.id id)) (is_free id ps) f in ap (λ (b : Bool). b && is_free id (ps ++ q ∷ [])) g.0 ∙ free_more id ps q g.1 e
+free_more id (p ∷ ps) q f e = let g =
+    both (not (nat_eq p.id id)) (is_free id ps) f in ap (λ (b : Bool). b && is_free id (ps ++ q ∷ [])) g.0
+    ∙ free_more id ps q g.1 e
 
-all_more : (P : TableDef → Type 0) (ps : List TableDef) (d : TableDef) → AllByRecursion P ps → P d → AllByRecursion P (ps ++ d ∷ [])
+all_more : (P : TableDef → Type 0) (ps : List TableDef) (d : TableDef) → AllByRecursion P ps → P d
+    → AllByRecursion P (ps ++ d ∷ [])
 all_more P [] d a k = (k, tt)
 all_more P (p ∷ ps) d a k = (a.0, all_more P ps d a.1 k)
 
@@ -100,31 +113,44 @@ module _ (old new : store.Held) (q : Table) (a : AddsTable (is_some q.definition
   new_kept =
       let here : place_of new.tables q.id ≡ put =
       a.takes.places q.id ∙ ap (λ (b : Bool). if b then put else place_of old.tables q.id) (self q.id) in
-      record { there = ap is_taken here ∙ taken_for (is_some q.definition.system); versioned = ap is_kept here ∙ kept_for (is_some q.definition.system) }
+      record {
+        there = ap is_taken here ∙ taken_for (is_some q.definition.system);
+        versioned = ap is_kept here ∙ kept_for (is_some q.definition.system);
+      }
     where
       self : (n : ℕ) → nat_eq n n ≡ true
       self n = grind (arith, nat_tests)
 
   placed_more : (ps : List Table) → ArePlaced old ps → ArePlaced new (ps ++ q ∷ [])
   placed_more [] k = (refl, new_kept, tt)
-  placed_more (p ∷ ps) k = (free_more p.id ps q k.0 (turned p.id q.id false (other_number p k.1.there)), still_kept p k.1, placed_more ps k.2)
+  placed_more (p ∷ ps) k = (
+    free_more p.id ps q k.0 (turned p.id q.id false (other_number p k.1.there)),
+    still_kept p k.1,
+    placed_more ps
+        k.2,
+  )
 
 -- ---- the law
 
-pub create_law : (h : Held) (s : State) (q : Table) (r : store.Held) → StandsFor h s → IsNone h.rows.working → IsDefinition q.definition → IsNarrow q.definition
+pub create_law : (h : Held) (s : State) (q : Table) (r : store.Held) → StandsFor h s → IsNone h.rows.working
+    → IsDefinition q.definition → IsNarrow q.definition
     → AddsTable (is_some q.definition.system) q.id h.rows r → AddKeepsCopies h.rows r
     → StandsFor (record { tables = h.tables ++ q ∷ []; rows = r; next = h.next }) (with_table q.definition s)
 create_law h s q r f closed right few a keeps =
     let none : s.transaction ≡ None = closed_law h s f closed in
     let idle : r.working ≡ None = a.working ∙ f.opened ∙ ap open_moment none in
     let d : TableDef = q.definition in
-    let more : definitions_of (h.tables ++ q ∷ []) ≡ definitions_of h.tables ++ d ∷ [] = map-append (λ (t : Table). t.definition) h.tables (q ∷ []) in
+    let more : definitions_of (h.tables ++ q ∷ []) ≡ definitions_of h.tables ++ d ∷ [] =
+    map-append (λ (t : Table). t.definition) h.tables (q ∷ []) in
     record {
       fits = record {
         definitions = ap (λ (ds : List TableDef). ds ++ d ∷ []) f.fits.definitions ∙ sym more;
-        defined = subst (AllByRecursion IsDefinition) (sym more) (all_more IsDefinition (definitions_of h.tables) d f.fits.defined right);
-        narrow = subst (AllByRecursion IsNarrow) (sym more) (all_more IsNarrow (definitions_of h.tables) d f.fits.narrow few);
-        rows = subst (λ (ps : List TableDef). HistoryFits ps (entries_more s.history)) (sym more) (history_fits (definitions_of h.tables) d s.history f.fits.rows);
+        defined = subst (AllByRecursion IsDefinition) (sym more)
+            (all_more IsDefinition (definitions_of h.tables) d f.fits.defined right);
+        narrow = subst (AllByRecursion IsNarrow) (sym more)
+            (all_more IsNarrow (definitions_of h.tables) d f.fits.narrow few);
+        rows = subst (λ (ps : List TableDef). HistoryFits ps (entries_more s.history)) (sym more)
+            (history_fits (definitions_of h.tables) d s.history f.fits.rows);
         working = subst (λ (o : Option Entry). WorkingFits (definitions_of (h.tables ++ q ∷ [])) o) (sym none) tt;
       };
       clock = f.clock;
@@ -134,8 +160,10 @@ create_law h s q r f closed right few a keeps =
       since = since_more _ s.history f.since;
       opened = a.working ∙ f.opened;
       dated = f.dated;
-      stands = same_copies r (copies_of h.tables s.history) (copies_of (h.tables ++ q ∷ []) (entries_more s.history)) (working_of (h.tables ++ q ∷ []) s.transaction) (λ u. copies_more h.tables q s.history u f.fits.rows)
-          (any_working r (copies_of h.tables s.history) (working_of h.tables s.transaction) (working_of (h.tables ++ q ∷ []) s.transaction) idle
+      stands = same_copies r (copies_of h.tables s.history) (copies_of (h.tables ++ q ∷ []) (entries_more s.history))
+          (working_of (h.tables ++ q ∷ []) s.transaction) (λ u. copies_more h.tables q s.history u f.fits.rows)
+          (any_working r (copies_of h.tables s.history) (working_of h.tables s.transaction)
+          (working_of (h.tables ++ q ∷ []) s.transaction) idle
           (keeps (copies_of h.tables s.history) (working_of h.tables s.transaction) f.stands));
       placed = placed_more h.rows r q a h.tables f.placed;
       count = a.count ∙ ap (λ (n : ℕ). n + 1) f.count ∙ sym (length-append h.tables (q ∷ []));

@@ -1,5 +1,6 @@
 -- An engine with a new table, and one whose new table was given up.
-use Rattle.std.proofs.Common.{◌≡◌, ◌≢◌, ◌<◌, ℕ, ◌+◌, Bool, true, false, List, [], ◌∷◌, ◌++◌, length, refl, sym, ap, subst, ◌∙◌, arith, None}
+use Rattle.std.proofs.Common.{◌≡◌, ◌≢◌, ◌<◌, ℕ, ◌+◌, Bool, true, false, List, [], ◌∷◌, ◌++◌, length, refl, sym, ap}
+use Rattle.std.proofs.Common.{subst, ◌∙◌, arith, None}
 use Rattle.std.specs.Prelude.{ℤ, nat_eq, nat_le, is_some, IsNone, IsTrue, if◌then◌else◌}
 use Rattle.std.proofs.lemmas.Bool.Decides.{nat_tests}
 use Rattle.std.proofs.lemmas.List.Elements.{All-nil, All-cons, All-head, All-tail}
@@ -28,19 +29,31 @@ few : (n : ℕ) → n < 1000 → nat_le 1000 n ≡ false
 few n h = grind (arith, nat_tests)
 
 pub no_fault : (defs : List TableDef) (d : TableDef) → IsSoundTable defs d → first (creation_faults defs d.name) ≡ None
-no_fault defs d k = λ i. first (fault_if (is_some (k.free i)) TableUnknownOrAlreadyThere ++ fault_if (few (length defs) k.room i) TooManyTablesOrReaders)
+no_fault defs d k = λ i. first
+    (fault_if (is_some (k.free i)) TableUnknownOrAlreadyThere ++ fault_if (few (length defs) k.room i)
+    TooManyTablesOrReaders)
 
 -- ---- a table that is made
 
 -- the engine with the new table stands for the state with it
-pub made_law : (s : State) (tables more : List Table) (table : Table) (old new : store.Held) (next : ℤ) (versioned : Bool)
-    → StandsFor (record { tables = tables; rows = old; next = next }) s → IsNone old.working → IsDefinition table.definition → IsNarrow table.definition
+pub made_law : (s : State) (tables more : List Table) (table : Table) (old new : store.Held) (next : ℤ)
+    (versioned : Bool)
+    → StandsFor (record { tables = tables; rows = old; next = next }) s → IsNone old.working
+    → IsDefinition table.definition → IsNarrow table.definition
     → AddsTable versioned table.id old new → AddKeepsCopies old new → versioned ≡ is_some table.definition.system
     → more ≡ tables ++ table ∷ []
     → StandsFor (record { tables = more; rows = new; next = next }) (with_table table.definition s)
 made_law s tables more table old new next versioned st closed right few adds keeps same e =
-    subst (λ (ts : List Table). StandsFor (record { tables = ts; rows = new; next = next }) (with_table table.definition s)) (sym e)
-    (create_law (record { tables = tables; rows = old; next = next }) s table new st closed right few (subst (λ (b : Bool). AddsTable b table.id old new) same adds) keeps)
+    subst (λ (ts : List Table). StandsFor (record {
+      tables = ts;
+      rows = new;
+      next = next;
+    }) (with_table table.definition s)) (sym e)
+    (create_law (record {
+      tables = tables;
+      rows = old;
+      next = next;
+    }) s table new st closed right few (subst (λ (b : Bool). AddsTable b table.id old new) same adds) keeps)
 
 -- ---- a number that the store has given out
 
@@ -48,7 +61,9 @@ module _ (old mid : store.Held) (q : Table) (a : AddsTable (is_some q.definition
   -- no table has it
   pub free_number : (ps : List Table) → ArePlaced old ps → IsFree q.id ps
   free_number [] k = All-nil _
-  free_number (p ∷ ps) k = All-cons (λ (t : Table). t.id ≢ q.id) p ps (differs p.id q.id (other_number old mid q a p k.1.there)) (free_number ps k.2)
+  free_number (p ∷ ps) k =
+      All-cons (λ (t : Table). t.id ≢ q.id) p ps (differs p.id q.id (other_number old mid q a p k.1.there))
+      (free_number ps k.2)
     where
       differs : (n m : ℕ) → nat_eq n m ≡ false → n ≢ m
       differs n m e f = grind (arith, nat_tests)
@@ -69,11 +84,16 @@ no_rows (p ∷ ps) id f (rows ∷ copy) =
     apart : (n m : ℕ) → n ≢ m → nat_eq n m ≡ false
     apart n m e = grind (arith, nat_tests)
 
-none_emptied : (ps : List Table) (id : ℕ) → IsFree id ps → (es : List Entry) → emptied (copies_of ps es id) ≡ copies_of ps es id
+none_emptied : (ps : List Table) (id : ℕ) → IsFree id ps → (es : List Entry)
+    → emptied (copies_of ps es id) ≡ copies_of ps es id
 none_emptied ps id f [] = refl
-none_emptied ps id f (e ∷ older) = λ i. record { moment = e.moment; rows = sym (no_rows ps id f e.copy) i } ∷ none_emptied ps id f older i
+none_emptied ps id f (e ∷ older) = λ i. record {
+  moment = e.moment;
+  rows = sym (no_rows ps id f e.copy) i;
+} ∷ none_emptied ps id f older i
 
-without_none : (ps : List Table) (id : ℕ) → IsFree id ps → (es : List Entry) (u : ℕ) → copies_without id (copies_of ps es) u ≡ copies_of ps es u
+without_none : (ps : List Table) (id : ℕ) → IsFree id ps → (es : List Entry) (u : ℕ)
+    → copies_without id (copies_of ps es) u ≡ copies_of ps es u
 without_none ps id f es u = by_bool (nat_eq u id)
     (λ b. ap (λ (c : Bool). if c then emptied (copies_of ps es u) else copies_of ps es u) b
     ∙ subst (λ (n : ℕ). emptied (copies_of ps es n) ≡ copies_of ps es n) (the_same u id b) (none_emptied ps id f es))
@@ -90,13 +110,17 @@ module _ (old mid new : store.Held) (q : Table) (a : AddsTable (is_some q.defini
   same_place p there =
       let other : nat_eq p.id q.id ≡ false = other_number old mid q a p there in
       places.places p.id ∙ passed (nat_eq p.id q.id) Free (place_of mid.tables p.id) other
-      ∙ a.takes.places p.id ∙ passed (nat_eq p.id q.id) (place_for (is_some q.definition.system)) (place_of old.tables p.id) other
+      ∙ a.takes.places p.id
+      ∙ passed (nat_eq p.id q.id) (place_for (is_some q.definition.system)) (place_of old.tables p.id) other
 
   placed_still : (ps : List Table) → ArePlaced old ps → ArePlaced new ps
   placed_still [] k = tt
   placed_still (p ∷ ps) k = (
     k.0,
-    record { there = ap is_taken (same_place p k.1.there) ∙ k.1.there; versioned = ap is_kept (same_place p k.1.there) ∙ k.1.versioned },
+    record {
+      there = ap is_taken (same_place p k.1.there) ∙ k.1.there;
+      versioned = ap is_kept (same_place p k.1.there) ∙ k.1.versioned;
+    },
     placed_still ps k.2,
   )
 
@@ -104,7 +128,8 @@ module _ (old mid new : store.Held) (q : Table) (a : AddsTable (is_some q.defini
   less n m k e f = omega arith
 
   -- the engine stands for the state as it was
-  pub given_up_law : (s : State) (tables : List Table) (next : ℤ) → StandsFor (record { tables = tables; rows = old; next = next }) s → AddKeepsCopies old mid
+  pub given_up_law : (s : State) (tables : List Table) (next : ℤ)
+      → StandsFor (record { tables = tables; rows = old; next = next }) s → AddKeepsCopies old mid
       → StandsFor (record { tables = tables; rows = new; next = next }) s
   given_up_law s tables next f keeps =
       let working = working_of tables s.transaction in

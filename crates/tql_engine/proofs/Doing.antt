@@ -1,6 +1,8 @@
 -- Each statement's step, from what the code has tested.
-use Rattle.std.proofs.Common.{◌≡◌, refl, sym, ap, subst, ◌∙◌, arith, ℕ, zero, suc, Bool, true, false, List, [], ◌∷◌, ◌++◌, map, Some, None, Option}
-use Rattle.std.specs.Prelude.{ℤ, pos, ◌≤ℤ◌, ◌<ℤ◌, ◌+ℤ◌, ◌&&◌, int_le, is_some, is_none, IsNone, IsSome, slice_get, if◌then◌else◌}
+use Rattle.std.proofs.Common.{◌≡◌, refl, sym, ap, subst, ◌∙◌, arith, ℕ, zero, suc, Bool, true, false, List, [], ◌∷◌}
+use Rattle.std.proofs.Common.{◌++◌, map, Some, None, Option}
+use Rattle.std.specs.Prelude.{ℤ, pos, ◌≤ℤ◌, ◌<ℤ◌, ◌+ℤ◌, ◌&&◌, int_le, is_some, is_none, IsNone, IsSome, slice_get}
+use Rattle.std.specs.Prelude.{if◌then◌else◌}
 use Rattle.std.specs.List.{AllByRecursion}
 use Rattle.std.proofs.lemmas.Int.{ints}
 use Rattle.tql_spec.specs.Calendar.{first_moment, high}
@@ -10,7 +12,10 @@ use Rattle.tql_spec.specs.History.{Entry, rows_in}
 use Rattle.tql_spec.specs.Query.{OrderKey, Query, answer, in_order}
 use Rattle.tql_spec.specs.Change.{Outcome, insert}
 use Rattle.tql_spec.specs.Refusal.{Refusal, NotInThisTransactionState, MomentNotAllowed, ValueOutOfRange, first}
-use Rattle.tql_spec.specs.Machine.{State, Reply, Refused, Done, Table, CreatedTable, DroppedTable, ClockSet, Inserted, Started, Committed, RolledBack, Change, CreateTable, DropTable, SetClock, Start, Commit, Rollback, Alter, Ask, step, altered, unless_refused, is_not_later, is_clock_at_end, with_table, without_table, with_commit, working, asked, bag_of}
+use Rattle.tql_spec.specs.Machine.{State, Reply, Refused, Done, Table, CreatedTable, DroppedTable, ClockSet, Inserted}
+use Rattle.tql_spec.specs.Machine.{Started, Committed, RolledBack, Change, CreateTable, DropTable, SetClock, Start}
+use Rattle.tql_spec.specs.Machine.{Commit, Rollback, Alter, Ask, step, altered, unless_refused, is_not_later}
+use Rattle.tql_spec.specs.Machine.{is_clock_at_end, with_table, without_table, with_commit, working, asked, bag_of}
 use Rattle.tql_exec.specs.Found.{ordered}
 use Rattle.tql_expr.specs.Evaluated.{Fails}
 use Rattle.tql_value.specs.declared.refusal.Refusal as r
@@ -25,11 +30,13 @@ use Rattle.tql_store.specs.Represents.{BeginCopies, CommitAppends, RollbackResto
 use Rattle.tql_engine.specs.Stands.{Held, StandsFor, open_moment}
 use Rattle.tql_engine.specs.Committing.{ChangesRows}
 use Rattle.tql_engine.specs.Effects.{Does, Refuses, not_later_than}
-use Rattle.tql_engine.proofs.Faults.{refused, create_step, drop_step, clock_step, start_step, commit_step, rollback_step, alter_step}
+use Rattle.tql_engine.proofs.Faults.{refused, create_step, drop_step, clock_step, start_step, commit_step}
+use Rattle.tql_engine.proofs.Faults.{rollback_step, alter_step}
 use Rattle.tql_engine.proofs.Standing.{closed_law, open_law, last_law, clock_law, definition_law}
 use Rattle.tql_engine.proofs.Copies.{chosen, passed}
 use Rattle.tql_engine.proofs.Added.{rows_begun, altered_by, insert_outcome, insert_faults}
-use Rattle.tql_engine.proofs.ChangeKeeps.{working_now, working_rows, with_table_rows, begun_at, AreRowsOf, change_law, only_added, none_judged}
+use Rattle.tql_engine.proofs.ChangeKeeps.{working_now, working_rows, with_table_rows, begun_at, AreRowsOf, change_law}
+use Rattle.tql_engine.proofs.ChangeKeeps.{only_added, none_judged}
 use Rattle.tql_engine.proofs.TransactionKeeps.{begun_law, ended_law, undone_law}
 
 -- ---- what is done, by an equal step
@@ -66,22 +73,27 @@ none_of (Some x) true e = refl
 none_of (Some x) false e = cc
 
 -- whether a change has no moment
-pub lacks_law : (h : Held) (s : State) → StandsFor h s → (is_none s.transaction && is_clock_at_end s) ≡ (is_none h.rows.working && int_le high h.next)
+pub lacks_law : (h : Held) (s : State) → StandsFor h s
+    → (is_none s.transaction && is_clock_at_end s) ≡ (is_none h.rows.working && int_le high h.next)
 lacks_law h s st = λ i. idle_law h s st i && int_le high (sym st.clock i)
 
 -- ---- CREATE
 
-pub create_does : (h new : Held) (s : State) (d : TableDef) → StandsFor h s → is_some h.rows.working ≡ false → StandsFor new (with_table d s) → Does new (Done CreatedTable None) (step s (CreateTable d))
+pub create_does : (h new : Held) (s : State) (d : TableDef) → StandsFor h s → is_some h.rows.working ≡ false
+    → StandsFor new (with_table d s) → Does new (Done CreatedTable None) (step s (CreateTable d))
 create_does h new s d st e made =
     by_step new (Done CreatedTable None) (step s (CreateTable d)) (Done CreatedTable None, with_table d s)
-    (create_step s d ∙ passed (is_some s.transaction) (refused NotInThisTransactionState s) (Done CreatedTable None, with_table d s) (open_law h s st ∙ e)) (record { replies = refl; stands = made })
+    (create_step s d ∙ passed (is_some s.transaction) (refused NotInThisTransactionState s)
+    (Done CreatedTable None, with_table d s) (open_law h s st ∙ e)) (record { replies = refl; stands = made })
 
 -- ---- DROP
 
-pub drop_does : (h new : Held) (s : State) (t : ℕ) → StandsFor h s → is_some h.rows.working ≡ false → StandsFor new (without_table t s) → Does new (Done DroppedTable None) (step s (DropTable t))
+pub drop_does : (h new : Held) (s : State) (t : ℕ) → StandsFor h s → is_some h.rows.working ≡ false
+    → StandsFor new (without_table t s) → Does new (Done DroppedTable None) (step s (DropTable t))
 drop_does h new s t st e left =
     by_step new (Done DroppedTable None) (step s (DropTable t)) (Done DroppedTable None, without_table t s)
-    (drop_step s t ∙ passed (is_some s.transaction) (refused NotInThisTransactionState s) (Done DroppedTable None, without_table t s) (open_law h s st ∙ e)) (record { replies = refl; stands = left })
+    (drop_step s t ∙ passed (is_some s.transaction) (refused NotInThisTransactionState s)
+    (Done DroppedTable None, without_table t s) (open_law h s st ∙ e)) (record { replies = refl; stands = left })
 
 -- ---- AT
 
@@ -93,27 +105,37 @@ abbrev clock_left : ℤ → State → Reply × State
 clock_left m s = if is_not_later m s.history then refused MomentNotAllowed s else set_to m s
 
 -- with a moment that is not later than the last commit's
-pub clock_refused : (h : Held) (s : State) (m : ℤ) → StandsFor h s → is_some h.rows.working ≡ false → not_later_than m h.rows.last ≡ true → Does h (Refused MomentNotAllowed) (step s (SetClock m))
+pub clock_refused : (h : Held) (s : State) (m : ℤ) → StandsFor h s → is_some h.rows.working ≡ false
+    → not_later_than m h.rows.last ≡ true → Does h (Refused MomentNotAllowed) (step s (SetClock m))
 clock_refused h s m st c e =
     by_step h (Refused MomentNotAllowed) (step s (SetClock m)) (refused MomentNotAllowed s)
-    (clock_step s m ∙ passed (is_some s.transaction) (refused NotInThisTransactionState s) (clock_left m s) (open_law h s st ∙ c)
-    ∙ chosen (is_not_later m s.history) (refused MomentNotAllowed s) (set_to m s) (last_law h s m st ∙ e)) (refuses h s MomentNotAllowed st)
+    (clock_step s m ∙ passed (is_some s.transaction) (refused NotInThisTransactionState s) (clock_left m s)
+    (open_law h s st ∙ c)
+    ∙ chosen (is_not_later m s.history) (refused MomentNotAllowed s) (set_to m s) (last_law h s m st
+    ∙ e)) (refuses h s MomentNotAllowed st)
 
 -- with a later one
-pub clock_set : (h : Held) (s : State) (m : ℤ) → StandsFor h s → IsNone h.rows.working → not_later_than m h.rows.last ≡ false → first_moment ≤ℤ m → m ≤ℤ high
+pub clock_set : (h : Held) (s : State) (m : ℤ) → StandsFor h s → IsNone h.rows.working
+    → not_later_than m h.rows.last ≡ false → first_moment ≤ℤ m → m ≤ℤ high
     → Does (record h { next = m }) (Done ClockSet None) (step s (SetClock m))
 clock_set h s m st c e low up =
     let later : is_not_later m s.history ≡ false = last_law h s m st ∙ e in
     by_step (record h { next = m }) (Done ClockSet None) (step s (SetClock m)) (set_to m s)
-    (clock_step s m ∙ passed (is_some s.transaction) (refused NotInThisTransactionState s) (clock_left m s) (open_law h s st ∙ c)
-    ∙ passed (is_not_later m s.history) (refused MomentNotAllowed s) (set_to m s) later) (record { replies = refl; stands = clock_law h s m st c later low up })
+    (clock_step s m ∙ passed (is_some s.transaction) (refused NotInThisTransactionState s) (clock_left m s)
+    (open_law h s st ∙ c)
+    ∙ passed (is_not_later m s.history) (refused MomentNotAllowed s) (set_to m s) later) (record {
+      replies = refl;
+      stands = clock_law h s m st c later low up;
+    })
 
 -- ---- SELECT
 
 -- rows in order are those of an answer
-asked_table : (s : State) (q : Query) (o : Option (List Row)) (rows : List Row) → ordered q.ordering o ≡ Some rows → asked s q o ≡ (Table q.headings rows, s)
+asked_table : (s : State) (q : Query) (o : Option (List Row)) (rows : List Row) → ordered q.ordering o ≡ Some rows
+    → asked s q o ≡ (Table q.headings rows, s)
 asked_table s q None rows e = absurd (cc)
-asked_table s q (Some bag) rows e = ap (λ (r : List Row). (Table q.headings r, s)) (inside (in_order q.ordering bag) rows e)
+asked_table s q (Some bag) rows e =
+    ap (λ (r : List Row). (Table q.headings r, s)) (inside (in_order q.ordering bag) rows e)
   where
     inside : (xs ys : List Row) → Some xs ≡ Some ys → xs ≡ ys
     inside xs ys e = cc
@@ -124,9 +146,11 @@ none_ordered keys (Some bag) e = absurd (cc)
 
 module _ (h : Held) (s : State) (q : Query) (st : StandsFor h s) where
   -- the rows in order, under the headings
-  pub asked_does : (headings : List Name) (rows : List Row) → ordered q.ordering (answer (bag_of s) q) ≡ Some rows → headings ≡ q.headings → Does h (Table headings rows) (step s (Ask q))
+  pub asked_does : (headings : List Name) (rows : List Row) → ordered q.ordering (answer (bag_of s) q) ≡ Some rows
+      → headings ≡ q.headings → Does h (Table headings rows) (step s (Ask q))
   asked_does headings rows is heads =
-      by_step h (Table headings rows) (step s (Ask q)) (Table q.headings rows, s) (asked_table s q (answer (bag_of s) q) rows is)
+      by_step h (Table headings rows) (step s (Ask q)) (Table q.headings rows, s)
+      (asked_table s q (answer (bag_of s) q) rows is)
       (record { replies = λ i. Table (heads i) rows; stands = st })
 
   -- an evaluation is out of range, or there is no memory
@@ -148,69 +172,105 @@ no_moment : (w : Option ℤ) (n : ℤ) → (IsNone w → n <ℤ high) → (is_no
 no_moment None n k = let below = k refl in grind (arith, ints, below)
 no_moment (Some m) n k = refl
 
-pub change_step : (h : Held) (s : State) (c : Change) → StandsFor h s → (IsNone h.rows.working → h.next <ℤ high) → step s (Alter c) ≡ altered s c
+pub change_step : (h : Held) (s : State) (c : Change) → StandsFor h s → (IsNone h.rows.working → h.next <ℤ high)
+    → step s (Alter c) ≡ altered s c
 change_step h s c st below =
-    alter_step s c ∙ passed (is_none s.transaction && is_clock_at_end s) (refused MomentNotAllowed s) (altered s c) (lacks_law h s st ∙ no_moment h.rows.working h.next below)
+    alter_step s c ∙ passed (is_none s.transaction && is_clock_at_end s) (refused MomentNotAllowed s) (altered s c)
+    (lacks_law h s st ∙ no_moment h.rows.working h.next below)
 
 -- ---- INSERT
 
 -- what an INSERT makes of the rows that it sees
 abbrev insert_outcome_of : State → CatalogTable → Insertion → Outcome
-insert_outcome_of s p x = insert p.definition (working_now s).moment (working_rows s x.table) x.columns.items (tuples_in x)
+insert_outcome_of s p x =
+    insert p.definition (working_now s).moment (working_rows s x.table) x.columns.items (tuples_in x)
 
 -- what the machine does
-insert_is : (h : Held) (s : State) (p : CatalogTable) (x : Insertion) → StandsFor h s → slice_get h.tables x.table ≡ Some p → (IsNone h.rows.working → h.next <ℤ high)
-    → (let o = insert_outcome_of s p x in step s (Alter (insertion_of x)) ≡ unless_refused (first o.faults) s (Done Inserted (Some o.count)) (with_table_rows s x.table o.rows))
+insert_is : (h : Held) (s : State) (p : CatalogTable) (x : Insertion) → StandsFor h s
+    → slice_get h.tables x.table ≡ Some p → (IsNone h.rows.working → h.next <ℤ high)
+    → (let o = insert_outcome_of s p x in step s (Alter (insertion_of x)) ≡ unless_refused (first o.faults) s
+    (Done Inserted (Some o.count)) (with_table_rows s x.table o.rows))
 insert_is h s p x st e below =
     change_step h s (insertion_of x) st below
     ∙ altered_by s (insertion_of x) (insert_outcome_of s p x) (defined_all h s st)
-    (ap {B = Outcome} (λ d. insert d (working_now s).moment (working_rows s x.table) x.columns.items (tuples_in x)) (definition_law h s x.table p st e))
+    (ap {B = Outcome} (λ d. insert d (working_now s).moment (working_rows s x.table) x.columns.items (tuples_in x))
+    (definition_law h s x.table p st e))
 
 -- the first fault of the new rows
-pub insert_refused : (h : Held) (s : State) (p : CatalogTable) (x : Insertion) (f : Refusal) → StandsFor h s → slice_get h.tables x.table ≡ Some p → (IsNone h.rows.working → h.next <ℤ high)
-    → ((m : ℤ) → first (inserted p.definition x m).faults ≡ Some f) → Does h (Refused f) (step s (Alter (insertion_of x)))
+pub insert_refused : (h : Held) (s : State) (p : CatalogTable) (x : Insertion) (f : Refusal) → StandsFor h s
+    → slice_get h.tables x.table ≡ Some p → (IsNone h.rows.working → h.next <ℤ high)
+    → ((m : ℤ) → first (inserted p.definition x m).faults ≡ Some f)
+    → Does h (Refused f) (step s (Alter (insertion_of x)))
 insert_refused h s p x f st e below k =
     let m : ℤ = (working_now s).moment in
     let o : Outcome = insert_outcome_of s p x in
     by_step h (Refused f) (step s (Alter (insertion_of x))) (refused f s)
     (insert_is h s p x st e below
-    ∙ ap (λ q. unless_refused q s (Done Inserted (Some o.count)) (with_table_rows s x.table o.rows)) (ap first (insert_faults p.definition m (working_rows s x.table) x.columns.items (tuples_in x)) ∙ k m))
+    ∙ ap (λ q. unless_refused q s (Done Inserted (Some o.count)) (with_table_rows s x.table o.rows))
+    (ap first (insert_faults p.definition m (working_rows s x.table) x.columns.items (tuples_in x)) ∙ k m))
     (refuses h s f st)
 
 -- the state with rows added
 abbrev pub with_rows_added : State → ℕ → List Row → State
 with_rows_added s t rows = with_table_rows s t (working_rows s t ++ begun_at (working_now s).moment rows)
 
-pub rows_added : (h : Held) (s : State) (t : ℕ) (p : CatalogTable) (rows : List Row) (removed : List ℕ) (r : store.Held) (after : ℤ) → StandsFor h s → slice_get h.tables t ≡ Some p
-    → (IsNone h.rows.working → h.next <ℤ high) → AreRowsOf p.definition rows → removed ≡ [] → ChangesRows h.rows.working h.next after p.id removed rows h.rows r
+pub rows_added : (h : Held) (s : State) (t : ℕ) (p : CatalogTable) (rows : List Row) (removed : List ℕ)
+    (r : store.Held) (after : ℤ) → StandsFor h s → slice_get h.tables t ≡ Some p
+    → (IsNone h.rows.working → h.next <ℤ high) → AreRowsOf p.definition rows → removed ≡ []
+    → ChangesRows h.rows.working h.next after p.id removed rows h.rows r
     → StandsFor (record { tables = h.tables; rows = r; next = after }) (with_rows_added s t rows)
 rows_added h s t p rows removed r after st e below fit none c =
-    subst (λ (xs : List Stamped). StandsFor (record { tables = h.tables; rows = r; next = after }) (with_table_rows s t xs)) (only_added (working_now s).moment rows (working_rows s t))
+    subst (λ (xs : List Stamped). StandsFor (record {
+      tables = h.tables;
+      rows = r;
+      next = after;
+    }) (with_table_rows s t xs)) (only_added (working_now s).moment rows (working_rows s t))
     (change_law h s t p (λ (x : Stamped). false) [] rows r after st e below fit (none_judged h.rows p.id)
     (subst (λ is. ChangesRows h.rows.working h.next after p.id is rows h.rows r) none c))
 
 -- what the machine does where there is no fault
-inserted_is : (h : Held) (s : State) (p : CatalogTable) (x : Insertion) (rows : List Row) (count : ℕ) → StandsFor h s → slice_get h.tables x.table ≡ Some p → (IsNone h.rows.working → h.next <ℤ high)
-    → ((m : ℤ) → map (λ (r : Stamped). r.cells) (inserted p.definition x m).rows ≡ rows) → ((m : ℤ) → first (inserted p.definition x m).faults ≡ None) → ((m : ℤ) → count ≡ (inserted p.definition x m).count)
+inserted_is : (h : Held) (s : State) (p : CatalogTable) (x : Insertion) (rows : List Row) (count : ℕ) → StandsFor h s
+    → slice_get h.tables x.table ≡ Some p → (IsNone h.rows.working → h.next <ℤ high)
+    → ((m : ℤ) → map (λ (r : Stamped). r.cells) (inserted p.definition x m).rows ≡ rows)
+    → ((m : ℤ) → first (inserted p.definition x m).faults ≡ None)
+    → ((m : ℤ) → count ≡ (inserted p.definition x m).count)
     → step s (Alter (insertion_of x)) ≡ (Done Inserted (Some count), with_rows_added s x.table rows)
 inserted_is h s p x rows count st e below cells sound n =
     let m : ℤ = (working_now s).moment in
     let made : Outcome = inserted p.definition x m in
     let new : List Stamped → State = λ xs. with_table_rows s x.table (working_rows s x.table ++ xs) in
     insert_is h s p x st e below
-    ∙ ap (λ (o : Outcome). unless_refused (first o.faults) s (Done Inserted (Some o.count)) (with_table_rows s x.table o.rows))
+    ∙ ap (λ (o : Outcome). unless_refused (first o.faults) s (Done Inserted (Some o.count))
+    (with_table_rows s x.table o.rows))
     (insert_outcome p.definition m (working_rows s x.table) x.columns.items (tuples_in x) (sound m))
     ∙ ap (λ q. unless_refused q s (Done Inserted (Some made.count)) (new made.rows)) (sound m)
-    ∙ (λ i. (Done Inserted (Some (sym (n m) i)), new (rows_begun p.definition m x.columns.items (tuples_in x) rows (cells m) i)))
+    ∙ (λ i. (
+      Done Inserted (Some (sym (n m) i)),
+      new
+          (rows_begun p.definition m x.columns.items (tuples_in x) rows (cells m) i),
+    ))
 
 -- and the reply
-pub insert_does : (h : Held) (s : State) (p : CatalogTable) (x : Insertion) (rows : List Row) (removed : List ℕ) (r : store.Held) (after : ℤ) (count : ℕ)
-    → StandsFor h s → slice_get h.tables x.table ≡ Some p → (IsNone h.rows.working → h.next <ℤ high) → AreRowsOf p.definition rows → removed ≡ []
+pub insert_does : (h : Held) (s : State) (p : CatalogTable) (x : Insertion) (rows : List Row) (removed : List ℕ)
+    (r : store.Held) (after : ℤ) (count : ℕ)
+    → StandsFor h s → slice_get h.tables x.table ≡ Some p → (IsNone h.rows.working → h.next <ℤ high)
+    → AreRowsOf p.definition rows → removed ≡ []
     → ChangesRows h.rows.working h.next after p.id removed rows h.rows r
-    → ((m : ℤ) → map (λ (y : Stamped). y.cells) (inserted p.definition x m).rows ≡ rows) → ((m : ℤ) → first (inserted p.definition x m).faults ≡ None) → ((m : ℤ) → count ≡ (inserted p.definition x m).count)
-    → Does (record { tables = h.tables; rows = r; next = after }) (Done Inserted (Some count)) (step s (Alter (insertion_of x)))
+    → ((m : ℤ) → map (λ (y : Stamped). y.cells) (inserted p.definition x m).rows ≡ rows)
+    → ((m : ℤ) → first (inserted p.definition x m).faults ≡ None)
+    → ((m : ℤ) → count ≡ (inserted p.definition x m).count)
+    → Does (record {
+      tables = h.tables;
+      rows = r;
+      next = after;
+    }) (Done Inserted (Some count)) (step s (Alter (insertion_of x)))
 insert_does h s p x rows removed r after count st e below fit none c cells sound n =
-    by_step (record { tables = h.tables; rows = r; next = after }) (Done Inserted (Some count)) (step s (Alter (insertion_of x))) (Done Inserted (Some count), with_rows_added s x.table rows)
+    by_step (record {
+      tables = h.tables;
+      rows = r;
+      next = after;
+    }) (Done Inserted (Some count)) (step s (Alter (insertion_of x)))
+    (Done Inserted (Some count), with_rows_added s x.table rows)
     (inserted_is h s p x rows count st e below cells sound n)
     (record { replies = refl; stands = rows_added h s x.table p rows removed r after st e below fit none c })
 
@@ -234,12 +294,15 @@ start_left s = if is_clock_at_end s then refused MomentNotAllowed s else begun_s
 not_over : (n : ℤ) → n <ℤ high → int_le high n ≡ false
 not_over n below = grind (arith, ints)
 
-pub start_does : (h : Held) (s : State) (r : store.Held) → StandsFor h s → IsNone h.rows.working → h.next <ℤ high → BeginCopies h.rows r → r.working ≡ Some h.next → r.tables ≡ h.rows.tables
+pub start_does : (h : Held) (s : State) (r : store.Held) → StandsFor h s → IsNone h.rows.working → h.next <ℤ high
+    → BeginCopies h.rows r → r.working ≡ Some h.next → r.tables ≡ h.rows.tables
     → Does (record h { rows = r }) (Done Started None) (step s Start)
 start_does h s r st closed below begins is_open places =
     by_step (record h { rows = r }) (Done Started None) (step s Start) (begun_so s)
-    (start_step s ∙ passed (is_some s.transaction) (refused NotInThisTransactionState s) (start_left s) (open_law h s st ∙ closed)
-    ∙ passed (is_clock_at_end s) (refused MomentNotAllowed s) (begun_so s) (ap (int_le high) (sym st.clock) ∙ not_over h.next below))
+    (start_step s ∙ passed (is_some s.transaction) (refused NotInThisTransactionState s) (start_left s)
+    (open_law h s st ∙ closed)
+    ∙ passed (is_clock_at_end s) (refused MomentNotAllowed s) (begun_so s) (ap (int_le high) (sym st.clock)
+    ∙ not_over h.next below))
     (record { replies = refl; stands = begun_law h s r st (closed_law h s st closed) below begins is_open places })
 
 -- no transaction is open
@@ -249,31 +312,46 @@ closed_none h s st e = none_of s.transaction false (open_law h s st ∙ e)
 open_some : (h : Held) (s : State) → StandsFor h s → is_some h.rows.working ≡ true → is_none s.transaction ≡ false
 open_some h s st e = none_of s.transaction true (open_law h s st ∙ e)
 
-pub commit_refused : (h : Held) (s : State) → StandsFor h s → is_some h.rows.working ≡ false → Does h (Refused NotInThisTransactionState) (step s Commit)
+pub commit_refused : (h : Held) (s : State) → StandsFor h s → is_some h.rows.working ≡ false
+    → Does h (Refused NotInThisTransactionState) (step s Commit)
 commit_refused h s st e =
     by_step h (Refused NotInThisTransactionState) (step s Commit) (refused NotInThisTransactionState s)
-    (commit_step s ∙ chosen (is_none s.transaction) (refused NotInThisTransactionState s) (Done Committed None, with_commit s s.transaction) (closed_none h s st e)) (refuses h s NotInThisTransactionState st)
+    (commit_step s ∙ chosen (is_none s.transaction) (refused NotInThisTransactionState s)
+    (Done Committed None, with_commit s s.transaction) (closed_none h s st e))
+    (refuses h s NotInThisTransactionState st)
 
 -- committed
-pub commit_does : (h : Held) (s : State) (r : store.Held) → StandsFor h s → IsSome h.rows.working → CommitAppends h.rows r → r.working ≡ None → r.tables ≡ h.rows.tables
+pub commit_does : (h : Held) (s : State) (r : store.Held) → StandsFor h s → IsSome h.rows.working
+    → CommitAppends h.rows r → r.working ≡ None → r.tables ≡ h.rows.tables
     → Does (record { tables = h.tables; rows = r; next = h.next +ℤ pos 1 }) (Done Committed None) (step s Commit)
 commit_does h s r st is_open commits is_idle places =
     let e = open_entry h s st is_open in
-    by_step (record { tables = h.tables; rows = r; next = h.next +ℤ pos 1 }) (Done Committed None) (step s Commit) (Done Committed None, with_commit s (Some e.0))
-    (commit_step s ∙ passed (is_none s.transaction) (refused NotInThisTransactionState s) (Done Committed None, with_commit s s.transaction) (open_some h s st is_open)
+    by_step (record {
+      tables = h.tables;
+      rows = r;
+      next = h.next +ℤ pos 1;
+    }) (Done Committed None) (step s Commit) (Done Committed None, with_commit s (Some e.0))
+    (commit_step s ∙ passed (is_none s.transaction) (refused NotInThisTransactionState s)
+    (Done Committed None, with_commit s s.transaction) (open_some h s st is_open)
     ∙ ap {B = Reply × State} (λ o. (Done Committed None, with_commit s o)) e.1)
     (record { replies = refl; stands = ended_law h s e.0 r st e.1 commits is_idle places })
 
-pub rollback_refused : (h : Held) (s : State) → StandsFor h s → is_some h.rows.working ≡ false → Does h (Refused NotInThisTransactionState) (step s Rollback)
+pub rollback_refused : (h : Held) (s : State) → StandsFor h s → is_some h.rows.working ≡ false
+    → Does h (Refused NotInThisTransactionState) (step s Rollback)
 rollback_refused h s st e =
     by_step h (Refused NotInThisTransactionState) (step s Rollback) (refused NotInThisTransactionState s)
-    (rollback_step s ∙ chosen (is_none s.transaction) (refused NotInThisTransactionState s) (Done RolledBack None, record s { transaction = None }) (closed_none h s st e)) (refuses h s NotInThisTransactionState st)
+    (rollback_step s ∙ chosen (is_none s.transaction) (refused NotInThisTransactionState s)
+    (Done RolledBack None, record s { transaction = None }) (closed_none h s st e))
+    (refuses h s NotInThisTransactionState st)
 
 -- undone
-pub rollback_does : (h : Held) (s : State) (r : store.Held) → StandsFor h s → IsSome h.rows.working → RollbackRestores h.rows r → r.working ≡ None → r.tables ≡ h.rows.tables
+pub rollback_does : (h : Held) (s : State) (r : store.Held) → StandsFor h s → IsSome h.rows.working
+    → RollbackRestores h.rows r → r.working ≡ None → r.tables ≡ h.rows.tables
     → Does (record h { rows = r }) (Done RolledBack None) (step s Rollback)
 rollback_does h s r st is_open restores is_idle places =
     let e = open_entry h s st is_open in
-    by_step (record h { rows = r }) (Done RolledBack None) (step s Rollback) (Done RolledBack None, record s { transaction = None })
-    (rollback_step s ∙ passed (is_none s.transaction) (refused NotInThisTransactionState s) (Done RolledBack None, record s { transaction = None }) (open_some h s st is_open))
+    by_step (record h { rows = r }) (Done RolledBack None) (step s Rollback)
+    (Done RolledBack None, record s { transaction = None })
+    (rollback_step s ∙ passed (is_none s.transaction) (refused NotInThisTransactionState s)
+    (Done RolledBack None, record s { transaction = None }) (open_some h s st is_open))
     (record { replies = refl; stands = undone_law h s e.0 r st e.1 restores is_idle places })

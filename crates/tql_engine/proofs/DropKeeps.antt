@@ -1,6 +1,8 @@
 -- A dropped table keeps an engine that stands for a state.
-use Rattle.std.proofs.Common.{◌≡◌, ℕ, zero, suc, ◌+◌, ◌<◌, Bool, true, false, List, [], ◌∷◌, map, length, refl, sym, ap, subst, ◌∙◌, arith}
-use Rattle.std.specs.Prelude.{ℤ, ◌&&◌, not, nat_eq, remove, slice_get, IsTrue, IsNone, Option, None, Some, if◌then◌else◌}
+use Rattle.std.proofs.Common.{◌≡◌, ℕ, zero, suc, ◌+◌, ◌<◌, Bool, true, false, List, [], ◌∷◌, map, length, refl, sym}
+use Rattle.std.proofs.Common.{ap, subst, ◌∙◌, arith}
+use Rattle.std.specs.Prelude.{ℤ, ◌&&◌, not, nat_eq, remove, slice_get, IsTrue, IsNone, Option, None, Some}
+use Rattle.std.specs.Prelude.{if◌then◌else◌}
 use Rattle.std.specs.List.{AllByRecursion}
 use Rattle.std.proofs.lemmas.Bool.Decides.{nat_tests}
 use Rattle.std.proofs.lemmas.List.{length-map}
@@ -19,7 +21,8 @@ use Rattle.tql_catalog.specs.Tables.{definitions_of}
 use Rattle.tql_catalog.specs.declared.catalog.Table.{Table}
 use Rattle.tql_catalog.specs.Defined.{IsDefinition}
 use Rattle.tql_engine.specs.Fitting.{CopyFits, HistoryFits, WorkingFits, IsNarrow}
-use Rattle.tql_engine.specs.Stands.{Held, StandsFor, ArePlaced, IsKept, AreSince, is_free, rows_of_id, copies_of, open_moment, working_of}
+use Rattle.tql_engine.specs.Stands.{Held, StandsFor, ArePlaced, IsKept, AreSince, is_free, rows_of_id, copies_of}
+use Rattle.tql_engine.specs.Stands.{open_moment, working_of}
 use Rattle.tql_engine.proofs.Standing.{closed_law, some_is}
 use Rattle.tql_engine.proofs.Copies.{chosen, passed, turned, apart, not_true, fits_length, same_copies, any_working}
 
@@ -36,7 +39,8 @@ copy_fits (d ∷ ds) t [] f = absurd f
 copy_fits (d ∷ ds) zero (rows ∷ copy) f = f.1
 copy_fits (d ∷ ds) (suc t) (rows ∷ copy) f = (f.0, copy_fits ds t copy f.1)
 
-history_fits : (ds : List TableDef) (t : ℕ) (es : List Entry) → HistoryFits ds es → HistoryFits (remove ds t) (entries_less t es)
+history_fits : (ds : List TableDef) (t : ℕ) (es : List Entry) → HistoryFits ds es
+    → HistoryFits (remove ds t) (entries_less t es)
 history_fits ds t [] f = tt
 history_fits ds t (e ∷ older) f = (copy_fits ds t e.copy f.0, history_fits ds t older f.1)
 
@@ -63,7 +67,8 @@ differs : (n m k : ℕ) → nat_eq n m ≡ true → nat_eq k n ≡ false → nat
 differs n m k e f = grind (arith, nat_tests)
 
 -- of a copy without the rows of a table
-rows_less : (h : store.Held) (ps : List Table) (t : ℕ) (p : Table) → ArePlaced h ps → slice_get ps t ≡ Some p → (copy : Copy) → length copy ≡ length ps → (id : ℕ)
+rows_less : (h : store.Held) (ps : List Table) (t : ℕ) (p : Table) → ArePlaced h ps → slice_get ps t ≡ Some p
+    → (copy : Copy) → length copy ≡ length ps → (id : ℕ)
     → rows_of_id (remove ps t) (remove copy t) id ≡ (if nat_eq id p.id then [] else rows_of_id ps copy id)
 rows_less h [] t p a e copy k id = cc
 rows_less h (q ∷ ps) t p a e [] k id = cc
@@ -71,17 +76,22 @@ rows_less h (q ∷ ps) zero p a e (old ∷ copy) k id =
     let same : q ≡ p = some_is q p e in
     by_bool (nat_eq q.id id)
     (λ b. subst (λ (n : ℕ). rows_of_id ps copy n ≡ []) (decided q.id id b) (nobody ps q.id a.0 copy)
-    ∙ sym (chosen (nat_eq id p.id) [] (rows_of_id (q ∷ ps) (old ∷ copy) id) (ap (λ (x : Table). nat_eq id x.id) (sym same) ∙ turned q.id id true b)))
+    ∙ sym (chosen (nat_eq id p.id) [] (rows_of_id (q ∷ ps) (old ∷ copy) id)
+    (ap (λ (x : Table). nat_eq id x.id) (sym same) ∙ turned q.id id true b)))
     (λ b. sym (passed (nat_eq q.id id) old (rows_of_id ps copy id) b)
-    ∙ sym (passed (nat_eq id p.id) [] (rows_of_id (q ∷ ps) (old ∷ copy) id) (ap (λ (x : Table). nat_eq id x.id) (sym same) ∙ turned q.id id false b)))
+    ∙ sym (passed (nat_eq id p.id) [] (rows_of_id (q ∷ ps) (old ∷ copy) id)
+    (ap (λ (x : Table). nat_eq id x.id) (sym same) ∙ turned q.id id false b)))
 rows_less h (q ∷ ps) (suc t) p a e (old ∷ copy) k id =
-    let later : rows_of_id (remove ps t) (remove copy t) id ≡ (if nat_eq id p.id then [] else rows_of_id ps copy id) = rows_less h ps t p a.2 e copy (cc) id in
+    let later : rows_of_id (remove ps t) (remove copy t) id ≡ (if nat_eq id p.id then [] else rows_of_id ps copy id)
+    = rows_less h ps t p a.2 e copy (cc) id in
     let other : nat_eq p.id q.id ≡ false = apart q.id ps t p a.0 e in
     by_bool (nat_eq q.id id)
-    (λ b. chosen (nat_eq q.id id) old (rows_of_id (remove ps t) (remove copy t) id) b ∙ sym (chosen (nat_eq q.id id) old (rows_of_id ps copy id) b)
+    (λ b. chosen (nat_eq q.id id) old (rows_of_id (remove ps t) (remove copy t) id) b
+    ∙ sym (chosen (nat_eq q.id id) old (rows_of_id ps copy id) b)
     ∙ sym (passed (nat_eq id p.id) [] (rows_of_id (q ∷ ps) (old ∷ copy) id) (differs q.id id p.id b other)))
     (λ b. passed (nat_eq q.id id) old (rows_of_id (remove ps t) (remove copy t) id) b ∙ later
-    ∙ ap (λ (xs : List Stamped). if nat_eq id p.id then [] else xs) (sym (passed (nat_eq q.id id) old (rows_of_id ps copy id) b)))
+    ∙ ap (λ (xs : List Stamped). if nat_eq id p.id then [] else xs)
+    (sym (passed (nat_eq q.id id) old (rows_of_id ps copy id) b)))
 
 -- the definitions of the tables that are left
 definitions_less : (ps : List Table) (t : ℕ) → definitions_of (remove ps t) ≡ remove (definitions_of ps) t
@@ -127,11 +137,18 @@ module _ (old new : store.Held) (q : Table) (places : Takes q.id Free old.tables
 
   placed_less : (ps : List Table) (t : ℕ) → ArePlaced old ps → slice_get ps t ≡ Some q → ArePlaced new (remove ps t)
   placed_less [] t a e = cc
-  placed_less (p ∷ ps) zero a e = placed_rest ps (subst (λ (x : Table). IsTrue (is_free x.id ps)) (some_is p q e) a.0) a.2
-  placed_less (p ∷ ps) (suc t) a e = (free_less p.id ps t a.0, still_kept p (turned q.id p.id false (apart p.id ps t q a.0 e)) a.1, placed_less ps t a.2 e)
+  placed_less (p ∷ ps) zero a e =
+      placed_rest ps (subst (λ (x : Table). IsTrue (is_free x.id ps)) (some_is p q e) a.0) a.2
+  placed_less (p ∷ ps) (suc t) a e = (
+    free_less p.id ps t a.0,
+    still_kept p (turned q.id p.id false (apart p.id ps t q a.0 e)) a.1,
+    placed_less ps t
+        a.2 e,
+  )
 
 -- the copies of the tables that are left
-copies_less : (h : store.Held) (ps : List Table) (t : ℕ) (p : Table) → ArePlaced h ps → slice_get ps t ≡ Some p → (es : List Entry) → HistoryFits (definitions_of ps) es → (id : ℕ)
+copies_less : (h : store.Held) (ps : List Table) (t : ℕ) (p : Table) → ArePlaced h ps → slice_get ps t ≡ Some p
+    → (es : List Entry) → HistoryFits (definitions_of ps) es → (id : ℕ)
     → copies_without p.id (copies_of ps es) id ≡ copies_of (remove ps t) (entries_less t es) id
 copies_less h ps t p a e es f id = by_bool (nat_eq id p.id)
     (λ b. chosen (nat_eq id p.id) (emptied (copies_of ps es id)) (copies_of ps es id) b ∙ empty b es f)
@@ -140,32 +157,41 @@ copies_less h ps t p a e es f id = by_bool (nat_eq id p.id)
     long : (copy : Copy) → CopyFits (definitions_of ps) copy → length copy ≡ length ps
     long copy g = fits_length (definitions_of ps) copy g ∙ length-map ps (λ (x : Table). x.definition)
 
-    empty : nat_eq id p.id ≡ true → (es : List Entry) → HistoryFits (definitions_of ps) es → emptied (copies_of ps es id) ≡ copies_of (remove ps t) (entries_less t es) id
+    empty : nat_eq id p.id ≡ true → (es : List Entry) → HistoryFits (definitions_of ps) es
+        → emptied (copies_of ps es id) ≡ copies_of (remove ps t) (entries_less t es) id
     empty b [] f = refl
     empty b (x ∷ older) f =
-        let none = rows_less h ps t p a e x.copy (long x.copy f.0) id ∙ chosen (nat_eq id p.id) [] (rows_of_id ps x.copy id) b in
+        let none = rows_less h ps t p a e x.copy (long x.copy f.0) id
+        ∙ chosen (nat_eq id p.id) [] (rows_of_id ps x.copy id) b in
         λ i. record { moment = x.moment; rows = sym none i } ∷ empty b older f.1 i
 
-    kept : nat_eq id p.id ≡ false → (es : List Entry) → HistoryFits (definitions_of ps) es → copies_of ps es id ≡ copies_of (remove ps t) (entries_less t es) id
+    kept : nat_eq id p.id ≡ false → (es : List Entry) → HistoryFits (definitions_of ps) es
+        → copies_of ps es id ≡ copies_of (remove ps t) (entries_less t es) id
     kept b [] f = refl
     kept b (x ∷ older) f =
-        let same = rows_less h ps t p a e x.copy (long x.copy f.0) id ∙ passed (nat_eq id p.id) [] (rows_of_id ps x.copy id) b in
+        let same = rows_less h ps t p a e x.copy (long x.copy f.0) id
+        ∙ passed (nat_eq id p.id) [] (rows_of_id ps x.copy id) b in
         λ i. record { moment = x.moment; rows = sym same i } ∷ kept b older f.1 i
 
 -- ---- the law
 
-pub drop_law : (h : Held) (s : State) (t : ℕ) (p : Table) (tables : List Table) (r : store.Held) → StandsFor h s → IsNone h.rows.working → slice_get h.tables t ≡ Some p
+pub drop_law : (h : Held) (s : State) (t : ℕ) (p : Table) (tables : List Table) (r : store.Held) → StandsFor h s
+    → IsNone h.rows.working → slice_get h.tables t ≡ Some p
     → tables ≡ remove h.tables t → Takes p.id Free h.rows.tables r.tables → table_count r + 1 ≡ table_count h.rows
     → r.working ≡ h.rows.working → DropEmpties p.id h.rows r
     → StandsFor (record { tables = tables; rows = r; next = h.next }) (without_table t s)
 drop_law h s t p tables r f closed there left places count same_working copies =
-    subst (λ (ts : List Table). StandsFor (record { tables = ts; rows = r; next = h.next }) (without_table t s)) (sym left)
+    subst (λ (ts : List Table). StandsFor (record { tables = ts; rows = r; next = h.next }) (without_table t s))
+    (sym left)
     (record {
       fits = record {
         definitions = ap (λ (ds : List TableDef). remove ds t) f.fits.definitions ∙ sym less;
-        defined = subst (AllByRecursion IsDefinition) (sym less) (all_less IsDefinition (definitions_of h.tables) t f.fits.defined);
-        narrow = subst (AllByRecursion IsNarrow) (sym less) (all_less IsNarrow (definitions_of h.tables) t f.fits.narrow);
-        rows = subst (λ (ds : List TableDef). HistoryFits ds (entries_less t s.history)) (sym less) (history_fits (definitions_of h.tables) t s.history f.fits.rows);
+        defined = subst (AllByRecursion IsDefinition) (sym less)
+            (all_less IsDefinition (definitions_of h.tables) t f.fits.defined);
+        narrow = subst (AllByRecursion IsNarrow) (sym less)
+            (all_less IsNarrow (definitions_of h.tables) t f.fits.narrow);
+        rows = subst (λ (ds : List TableDef). HistoryFits ds (entries_less t s.history)) (sym less)
+            (history_fits (definitions_of h.tables) t s.history f.fits.rows);
         working = subst (λ (o : Option Entry). WorkingFits (definitions_of (remove h.tables t)) o) (sym none) tt;
       };
       clock = f.clock;
@@ -175,13 +201,16 @@ drop_law h s t p tables r f closed there left places count same_working copies =
       since = since_less t _ s.history f.since;
       opened = same_working ∙ f.opened;
       dated = f.dated;
-      stands = same_copies r (copies_without p.id (copies_of h.tables s.history)) (copies_of (remove h.tables t) (entries_less t s.history)) (working_of (remove h.tables t) s.transaction)
+      stands = same_copies r (copies_without p.id (copies_of h.tables s.history))
+          (copies_of (remove h.tables t) (entries_less t s.history)) (working_of (remove h.tables t) s.transaction)
           (copies_less h.rows h.tables t p f.placed there s.history f.fits.rows)
-          (any_working r (copies_without p.id (copies_of h.tables s.history)) (working_of h.tables s.transaction) (working_of (remove h.tables t) s.transaction)
+          (any_working r (copies_without p.id (copies_of h.tables s.history)) (working_of h.tables s.transaction)
+          (working_of (remove h.tables t) s.transaction)
           (same_working ∙ f.opened ∙ ap open_moment none)
           (copies (copies_of h.tables s.history) (working_of h.tables s.transaction) f.stands));
       placed = placed_less h.rows r p places h.tables t f.placed there;
-      count = fewer (table_count r) (table_count h.rows) (length h.tables) (length (remove h.tables t)) count f.count (length-remove h.tables t (within h.tables t p there));
+      count = fewer (table_count r) (table_count h.rows) (length h.tables) (length (remove h.tables t)) count f.count
+          (length-remove h.tables t (within h.tables t p there));
     })
   where
     none : s.transaction ≡ None

@@ -1,21 +1,27 @@
 -- Steps that the state refuses, and those that it does not.
-use Rattle.std.specs.Prelude.{◌≡◌, refl, ℕ, Bool, true, false, ◌&&◌, ◌++◌, ℤ, Some, None, is_some, is_none, if◌then◌else◌}
+use Rattle.std.specs.Prelude.{◌≡◌, refl, ℕ, Bool, true, false, ◌&&◌, ◌++◌, ℤ, Some, None, is_some, is_none}
+use Rattle.std.specs.Prelude.{if◌then◌else◌}
 use Rattle.tql_spec.specs.Refusal.{Refusal, NotInThisTransactionState, MomentNotAllowed, earlier, first, fault_if}
 use Rattle.tql_spec.specs.Definition.{TableDef}
-use Rattle.tql_spec.specs.Machine.{State, Reply, Refused, Done, CreatedTable, DroppedTable, ClockSet, Started, Committed, RolledBack, Change, CreateTable, DropTable, SetClock, Start, Commit, Rollback, Alter, step, unless_refused, altered, with_table, without_table, with_commit, working, is_not_later, is_clock_at_end}
+use Rattle.tql_spec.specs.Machine.{State, Reply, Refused, Done, CreatedTable, DroppedTable, ClockSet, Started}
+use Rattle.tql_spec.specs.Machine.{Committed, RolledBack, Change, CreateTable, DropTable, SetClock, Start, Commit}
+use Rattle.tql_spec.specs.Machine.{Rollback, Alter, step, unless_refused, altered, with_table, without_table}
+use Rattle.tql_spec.specs.Machine.{with_commit, working, is_not_later, is_clock_at_end}
 
 -- a refusal, with the state as it was
 abbrev pub refused : Refusal → State → Reply × State
 refused e s = (Refused e, s)
 
 -- the reply by one fault
-one_fault : (a : Bool) (e : Refusal) (s : State) (reply : Reply) (new : State) → unless_refused (first (fault_if a e)) s reply new ≡ if a then refused e s else (reply, new)
+one_fault : (a : Bool) (e : Refusal) (s : State) (reply : Reply) (new : State)
+    → unless_refused (first (fault_if a e)) s reply new ≡ if a then refused e s else (reply, new)
 one_fault true e s reply new = refl
 one_fault false e s reply new = refl
 
 -- the reply by two faults, of which the first comes before the second
 two_faults : (a b : Bool) (e f : Refusal) (s : State) (reply : Reply) (new : State) → earlier e (Some f) ≡ e
-    → unless_refused (first (fault_if a e ++ fault_if b f)) s reply new ≡ if a then refused e s else (if b then refused f s else (reply, new))
+    → unless_refused (first (fault_if a e ++ fault_if b f)) s reply new ≡ if a then refused e s else
+    (if b then refused f s else (reply, new))
 two_faults true true e f s reply new k = rw k
 two_faults true false e f s reply new k = refl
 two_faults false true e f s reply new k = refl
@@ -23,25 +29,44 @@ two_faults false false e f s reply new k = refl
 
 -- ---- what the machine does
 
-pub create_step : (s : State) (d : TableDef) → step s (CreateTable d) ≡ if is_some s.transaction then refused NotInThisTransactionState s else (Done CreatedTable None, with_table d s)
-create_step s d = one_fault (is_some s.transaction) NotInThisTransactionState s (Done CreatedTable None) (with_table d s)
+pub create_step : (s : State) (d : TableDef)
+    → step s (CreateTable d) ≡ if is_some s.transaction then refused NotInThisTransactionState s else
+    (Done CreatedTable None, with_table d s)
+create_step s d = one_fault (is_some s.transaction) NotInThisTransactionState s (Done CreatedTable None)
+    (with_table d s)
 
-pub drop_step : (s : State) (t : ℕ) → step s (DropTable t) ≡ if is_some s.transaction then refused NotInThisTransactionState s else (Done DroppedTable None, without_table t s)
-drop_step s t = one_fault (is_some s.transaction) NotInThisTransactionState s (Done DroppedTable None) (without_table t s)
+pub drop_step : (s : State) (t : ℕ)
+    → step s (DropTable t) ≡ if is_some s.transaction then refused NotInThisTransactionState s else
+    (Done DroppedTable None, without_table t s)
+drop_step s t = one_fault (is_some s.transaction) NotInThisTransactionState s (Done DroppedTable None)
+    (without_table t s)
 
 pub clock_step : (s : State) (m : ℤ)
-    → step s (SetClock m) ≡ if is_some s.transaction then refused NotInThisTransactionState s else (if is_not_later m s.history then refused MomentNotAllowed s else (Done ClockSet None, record s { next = m }))
-clock_step s m = two_faults (is_some s.transaction) (is_not_later m s.history) NotInThisTransactionState MomentNotAllowed s (Done ClockSet None) (record s { next = m }) refl
+    → step s (SetClock m) ≡ if is_some s.transaction then refused NotInThisTransactionState s else
+    (if is_not_later m s.history then refused MomentNotAllowed s else (Done ClockSet None, record s { next = m }))
+clock_step s m = two_faults (is_some s.transaction) (is_not_later m s.history) NotInThisTransactionState
+    MomentNotAllowed s (Done ClockSet None) (record s { next = m }) refl
 
 pub start_step : (s : State)
-    → step s Start ≡ if is_some s.transaction then refused NotInThisTransactionState s else (if is_clock_at_end s then refused MomentNotAllowed s else (Done Started None, record s { transaction = Some (working s None) }))
-start_step s = two_faults (is_some s.transaction) (is_clock_at_end s) NotInThisTransactionState MomentNotAllowed s (Done Started None) (record s { transaction = Some (working s None) }) refl
+    → step s Start ≡ if is_some s.transaction then refused NotInThisTransactionState s else
+    (if is_clock_at_end s then refused MomentNotAllowed s else
+    (Done Started None, record s { transaction = Some (working s None) }))
+start_step s = two_faults (is_some s.transaction) (is_clock_at_end s) NotInThisTransactionState MomentNotAllowed s
+    (Done Started None) (record s { transaction = Some (working s None) }) refl
 
-pub commit_step : (s : State) → step s Commit ≡ if is_none s.transaction then refused NotInThisTransactionState s else (Done Committed None, with_commit s s.transaction)
-commit_step s = one_fault (is_none s.transaction) NotInThisTransactionState s (Done Committed None) (with_commit s s.transaction)
+pub commit_step : (s : State)
+    → step s Commit ≡ if is_none s.transaction then refused NotInThisTransactionState s else
+    (Done Committed None, with_commit s s.transaction)
+commit_step s = one_fault (is_none s.transaction) NotInThisTransactionState s (Done Committed None)
+    (with_commit s s.transaction)
 
-pub rollback_step : (s : State) → step s Rollback ≡ if is_none s.transaction then refused NotInThisTransactionState s else (Done RolledBack None, record s { transaction = None })
-rollback_step s = one_fault (is_none s.transaction) NotInThisTransactionState s (Done RolledBack None) (record s { transaction = None })
+pub rollback_step : (s : State)
+    → step s Rollback ≡ if is_none s.transaction then refused NotInThisTransactionState s else
+    (Done RolledBack None, record s { transaction = None })
+rollback_step s = one_fault (is_none s.transaction) NotInThisTransactionState s (Done RolledBack None)
+    (record s { transaction = None })
 
-pub alter_step : (s : State) (c : Change) → step s (Alter c) ≡ if is_none s.transaction && is_clock_at_end s then refused MomentNotAllowed s else altered s c
-alter_step s c = one_fault (is_none s.transaction && is_clock_at_end s) MomentNotAllowed s (altered s c).0 (altered s c).1
+pub alter_step : (s : State) (c : Change)
+    → step s (Alter c) ≡ if is_none s.transaction && is_clock_at_end s then refused MomentNotAllowed s else altered s c
+alter_step s c = one_fault (is_none s.transaction && is_clock_at_end s) MomentNotAllowed s (altered s c).0
+    (altered s c).1

@@ -1,5 +1,6 @@
 -- What a plan over the store means is what the machine answers.
-use Rattle.std.proofs.Common.{◌≡◌, ◌<◌, refl, sym, ap, subst, ◌∙◌, ℕ, zero, suc, List, [], ◌∷◌, ◌++◌, map, length, Option, Some, None, arith}
+use Rattle.std.proofs.Common.{◌≡◌, ◌<◌, refl, sym, ap, subst, ◌∙◌, ℕ, zero, suc, List, [], ◌∷◌, ◌++◌, map, length}
+use Rattle.std.proofs.Common.{Option, Some, None, arith}
 use Rattle.std.specs.Prelude.{◌||◌, IsTrue, Bool, is_some, slice_get, All}
 use Rattle.std.specs.List.{flat_map}
 use Rattle.std.proofs.lemmas.List.Concat.{flat_map-cons}
@@ -9,7 +10,8 @@ use Rattle.tql_spec.specs.Definition.{TableDef, Version, full, table_at}
 use Rattle.tql_spec.specs.Expression.{eval, passes}
 use Rattle.tql_spec.specs.History.{TableEntry, found, table_history}
 use Rattle.tql_spec.specs.Machine.{State, bag_of, entries}
-use Rattle.tql_spec.specs.Query.{Chain, Cross, Inner, Join, Left, Query, Ref, Scope, answer, chain_rows, if_distinct, joined_with, joins_from, keep, left_join, pairs, product, scopes}
+use Rattle.tql_spec.specs.Query.{Chain, Cross, Inner, Join, Left, Query, Ref, Scope, answer, chain_rows, if_distinct}
+use Rattle.tql_spec.specs.Query.{joined_with, joins_from, keep, left_join, pairs, product, scopes}
 use Rattle.tql_spec.specs.Words.{◌>>=◌, filter_all, map_all, with_front}
 use Rattle.tql_bind.specs.Placed.{AreChainsPlaced, AreJoinsPlaced, IsPlacedQuery, IsPlacedRef, ref_of}
 use Rattle.tql_bound.specs.Questions.{chain_of, join_by, join_of, question_of, references_in, references_of}
@@ -50,7 +52,8 @@ number_is (q ∷ ps) zero p e = ap (λ (x : Table). x.id) (inside q p e)
     inside q p e = cc
 number_is (q ∷ ps) (suc t) p e = number_is ps t p e
 
-defined_as : (ps : List Table) (t : ℕ) (p : Table) → slice_get ps t ≡ Some p → table_at (definitions_of ps) t ≡ p.definition
+defined_as : (ps : List Table) (t : ℕ) (p : Table) → slice_get ps t ≡ Some p
+    → table_at (definitions_of ps) t ≡ p.definition
 defined_as [] t p e = absurd (cc)
 defined_as (q ∷ ps) zero p e = ap (λ (x : Table). x.definition) (inside q p e)
   where
@@ -64,34 +67,44 @@ defined_as (q ∷ ps) (suc t) p e = defined_as ps t p e
 abbrev pub bags_of : Held → State → Bags
 bags_of h s = bags_in h.rows (copies_of h.tables s.history) (working_of h.tables s.transaction)
 
-pub bag_is : (h : Held) (s : State) → StandsFor h s → (r : Ref) → IsPlacedRef (definitions_of h.tables) r → bags_of h s (source_for h.tables r) ≡ bag_of s r
+pub bag_is : (h : Held) (s : State) → StandsFor h s → (r : Ref) → IsPlacedRef (definitions_of h.tables) r
+    → bags_of h s (source_for h.tables r) ≡ bag_of s r
 bag_is h s st r placed =
     let t = table_there h.tables r.table placed.table in
     let p : Table = t.0 in
-    let seen : seen_by h.rows.working (copies_of h.tables s.history) (working_of h.tables s.transaction) (table_number_at h.tables r.table) ≡ table_history r.table (entries s) =
-    ap (seen_by h.rows.working (copies_of h.tables s.history) (working_of h.tables s.transaction)) (number_is h.tables r.table p t.1) ∙ seen_law h s r.table p st t.1 in
-    ap (λ (es : List TableEntry). map (completed (table_at (definitions_of h.tables) r.table).system) (found r.when es)) seen
-    ∙ ap (λ (ds : List TableDef). map (full (table_at ds r.table)) (found r.when (table_history r.table (entries s)))) (sym st.fits.definitions)
+    let seen : seen_by h.rows.working (copies_of h.tables s.history) (working_of h.tables s.transaction)
+    (table_number_at h.tables r.table) ≡ table_history r.table (entries s) =
+    ap (seen_by h.rows.working (copies_of h.tables s.history) (working_of h.tables s.transaction))
+    (number_is h.tables r.table p t.1) ∙ seen_law h s r.table p st t.1 in
+    ap (λ (es : List TableEntry). map (completed (table_at (definitions_of h.tables) r.table).system)
+    (found r.when es)) seen
+    ∙ ap (λ (ds : List TableDef). map (full (table_at ds r.table))
+    (found r.when (table_history r.table (entries s)))) (sym st.fits.definitions)
 
 -- ---- answers over the bags of what is referred to
 
-module _ (defs : List TableDef) (bag bag' : Ref → List Row) (same : (r : Ref) → IsPlacedRef defs r → bag r ≡ bag' r) where
-  joined_same : (rows : List Row) (j : Join) → IsPlacedRef defs (ref_of j) → joined_with bag rows j ≡ joined_with bag' rows j
+module _ (defs : List TableDef) (bag bag' : Ref → List Row) (same : (r : Ref) → IsPlacedRef defs r
+    → bag r ≡ bag' r) where
+  joined_same : (rows : List Row) (j : Join) → IsPlacedRef defs (ref_of j)
+      → joined_with bag rows j ≡ joined_with bag' rows j
   joined_same rows (Inner r on) h = ap (λ ys. keep on (pairs rows ys)) (same r h)
   joined_same rows (Left r on) h = ap (left_join on r.width rows) (same r h)
   joined_same rows (Cross r) h = ap (λ ys. Some (pairs rows ys)) (same r h)
 
-  joins_same : (rows : List Row) (js : List Join) → AreJoinsPlaced defs js → joins_from bag rows js ≡ joins_from bag' rows js
+  joins_same : (rows : List Row) (js : List Join) → AreJoinsPlaced defs js
+      → joins_from bag rows js ≡ joins_from bag' rows js
   joins_same rows [] h = refl
   joins_same rows (j ∷ js) h =
-      ap (λ o. o >>= λ more. joins_from bag more js) (joined_same rows j h.0) ∙ later (joined_with bag' rows j) (λ more. joins_same more js h.1)
+      ap (λ o. o >>= λ more. joins_from bag more js) (joined_same rows j h.0)
+      ∙ later (joined_with bag' rows j) (λ more. joins_same more js h.1)
     where
       later : (o : Option (List Row)) → ((more : List Row) → joins_from bag more js ≡ joins_from bag' more js)
           → (o >>= λ more. joins_from bag more js) ≡ (o >>= λ more. joins_from bag' more js)
       later None k = refl
       later (Some more) k = k more
 
-  chain_same : (c : Chain) → IsPlacedRef defs c.first × AreJoinsPlaced defs c.joins → chain_rows bag c ≡ chain_rows bag' c
+  chain_same : (c : Chain) → IsPlacedRef defs c.first × AreJoinsPlaced defs c.joins
+      → chain_rows bag c ≡ chain_rows bag' c
   chain_same c h = ap (λ rows. joins_from bag rows c.joins) (same c.first h.0) ∙ joins_same (bag' c.first) c.joins h.1
 
   chains_same : (cs : List Chain) → AreChainsPlaced defs cs → map_all (chain_rows bag) cs ≡ map_all (chain_rows bag') cs
@@ -102,17 +115,21 @@ module _ (defs : List TableDef) (bag bag' : Ref → List Row) (same : (r : Ref) 
   answer_same q h =
       ap {B = Option (List Row)} (λ o. o >>= λ chains. keep q.filter (product chains) >>= λ rows.
       filter_all (λ (s : Scope). passes s.group s.row q.having) (scopes q.grouping rows) >>= λ kept.
-      map_all (λ (s : Scope). map_all (eval s.group s.row) q.items) kept >>= λ out. Some (if_distinct q.distinct out)) (chains_same q.chains h)
+      map_all (λ (s : Scope). map_all (eval s.group s.row) q.items) kept >>= λ out. Some
+      (if_distinct q.distinct out)) (chains_same q.chains h)
 
 -- ---- a plan
 
 -- a plan means what the machine answers
-pub meaning_is : (h : Held) (s : State) (x : Question) (p : Plan) → StandsFor h s → IsPlacedQuery (definitions_of h.tables) (question_of x)
-    → ((bag : Ref → List Row) (bags : Bags) → ((r : Ref) → bags (source_for h.tables r) ≡ bag r) → meaning bags p ≡ answer bag (question_of x))
+pub meaning_is : (h : Held) (s : State) (x : Question) (p : Plan) → StandsFor h s
+    → IsPlacedQuery (definitions_of h.tables) (question_of x)
+    → ((bag : Ref → List Row) (bags : Bags) → ((r : Ref) → bags (source_for h.tables r) ≡ bag r)
+    → meaning bags p ≡ answer bag (question_of x))
     → meaning (bags_of h s) p ≡ answer (bag_of s) (question_of x)
 meaning_is h s x p st placed means =
     means (λ r. bags_of h s (source_for h.tables r)) (bags_of h s) (λ r. refl)
-    ∙ answer_same (definitions_of h.tables) (λ r. bags_of h s (source_for h.tables r)) (bag_of s) (bag_is h s st) (question_of x) placed.references
+    ∙ answer_same (definitions_of h.tables) (λ r. bags_of h s (source_for h.tables r)) (bag_of s) (bag_is h s st)
+    (question_of x) placed.references
 
 -- ---- what it reads
 
@@ -123,30 +140,41 @@ IsThere defs r = IsPlacedRef defs (reference_of r)
 joined_to : (t : Terms) (j : joined.Join) → ref_of (join_of t j) ≡ reference_of j.reference
 joined_to t j = by_kind j.kind
   where
-    by_kind : (k : JoinKind) → ref_of (join_by k (reference_of j.reference) (map (cond t) j.on.items)) ≡ reference_of j.reference
+    by_kind : (k : JoinKind)
+        → ref_of (join_by k (reference_of j.reference) (map (cond t) j.on.items)) ≡ reference_of j.reference
     by_kind kind.Inner = refl
     by_kind kind.Left = refl
     by_kind kind.Cross = refl
 
-one_and : (defs : List TableDef) (r : Reference) (rs : List Reference) → IsThere defs r → All (IsThere defs) rs → All (IsThere defs) (r ∷ rs)
-one_and defs r rs h k = All-append (IsThere defs) (r ∷ []) rs (All-push (IsThere defs) [] r (All-nil (IsThere defs)) h) k
+one_and : (defs : List TableDef) (r : Reference) (rs : List Reference) → IsThere defs r → All (IsThere defs) rs
+    → All (IsThere defs) (r ∷ rs)
+one_and defs r rs h k =
+    All-append (IsThere defs) (r ∷ []) rs (All-push (IsThere defs) [] r (All-nil (IsThere defs)) h) k
 
-joins_there : (defs : List TableDef) (t : Terms) (js : List joined.Join) → AreJoinsPlaced defs (map (join_of t) js) → All (IsThere defs) (map (λ (j : joined.Join). j.reference) js)
+joins_there : (defs : List TableDef) (t : Terms) (js : List joined.Join) → AreJoinsPlaced defs (map (join_of t) js)
+    → All (IsThere defs) (map (λ (j : joined.Join). j.reference) js)
 joins_there defs t [] h = All-nil (IsThere defs)
-joins_there defs t (j ∷ js) h = one_and defs j.reference (map (λ (j : joined.Join). j.reference) js) (subst (IsPlacedRef defs) (joined_to t j) h.0) (joins_there defs t js h.1)
+joins_there defs t (j ∷ js) h =
+    one_and defs j.reference (map (λ (j : joined.Join). j.reference) js)
+    (subst (IsPlacedRef defs) (joined_to t j) h.0) (joins_there defs t js h.1)
 
-chains_there : (defs : List TableDef) (t : Terms) (cs : List code.Chain) → AreChainsPlaced defs (map (chain_of t) cs) → All (IsThere defs) (flat_map references_in cs)
+chains_there : (defs : List TableDef) (t : Terms) (cs : List code.Chain) → AreChainsPlaced defs (map (chain_of t) cs)
+    → All (IsThere defs) (flat_map references_in cs)
 chains_there defs t [] h = All-nil (IsThere defs)
 chains_there defs t (c ∷ cs) h =
     subst (All (IsThere defs)) (sym (flat_map-cons references_in c cs))
-    (All-append (IsThere defs) (references_in c) (flat_map references_in cs) (one_and defs c.first (map (λ (j : joined.Join). j.reference) c.joins.items) h.0.0 (joins_there defs t c.joins.items h.0.1))
+    (All-append (IsThere defs) (references_in c) (flat_map references_in cs)
+    (one_and defs c.first (map (λ (j : joined.Join). j.reference) c.joins.items) h.0.0
+    (joins_there defs t c.joins.items h.0.1))
     (chains_there defs t cs h.1))
 
-pub references_there : (defs : List TableDef) (x : Question) → IsPlacedQuery defs (question_of x) → All (IsThere defs) (references_of x)
+pub references_there : (defs : List TableDef) (x : Question) → IsPlacedQuery defs (question_of x)
+    → All (IsThere defs) (references_of x)
 references_there defs x placed = chains_there defs x.terms x.chains.items placed.references
 
 -- a source that can be read
-readable : (h : Held) (s : State) → StandsFor h s → (r : Reference) → IsThere (definitions_of h.tables) r → IsReadable h.rows (source_for h.tables (reference_of r))
+readable : (h : Held) (s : State) → StandsFor h s → (r : Reference) → IsThere (definitions_of h.tables) r
+    → IsReadable h.rows (source_for h.tables (reference_of r))
 readable h s st r placed =
     let t = table_there h.tables r.table placed.table in
     let p : Table = t.0 in
@@ -155,14 +183,18 @@ readable h s st r placed =
       there = subst (λ n. IsTrue (has_table h.rows n)) (sym number) (there_law h s r.table p st t.1);
       versioned = subst (λ n. IsTrue (is_now (reference_of r).when || is_versioned h.rows n)) (sym number)
           (subst (λ b. IsTrue (is_now (reference_of r).when || b)) (sym (versioned_law h s r.table p st t.1))
-          (subst (λ (d : TableDef). IsTrue (is_now (reference_of r).when || is_some d.system)) (defined_as h.tables r.table p t.1) placed.versioned));
+          (subst (λ (d : TableDef). IsTrue (is_now (reference_of r).when || is_some d.system))
+          (defined_as h.tables r.table p t.1) placed.versioned));
     }
 
 -- those of a plan can be read
-pub sources_readable : (h : Held) (s : State) (x : Question) (p : Plan) → StandsFor h s → IsPlacedQuery (definitions_of h.tables) (question_of x)
-    → sources_of p ≡ map (λ (r : Reference). source_for h.tables (reference_of r)) (references_of x) → All (IsReadable h.rows) (sources_of p)
+pub sources_readable : (h : Held) (s : State) (x : Question) (p : Plan) → StandsFor h s
+    → IsPlacedQuery (definitions_of h.tables) (question_of x)
+    → sources_of p ≡ map (λ (r : Reference). source_for h.tables (reference_of r)) (references_of x)
+    → All (IsReadable h.rows) (sources_of p)
 sources_readable h s x p st placed same =
     subst (All (IsReadable h.rows)) (sym same)
     (All-map (IsReadable h.rows) (λ (r : Reference). source_for h.tables (reference_of r)) (references_of x)
-    (All-weaker (IsThere (definitions_of h.tables)) (λ r. IsReadable h.rows (source_for h.tables (reference_of r))) (readable h s st) (references_of x)
+    (All-weaker (IsThere (definitions_of h.tables)) (λ r. IsReadable h.rows (source_for h.tables (reference_of r)))
+    (readable h s st) (references_of x)
     (references_there (definitions_of h.tables) x placed)))

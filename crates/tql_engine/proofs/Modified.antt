@@ -65,8 +65,8 @@ module _ (no_order : ChangesKeepNoOrder) (by_parts : ChangesByParts) (d : TableD
   same_stay (r ∷ rows) fs e =
       let k = front (fate_of r) (map_all fate_of rows) fs e in
       stay_by (goes (fate_of r)) (touches d portion conds r) r _ _
-          (goes_by (shown d r) (is_touched d portion conds (shown d r)) (made_of work (shown d r)) k.0 k.2)
-          (same_stay rows k.1 k.3)
+      (goes_by (shown d r) (is_touched d portion conds (shown d r)) (made_of work (shown d r)) k.0 k.2)
+      (same_stay rows k.1 k.3)
 
   -- ---- new rows begin at the moment
 
@@ -151,13 +151,13 @@ module _ (no_order : ChangesKeepNoOrder) (by_parts : ChangesByParts) (d : TableD
   rows_made read rows added b sound cells =
       let k = fates_there read (map_all fate_of read) refl sound in
       let same : SameOutcome (modify d m read portion work conds) (modify d m rows portion work conds) =
-          no_order d m read rows portion work conds b in
+      no_order d m read rows portion work conds b in
       let made : (modify d m read portion work conds).rows ≡ after_fates read k.0 =
-          outcome_rows (map_all fate_of read) k.0 k.1 in
+      outcome_rows (map_all fate_of read) k.0 k.1 in
       let come : map (λ (r : Stamped). r.cells) (new_rows k.0) ≡ added =
-          ap (λ o. map (λ (r : Stamped). r.cells) (coming o)) (sym k.1) ∙ cells in
+      ap (λ o. map (λ (r : Stamped). r.cells) (coming o)) (sym k.1) ∙ cells in
       same-trans (same-append (same-filter (λ r. not (touches d portion conds r)) (same-sym b))
-          (same-refl (begun_at m added)))
+      (same-refl (begun_at m added)))
       (same-trans (same-sym (made_after read k.0 added k.1 come))
       (subst (λ xs. SameBag xs (modify d m rows portion work conds).rows) made same.rows))
     where

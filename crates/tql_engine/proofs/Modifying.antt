@@ -79,10 +79,10 @@ pub same_rows : (h : Held) (s : State) (t : ℕ) (p : Table) (found : List code.
     → SameBag (dml.rows_in found) (working_rows s t)
 same_rows h s t p found st e answers =
     let now : current (table_history t (entries s)) ≡ completed still (working_rows s t) =
-        now_by s.definitions s.history s.next t s.transaction in
+    now_by s.definitions s.history s.next t s.transaction in
     let same : SameBag (map version_of found) (completed still (working_rows s t)) =
     subst (SameBag (map version_of found)) (ap current (seen_law h s t p st e)
-        ∙ now) (answers (copies_of h.tables s.history) (working_of h.tables s.transaction) st.stands) in
+    ∙ now) (answers (copies_of h.tables s.history) (working_of h.tables s.transaction) st.stands) in
     subst (λ xs. SameBag xs (working_rows s t)) (sym (rows_read found))
     (subst (SameBag (map (λ (v : Version). v.row) (map version_of found))) (rows_of_completed (working_rows s t))
     (same-map (λ (v : Version). v.row) same))
@@ -102,7 +102,7 @@ copy_fits h s f = copy_fits_by h s.definitions s.history s.next s.transaction f
 dated_by : (h : Held) (defs : List TableDef) (es : List Entry) (next : ℤ) (o : Option Entry)
     → (let s : State = record { definitions = defs; history = es; next = next; transaction = o } in
     StandsFor h s → (IsNone h.rows.working → h.next <ℤ high)
-        → (first_moment ≤ℤ (working_now s).moment) × ((working_now s).moment <ℤ high))
+    → (first_moment ≤ℤ (working_now s).moment) × ((working_now s).moment <ℤ high))
 dated_by h defs es next None f below =
     (f.not_before, subst (λ n. n <ℤ high) f.clock (below (subst IsNone (sym f.opened) refl)))
 dated_by h defs es next (Some e) f below =
@@ -180,19 +180,19 @@ module _ (no_order : ChangesKeepNoOrder) (by_parts : ChangesByParts) (h : Held) 
     rows_modified added removed r after fit judged c cells sound =
         let gone : Stamped → Bool = touches p.definition (portion_in x) (conds_in x) in
         let old : RowsFit p.definition rows =
-            rows_fit h.tables x.table p there (working_now s).copy (copy_fits h s st) in
+        rows_fit h.tables x.table p there (working_now s).copy (copy_fits h s st) in
         let bag : SameBag (rows_after moment gone added rows) outcome.rows =
         rows_made no_order by_parts p.definition moment (portion_in x) work (conds_in x) (dml.rows_in found) rows
-            added (same_rows h s x.table p found st there answers) (sound moment) (cells moment) in
+        added (same_rows h s x.table p found st there answers) (sound moment) (cells moment) in
         let changed : StandsFor (record { tables = h.tables; rows = r; next = after })
-            (with_table_rows s x.table (rows_after moment gone added rows)) =
+        (with_table_rows s x.table (rows_after moment gone added rows)) =
         change_law h s x.table p gone removed added r after st there below fit judged c in
         let news : RowsFit p.definition (rows_after moment gone added rows) =
         rows_both p.definition (filter (λ y. not (gone y)) rows) (begun_at moment added)
-            (rows_left p.definition (λ y. not (gone y)) rows old)
-            (begun_fit p.definition moment added dated.0 dated.1 fit) in
+        (rows_left p.definition (λ y. not (gone y)) rows old)
+        (begun_fit p.definition moment added dated.0 dated.1 fit) in
         swapped (record { tables = h.tables; rows = r; next = after }) x.table p there
-            (rows_after moment gone added rows) outcome.rows bag
+        (rows_after moment gone added rows) outcome.rows bag
         (rows_fit_same p.definition (rows_after moment gone added rows) outcome.rows bag news) s (copy_fits h s st)
         changed
       where
@@ -210,13 +210,16 @@ module _ (no_order : ChangesKeepNoOrder) (by_parts : ChangesByParts) (h : Held) 
         (step s (Alter (modification_of x)))
     modify_does added removed r after count fit judged c cells sound n =
         by_step (record { tables = h.tables; rows = r; next = after }) (Done (verb_of_work work) (Some count))
-            (step s (Alter (modification_of x)))
+        (step s (Alter (modification_of x)))
         (Done (verb_of_work work) (Some count), with_table_rows s x.table outcome.rows)
         (modify_is
         ∙ ap (λ q. unless_refused q s (Done (verb_of_work work) (Some outcome.count))
         (with_table_rows s x.table outcome.rows)) (sym same.fault ∙ sound moment)
-        ∙ (λ i. (Done (verb_of_work work) (Some (sym (n moment ∙ same.count) i)), with_table_rows s x.table
-        outcome.rows)))
+        ∙ (λ i. (
+          Done (verb_of_work work) (Some (sym (n moment ∙ same.count) i)),
+          with_table_rows s x.table
+              outcome.rows,
+        )))
         (record { replies = refl; stands = rows_modified added removed r after fit judged c cells sound })
 
   -- whatever it was refused for
@@ -271,8 +274,8 @@ pub gone_removable : (h : store.Held) (p : Table) (x : Modification) (delta : De
     → AreRemovable h p.id delta.removed.items
 gone_removable h p x delta k =
     subst (AreRemovable h p.id) (sym k.alters.removed)
-        (removable h p.id (λ (v : code.Version). touches p.definition (portion_in x) (conds_in x) (version_of v).row)
-        k.found k.names k.once)
+    (removable h p.id (λ (v : code.Version). touches p.definition (portion_in x) (conds_in x) (version_of v).row)
+    k.found k.names k.once)
 
 pub gone_judged : (h : store.Held) (p : Table) (x : Modification) (delta : Delta) → Made h p x (Ok delta)
     → Judged h p.id (touches p.definition (portion_in x) (conds_in x)) delta.removed.items

@@ -1,5 +1,6 @@
 -- Every reply to a bound statement has a text.
-use Rattle.std.proofs.Common.{◌≡◌, ◌<◌, ℕ, sym, subst, arith, Bool, true, false, List, [], ◌++◌, map, length, Option, Some, None, Result, Ok, Err, refl}
+use Rattle.std.proofs.Common.{◌≡◌, ◌<◌, ℕ, sym, subst, arith, Bool, true, false, List, [], ◌++◌, map, length, Option}
+use Rattle.std.proofs.Common.{Some, None, Result, Ok, Err, refl}
 use Rattle.std.specs.Prelude.{All, IfOk, nat_lt, slice_set, if◌then◌else◌}
 use Rattle.std.proofs.lemmas.Bool.Decides.{nat_tests}
 use Rattle.std.proofs.lemmas.List.Elements.{All-nil}
@@ -10,7 +11,9 @@ use Rattle.tql_spec.specs.Refusal as faults
 use Rattle.tql_spec.specs.Refusal.{first}
 use Rattle.tql_spec.specs.Change as change
 use Rattle.tql_spec.specs.Machine as machine
-use Rattle.tql_spec.specs.Machine.{State, Done, unless_refused, effect, step, altered, outcome, changed_table, verb_of, working, with_working, constraint_faults, state_faults, manner_of, asked, bag_of}
+use Rattle.tql_spec.specs.Machine.{State, Done, unless_refused, effect, step, altered, outcome, changed_table}
+use Rattle.tql_spec.specs.Machine.{verb_of, working, with_working, constraint_faults, state_faults, manner_of, asked}
+use Rattle.tql_spec.specs.Machine.{bag_of}
 use Rattle.tql_value.specs.Points.{ArePrintable, IsPrintable}
 use Rattle.tql_value.specs.declared.refusal.Refusal.{Refusal}
 use Rattle.tql_result.specs.Replies.{IsPrintableReply, reply_of}
@@ -36,7 +39,8 @@ use Rattle.tql_engine.proofs.Finding.{answer_same, table_there}
 abbrev Prints : machine.Reply × State → Type 0
 Prints r = IsPrintableReply r.0
 
-unless_prints : (o : Option faults.Refusal) (s : State) (reply : machine.Reply) (new : State) → IsPrintableReply reply → Prints (unless_refused o s reply new)
+unless_prints : (o : Option faults.Refusal) (s : State) (reply : machine.Reply) (new : State)
+    → IsPrintableReply reply → Prints (unless_refused o s reply new)
 unless_prints None s reply new k = k
 unless_prints (Some e) s reply new k = tt
 
@@ -48,7 +52,8 @@ altered_prints s c =
     let e : Entry = working s s.transaction in
     let o : change.Outcome = outcome s e.moment e.copy c in
     let copy : Copy = slice_set e.copy (changed_table c) o.rows in
-    unless_prints (first (o.faults ++ constraint_faults s.definitions copy)) s (Done (verb_of c) (Some o.count)) (with_working s s.transaction (record { moment = e.moment; copy = copy })) tt
+    unless_prints (first (o.faults ++ constraint_faults s.definitions copy)) s (Done (verb_of c) (Some o.count))
+    (with_working s s.transaction (record { moment = e.moment; copy = copy })) tt
 
 -- ---- what a query answers
 
@@ -56,32 +61,41 @@ altered_prints s c =
 abbrev bag_there : State → ℕ → Ref → List Row
 bag_there s n r = if nat_lt r.table n then bag_of s r else []
 
-there_prints : (h : Held) (s : State) → StandsFor h s → (r : Ref) → AllPrint (bag_there s (length (definitions_of h.tables)) r)
+there_prints : (h : Held) (s : State) → StandsFor h s → (r : Ref)
+    → AllPrint (bag_there s (length (definitions_of h.tables)) r)
 there_prints h s st r = by_place (nat_lt r.table (length (definitions_of h.tables))) refl
   where
     below : (n m : ℕ) → nat_lt n m ≡ true → n < m
     below n m e = grind (arith, nat_tests)
 
-    by_place : (b : Bool) → nat_lt r.table (length (definitions_of h.tables)) ≡ b → AllPrint (if b then bag_of s r else [])
+    by_place : (b : Bool) → nat_lt r.table (length (definitions_of h.tables)) ≡ b
+        → AllPrint (if b then bag_of s r else [])
     by_place true e =
         let p = table_there h.tables r.table (below r.table (length (definitions_of h.tables)) e) in
         found_print h s r.table p.0 r.when st p.1
     by_place false e = All-nil (All IsPrintable)
 
-same_there : (h : Held) (s : State) (r : Ref) → IsPlacedRef (definitions_of h.tables) r → bag_there s (length (definitions_of h.tables)) r ≡ bag_of s r
-same_there h s r placed = chosen (nat_lt r.table (length (definitions_of h.tables))) (bag_of s r) [] (is_below r.table (length (definitions_of h.tables)) placed.table)
+same_there : (h : Held) (s : State) (r : Ref) → IsPlacedRef (definitions_of h.tables) r
+    → bag_there s (length (definitions_of h.tables)) r ≡ bag_of s r
+same_there h s r placed =
+    chosen (nat_lt r.table (length (definitions_of h.tables))) (bag_of s r) []
+    (is_below r.table (length (definitions_of h.tables)) placed.table)
   where
     is_below : (n m : ℕ) → n < m → nat_lt n m ≡ true
     is_below n m h = grind (arith, nat_tests)
 
 -- its rows have texts
-pub answer_prints : (h : Held) (s : State) (x : Question) → StandsFor h s → IsPlacedQuery (definitions_of h.tables) (question_of x) → RowsPrint (answer (bag_of s) (question_of x))
+pub answer_prints : (h : Held) (s : State) (x : Question) → StandsFor h s
+    → IsPlacedQuery (definitions_of h.tables) (question_of x) → RowsPrint (answer (bag_of s) (question_of x))
 answer_prints h s x st placed =
-    subst RowsPrint (answer_same (definitions_of h.tables) (bag_there s (length (definitions_of h.tables))) (bag_of s) (same_there h s) (question_of x) placed.references)
-    (answers_print (bag_there s (length (definitions_of h.tables))) (question_of x) (there_prints h s st) (items_literals x.terms x.items.items))
+    subst RowsPrint (answer_same (definitions_of h.tables) (bag_there s (length (definitions_of h.tables)))
+    (bag_of s) (same_there h s) (question_of x) placed.references)
+    (answers_print (bag_there s (length (definitions_of h.tables))) (question_of x) (there_prints h s st)
+    (items_literals x.terms x.items.items))
 
 -- so have they in any order
-pub rows_print : (keys : List OrderKey) (o : Option (List Row)) (rows : List Row) → RowsPrint o → ordered keys o ≡ Some rows → ArePrintable rows
+pub rows_print : (keys : List OrderKey) (o : Option (List Row)) (rows : List Row) → RowsPrint o
+    → ordered keys o ≡ Some rows → ArePrintable rows
 rows_print keys None rows k e = absurd (cc)
 rows_print keys (Some bag) rows k e = subst ArePrintable (inside (in_order keys bag) rows e) (ordered_prints keys bag k)
   where
@@ -94,21 +108,25 @@ asked_prints s q None k = tt
 asked_prints s q (Some rows) k = ordered_prints q.ordering rows k
 
 -- the machine's reply has one
-step_prints : (h : Held) (s : State) → StandsFor h s → (x : Bound) → IsSound (definitions_of h.tables) x → Prints (step s (bound_of x))
+step_prints : (h : Held) (s : State) → StandsFor h s → (x : Bound) → IsSound (definitions_of h.tables) x
+    → Prints (step s (bound_of x))
 step_prints h s st (b.CreateTable d) k = by_effect s (bound_of (b.CreateTable d)) tt
 step_prints h s st (b.DropTable t) k = by_effect s (bound_of (b.DropTable t)) tt
 step_prints h s st (b.Insert x) k = by_effect s (bound_of (b.Insert x)) (altered_prints s (insertion_of x))
-step_prints h s st (b.InsertFrom x) k = by_effect s (bound_of (b.InsertFrom x)) (altered_prints s (query_insertion_of x))
+step_prints h s st (b.InsertFrom x) k =
+    by_effect s (bound_of (b.InsertFrom x)) (altered_prints s (query_insertion_of x))
 step_prints h s st (b.Modify x) k = by_effect s (bound_of (b.Modify x)) (altered_prints s (modification_of x))
 step_prints h s st (b.Ask x) k =
-    by_effect s (machine.Ask (question_of x)) (asked_prints s (question_of x) (answer (bag_of s) (question_of x)) (answer_prints h s x st k))
+    by_effect s (machine.Ask (question_of x))
+    (asked_prints s (question_of x) (answer (bag_of s) (question_of x)) (answer_prints h s x st k))
 step_prints h s st (b.SetClock m) k = by_effect s (bound_of (b.SetClock m)) tt
 step_prints h s st b.Start k = by_effect s machine.Start tt
 step_prints h s st b.Commit k = by_effect s machine.Commit tt
 step_prints h s st b.Rollback k = by_effect s machine.Rollback tt
 
 -- so has the engine's
-pub does_print : (old new : Held) (s : State) → StandsFor old s → (x : Bound) → IsSound (definitions_of old.tables) x → (result : Result Reply Refusal)
+pub does_print : (old new : Held) (s : State) → StandsFor old s → (x : Bound) → IsSound (definitions_of old.tables) x
+    → (result : Result Reply Refusal)
     → DoesStep new s result (step s (bound_of x)) → IfOk result (λ reply. IsPrintableReply (reply_of reply))
 does_print old new s st x k (Ok reply) d = subst IsPrintableReply (sym d.replies) (step_prints old s st x k)
 does_print old new s st x k (Err e) d = tt

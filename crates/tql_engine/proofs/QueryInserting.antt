@@ -1,5 +1,6 @@
 -- INSERT from a query, from what was made of the rows that it answers.
-use Rattle.std.proofs.Common.{◌≡◌, refl, ap, sym, subst, ◌∙◌, ℕ, List, [], ◌++◌, map, Option, Some, None, Ok, Err, inl, inr}
+use Rattle.std.proofs.Common.{◌≡◌, refl, ap, sym, subst, ◌∙◌, ℕ, List, [], ◌++◌, map, Option, Some, None, Ok, Err}
+use Rattle.std.proofs.Common.{inl, inr}
 use Rattle.std.specs.Prelude.{ℤ, ◌≤ℤ◌, ◌<ℤ◌, ◌⊎◌, All, IfOk, IsNone, slice_get, Result}
 use Rattle.tql_spec.specs.Bag.{SameBag}
 use Rattle.tql_spec.specs.Calendar.{first_moment, high}
@@ -33,7 +34,8 @@ use Rattle.tql_engine.specs.Fitting.{RowsFit}
 use Rattle.tql_engine.specs.Stands.{Held, StandsFor}
 use Rattle.tql_engine.proofs.Added.{altered_by, insert_faults, rows_begun}
 use Rattle.tql_engine.proofs.Asked.{rows_fit}
-use Rattle.tql_engine.proofs.ChangeKeeps.{AreRowsOf, begun_at, begun_fit, rows_both, with_table_rows, working_now, working_rows}
+use Rattle.tql_engine.proofs.ChangeKeeps.{AreRowsOf, begun_at, begun_fit, rows_both, with_table_rows, working_now}
+use Rattle.tql_engine.proofs.ChangeKeeps.{working_rows}
 use Rattle.tql_engine.proofs.Doing.{by_step, change_step, defined_all, refuses, rows_added}
 use Rattle.tql_engine.proofs.Faults.{refused}
 use Rattle.tql_engine.proofs.Modifying.{copy_fits, moment_dated}
@@ -46,9 +48,11 @@ ordered_same : (keys : List OrderKey) (rows : List Row) → SameBag (in_order ke
 ordered_same keys rows = record { totals = λ w. ordered_bag keys w rows }
 
 -- the rows in order are those of the answer
-bag_behind : (keys : List OrderKey) (o : Option (List Row)) (rows : List Row) → ordered keys o ≡ Some rows → (bag : List Row) × (o ≡ Some bag) × SameBag rows bag
+bag_behind : (keys : List OrderKey) (o : Option (List Row)) (rows : List Row) → ordered keys o ≡ Some rows
+    → (bag : List Row) × (o ≡ Some bag) × SameBag rows bag
 bag_behind keys None rows e = absurd (cc)
-bag_behind keys (Some bag) rows e = (bag, refl, subst (λ xs. SameBag xs bag) (inside (in_order keys bag) rows e) (ordered_same keys bag))
+bag_behind keys (Some bag) rows e =
+    (bag, refl, subst (λ xs. SameBag xs bag) (inside (in_order keys bag) rows e) (ordered_same keys bag))
   where
     inside : (xs ys : List Row) → Some xs ≡ Some ys → xs ≡ ys
     inside xs ys e = cc
@@ -58,12 +62,16 @@ none_behind keys None e = refl
 none_behind keys (Some bag) e = absurd (cc)
 
 -- no rows
-pub not_answered : (s : State) (p : Table) (x : QueryInsertion) (e : Refusal) → Fails (ordered (question_of x.question).ordering (answer (bag_of s) (question_of x.question))) e → Adds s p x (Err e)
+pub not_answered : (s : State) (p : Table) (x : QueryInsertion) (e : Refusal)
+    → Fails (ordered (question_of x.question).ordering (answer (bag_of s) (question_of x.question))) e
+    → Adds s p x (Err e)
 not_answered s p x r.OutOfMemory f = tt
-not_answered s p x r.ValueOutOfRange f = inl (refl, none_behind (question_of x.question).ordering (answer (bag_of s) (question_of x.question)) f)
+not_answered s p x r.ValueOutOfRange f =
+    inl (refl, none_behind (question_of x.question).ordering (answer (bag_of s) (question_of x.question)) f)
 not_answered s p x _ f = absurd f
 
-by_result : (s : State) (p : Table) (x : QueryInsertion) (result : Result Delta Refusal) → Added s p x result → IfOk result (λ delta. All (IsRowOf p.definition) (rows_of delta.added.items)) → Adds s p x result
+by_result : (s : State) (p : Table) (x : QueryInsertion) (result : Result Delta Refusal) → Added s p x result
+    → IfOk result (λ delta. All (IsRowOf p.definition) (rows_of delta.added.items)) → Adds s p x result
 by_result s p x (Ok delta) a fits = (a, fits)
 by_result s p x (Err r.OutOfMemory) a fits = tt
 by_result s p x (Err _) a fits = inr a
@@ -71,7 +79,8 @@ by_result s p x (Err _) a fits = inr a
 -- what is made of those that there are
 pub adds_of : (s : State) (p : Table) (x : QueryInsertion) (rows : List Row) (result : Result Delta Refusal)
     → ordered (question_of x.question).ordering (answer (bag_of s) (question_of x.question)) ≡ Some rows
-    → Alters p.id [] (λ m. (added_rows p.definition x.columns.items (Some rows) m).rows) (added_rows p.definition x.columns.items (Some rows)) result
+    → Alters p.id [] (λ m. (added_rows p.definition x.columns.items (Some rows) m).rows)
+    (added_rows p.definition x.columns.items (Some rows)) result
     → IfOk result (λ delta. All (IsRowOf p.definition) (rows_of delta.added.items)) → Adds s p x result
 adds_of s p x rows result e alters fits =
     let k = bag_behind (question_of x.question).ordering (answer (bag_of s) (question_of x.question)) rows e in
@@ -79,7 +88,8 @@ adds_of s p x rows result e alters fits =
 
 -- ---- what the machine does
 
-module _ (no_order : InsertsKeepNoOrder) (h : Held) (s : State) (p : Table) (x : QueryInsertion) (st : StandsFor h s) (there : slice_get h.tables x.table ≡ Some p) (below : IsNone h.rows.working → h.next <ℤ high) where
+module _ (no_order : InsertsKeepNoOrder) (h : Held) (s : State) (p : Table) (x : QueryInsertion) (st : StandsFor h s)
+    (there : slice_get h.tables x.table ≡ Some p) (below : IsNone h.rows.working → h.next <ℤ high) where
   -- the moment, the rows that are there, and the columns that are filled
   abbrev moment : ℤ
   moment = (working_now s).moment
@@ -98,61 +108,99 @@ module _ (no_order : InsertsKeepNoOrder) (h : Held) (s : State) (p : Table) (x :
   abbrev pub outcome_of : Option (List Row) → Outcome
   outcome_of o = insert p.definition moment rows columns o
 
-  insert_is : step s (Alter (query_insertion_of x)) ≡ unless_refused (first (outcome_of answers).faults) s (Done Inserted (Some (outcome_of answers).count)) (with_table_rows s x.table (outcome_of answers).rows)
+  insert_is : step s (Alter (query_insertion_of x)) ≡ unless_refused (first (outcome_of answers).faults) s
+      (Done Inserted (Some (outcome_of answers).count)) (with_table_rows s x.table (outcome_of answers).rows)
   insert_is =
       change_step h s (query_insertion_of x) st below
-      ∙ altered_by s (query_insertion_of x) (outcome_of answers) (defined_all h s st) (ap {B = Outcome} (λ d. insert d moment rows columns answers) (definition_law h s x.table p st there))
+      ∙ altered_by s (query_insertion_of x) (outcome_of answers) (defined_all h s st)
+      (ap {B = Outcome} (λ d. insert d moment rows columns answers) (definition_law h s x.table p st there))
 
   answered_is : (o : Option (List Row)) → answers ≡ o
-      → step s (Alter (query_insertion_of x)) ≡ unless_refused (first (outcome_of o).faults) s (Done Inserted (Some (outcome_of o).count)) (with_table_rows s x.table (outcome_of o).rows)
+      → step s (Alter (query_insertion_of x)) ≡ unless_refused (first (outcome_of o).faults) s
+      (Done Inserted (Some (outcome_of o).count)) (with_table_rows s x.table (outcome_of o).rows)
   answered_is o e =
-      insert_is ∙ ap (λ q. unless_refused (first (outcome_of q).faults) s (Done Inserted (Some (outcome_of q).count)) (with_table_rows s x.table (outcome_of q).rows)) e
+      insert_is ∙ ap (λ q. unless_refused (first (outcome_of q).faults) s (Done Inserted (Some (outcome_of q).count))
+      (with_table_rows s x.table (outcome_of q).rows)) e
 
   -- refused, where the query is out of range
   out_of_range : answers ≡ None → Does h (Refused ValueOutOfRange) (step s (Alter (query_insertion_of x)))
-  out_of_range e = by_step h (Refused ValueOutOfRange) (step s (Alter (query_insertion_of x))) (refused ValueOutOfRange s) (answered_is None e) (refuses h s ValueOutOfRange st)
+  out_of_range e = by_step h (Refused ValueOutOfRange) (step s (Alter (query_insertion_of x)))
+      (refused ValueOutOfRange s) (answered_is None e) (refuses h s ValueOutOfRange st)
 
   module _ (bag got : List Row) (answered : answers ≡ Some bag) (same : SameBag got bag) where
     same_made : SameOutcome (outcome_of (Some got)) (outcome_of (Some bag))
     same_made = no_order p.definition moment rows columns got bag same
 
     -- refused for the first fault
-    row_refused : (f : spec.Refusal) → ((m : ℤ) → first (added_rows p.definition columns (Some got) m).faults ≡ Some f) → Does h (Refused f) (step s (Alter (query_insertion_of x)))
+    row_refused : (f : spec.Refusal)
+        → ((m : ℤ) → first (added_rows p.definition columns (Some got) m).faults ≡ Some f)
+        → Does h (Refused f) (step s (Alter (query_insertion_of x)))
     row_refused f k =
         by_step h (Refused f) (step s (Alter (query_insertion_of x))) (refused f s)
         (answered_is (Some bag) answered
-        ∙ ap (λ q. unless_refused q s (Done Inserted (Some (outcome_of (Some bag)).count)) (with_table_rows s x.table (outcome_of (Some bag)).rows))
+        ∙ ap (λ q. unless_refused q s (Done Inserted (Some (outcome_of (Some bag)).count))
+        (with_table_rows s x.table (outcome_of (Some bag)).rows))
         (sym same_made.fault ∙ ap first (insert_faults p.definition moment rows columns (Some got)) ∙ k moment))
         (refuses h s f st)
 
     -- the state after it
-    pub rows_inserted : (added : List Row) (removed : List ℕ) (r : store.Held) (after : ℤ) → AreRowsOf p.definition added → removed ≡ []
+    pub rows_inserted : (added : List Row) (removed : List ℕ) (r : store.Held) (after : ℤ)
+        → AreRowsOf p.definition added → removed ≡ []
         → ChangesRows h.rows.working h.next after p.id removed added h.rows r
         → ((m : ℤ) → map (λ (y : Stamped). y.cells) (added_rows p.definition columns (Some got) m).rows ≡ added)
-        → StandsFor (record { tables = h.tables; rows = r; next = after }) (with_table_rows s x.table (outcome_of (Some bag)).rows)
+        → StandsFor (record {
+          tables = h.tables;
+          rows = r;
+          next = after;
+        }) (with_table_rows s x.table (outcome_of (Some bag)).rows)
     rows_inserted added removed r after fit none c cells =
-        let old : RowsFit p.definition rows = rows_fit h.tables x.table p there (working_now s).copy (copy_fits h s st) in
-        let made : rows ++ begun_at moment added ≡ (outcome_of (Some got)).rows = ap (λ xs. rows ++ xs) (sym (rows_begun p.definition moment columns (Some got) added (cells moment))) in
-        let both : SameBag (rows ++ begun_at moment added) (outcome_of (Some bag)).rows = subst (λ xs. SameBag xs (outcome_of (Some bag)).rows) (sym made) same_made.rows in
+        let old : RowsFit p.definition rows =
+        rows_fit h.tables x.table p there (working_now s).copy (copy_fits h s st) in
+        let made : rows ++ begun_at moment added ≡ (outcome_of (Some got)).rows =
+        ap (λ xs. rows ++ xs) (sym (rows_begun p.definition moment columns (Some got) added (cells moment))) in
+        let both : SameBag (rows ++ begun_at moment added) (outcome_of (Some bag)).rows =
+        subst (λ xs. SameBag xs (outcome_of (Some bag)).rows) (sym made) same_made.rows in
         let dated = moment_dated h s st below in
-        let news : RowsFit p.definition (rows ++ begun_at moment added) = rows_both p.definition rows (begun_at moment added) old (begun_fit p.definition moment added dated.0 dated.1 fit) in
-        swapped (record { tables = h.tables; rows = r; next = after }) x.table p there (rows ++ begun_at moment added) (outcome_of (Some bag)).rows both
-        (rows_fit_same p.definition (rows ++ begun_at moment added) (outcome_of (Some bag)).rows both news) s (copy_fits h s st)
+        let news : RowsFit p.definition (rows ++ begun_at moment added) =
+        rows_both p.definition rows (begun_at moment added) old
+        (begun_fit p.definition moment added dated.0 dated.1 fit) in
+        swapped (record {
+          tables = h.tables;
+          rows = r;
+          next = after;
+        }) x.table p there (rows ++ begun_at moment added) (outcome_of (Some bag)).rows both
+        (rows_fit_same p.definition (rows ++ begun_at moment added) (outcome_of (Some bag)).rows both news) s
+        (copy_fits h s st)
         (rows_added h s x.table p added removed r after st there below fit none c)
 
     -- and the reply
-    pub query_inserts : (added : List Row) (removed : List ℕ) (r : store.Held) (after : ℤ) (count : ℕ) → AreRowsOf p.definition added → removed ≡ []
+    pub query_inserts : (added : List Row) (removed : List ℕ) (r : store.Held) (after : ℤ) (count : ℕ)
+        → AreRowsOf p.definition added → removed ≡ []
         → ChangesRows h.rows.working h.next after p.id removed added h.rows r
         → ((m : ℤ) → map (λ (y : Stamped). y.cells) (added_rows p.definition columns (Some got) m).rows ≡ added)
-        → ((m : ℤ) → first (added_rows p.definition columns (Some got) m).faults ≡ None) → ((m : ℤ) → count ≡ (added_rows p.definition columns (Some got) m).count)
-        → Does (record { tables = h.tables; rows = r; next = after }) (Done Inserted (Some count)) (step s (Alter (query_insertion_of x)))
+        → ((m : ℤ) → first (added_rows p.definition columns (Some got) m).faults ≡ None)
+        → ((m : ℤ) → count ≡ (added_rows p.definition columns (Some got) m).count)
+        → Does (record {
+          tables = h.tables;
+          rows = r;
+          next = after;
+        }) (Done Inserted (Some count)) (step s (Alter (query_insertion_of x)))
     query_inserts added removed r after count fit none c cells sound n =
-        by_step (record { tables = h.tables; rows = r; next = after }) (Done Inserted (Some count)) (step s (Alter (query_insertion_of x)))
+        by_step (record {
+          tables = h.tables;
+          rows = r;
+          next = after;
+        }) (Done Inserted (Some count)) (step s (Alter (query_insertion_of x)))
         (Done Inserted (Some count), with_table_rows s x.table (outcome_of (Some bag)).rows)
         (answered_is (Some bag) answered
-        ∙ ap (λ q. unless_refused q s (Done Inserted (Some (outcome_of (Some bag)).count)) (with_table_rows s x.table (outcome_of (Some bag)).rows))
+        ∙ ap (λ q. unless_refused q s (Done Inserted (Some (outcome_of (Some bag)).count))
+        (with_table_rows s x.table (outcome_of (Some bag)).rows))
         (sym same_made.fault ∙ ap first (insert_faults p.definition moment rows columns (Some got)) ∙ sound moment)
-        ∙ (λ i. (Done Inserted (Some (sym (n moment ∙ same_made.count) i)), with_table_rows s x.table (outcome_of (Some bag)).rows)))
+        ∙ (λ i. (
+          Done Inserted (Some (sym (n moment ∙ same_made.count) i)),
+          with_table_rows s x.table
+              (outcome_of (Some bag)).rows,
+        )))
         (record { replies = refl; stands = rows_inserted added removed r after fit none c cells })
 
   -- ---- whatever it was refused for
@@ -161,26 +209,35 @@ module _ (no_order : InsertsKeepNoOrder) (h : Held) (s : State) (p : Table) (x :
       → ((e ≡ r.ValueOutOfRange) × (answers ≡ None)) ⊎ Added s p x (Err e)
       → ((a : Added s p x (Err e)) → (m : ℤ) → first (added_rows p.definition columns (Some a.rows) m).faults ≡ Some f)
       → Does h (Refused f) (step s (Alter (query_insertion_of x)))
-  either f e same (inl k) told = subst (λ g. Does h (Refused g) (step s (Alter (query_insertion_of x)))) (ap refusal_of (sym k.0) ∙ same) (out_of_range k.1)
+  either f e same (inl k) told =
+      subst (λ g. Does h (Refused g) (step s (Alter (query_insertion_of x)))) (ap refusal_of (sym k.0)
+      ∙ same) (out_of_range k.1)
   either f e same (inr a) told = row_refused a.bag a.rows a.answered a.same f (told a)
 
   pub query_errs : (e : Refusal) → Adds s p x (Err e) → Refuses h s e (step s (Alter (query_insertion_of x)))
   query_errs r.OutOfMemory k = st
   query_errs r.StatementTooLong k = either (refusal_of r.StatementTooLong) r.StatementTooLong refl k (λ a. a.alters)
   query_errs r.NotUtf8 k = either (refusal_of r.NotUtf8) r.NotUtf8 refl k (λ a. a.alters)
-  query_errs r.UnfinishedStatement k = either (refusal_of r.UnfinishedStatement) r.UnfinishedStatement refl k (λ a. a.alters)
+  query_errs r.UnfinishedStatement k =
+      either (refusal_of r.UnfinishedStatement) r.UnfinishedStatement refl k (λ a. a.alters)
   query_errs r.NestedTooDeep k = either (refusal_of r.NestedTooDeep) r.NestedTooDeep refl k (λ a. a.alters)
   query_errs r.NotAStatement k = either (refusal_of r.NotAStatement) r.NotAStatement refl k (λ a. a.alters)
-  query_errs r.TooManyColumnsOrTables k = either (refusal_of r.TooManyColumnsOrTables) r.TooManyColumnsOrTables refl k (λ a. a.alters)
-  query_errs r.NotInThisTransactionState k = either (refusal_of r.NotInThisTransactionState) r.NotInThisTransactionState refl k (λ a. a.alters)
+  query_errs r.TooManyColumnsOrTables k =
+      either (refusal_of r.TooManyColumnsOrTables) r.TooManyColumnsOrTables refl k (λ a. a.alters)
+  query_errs r.NotInThisTransactionState k =
+      either (refusal_of r.NotInThisTransactionState) r.NotInThisTransactionState refl k (λ a. a.alters)
   query_errs r.MomentNotAllowed k = either (refusal_of r.MomentNotAllowed) r.MomentNotAllowed refl k (λ a. a.alters)
   query_errs r.ReadersAreOpen k = either (refusal_of r.ReadersAreOpen) r.ReadersAreOpen refl k (λ a. a.alters)
-  query_errs r.TableUnknownOrAlreadyThere k = either (refusal_of r.TableUnknownOrAlreadyThere) r.TableUnknownOrAlreadyThere refl k (λ a. a.alters)
-  query_errs r.NameUnknownAmbiguousOrRepeated k = either (refusal_of r.NameUnknownAmbiguousOrRepeated) r.NameUnknownAmbiguousOrRepeated refl k (λ a. a.alters)
+  query_errs r.TableUnknownOrAlreadyThere k =
+      either (refusal_of r.TableUnknownOrAlreadyThere) r.TableUnknownOrAlreadyThere refl k (λ a. a.alters)
+  query_errs r.NameUnknownAmbiguousOrRepeated k =
+      either (refusal_of r.NameUnknownAmbiguousOrRepeated) r.NameUnknownAmbiguousOrRepeated refl k (λ a. a.alters)
   query_errs r.TypesDoNotFit k = either (refusal_of r.TypesDoNotFit) r.TypesDoNotFit refl k (λ a. a.alters)
-  query_errs r.FormNotAllowedHere k = either (refusal_of r.FormNotAllowedHere) r.FormNotAllowedHere refl k (λ a. a.alters)
+  query_errs r.FormNotAllowedHere k =
+      either (refusal_of r.FormNotAllowedHere) r.FormNotAllowedHere refl k (λ a. a.alters)
   query_errs r.TableIsReferenced k = either (refusal_of r.TableIsReferenced) r.TableIsReferenced refl k (λ a. a.alters)
-  query_errs r.TooManyTablesOrReaders k = either (refusal_of r.TooManyTablesOrReaders) r.TooManyTablesOrReaders refl k (λ a. a.alters)
+  query_errs r.TooManyTablesOrReaders k =
+      either (refusal_of r.TooManyTablesOrReaders) r.TooManyTablesOrReaders refl k (λ a. a.alters)
   query_errs r.BeforeTheHorizon k = either (refusal_of r.BeforeTheHorizon) r.BeforeTheHorizon refl k (λ a. a.alters)
   query_errs r.ReaderNotUsable k = either (refusal_of r.ReaderNotUsable) r.ReaderNotUsable refl k (λ a. a.alters)
   query_errs r.ValueOutOfRange k = either (refusal_of r.ValueOutOfRange) r.ValueOutOfRange refl k (λ a. a.alters)

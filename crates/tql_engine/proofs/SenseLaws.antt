@@ -18,7 +18,8 @@ whole_grammar : (text : List ℕ) (s : Statement) → IsTextOf Runs text s → I
 whole_grammar text s (ts, shallow, runs) = (ts, shallow, runs.spelled)
 
 -- a text that spells a statement that does not run says nothing
-pub not_running : (text : List ℕ) (s : code.Tree) → ReadsText text (Ok s) → does_run (tree_of s) ≡ false → ReadsAs text (Err r.NotAStatement)
+pub not_running : (text : List ℕ) (s : code.Tree) → ReadsText text (Ok s) → does_run (tree_of s) ≡ false
+    → ReadsAs text (Err r.NotAStatement)
 not_running text s (whole, spelled) e =
     let alone = one_statement text (tree_of s) spelled in (
       whole,
@@ -35,12 +36,14 @@ running : (text : List ℕ) (s : Statement) → IsTextOf IsStatement text s → 
 running text s (ts, shallow, spelled) e = (ts, shallow, record { spelled = spelled; running = e })
 
 -- one that runs and is too wide
-pub too_wide : (text : List ℕ) (s : code.Tree) → ReadsText text (Ok s) → does_run (tree_of s) ≡ true → is_too_wide (tree_of s) ≡ true
+pub too_wide : (text : List ℕ) (s : code.Tree) → ReadsText text (Ok s) → does_run (tree_of s) ≡ true
+    → is_too_wide (tree_of s) ≡ true
     → ReadsAs text (Err r.TooManyColumnsOrTables)
 too_wide text s (whole, spelled) e wide = (whole, (tree_of s, running text (tree_of s) spelled e, wide))
 
 -- one that runs
-pub says : (text : List ℕ) (s : code.Tree) → ReadsText text (Ok s) → does_run (tree_of s) ≡ true → is_too_wide (tree_of s) ≡ false → ReadsAs text (Ok s)
+pub says : (text : List ℕ) (s : code.Tree) → ReadsText text (Ok s) → does_run (tree_of s) ≡ true
+    → is_too_wide (tree_of s) ≡ false → ReadsAs text (Ok s)
 says text s (whole, spelled) e narrow = (whole, running text (tree_of s) spelled e, narrow)
 
 -- a text that is refused over the whole grammar

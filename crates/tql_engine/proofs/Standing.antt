@@ -58,7 +58,8 @@ open_law h s f = same_test s.transaction ∙ ap is_some (sym f.opened)
 
 -- ---- the clock
 
-last_is : (tables : List Table) (m : ℤ) (es : List Entry) (last : Option ℤ) → newest (copies_of tables es 0) ≡ last → is_not_later m es ≡ not_later_than m last
+last_is : (tables : List Table) (m : ℤ) (es : List Entry) (last : Option ℤ) → newest (copies_of tables es 0) ≡ last
+    → is_not_later m es ≡ not_later_than m last
 last_is tables m [] last e = ap (not_later_than m) e
 last_is tables m (x ∷ older) last e = ap (not_later_than m) e
 
@@ -69,10 +70,17 @@ falls_below : (n m : ℤ) (es : List Entry) → FallingFrom n es → is_not_late
 falls_below n m [] f e = tt
 falls_below n m (x ∷ older) f e = (grind (arith, ints), f.1)
 
-pub clock_law : (h : Held) (s : State) (m : ℤ) → StandsFor h s → IsNone h.rows.working → is_not_later m s.history ≡ false → first_moment ≤ℤ m → m ≤ℤ high
+pub clock_law : (h : Held) (s : State) (m : ℤ) → StandsFor h s → IsNone h.rows.working
+    → is_not_later m s.history ≡ false → first_moment ≤ℤ m → m ≤ℤ high
     → StandsFor (record h { next = m }) (record s { next = m })
 clock_law h s m f closed later from until = record {
-  fits = record { definitions = f.fits.definitions; defined = f.fits.defined; narrow = f.fits.narrow; rows = f.fits.rows; working = f.fits.working };
+  fits = record {
+    definitions = f.fits.definitions;
+    defined = f.fits.defined;
+    narrow = f.fits.narrow;
+    rows = f.fits.rows;
+    working = f.fits.working;
+  };
   clock = refl;
   not_before = from;
   not_after = until;
@@ -85,7 +93,8 @@ clock_law h s m f closed later from until = record {
   count = f.count;
 }
 
-under_next : (tables : List Table) (n : ℤ) (es : List Entry) (last : Option ℤ) → newest (copies_of tables es 0) ≡ last → FallingFrom n es → Under last n
+under_next : (tables : List Table) (n : ℤ) (es : List Entry) (last : Option ℤ)
+    → newest (copies_of tables es 0) ≡ last → FallingFrom n es → Under last n
 under_next tables n [] last e f = subst (λ (o : Option ℤ). Under o n) e tt
 under_next tables n (x ∷ older) last e f = subst (λ (o : Option ℤ). Under o n) e f.0
 
@@ -101,32 +110,40 @@ some_is x y e = cc
 pub place_law : (ps : List Table) (t : ℕ) → t < length (definitions_of ps) → t < length ps
 place_law ps t h = subst (λ n. t < n) (length-map ps (λ (t : Table). t.definition)) h
 
-pub definition_of : (ps : List Table) (t : ℕ) (p : Table) → slice_get ps t ≡ Some p → table_at (definitions_of ps) t ≡ p.definition
+pub definition_of : (ps : List Table) (t : ℕ) (p : Table) → slice_get ps t ≡ Some p
+    → table_at (definitions_of ps) t ≡ p.definition
 definition_of [] t p e = cc
 definition_of (q ∷ ps) zero p e = ap (λ (t : Table). t.definition) (some_is q p e)
 definition_of (q ∷ ps) (suc t) p e = definition_of ps t p e
 
 -- the table's definition
-pub definition_law : (h : Held) (s : State) (t : ℕ) (p : Table) → StandsFor h s → slice_get h.tables t ≡ Some p → table_at s.definitions t ≡ p.definition
-definition_law h s t p f e = ap (λ (ds : List TableDef). table_at ds t) f.fits.definitions ∙ definition_of h.tables t p e
+pub definition_law : (h : Held) (s : State) (t : ℕ) (p : Table) → StandsFor h s → slice_get h.tables t ≡ Some p
+    → table_at s.definitions t ≡ p.definition
+definition_law h s t p f e = ap (λ (ds : List TableDef). table_at ds t) f.fits.definitions
+    ∙ definition_of h.tables t p e
 
-defined_of : (ps : List Table) (t : ℕ) (p : Table) → AllByRecursion IsDefinition (definitions_of ps) → slice_get ps t ≡ Some p → IsDefinition p.definition
+defined_of : (ps : List Table) (t : ℕ) (p : Table) → AllByRecursion IsDefinition (definitions_of ps)
+    → slice_get ps t ≡ Some p → IsDefinition p.definition
 defined_of [] t p a e = cc
 defined_of (q ∷ ps) zero p a e = subst (λ (x : Table). IsDefinition x.definition) (some_is q p e) a.0
 defined_of (q ∷ ps) (suc t) p a e = defined_of ps t p a.1 e
 
-pub defined_law : (h : Held) (s : State) (t : ℕ) (p : Table) → StandsFor h s → slice_get h.tables t ≡ Some p → IsDefinition p.definition
+pub defined_law : (h : Held) (s : State) (t : ℕ) (p : Table) → StandsFor h s → slice_get h.tables t ≡ Some p
+    → IsDefinition p.definition
 defined_law h s t p f e = defined_of h.tables t p f.fits.defined e
 
-kept_of : (rows : store.Held) (ps : List Table) (t : ℕ) (p : Table) → ArePlaced rows ps → slice_get ps t ≡ Some p → IsKept rows p
+kept_of : (rows : store.Held) (ps : List Table) (t : ℕ) (p : Table) → ArePlaced rows ps → slice_get ps t ≡ Some p
+    → IsKept rows p
 kept_of rows [] t p a e = cc
 kept_of rows (q ∷ ps) zero p a e = subst (λ (x : Table). IsKept rows x) (some_is q p e) a.1
 kept_of rows (q ∷ ps) (suc t) p a e = kept_of rows ps t p a.2 e
 
-pub versioned_law : (h : Held) (s : State) (t : ℕ) (p : Table) → StandsFor h s → slice_get h.tables t ≡ Some p → is_versioned h.rows p.id ≡ is_some p.definition.system
+pub versioned_law : (h : Held) (s : State) (t : ℕ) (p : Table) → StandsFor h s → slice_get h.tables t ≡ Some p
+    → is_versioned h.rows p.id ≡ is_some p.definition.system
 versioned_law h s t p f e = (kept_of h.rows h.tables t p f.placed e).versioned
 
-pub there_law : (h : Held) (s : State) (t : ℕ) (p : Table) → StandsFor h s → slice_get h.tables t ≡ Some p → IsTrue (has_table h.rows p.id)
+pub there_law : (h : Held) (s : State) (t : ℕ) (p : Table) → StandsFor h s → slice_get h.tables t ≡ Some p
+    → IsTrue (has_table h.rows p.id)
 there_law h s t p f e = (kept_of h.rows h.tables t p f.placed e).there
 
 pub count_law : (h : Held) (s : State) → StandsFor h s → length s.definitions ≡ table_count h.rows

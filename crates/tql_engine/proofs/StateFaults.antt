@@ -1,5 +1,6 @@
 -- The faults of the transaction and the clock, by what the engine holds.
-use Rattle.std.proofs.Common.{◌≡◌, refl, sym, ap, ◌∙◌, Bool, true, false, Option, Some, None, List, [], ◌∷◌, ◌++◌, arith}
+use Rattle.std.proofs.Common.{◌≡◌, refl, sym, ap, ◌∙◌, Bool, true, false, Option, Some, None, List, [], ◌∷◌, ◌++◌}
+use Rattle.std.proofs.Common.{arith}
 use Rattle.std.specs.Prelude.{ℤ, ◌&&◌, ◌<ℤ◌, not, int_le, is_some, is_none, if◌then◌else◌}
 use Rattle.std.proofs.lemmas.Int.{ints}
 use Rattle.tql_spec.specs.Calendar.{high}
@@ -53,12 +54,15 @@ second : (t u : Bool) → t && u ≡ false → t ≡ true → u ≡ false
 second true u k e = k
 second false u k e = absurd cc
 
-dated : (h : Held) (s : State) → StandsFor h s → first (fault_if (is_none s.transaction && is_clock_at_end s) MomentNotAllowed) ≡ None → IsIdle h → HasTimeLeft h
+dated : (h : Held) (s : State) → StandsFor h s
+    → first (fault_if (is_none s.transaction && is_clock_at_end s) MomentNotAllowed) ≡ None → IsIdle h → HasTimeLeft h
 dated h s st k i =
-    has_moment h s st (second (is_none s.transaction) (is_clock_at_end s) (no_fault (is_none s.transaction && is_clock_at_end s) MomentNotAllowed k) (closed_is h s st ∙ ap not i))
+    has_moment h s st (second (is_none s.transaction) (is_clock_at_end s)
+    (no_fault (is_none s.transaction && is_clock_at_end s) MomentNotAllowed k) (closed_is h s st ∙ ap not i))
 
 -- the transaction and the clock allow the bound statement
-pub allowed_law : (h : Held) (s : State) (x : Bound) → StandsFor h s → first (state_faults s (asked_first (manner_of (bound_of x)))) ≡ None → IsAllowed h x
+pub allowed_law : (h : Held) (s : State) (x : Bound) → StandsFor h s
+    → first (state_faults s (asked_first (manner_of (bound_of x)))) ≡ None → IsAllowed h x
 allowed_law h s (b.CreateTable d) st k = idle h s st (no_fault (is_some s.transaction) NotInThisTransactionState k)
 allowed_law h s (b.DropTable t) st k = idle h s st (no_fault (is_some s.transaction) NotInThisTransactionState k)
 allowed_law h s (b.Insert x) st k = dated h s st k

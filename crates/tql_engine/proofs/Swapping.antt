@@ -1,5 +1,6 @@
 -- A state stands as well with the rows of a table in another order.
-use Rattle.std.proofs.Common.{◌≡◌, ◌<◌, cond, refl, sym, subst, ◌∙◌, ℕ, Bool, true, false, List, [], ◌∷◌, length, Option, Some, None, inl, inr}
+use Rattle.std.proofs.Common.{◌≡◌, ◌<◌, cond, refl, sym, subst, ◌∙◌, ℕ, Bool, true, false, List, [], ◌∷◌, length}
+use Rattle.std.proofs.Common.{Option, Some, None, inl, inr}
 use Rattle.std.specs.Prelude.{ℤ, ◌⊎◌, nat_eq, slice_get, slice_set, if◌then◌else◌}
 use Rattle.std.specs.List.{AllByRecursion}
 use Rattle.std.proofs.lemmas.List.{length-map}
@@ -36,28 +37,41 @@ all_members P (x ∷ xs) k = (k x (inl refl), all_members P xs (λ r m. k r (inr
 
 -- a member of a bag is one of any list that is the same bag
 pub member_of_same : {xs ys : List Stamped} (r : Stamped) → SameBag xs ys → In r xs → In r ys
-member_of_same {xs} {ys} r b m = there_if r ys (subst (λ n. 0 < n) (b.totals (λ s. cond (same_stamped r s) 1 0)) (times_some r xs m))
+member_of_same {xs} {ys} r b m =
+    there_if r ys (subst (λ n. 0 < n) (b.totals (λ s. cond (same_stamped r s) 1 0)) (times_some r xs m))
 
 -- rows fit in any order
 pub rows_fit_same : (d : TableDef) (xs ys : List Stamped) → SameBag xs ys → RowsFit d xs → RowsFit d ys
-rows_fit_same d xs ys b f = all_members (RowFits d) ys (λ r m. of_members (RowFits d) xs f r (member_of_same r (same-sym b) m))
+rows_fit_same d xs ys b f =
+    all_members (RowFits d) ys (λ r m. of_members (RowFits d) xs f r (member_of_same r (same-sym b) m))
 
 -- ---- the newest copy with its rows in another order
 
-fits_same : (rows : List Stamped) (ends : Stamped → ℤ) (until m : ℤ) (xs ys : List Stamped) → SameBag xs ys → Fits rows ends (record { moment = m; rows = xs }) until → Fits rows ends (record { moment = m; rows = ys }) until
-fits_same rows ends until m xs ys b f = record { copy = same-trans (same-sym b) f.copy; starts = f.starts; stops = f.stops }
+fits_same : (rows : List Stamped) (ends : Stamped → ℤ) (until m : ℤ) (xs ys : List Stamped) → SameBag xs ys
+    → Fits rows ends (record { moment = m; rows = xs }) until → Fits rows ends (record { moment = m; rows = ys }) until
+fits_same rows ends until m xs ys b f = record {
+  copy = same-trans (same-sym b) f.copy;
+  starts = f.starts;
+  stops = f.stops;
+}
 
-either_same : {P : Type 0} (rows : List Stamped) (ends : Stamped → ℤ) (until m : ℤ) (xs ys : List Stamped) → SameBag xs ys
-    → P ⊎ Fits rows ends (record { moment = m; rows = xs }) until → P ⊎ Fits rows ends (record { moment = m; rows = ys }) until
+either_same : {P : Type 0} (rows : List Stamped) (ends : Stamped → ℤ) (until m : ℤ) (xs ys : List Stamped)
+    → SameBag xs ys
+    → P ⊎ Fits rows ends (record { moment = m; rows = xs }) until
+    → P ⊎ Fits rows ends (record { moment = m; rows = ys }) until
 either_same rows ends until m xs ys b (inl past) = inl past
 either_same rows ends until m xs ys b (inr f) = inr (fits_same rows ends until m xs ys b f)
 
-told_same : (horizon : Option ℤ) (rows : List Stamped) (ends : Stamped → ℤ) (until m : ℤ) (xs ys : List Stamped) (older : List TableEntry) → SameBag xs ys
-    → Told horizon rows ends until (record { moment = m; rows = xs } ∷ older) → Told horizon rows ends until (record { moment = m; rows = ys } ∷ older)
+told_same : (horizon : Option ℤ) (rows : List Stamped) (ends : Stamped
+    → ℤ) (until m : ℤ) (xs ys : List Stamped) (older : List TableEntry) → SameBag xs ys
+    → Told horizon rows ends until (record { moment = m; rows = xs } ∷ older)
+    → Told horizon rows ends until (record { moment = m; rows = ys } ∷ older)
 told_same horizon rows ends until m xs ys older b k = (k.0, (either_same rows ends until m xs ys b k.1.0, k.1.1))
 
-stands_same : (horizon : Option ℤ) (versions : List Version) (m : ℤ) (xs ys : List Stamped) (older : List TableEntry) → SameBag xs ys
-    → StandFor horizon versions (record { moment = m; rows = xs } ∷ older) → StandFor horizon versions (record { moment = m; rows = ys } ∷ older)
+stands_same : (horizon : Option ℤ) (versions : List Version) (m : ℤ) (xs ys : List Stamped) (older : List TableEntry)
+    → SameBag xs ys
+    → StandFor horizon versions (record { moment = m; rows = xs } ∷ older)
+    → StandFor horizon versions (record { moment = m; rows = ys } ∷ older)
 stands_same horizon versions m xs ys older b f = record {
   rows = f.rows;
   ends = f.ends;
@@ -68,24 +82,37 @@ stands_same horizon versions m xs ys older b f = record {
 }
 
 -- in the newest copies, with no transaction open
-pub copies_same : (r : store.Held) (m : ℤ) (xs ys : Working) (older : Copies) (working : Working) → r.working ≡ None → ((t : ℕ) → SameBag (xs t) (ys t))
-    → Represents r (λ t. record { moment = m; rows = xs t } ∷ older t) working → Represents r (λ t. record { moment = m; rows = ys t } ∷ older t) working
+pub copies_same : (r : store.Held) (m : ℤ) (xs ys : Working) (older : Copies) (working : Working) → r.working ≡ None
+    → ((t : ℕ) → SameBag (xs t) (ys t))
+    → Represents r (λ t. record { moment = m; rows = xs t } ∷ older t) working
+    → Represents r (λ t. record { moment = m; rows = ys t } ∷ older t) working
 copies_same r m xs ys older working idle b f = record {
   dated = f.dated;
-  stands = λ t. subst (λ o. StandsWith (horizon_of r.tables r.last t) o (live r t) (record { moment = m; rows = ys t } ∷ older t) (working t)) (sym idle)
+  stands = λ t. subst (λ o. StandsWith (horizon_of r.tables r.last t) o (live r t) (record {
+    moment = m;
+    rows = ys t;
+  } ∷ older t) (working t)) (sym idle)
       (stands_same (horizon_of r.tables r.last t) (live r t) m (xs t) (ys t) (older t) (b t)
-      (subst (λ o. StandsWith (horizon_of r.tables r.last t) o (live r t) (record { moment = m; rows = xs t } ∷ older t) (working t)) idle (f.stands t)));
+      (subst (λ o. StandsWith (horizon_of r.tables r.last t) o (live r t) (record {
+        moment = m;
+        rows = xs t;
+      } ∷ older t) (working t)) idle (f.stands t)));
 }
 
 -- in the working copy of an open transaction
-pub working_same : (r : store.Held) (m : ℤ) (xs ys : Working) (copies : Copies) → r.working ≡ Some m → ((t : ℕ) → SameBag (xs t) (ys t)) → Represents r copies xs → Represents r copies ys
+pub working_same : (r : store.Held) (m : ℤ) (xs ys : Working) (copies : Copies) → r.working ≡ Some m
+    → ((t : ℕ) → SameBag (xs t) (ys t)) → Represents r copies xs → Represents r copies ys
 working_same r m xs ys copies is_open b f = record {
   dated = f.dated;
   stands = λ t. subst (λ o. StandsWith (horizon_of r.tables r.last t) o (live r t) (copies t) (ys t)) (sym is_open)
-      (within t (subst (λ o. StandsWith (horizon_of r.tables r.last t) o (live r t) (copies t) (xs t)) is_open (f.stands t)));
+      (within t (subst (λ o. StandsWith (horizon_of r.tables r.last t) o (live r t) (copies t) (xs t)) is_open
+      (f.stands t)));
 }
   where
-    within : (t : ℕ) → InTransaction (horizon_of r.tables r.last t) (live r t) (record { moment = m; rows = xs t }) (copies t)
+    within : (t : ℕ) → InTransaction (horizon_of r.tables r.last t) (live r t) (record {
+      moment = m;
+      rows = xs t;
+    }) (copies t)
         → InTransaction (horizon_of r.tables r.last t) (live r t) (record { moment = m; rows = ys t }) (copies t)
     within t k = record {
       since = k.since;
@@ -97,26 +124,37 @@ working_same r m xs ys copies is_open b f = record {
 -- ---- a state with the rows of one table in another order
 
 -- the rows of each table, as the store numbers them
-rows_same : (h : store.Held) (ps : List Table) (t : ℕ) (p : Table) → ArePlaced h ps → slice_get ps t ≡ Some p → (copy : Copy) → CopyFits (definitions_of ps) copy → (xs ys : List Stamped) → SameBag xs ys
+rows_same : (h : store.Held) (ps : List Table) (t : ℕ) (p : Table) → ArePlaced h ps → slice_get ps t ≡ Some p
+    → (copy : Copy) → CopyFits (definitions_of ps) copy → (xs ys : List Stamped) → SameBag xs ys
     → (id : ℕ) → SameBag (rows_of_id ps (slice_set copy t xs) id) (rows_of_id ps (slice_set copy t ys) id)
 rows_same h ps t p a there copy fits xs ys b id =
-    let long : length copy ≡ length ps = fits_length (definitions_of ps) copy fits ∙ length-map ps (λ (q : Table). q.definition) in
+    let long : length copy ≡ length ps = fits_length (definitions_of ps) copy fits
+    ∙ length-map ps (λ (q : Table). q.definition) in
     subst (λ zs. SameBag zs (rows_of_id ps (slice_set copy t ys) id)) (sym (rows_set h ps t p a there copy long xs id))
-    (subst (SameBag (if nat_eq id p.id then xs else rows_of_id ps copy id)) (sym (rows_set h ps t p a there copy long ys id))
+    (subst (SameBag (if nat_eq id p.id then xs else rows_of_id ps copy id))
+    (sym (rows_set h ps t p a there copy long ys id))
     (either (nat_eq id p.id)))
   where
     either : (c : Bool) → SameBag (if c then xs else rows_of_id ps copy id) (if c then ys else rows_of_id ps copy id)
     either true = b
     either false = same-refl (rows_of_id ps copy id)
 
-module _ (h : Held) (t : ℕ) (p : Table) (there : slice_get h.tables t ≡ Some p) (xs ys : List Stamped) (b : SameBag xs ys) (ok : RowsFit p.definition ys) where
+module _ (h : Held) (t : ℕ) (p : Table) (there : slice_get h.tables t ≡ Some p) (xs ys : List Stamped)
+    (b : SameBag xs ys) (ok : RowsFit p.definition ys) where
   swapped_by : (defs : _) (es : List Entry) (next : ℤ) (o : Option Entry)
       → (let s : State = record { definitions = defs; history = es; next = next; transaction = o } in
-      CopyFits (definitions_of h.tables) (working_now s).copy → StandsFor h (with_table_rows s t xs) → StandsFor h (with_table_rows s t ys))
+      CopyFits (definitions_of h.tables) (working_now s).copy → StandsFor h (with_table_rows s t xs)
+      → StandsFor h (with_table_rows s t ys))
   swapped_by defs es next None fits f =
       let copy : Copy = newest_copy defs es in
       record {
-        fits = record { definitions = f.fits.definitions; defined = f.fits.defined; narrow = f.fits.narrow; rows = (set_fits h.tables t p there copy fits ys ok, f.fits.rows.1); working = f.fits.working };
+        fits = record {
+          definitions = f.fits.definitions;
+          defined = f.fits.defined;
+          narrow = f.fits.narrow;
+          rows = (set_fits h.tables t p there copy fits ys ok, f.fits.rows.1);
+          working = f.fits.working;
+        };
         clock = f.clock;
         not_before = f.not_before;
         not_after = f.not_after;
@@ -124,13 +162,20 @@ module _ (h : Held) (t : ℕ) (p : Table) (there : slice_get h.tables t ≡ Some
         since = f.since;
         opened = f.opened;
         dated = f.dated;
-        stands = copies_same h.rows next (rows_of_id h.tables (slice_set copy t xs)) (rows_of_id h.tables (slice_set copy t ys)) (copies_of h.tables es) (working_of h.tables None) f.opened
+        stands = copies_same h.rows next (rows_of_id h.tables (slice_set copy t xs))
+            (rows_of_id h.tables (slice_set copy t ys)) (copies_of h.tables es) (working_of h.tables None) f.opened
             (rows_same h.rows h.tables t p f.placed there copy fits xs ys b) f.stands;
         placed = f.placed;
         count = f.count;
       }
   swapped_by defs es next (Some e) fits f = record {
-    fits = record { definitions = f.fits.definitions; defined = f.fits.defined; narrow = f.fits.narrow; rows = f.fits.rows; working = set_fits h.tables t p there e.copy fits ys ok };
+    fits = record {
+      definitions = f.fits.definitions;
+      defined = f.fits.defined;
+      narrow = f.fits.narrow;
+      rows = f.fits.rows;
+      working = set_fits h.tables t p there e.copy fits ys ok;
+    };
     clock = f.clock;
     not_before = f.not_before;
     not_after = f.not_after;
@@ -138,12 +183,14 @@ module _ (h : Held) (t : ℕ) (p : Table) (there : slice_get h.tables t ≡ Some
     since = f.since;
     opened = f.opened;
     dated = f.dated;
-    stands = working_same h.rows e.moment (rows_of_id h.tables (slice_set e.copy t xs)) (rows_of_id h.tables (slice_set e.copy t ys)) (copies_of h.tables es) f.opened
+    stands = working_same h.rows e.moment (rows_of_id h.tables (slice_set e.copy t xs))
+        (rows_of_id h.tables (slice_set e.copy t ys)) (copies_of h.tables es) f.opened
         (rows_same h.rows h.tables t p f.placed there e.copy fits xs ys b) f.stands;
     placed = f.placed;
     count = f.count;
   }
 
   -- the law
-  pub swapped : (s : State) → CopyFits (definitions_of h.tables) (working_now s).copy → StandsFor h (with_table_rows s t xs) → StandsFor h (with_table_rows s t ys)
+  pub swapped : (s : State) → CopyFits (definitions_of h.tables) (working_now s).copy
+      → StandsFor h (with_table_rows s t xs) → StandsFor h (with_table_rows s t ys)
   swapped s = swapped_by s.definitions s.history s.next s.transaction

@@ -13,7 +13,8 @@ use Rattle.tql_engine.specs.Stands.{Held, StandsFor, copies_of, working_of}
 use Rattle.tql_engine.proofs.Copies.{any_working, same_places}
 use Rattle.tql_engine.proofs.ChangeKeeps.{last_fits, begun_stands, same_count}
 
-module _ (h : Held) (defs : List TableDef) (es : List Entry) (next : ℤ) (r : store.Held) (places : r.tables ≡ h.rows.tables) where
+module _ (h : Held) (defs : List TableDef) (es : List Entry) (next : ℤ) (r : store.Held)
+    (places : r.tables ≡ h.rows.tables) where
   -- the machine, with no transaction open
   abbrev idle : State
   idle = record { definitions = defs; history = es; next = next; transaction = None }
@@ -23,7 +24,8 @@ module _ (h : Held) (defs : List TableDef) (es : List Entry) (next : ℤ) (r : s
   within e = record { definitions = defs; history = es; next = next; transaction = Some e }
 
   -- begun
-  begun : StandsFor h idle → next <ℤ high → BeginCopies h.rows r → r.working ≡ Some next → StandsFor (record h { rows = r }) (record idle { transaction = Some (working idle None) })
+  begun : StandsFor h idle → next <ℤ high → BeginCopies h.rows r → r.working ≡ Some next
+      → StandsFor (record h { rows = r }) (record idle { transaction = Some (working idle None) })
   begun f below begins is_open = record {
     fits = record {
       definitions = f.fits.definitions;
@@ -45,13 +47,20 @@ module _ (h : Held) (defs : List TableDef) (es : List Entry) (next : ℤ) (r : s
   }
 
   -- committed
-  ended : (e : Entry) → StandsFor h (within e) → CommitAppends h.rows r → r.working ≡ None → StandsFor (record { tables = h.tables; rows = r; next = next +ℤ pos 1 }) (committed (within e) e)
+  ended : (e : Entry) → StandsFor h (within e) → CommitAppends h.rows r → r.working ≡ None
+      → StandsFor (record { tables = h.tables; rows = r; next = next +ℤ pos 1 }) (committed (within e) e)
   ended e f commits is_idle =
       let same : e.moment ≡ next = f.dated.0 in
       let low : first_moment ≤ℤ e.moment = subst (λ m. first_moment ≤ℤ m) (sym same) f.not_before in
       let below : e.moment <ℤ high = subst (λ m. m <ℤ high) (sym same) f.dated.1 in
       record {
-        fits = record { definitions = f.fits.definitions; defined = f.fits.defined; narrow = f.fits.narrow; rows = (f.fits.working, f.fits.rows); working = tt };
+        fits = record {
+          definitions = f.fits.definitions;
+          defined = f.fits.defined;
+          narrow = f.fits.narrow;
+          rows = (f.fits.working, f.fits.rows);
+          working = tt;
+        };
         clock = ap (λ m. m +ℤ pos 1) (sym same);
         not_before = omega (arith, ints);
         not_after = omega (arith, ints);
@@ -66,9 +75,16 @@ module _ (h : Held) (defs : List TableDef) (es : List Entry) (next : ℤ) (r : s
       }
 
   -- undone
-  undone : (e : Entry) → StandsFor h (within e) → RollbackRestores h.rows r → r.working ≡ None → StandsFor (record h { rows = r }) idle
+  undone : (e : Entry) → StandsFor h (within e) → RollbackRestores h.rows r → r.working ≡ None
+      → StandsFor (record h { rows = r }) idle
   undone e f restores is_idle = record {
-    fits = record { definitions = f.fits.definitions; defined = f.fits.defined; narrow = f.fits.narrow; rows = f.fits.rows; working = tt };
+    fits = record {
+      definitions = f.fits.definitions;
+      defined = f.fits.defined;
+      narrow = f.fits.narrow;
+      rows = f.fits.rows;
+      working = tt;
+    };
     clock = f.clock;
     not_before = f.not_before;
     not_after = f.not_after;
@@ -83,24 +99,31 @@ module _ (h : Held) (defs : List TableDef) (es : List Entry) (next : ℤ) (r : s
   }
 
 -- the state where its transaction is told
-in_state : (h : Held) (s : State) (o : Option Entry) → s.transaction ≡ o → StandsFor h s → StandsFor h (record s { transaction = o })
+in_state : (h : Held) (s : State) (o : Option Entry) → s.transaction ≡ o → StandsFor h s
+    → StandsFor h (record s { transaction = o })
 in_state h s o e f = subst (λ x. StandsFor h (record s { transaction = x })) e f
 
-pub begun_law : (h : Held) (s : State) (r : store.Held) → StandsFor h s → s.transaction ≡ None → h.next <ℤ high → BeginCopies h.rows r → r.working ≡ Some h.next → r.tables ≡ h.rows.tables
+pub begun_law : (h : Held) (s : State) (r : store.Held) → StandsFor h s → s.transaction ≡ None → h.next <ℤ high
+    → BeginCopies h.rows r → r.working ≡ Some h.next → r.tables ≡ h.rows.tables
     → StandsFor (record h { rows = r }) (record s { transaction = Some (working s None) })
 begun_law h s r f closed below begins is_open places =
-    subst (λ (x : Option Entry). StandsFor (record h { rows = r }) (record s { transaction = Some (working (record s { transaction = x }) None) })) (sym closed)
-    (begun h s.definitions s.history s.next r places (in_state h s None closed f) (subst (λ m. m <ℤ high) f.clock below) begins (is_open ∙ ap Some f.clock))
+    subst (λ (x : Option Entry). StandsFor (record h { rows = r })
+    (record s { transaction = Some (working (record s { transaction = x }) None) })) (sym closed)
+    (begun h s.definitions s.history s.next r places (in_state h s None closed f)
+    (subst (λ m. m <ℤ high) f.clock below) begins (is_open ∙ ap Some f.clock))
 
-pub ended_law : (h : Held) (s : State) (e : Entry) (r : store.Held) → StandsFor h s → s.transaction ≡ Some e → CommitAppends h.rows r → r.working ≡ None → r.tables ≡ h.rows.tables
+pub ended_law : (h : Held) (s : State) (e : Entry) (r : store.Held) → StandsFor h s → s.transaction ≡ Some e
+    → CommitAppends h.rows r → r.working ≡ None → r.tables ≡ h.rows.tables
     → StandsFor (record { tables = h.tables; rows = r; next = h.next +ℤ pos 1 }) (committed s e)
 ended_law h s e r f is commits is_idle places =
     subst (λ n. StandsFor (record { tables = h.tables; rows = r; next = n +ℤ pos 1 }) (committed s e)) (sym f.clock)
     (ended h s.definitions s.history s.next r places e (in_state h s (Some e) is f) commits is_idle)
 
-pub undone_law : (h : Held) (s : State) (e : Entry) (r : store.Held) → StandsFor h s → s.transaction ≡ Some e → RollbackRestores h.rows r → r.working ≡ None → r.tables ≡ h.rows.tables
+pub undone_law : (h : Held) (s : State) (e : Entry) (r : store.Held) → StandsFor h s → s.transaction ≡ Some e
+    → RollbackRestores h.rows r → r.working ≡ None → r.tables ≡ h.rows.tables
     → StandsFor (record h { rows = r }) (record s { transaction = None })
-undone_law h s e r f is restores is_idle places = undone h s.definitions s.history s.next r places e (in_state h s (Some e) is f) restores is_idle
+undone_law h s e r f is restores is_idle places =
+    undone h s.definitions s.history s.next r places e (in_state h s (Some e) is f) restores is_idle
 
 -- an open transaction has its moment before the end
 pub dated_below : (h : Held) (s : State) (e : Entry) → StandsFor h s → s.transaction ≡ Some e → h.next <ℤ high

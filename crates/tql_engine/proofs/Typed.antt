@@ -1,4 +1,5 @@
--- An engine that does a step of the machine is sound, since the step keeps the kinds of values; and what a change reads is
+-- An engine that does a step of the machine is sound, since the step keeps the kinds of values; and what a change
+-- reads is
 -- of its table's kinds.
 use Rattle.std.proofs.Common.{◌≡◌, refl, sym, ap, subst, ◌∙◌, ℕ, List, [], ◌∷◌, length, All, map, Option, Some, None}
 use Rattle.std.proofs.Common.{inl, inr}
@@ -68,7 +69,7 @@ read_typed h s p x found st typed bound there answers portion =
     let here : table_at s.definitions x.table ≡ p.definition = definition_law h s x.table p st there in
     let work : IsTypedWork (table_at (definitions_of h.tables) x.table) (portion_in x) (work_in x) = bound in
     let same : table_at (definitions_of h.tables) x.table ≡ p.definition =
-        ap (λ (ds : List TableDef). table_at ds x.table) (sym st.fits.definitions) ∙ here in
+    ap (λ (ds : List TableDef). table_at ds x.table) (sym st.fits.definitions) ∙ here in
     let rows : (r : Stamped) → In r (dml.rows_in found) → IsTyped p.definition r = λ r m.
     subst (λ (d : TableDef). IsTyped d r) here
     (working_typed s.definitions s.history s.next s.transaction typed x.table r

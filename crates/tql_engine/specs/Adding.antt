@@ -20,7 +20,8 @@ pub record Added (s : State) (p : Table) (x : QueryInsertion) (result : Result D
   pub answered : answer (bag_of s) (question_of x.question) ≡ Some bag
   pub rows : List Row
   pub same : SameBag rows bag
-  pub alters : Alters p.id [] (λ m. (added_rows p.definition x.columns.items (Some rows) m).rows) (added_rows p.definition x.columns.items (Some rows)) result
+  pub alters : Alters p.id [] (λ m. (added_rows p.definition x.columns.items (Some rows) m).rows)
+      (added_rows p.definition x.columns.items (Some rows)) result
 
 -- by its result: the change; memory; or the query is out of range, or a new row has a fault
 abbrev pub Adds : State → Table → QueryInsertion → Result Delta Refusal → Type 0

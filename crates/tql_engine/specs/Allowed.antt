@@ -2,7 +2,8 @@
 use Rattle.std.specs.Prelude.{◌<ℤ◌, IsNone}
 use Rattle.tql_spec.specs.Calendar.{high}
 use Rattle.tql_bind.specs.declared.bound.Bound.{Bound}
-use Rattle.tql_bind.specs.declared.bound.Bound.TheVariants.{CreateTable, DropTable, Insert, InsertFrom, Modify, Ask, SetClock, Start, Commit, Rollback}
+use Rattle.tql_bind.specs.declared.bound.Bound.TheVariants.{CreateTable, DropTable, Insert, InsertFrom, Modify, Ask}
+use Rattle.tql_bind.specs.declared.bound.Bound.TheVariants.{SetClock, Start, Commit, Rollback}
 use Rattle.tql_engine.specs.Stands.{Held}
 
 -- no transaction is open

@@ -20,7 +20,8 @@ pub record WritesWhole (s : State) (after : Standing) (script old new : List ℕ
   pub behind : new ≡ old ++ pushed
   pub counts : Counts summary (map Replied writes.0)
 
--- the output could not grow: the statement of the reply that it did not take is the last that ran, and a beginning of the
+-- the output could not grow: the statement of the reply that it did not take is the last that ran, and a beginning of
+-- the
 -- replies stands behind what the output was
 pub record StopsWriting (s : State) (after : Standing) (script old new : List ℕ) : Type 0 where
   pub done : List Piece

@@ -34,7 +34,8 @@ abbrev pub reply_by : Result Reply Refusal → machine.Reply
 reply_by (Ok reply) = reply_of reply
 reply_by (Err e) = Refused (refusal_of e)
 
--- what is asked of the transaction and the clock before names are bound: the moment of AT is not read yet, and COMMIT and ROLLBACK ask for
+-- what is asked of the transaction and the clock before names are bound: the moment of AT is not read yet, and COMMIT
+-- and ROLLBACK ask for
 -- themselves
 abbrev pub asked_first : Manner → Manner
 asked_first (SetsClock m) = SetsClock None

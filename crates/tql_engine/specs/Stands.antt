@@ -1,5 +1,6 @@
 -- What an engine holds, and the state of the machine that it stands for.
-use Rattle.std.specs.Prelude.{◌≡◌, refl, ◌≤ℤ◌, ◌<ℤ◌, ℕ, Bool, not, List, [], ◌∷◌, map, length, nat_eq, IsTrue, ℤ, Option, Some, None, is_some, if◌then◌else◌}
+use Rattle.std.specs.Prelude.{◌≡◌, refl, ◌≤ℤ◌, ◌<ℤ◌, ℕ, Bool, not, List, [], ◌∷◌, map, length, nat_eq, IsTrue, ℤ}
+use Rattle.std.specs.Prelude.{Option, Some, None, is_some, if◌then◌else◌}
 use Rattle.std.specs.List.{list_all}
 use Rattle.std.specs.Coded.{Coded, code_by, coded×, coded_ℤ}
 use Rattle.tql_spec.specs.Calendar.{first_moment, high}
@@ -14,7 +15,8 @@ use Rattle.tql_store.specs.Held.{has_table, is_versioned, table_count}
 use Rattle.tql_store.specs.Represents.{Copies, Represents}
 use Rattle.tql_engine.specs.Fitting.{StateFits}
 
--- what an engine holds: its tables in the order of their creation, the store of their rows, and the moment of the next transaction
+-- what an engine holds: its tables in the order of their creation, the store of their rows, and the moment of the
+-- next transaction
 pub record Held : Type 0 where
   pub tables : List Table
   pub rows : store.Held
@@ -34,7 +36,10 @@ rows_of_id (p ∷ ps) (rows ∷ copy) id = if nat_eq p.id id then rows else rows
 
 -- the copies of the history, as the store numbers its tables
 abbrev pub copies_of : List Table → List Entry → Copies
-copies_of tables history id = map (λ (e : Entry). record { moment = e.moment; rows = rows_of_id tables e.copy id }) history
+copies_of tables history id = map (λ (e : Entry). record {
+  moment = e.moment;
+  rows = rows_of_id tables e.copy id;
+}) history
 
 -- no table is kept at this number
 abbrev pub is_free : ℕ → List Table → Bool
@@ -84,7 +89,8 @@ pub record StandsFor (h : Held) (s : State) : Type 0 where
   pub placed : ArePlaced h.rows h.tables
   pub count : table_count h.rows ≡ length h.tables
 
--- what is true of every engine: it stands for some state of the machine, and in each copy of it, the working one too, values are of their
+-- what is true of every engine: it stands for some state of the machine, and in each copy of it, the working one too,
+-- values are of their
 -- columns' kinds, so that the ends of a row's application period are points of its kind
 pub record IsSound (h : Held) : Type 0 where
   pub state : State

@@ -6,6 +6,7 @@ use Rattle.tql_value.specs.declared.truth.Truth as code
 use Rattle.tql_expr.specs.Meaning.{judged}
 
 -- where a condition has a truth, its evaluation gives one
-pub judged_is_ok : (result : Result code.Truth Range) (o : Option Truth) → (t : Truth) × (o ≡ Some t) → judged result ≡ o → IsOk result
+pub judged_is_ok : (result : Result code.Truth Range) (o : Option Truth) → (t : Truth) × (o ≡ Some t)
+    → judged result ≡ o → IsOk result
 judged_is_ok (Ok t) o h is = refl
 judged_is_ok (Err e) o h is = absurd (cc (is, h.1))

@@ -12,11 +12,15 @@ pub stays_refl : (t : Terms) → Stays t t
 stays_refl t = record { grows = omega arith; same = λ k h. refl }
 
 pub stays_equal : {t u : Terms} → trees u ≡ trees t → Stays t u
-stays_equal {t} {u} is = let size : length (trees u) ≡ length (trees t) = ap length is in record { grows = omega arith; same = λ k h. ap (λ l. term_in l k) is }
+stays_equal {t} {u} is = let size : length (trees u) ≡ length (trees t) =
+    ap length is in record { grows = omega arith; same = λ k h. ap (λ l. term_in l k) is }
 
 -- what stays twice stays
 pub stays_trans : {t u v : Terms} → Stays t u → Stays u v → Stays t v
-stays_trans {t} {u} {v} s r = record { grows = omega (arith, s.grows, r.grows); same = λ k h. r.same k (omega (arith, s.grows)) ∙ s.same k h }
+stays_trans {t} {u} {v} s r = record {
+  grows = omega (arith, s.grows, r.grows);
+  same = λ k h. r.same k (omega (arith, s.grows)) ∙ s.same k h;
+}
 
 -- an id that was there is there, and stands for the same tree
 pub has_expr_stays : {t u : Terms} → Stays t u → (x : ExprId) → HasExpr t x → HasExpr u x

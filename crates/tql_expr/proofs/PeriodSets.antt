@@ -5,7 +5,8 @@ use Rattle.tql_spec.specs.Words.{◌>>=◌}
 use Rattle.tql_spec.specs.Truth.{Truth, True}
 use Rattle.tql_spec.specs.Datum.{Datum, Row}
 use Rattle.tql_spec.specs.Expression.{Cond, Related, ContainsPoint, judge}
-use Rattle.tql_spec.specs.Period.{Relation, Holds, ends, OnSets, predicate, contains_point, FormulasAreSets, PointFormulaIsSet}
+use Rattle.tql_spec.specs.Period.{Relation, Holds, ends, OnSets, predicate, contains_point, FormulasAreSets}
+use Rattle.tql_spec.specs.Period.{PointFormulaIsSet}
 use Rattle.tql_expr.specs.Sets.{SaysOfPeriods, SaysOfHolding}
 
 -- what four values give, and three
@@ -28,13 +29,16 @@ three_values a b p = do
 there : (t : Truth) (answer : Option Truth) (A : Type 0) → answer ≡ Some t → (t ≡ True) ↔ A → (answer ≡ Some True) ↔ A
 there t answer A e law = (λ h. law.0 (cc), λ a. e ∙ ap (λ (u : Truth). Some u) (law.1 a))
 
-pub periods_say : (kind : ℤ → Datum) (group : List Row) (row : Row) (c : Cond) (answer : Option Truth) → FormulasAreSets kind → answer ≡ judge group row c → SaysOfPeriods kind group row c answer
+pub periods_say : (kind : ℤ → Datum) (group : List Row) (row : Row) (c : Cond) (answer : Option Truth)
+    → FormulasAreSets kind → answer ≡ judge group row c → SaysOfPeriods kind group row c answer
 periods_say kind group row c answer law is which s e s' e' x y e0 hx hy rx ry =
     let judged : judge group row (Related which s e s' e') ≡ Some (predicate which (ends kind x) (ends kind y)) =
     λ i. four_values which (hx.start i) (hx.end i) (hy.start i) (hy.end i) in
-    there (predicate which (ends kind x) (ends kind y)) answer (OnSets which x y) (is ∙ ap (judge group row) e0 ∙ judged) (law which x y rx ry)
+    there (predicate which (ends kind x) (ends kind y)) answer (OnSets which x y) (is ∙ ap (judge group row) e0
+    ∙ judged) (law which x y rx ry)
 
-pub holding_says : (kind : ℤ → Datum) (group : List Row) (row : Row) (c : Cond) (answer : Option Truth) → PointFormulaIsSet kind → answer ≡ judge group row c → SaysOfHolding kind group row c answer
+pub holding_says : (kind : ℤ → Datum) (group : List Row) (row : Row) (c : Cond) (answer : Option Truth)
+    → PointFormulaIsSet kind → answer ≡ judge group row c → SaysOfHolding kind group row c answer
 holding_says kind group row c answer law is s e q x p e0 hx hp =
     let judged : judge group row (ContainsPoint s e q) ≡ Some (contains_point (ends kind x) (kind p)) =
     λ i. three_values (hx.start i) (hx.end i) (hp i) in

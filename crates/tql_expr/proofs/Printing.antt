@@ -1,5 +1,6 @@
 -- What is computed on values that have texts has a text.
-use Rattle.std.specs.Prelude.{ℕ, zero, suc, ℤ, Bool, true, false, nat_lt, List, [], ◌∷◌, ◌++◌, map, length, insert, take, drop, All, Option, Some, None, ⊤, pos, if◌then◌else◌}
+use Rattle.std.specs.Prelude.{ℕ, zero, suc, ℤ, Bool, true, false, nat_lt, List, [], ◌∷◌, ◌++◌, map, length, insert}
+use Rattle.std.specs.Prelude.{take, drop, All, Option, Some, None, ⊤, pos, if◌then◌else◌}
 use Rattle.std.proofs.lemmas.List.Elements.{All-head, All-tail, All-append, All-push, All-nil, All-take, All-drop}
 use Rattle.tql_spec.specs.Words.{◌>>=◌, with_front, map_all}
 use Rattle.tql_spec.specs.Datum.{Datum, Int, Moment, Row, Operation, Minus, calculate, fits, result_of}
@@ -29,21 +30,25 @@ abbrev pub Prints : tree.Expr → Type 0
 Prints (tree.Literal v) = IsPrintable v
 Prints _ = ⊤
 
-pub literal_prints : (vs : List Value) (k : ℕ) → All (λ v. IsPrintable (datum_of_value v)) vs → IsPrintable (datum_at vs k)
+pub literal_prints : (vs : List Value) (k : ℕ) → All (λ v. IsPrintable (datum_of_value v)) vs
+    → IsPrintable (datum_at vs k)
 literal_prints [] k h = tt
 literal_prints (v ∷ vs) zero h = All-head (λ w. IsPrintable (datum_of_value w)) v vs h
 literal_prints (v ∷ vs) (suc k) h = literal_prints vs k (All-tail (λ w. IsPrintable (datum_of_value w)) v vs h)
 
-pub node_prints : (lit : ℕ → Datum) (at : ℕ → Term) (n : Node) → ((k : ℕ) → IsPrintable (lit k)) → Prints (expr_of (node_term lit at n))
+pub node_prints : (lit : ℕ → Datum) (at : ℕ → Term) (n : Node) → ((k : ℕ) → IsPrintable (lit k))
+    → Prints (expr_of (node_term lit at n))
 node_prints lit at (Literal k) h = h k
 node_prints lit at _ h = tt
 
-terms_print : (lit : ℕ → Datum) (done : List Term) (ns : List Node) → ((k : ℕ) → IsPrintable (lit k)) → All (λ t. Prints (expr_of t)) done
+terms_print : (lit : ℕ → Datum) (done : List Term) (ns : List Node) → ((k : ℕ) → IsPrintable (lit k))
+    → All (λ t. Prints (expr_of t)) done
     → All (λ t. Prints (expr_of t)) (terms_from lit done ns)
 terms_print lit done [] h d = d
 terms_print lit done (n ∷ ns) h d =
     let t = node_term lit (term_in done) n in
-    terms_print lit (done ++ t ∷ []) ns h (All-push (λ t. Prints (expr_of t)) done t d (node_prints lit (term_in done) n h))
+    terms_print lit (done ++ t ∷ []) ns h
+    (All-push (λ t. Prints (expr_of t)) done t d (node_prints lit (term_in done) n h))
 
 pub term_prints : (ts : List Term) (k : ℕ) → All (λ t. Prints (expr_of t)) ts → Prints (expr_of (term_in ts k))
 term_prints [] k h = tt
@@ -53,7 +58,8 @@ term_prints (t ∷ ts) (suc k) h = term_prints ts k (All-tail (λ t. Prints (exp
 pub expr_prints : (t : Terms) (x : ExprId) → Prints (expr t x)
 expr_prints t x =
     term_prints (trees t) x.place
-    (terms_print (datum_at t.literals.items) [] t.nodes.items (λ k. literal_prints t.literals.items k t.printable) (All-nil (λ t. Prints (expr_of t))))
+    (terms_print (datum_at t.literals.items) [] t.nodes.items (λ k. literal_prints t.literals.items k t.printable)
+    (All-nil (λ t. Prints (expr_of t))))
 
 -- ---- evaluation
 
@@ -90,8 +96,10 @@ eval_prints row (tree.Literal v) h p = p
 eval_prints row (tree.Column i) h p = printable_cell row i h
 eval_prints row (tree.Negate e) h p = negated_prints (eval [] row e)
 eval_prints row (tree.Binary op a b) h p = binary_prints op (eval [] row a) (eval [] row b)
-eval_prints row tree.CountRows h p = if_prints (fits (pos (length {A = Row} []))) (Some (Int (pos (length {A = Row} [])))) tt
-eval_prints row (tree.Aggregate f e) h p = if_prints (fits (pos (length {A = Row} []))) (aggregate f []) (aggregate_prints f)
+eval_prints row tree.CountRows h p =
+    if_prints (fits (pos (length {A = Row} []))) (Some (Int (pos (length {A = Row} [])))) tt
+eval_prints row (tree.Aggregate f e) h p =
+    if_prints (fits (pos (length {A = Row} []))) (aggregate f []) (aggregate_prints f)
 
 -- ---- rows
 
@@ -104,33 +112,45 @@ abbrev pub RowsPrint : Option (List Row) → Type 0
 RowsPrint None = ⊤
 RowsPrint (Some rows) = All (All IsPrintable) rows
 
-pub front_prints : (o : Option Datum) (rest : Option Row) → OptionPrints o → RowPrints rest → RowPrints (with_front o rest)
+pub front_prints : (o : Option Datum) (rest : Option Row) → OptionPrints o → RowPrints rest
+    → RowPrints (with_front o rest)
 front_prints None rest h k = tt
 front_prints (Some v) None h k = tt
-front_prints (Some v) (Some row) h k = All-append IsPrintable (v ∷ []) row (All-push IsPrintable [] v (All-nil IsPrintable) h) k
+front_prints (Some v) (Some row) h k =
+    All-append IsPrintable (v ∷ []) row (All-push IsPrintable [] v (All-nil IsPrintable) h) k
 
 -- the values of expressions of a statement
-pub values_print : (t : Terms) (row : Row) (xs : List ExprId) → All IsPrintable row → RowPrints (map_all (eval [] row) (map (expr t) xs))
+pub values_print : (t : Terms) (row : Row) (xs : List ExprId) → All IsPrintable row
+    → RowPrints (map_all (eval [] row) (map (expr t) xs))
 values_print t row [] h = All-nil IsPrintable
-values_print t row (x ∷ xs) h = front_prints (eval [] row (expr t x)) _ (eval_prints row (expr t x) h (expr_prints t x)) (values_print t row xs h)
+values_print t row (x ∷ xs) h =
+    front_prints (eval [] row (expr t x)) _ (eval_prints row (expr t x) h (expr_prints t x)) (values_print t row xs h)
 
-pub rows_front_print : (o : Option Row) (rest : Option (List Row)) → RowPrints o → RowsPrint rest → RowsPrint (with_front o rest)
+pub rows_front_print : (o : Option Row) (rest : Option (List Row)) → RowPrints o → RowsPrint rest
+    → RowsPrint (with_front o rest)
 rows_front_print None rest h k = tt
 rows_front_print (Some row) None h k = tt
-rows_front_print (Some row) (Some rows) h k = All-append (All IsPrintable) (row ∷ []) rows (All-push (All IsPrintable) [] row (All-nil (All IsPrintable)) h) k
+rows_front_print (Some row) (Some rows) h k =
+    All-append (All IsPrintable) (row ∷ []) rows (All-push (All IsPrintable) [] row (All-nil (All IsPrintable)) h) k
 
 -- inserted values among others
-inserted_prints : (row : Row) (i : ℕ) (v : Datum) → All IsPrintable row → IsPrintable v → All IsPrintable (insert row i v)
+inserted_prints : (row : Row) (i : ℕ) (v : Datum) → All IsPrintable row → IsPrintable v
+    → All IsPrintable (insert row i v)
 inserted_prints row i v h p =
     All-append IsPrintable (take i row) (v ∷ drop i row) (All-take IsPrintable i row h)
-    (All-append IsPrintable (v ∷ []) (drop i row) (All-push IsPrintable [] v (All-nil IsPrintable) p) (All-drop IsPrintable i row h))
+    (All-append IsPrintable (v ∷ []) (drop i row) (All-push IsPrintable [] v (All-nil IsPrintable) p)
+    (All-drop IsPrintable i row h))
 
 either_prints : (s : System) (cells : Row) (m e : ℤ) (b : Bool) → All IsPrintable cells → IsMoment m → IsMoment e
-    → All IsPrintable (if b then insert (insert cells s.start (Moment m)) s.end (Moment e) else insert (insert cells s.end (Moment e)) s.start (Moment m))
-either_prints s cells m e true h p q = inserted_prints (insert cells s.start (Moment m)) s.end (Moment e) (inserted_prints cells s.start (Moment m) h p) q
-either_prints s cells m e false h p q = inserted_prints (insert cells s.end (Moment e)) s.start (Moment m) (inserted_prints cells s.end (Moment e) h q) p
+    → All IsPrintable (if b then insert (insert cells s.start (Moment m)) s.end (Moment e) else insert
+    (insert cells s.end (Moment e)) s.start (Moment m))
+either_prints s cells m e true h p q =
+    inserted_prints (insert cells s.start (Moment m)) s.end (Moment e) (inserted_prints cells s.start (Moment m) h p) q
+either_prints s cells m e false h p q =
+    inserted_prints (insert cells s.end (Moment e)) s.start (Moment m) (inserted_prints cells s.end (Moment e) h q) p
 
 -- a stored row as its table shows it
-pub generated_prints : (s : Option System) (cells : Row) (m e : ℤ) → All IsPrintable cells → IsMoment m → IsMoment e → All IsPrintable (with_generated s cells m e)
+pub generated_prints : (s : Option System) (cells : Row) (m e : ℤ) → All IsPrintable cells → IsMoment m → IsMoment e
+    → All IsPrintable (with_generated s cells m e)
 generated_prints None cells m e h p q = h
 generated_prints (Some s) cells m e h p q = either_prints s cells m e (nat_lt s.start s.end) h p q

@@ -1,5 +1,6 @@
 -- What the terms of a statement stand for.
-use Rattle.std.specs.Prelude.{◌≡◌, ℕ, ◌<◌, ◌≤◌, Bool, List, [], ◌∷◌, length, slice_index_or, Result, Ok, Err, Option, Some, None, MatchResult}
+use Rattle.std.specs.Prelude.{◌≡◌, ℕ, ◌<◌, ◌≤◌, Bool, List, [], ◌∷◌, length, slice_index_or, Result, Ok, Err, Option}
+use Rattle.std.specs.Prelude.{Some, None, MatchResult}
 use Rattle.std.specs.declared.alloc.AllocError.{AllocError}
 use Rattle.tql_spec.specs.Words.{◌>>=◌}
 use Rattle.tql_spec.specs.Datum.{Datum, calculate}
@@ -76,11 +77,13 @@ AddsCond old new result c = MatchResult result (λ id. Adds old new id.place (Of
 
 -- an expression of several nodes is added; where memory is refused, what was there stays
 abbrev pub BuildsExpr : Terms → Terms → Result ExprId AllocError → Expr → Type 0
-BuildsExpr old new result e = MatchResult result (λ id. Stays old new × HasExpr new id × (expr new id ≡ e)) (λ _. Stays old new)
+BuildsExpr old new result e =
+    MatchResult result (λ id. Stays old new × HasExpr new id × (expr new id ≡ e)) (λ _. Stays old new)
 
 -- a condition of several nodes
 abbrev pub BuildsCond : Terms → Terms → Result CondId AllocError → Cond → Type 0
-BuildsCond old new result c = MatchResult result (λ id. Stays old new × HasCond new id × (cond new id ≡ c)) (λ _. Stays old new)
+BuildsCond old new result c =
+    MatchResult result (λ id. Stays old new × HasCond new id × (cond new id ≡ c)) (λ _. Stays old new)
 
 -- operations from left to right
 abbrev pub chain : Expr → List (spec.Operation × Expr) → Expr

@@ -1,7 +1,8 @@
 -- Which nodes name only what lies before them.
 use Rattle.std.specs.Prelude.{ℕ, ◌+◌, Bool, true, ◌&&◌, nat_lt, List, [], ◌∷◌}
 use Rattle.tql_expr.specs.declared.node.Node.{Node}
-use Rattle.tql_expr.specs.declared.node.Node.TheVariants.{Literal, Column, Negate, Binary, CountRows, Aggregate, Compare, IsNull, Related, ContainsPoint, Not, And, Or}
+use Rattle.tql_expr.specs.declared.node.Node.TheVariants.{Literal, Column, Negate, Binary, CountRows, Aggregate}
+use Rattle.tql_expr.specs.declared.node.Node.TheVariants.{Compare, IsNull, Related, ContainsPoint, Not, And, Or}
 
 -- whether a node at this place names literals among so many, and operands before itself
 abbrev pub reads_before : ℕ → ℕ → Node → Bool
@@ -13,8 +14,10 @@ reads_before count place CountRows = true
 reads_before count place (Aggregate f a) = nat_lt a place
 reads_before count place (Compare sign a b) = nat_lt a place && nat_lt b place
 reads_before count place (IsNull a) = nat_lt a place
-reads_before count place (Related which a b c d) = (nat_lt a place && nat_lt b place) && (nat_lt c place && nat_lt d place)
-reads_before count place (ContainsPoint a b c) = (nat_lt a place && nat_lt b place) && (nat_lt c place && nat_lt c place)
+reads_before count place (Related which a b c d) =
+    (nat_lt a place && nat_lt b place) && (nat_lt c place && nat_lt d place)
+reads_before count place (ContainsPoint a b c) =
+    (nat_lt a place && nat_lt b place) && (nat_lt c place && nat_lt c place)
 reads_before count place (Not c) = nat_lt c place
 reads_before count place (And c d) = nat_lt c place && nat_lt d place
 reads_before count place (Or c d) = nat_lt c place && nat_lt d place

@@ -12,7 +12,8 @@ pub record AreEndsOf (kind : ℤ → Datum) (group : List Row) (row : Row) (s e 
 
 -- a relation of two rising periods is true exactly where their points are so
 abbrev pub SaysOfPeriods : (ℤ → Datum) → List Row → Row → Cond → Option Truth → Type 0
-SaysOfPeriods kind group row c answer = (which : Relation) (s e s' e' : Expr) (x y : Period) → c ≡ Related which s e s' e'
+SaysOfPeriods kind group row c answer = (which : Relation) (s e s' e' : Expr) (x y : Period)
+    → c ≡ Related which s e s' e'
     → AreEndsOf kind group row s e x → AreEndsOf kind group row s' e' y → IsTrue (rises x) → IsTrue (rises y)
     → (answer ≡ Some True) ↔ OnSets which x y
 

@@ -11,7 +11,8 @@ use Rattle.tql_expr.specs.declared.node.Operation.TheVariants.{Add, Subtract, Mu
 use Rattle.tql_expr.specs.declared.node.Function.{Function}
 use Rattle.tql_expr.specs.declared.node.Function.TheVariants.{Count, Sum, Min, Max}
 use Rattle.tql_expr.specs.declared.node.Node.{Node}
-use Rattle.tql_expr.specs.declared.node.Node.TheVariants.{Literal, Column, Negate, Binary, CountRows, Aggregate, Compare, IsNull, Related, ContainsPoint, Not, And, Or}
+use Rattle.tql_expr.specs.declared.node.Node.TheVariants.{Literal, Column, Negate, Binary, CountRows, Aggregate}
+use Rattle.tql_expr.specs.declared.node.Node.TheVariants.{Compare, IsNull, Related, ContainsPoint, Not, And, Or}
 
 -- the operation among the definitions' operations
 abbrev pub plain_operation : Operation → spec.Operation
@@ -51,7 +52,8 @@ node_term lit at CountRows = OfExpr tree.CountRows
 node_term lit at (Aggregate f a) = OfExpr (tree.Aggregate (plain_function f) (expr_of (at a)))
 node_term lit at (Compare sign a b) = OfCond (tree.Compare (plain_comparison sign) (expr_of (at a)) (expr_of (at b)))
 node_term lit at (IsNull a) = OfCond (tree.IsNull (expr_of (at a)))
-node_term lit at (Related which a b c d) = OfCond (tree.Related (plain_relation which) (expr_of (at a)) (expr_of (at b)) (expr_of (at c)) (expr_of (at d)))
+node_term lit at (Related which a b c d) =
+    OfCond (tree.Related (plain_relation which) (expr_of (at a)) (expr_of (at b)) (expr_of (at c)) (expr_of (at d)))
 node_term lit at (ContainsPoint a b c) = OfCond (tree.ContainsPoint (expr_of (at a)) (expr_of (at b)) (expr_of (at c)))
 node_term lit at (Not c) = OfCond (tree.Not (cond_of (at c)))
 node_term lit at (And c d) = OfCond (tree.And (cond_of (at c)) (cond_of (at d)))

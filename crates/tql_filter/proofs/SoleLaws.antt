@@ -5,7 +5,9 @@ use Rattle.std.proofs.Common.{eqb-true}
 use Rattle.std.proofs.lemmas.Bool.{eqb-false}
 use Rattle.tql_spec.specs.Names.{sole_name}
 use Rattle.tql_spec.specs.Parts.{with_term, terms_of, factors_of}
-use Rattle.tql_spec.specs.Syntax.{Terms, Factors, NoTerm, PlusTerm, MinusTerm, MoreTerms, NoFactor, TimesFactor, Signed, Unsigned, Positive, Negative, Product, NumberLiteral, TextLiteral, DateLiteral, TimestampLiteral, ColumnNamed, Enclosed, CountStar, Over}
+use Rattle.tql_spec.specs.Syntax.{Terms, Factors, NoTerm, PlusTerm, MinusTerm, MoreTerms, NoFactor, TimesFactor}
+use Rattle.tql_spec.specs.Syntax.{Signed, Unsigned, Positive, Negative, Product, NumberLiteral, TextLiteral}
+use Rattle.tql_spec.specs.Syntax.{DateLiteral, TimestampLiteral, ColumnNamed, Enclosed, CountStar, Over}
 use Rattle.tql_tree.specs.Expressions.{expr_of, term_of, signed_of, added_of}
 use Rattle.tql_tree.specs.declared.expression.ExprIn.{ExprIn}
 use Rattle.tql_tree.specs.declared.expression.AddedTermIn.{AddedTermIn}
@@ -65,23 +67,28 @@ subtracted (Factors (Unsigned (Over g e)) f) q m = refl
 subtracted (Factors (Positive p) f) q m = refl
 subtracted (Factors (Negative p) f) q m = refl
 
-behind : (p q : Product) (b : Bool) (m : MoreTerms) → sole_name (Terms p (with_term (record { is_minus = b; term = q }) m)) ≡ None
+behind : (p q : Product) (b : Bool) (m : MoreTerms)
+    → sole_name (Terms p (with_term (record { is_minus = b; term = q }) m)) ≡ None
 behind p q true m = subtracted p q m
 behind p q false m = added p q m
 
-no_terms : {A : Type 0} (xs : List (AddedTermIn A)) (p : Product) → length xs ≡ 0 → sole_name (Terms p (terms_of (map added_of xs))) ≡ sole_factor p
+no_terms : {A : Type 0} (xs : List (AddedTermIn A)) (p : Product) → length xs ≡ 0
+    → sole_name (Terms p (terms_of (map added_of xs))) ≡ sole_factor p
 no_terms [] p none = alone p
 no_terms (x ∷ xs) p none = absurd (omega arith)
 
-some_terms : {A : Type 0} (xs : List (AddedTermIn A)) (p : Product) → (length xs ≡ 0 → ⊥) → sole_name (Terms p (terms_of (map added_of xs))) ≡ None
+some_terms : {A : Type 0} (xs : List (AddedTermIn A)) (p : Product) → (length xs ≡ 0 → ⊥)
+    → sole_name (Terms p (terms_of (map added_of xs))) ≡ None
 some_terms [] p some = absurd (some refl)
 some_terms (x ∷ xs) p some = behind p (added_of x).term (added_of x).is_minus (terms_of (map added_of xs))
 
-no_factors : {A : Type 0} (xs : List (SignedIn A)) (g : Signed) → length xs ≡ 0 → sole_factor (Factors g (factors_of (map signed_of xs))) ≡ name_in g
+no_factors : {A : Type 0} (xs : List (SignedIn A)) (g : Signed) → length xs ≡ 0
+    → sole_factor (Factors g (factors_of (map signed_of xs))) ≡ name_in g
 no_factors [] g none = refl
 no_factors (x ∷ xs) g none = absurd (omega arith)
 
-some_factors : {A : Type 0} (xs : List (SignedIn A)) (g : Signed) → (length xs ≡ 0 → ⊥) → sole_factor (Factors g (factors_of (map signed_of xs))) ≡ None
+some_factors : {A : Type 0} (xs : List (SignedIn A)) (g : Signed) → (length xs ≡ 0 → ⊥)
+    → sole_factor (Factors g (factors_of (map signed_of xs))) ≡ None
 some_factors [] g some = absurd (some refl)
 some_factors (x ∷ xs) g some = refl
 
@@ -93,17 +100,26 @@ pub some_items : {X Y : Type 0} (v : Vec X Y) → (vec_len v == 0) ≡ false →
 some_items v h is = let some : vec_len v ≡ 0 → ⊥ = eqb-false (vec_len v) 0 h in omega (arith, v.ok.0)
 
 -- no term behind the first
-pub sole_alone : {A : Type 0} (e : ExprIn A) → (vec_len (out-ExprIn A e).more == 0) ≡ true → sole_name (expr_of e) ≡ sole_factor (term_of (out-ExprIn A e).first)
-sole_alone {A} e none = ap sole_name (expr_out e) ∙ no_terms (out-ExprIn A e).more.items (term_of (out-ExprIn A e).first) (empty_items (out-ExprIn A e).more none)
+pub sole_alone : {A : Type 0} (e : ExprIn A) → (vec_len (out-ExprIn A e).more == 0) ≡ true
+    → sole_name (expr_of e) ≡ sole_factor (term_of (out-ExprIn A e).first)
+sole_alone {A} e none = ap sole_name (expr_out e)
+    ∙ no_terms (out-ExprIn A e).more.items (term_of (out-ExprIn A e).first) (empty_items (out-ExprIn A e).more none)
 
 -- some term behind the first
-pub sole_behind : {A : Type 0} (e : ExprIn A) → (vec_len (out-ExprIn A e).more == 0) ≡ false → sole_name (expr_of e) ≡ None
-sole_behind {A} e some = ap sole_name (expr_out e) ∙ some_terms (out-ExprIn A e).more.items (term_of (out-ExprIn A e).first) (some_items (out-ExprIn A e).more some)
+pub sole_behind : {A : Type 0} (e : ExprIn A) → (vec_len (out-ExprIn A e).more == 0) ≡ false
+    → sole_name (expr_of e) ≡ None
+sole_behind {A} e some = ap sole_name (expr_out e)
+    ∙ some_terms (out-ExprIn A e).more.items (term_of (out-ExprIn A e).first) (some_items (out-ExprIn A e).more some)
 
 -- no factor behind the first
-pub factor_alone : {A : Type 0} (e : TermIn A) → (vec_len (out-TermIn A e).more == 0) ≡ true → sole_factor (term_of e) ≡ name_in (signed_of (out-TermIn A e).first)
-factor_alone {A} e none = ap sole_factor (term_out e) ∙ no_factors (out-TermIn A e).more.items (signed_of (out-TermIn A e).first) (empty_items (out-TermIn A e).more none)
+pub factor_alone : {A : Type 0} (e : TermIn A) → (vec_len (out-TermIn A e).more == 0) ≡ true
+    → sole_factor (term_of e) ≡ name_in (signed_of (out-TermIn A e).first)
+factor_alone {A} e none = ap sole_factor (term_out e)
+    ∙ no_factors (out-TermIn A e).more.items (signed_of (out-TermIn A e).first) (empty_items (out-TermIn A e).more none)
 
 -- some factor behind the first
-pub factor_behind : {A : Type 0} (e : TermIn A) → (vec_len (out-TermIn A e).more == 0) ≡ false → sole_factor (term_of e) ≡ None
-factor_behind {A} e some = ap sole_factor (term_out e) ∙ some_factors (out-TermIn A e).more.items (signed_of (out-TermIn A e).first) (some_items (out-TermIn A e).more some)
+pub factor_behind : {A : Type 0} (e : TermIn A) → (vec_len (out-TermIn A e).more == 0) ≡ false
+    → sole_factor (term_of e) ≡ None
+factor_behind {A} e some = ap sole_factor (term_out e)
+    ∙ some_factors (out-TermIn A e).more.items (signed_of (out-TermIn A e).first)
+    (some_items (out-TermIn A e).more some)

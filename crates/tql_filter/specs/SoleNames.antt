@@ -1,6 +1,8 @@
 -- The name that a part of an expression is.
 use Rattle.std.specs.Prelude.{Option, Some, None}
-use Rattle.tql_spec.specs.Syntax.{Named, Primary, NumberLiteral, TextLiteral, DateLiteral, TimestampLiteral, ColumnNamed, Enclosed, CountStar, Over, Signed, Unsigned, Positive, Negative, Product, Factors, NoFactor, TimesFactor}
+use Rattle.tql_spec.specs.Syntax.{Named, Primary, NumberLiteral, TextLiteral, DateLiteral, TimestampLiteral}
+use Rattle.tql_spec.specs.Syntax.{ColumnNamed, Enclosed, CountStar, Over, Signed, Unsigned, Positive, Negative}
+use Rattle.tql_spec.specs.Syntax.{Product, Factors, NoFactor, TimesFactor}
 
 abbrev pub name_at : Primary → Option Named
 name_at (NumberLiteral ds) = None

@@ -3,18 +3,24 @@ use Rattle.std.specs.Prelude.{◌≡◌, refl, List, [], ◌∷◌, codes, Optio
 use Rattle.std.proofs.Common.{sym, subst, inl, inr}
 use Rattle.tql_spec.specs.Definition.{Name}
 use Rattle.tql_spec.specs.Token.{Token, Word, Sign, Open, Close, Comma}
-use Rattle.tql_spec.specs.Syntax.{Condition, SelectTree, CellTree, NullCell, ValueCell, Tuple, PointTree, PortionTree, SetTree, Statement, InsertValues, InsertSelect, UpdateTree, DeleteTree}
-use Rattle.tql_spec.specs.Grammar.{key, ◌⨟◌, optional, commas, name, where_clause, cell, tuple, portion, assignment, column_list, statement}
+use Rattle.tql_spec.specs.Syntax.{Condition, SelectTree, CellTree, NullCell, ValueCell, Tuple, PointTree, PortionTree}
+use Rattle.tql_spec.specs.Syntax.{SetTree, Statement, InsertValues, InsertSelect, UpdateTree, DeleteTree}
+use Rattle.tql_spec.specs.Grammar.{key, ◌⨟◌, optional, commas, name, where_clause, cell, tuple, portion, assignment}
+use Rattle.tql_spec.specs.Grammar.{column_list, statement}
 use Rattle.tql_grammar.specs.Outcome.{Read, name_at}
 use Rattle.tql_grammar.specs.ReadingExpressions.{expr_here}
-use Rattle.tql_grammar.specs.ReadingStatements.{cell_at, tuple_at, portion_behind, portion_at, assignment_at, update_at, delete_at, column_list_at, values_at, insert_at}
+use Rattle.tql_grammar.specs.ReadingStatements.{cell_at, tuple_at, portion_behind, portion_at, assignment_at}
+use Rattle.tql_grammar.specs.ReadingStatements.{update_at, delete_at, column_list_at, values_at, insert_at}
 use Rattle.tql_grammar.proofs.Ends.{EndsExpr, EndsCondition}
 use Rattle.tql_grammar.proofs.ExpressionLaws.{expr_sound, expr_complete}
 use Rattle.tql_grammar.proofs.Lengths.{takes_cell, takes_tuple, takes_assignment, shortens}
 use Rattle.tql_grammar.proofs.WordLaws.{period_name_sound, period_name_complete, point_sound, point_complete}
 use Rattle.tql_grammar.proofs.Fronts.{expr_front}
 use Rattle.tql_grammar.proofs.QueryLaws.{where_sound, where_complete, select_sound, select_complete, select_ends}
-use Rattle.tql_grammar.proofs.Steps.{Sound, Complete, CompleteBefore, Stops, Always, EndsList, and_then, into_is, spelled, into_sound, eat_false, expected, expected_of, name_is, name_of, name_shortens, front_is, option_is, more_next_is, more_next_of, commas_front, separated_is, separated_of}
+use Rattle.tql_grammar.proofs.Steps.{Sound, Complete, CompleteBefore, Stops, Always, EndsList, and_then, into_is}
+use Rattle.tql_grammar.proofs.Steps.{spelled, into_sound, eat_false, expected, expected_of, name_is, name_of}
+use Rattle.tql_grammar.proofs.Steps.{name_shortens, front_is, option_is, more_next_is, more_next_of, commas_front}
+use Rattle.tql_grammar.proofs.Steps.{separated_is, separated_of}
 
 -- ---- cells and tuples
 
@@ -51,20 +57,25 @@ tuple_sound ts t rest e =
 -- cells end before a parenthesis that closes
 cells_end : (ts us : List Token) → ts ≡ Sign Close ∷ us → EndsList EndsExpr ts
 cells_end ts us e =
-    record { item = record { dot = rw e refl; star = rw e refl; plus = rw e refl; minus = rw e refl }; comma = rw e refl }
+    record {
+      item = record { dot = rw e refl; star = rw e refl; plus = rw e refl; minus = rw e refl };
+      comma = rw e refl;
+    }
 
 tuple_complete : Complete tuple tuple_at
 unfolding tuple_at
 tuple_complete ts t rest s =
     let list = s.1.2 in
     let ends = cells_end s.0 rest s.2 in
-    let others = more_next_of cell cell_at EndsExpr expr_ends_comma cell_complete (shortens cell takes_cell) list.0 t.more s.0 list.2 ends in
+    let others = more_next_of cell cell_at EndsExpr expr_ends_comma cell_complete (shortens cell takes_cell) list.0
+    t.more s.0 list.2 ends in
     let behind_first = commas_front cell cell_at EndsExpr expr_ends_comma t.more list.0 s.0 list.2 ends.item in
     rw (expected_of s.1.1, cell_complete s.1.0 t.first list.0 list.1 behind_first, others, expected_of s.2) refl
 
 -- ---- portions
 
-portion_behind_sound : (ts us : List Token) (p : PortionTree) (rest : List Token) → ts ≡ Word (codes "FOR") ∷ us → portion_behind us ≡ Read p rest → portion p ts rest
+portion_behind_sound : (ts us : List Token) (p : PortionTree) (rest : List Token) → ts ≡ Word (codes "FOR") ∷ us
+    → portion_behind us ≡ Read p rest → portion p ts rest
 unfolding portion_behind
 portion_behind_sound ts us p rest word e =
     let a = expected _ e in
@@ -73,7 +84,11 @@ portion_behind_sound ts us p rest word e =
     let from = expected _ n.3 in
     let start = and_then from.2 in
     let to = expected _ start.3 in
-    let end = into_is (λ (q : PointTree). let made : PortionTree = record { period = n.0; from = start.0; to = q } in made) _ p rest to.2 in
+    let end = into_is (λ (q : PointTree). let made : PortionTree = record {
+      period = n.0;
+      from = start.0;
+      to = q;
+    } in made) _ p rest to.2 in
     let words : (key (codes "FOR") ⨟ key (codes "PORTION") ⨟ key (codes "OF")) ts of.0 = (a.0, (us, word, a.1), of.1) in
     subst (λ (x : PortionTree). portion x ts rest) end.2 (
       to.0,
@@ -81,7 +96,8 @@ portion_behind_sound ts us p rest word e =
       point_sound _ _ _ end.1,
     )
 
-portion_behind_complete : (p : PortionTree) (ts rest : List Token) (s : portion p ts rest) → portion_behind s.1.1.1.1.1.1.0 ≡ Read p rest
+portion_behind_complete : (p : PortionTree) (ts rest : List Token) (s : portion p ts rest)
+    → portion_behind s.1.1.1.1.1.1.0 ≡ Read p rest
 unfolding portion_behind
 portion_behind_complete p ts rest s =
     let start = s.1.1 in
@@ -101,7 +117,8 @@ portion_sound : Sound (optional portion) portion_at
 unfolding portion_at
 portion_sound ts p rest e =
     elim (option_is (Word (codes "FOR")) portion_behind ts e) [
-      | inl a ↦ subst (λ (x : Option PortionTree). optional portion x ts rest) (sym a.4) (portion_behind_sound ts a.1 a.0 rest a.2 a.3)
+      | inl a ↦ subst (λ (x : Option PortionTree). optional portion x ts rest) (sym a.4)
+          (portion_behind_sound ts a.1 a.0 rest a.2 a.3)
       | inr a ↦ subst (λ (x : Option PortionTree). optional portion x ts rest) (sym a.0) a.1
     ]
 
@@ -118,7 +135,10 @@ unfolding assignment_at
 assignment_sound ts a rest e =
     let n = and_then e in
     let equal = expected _ n.3 in
-    let c = into_is (λ (x : CellTree). let made : SetTree = record { column = n.0; value = x } in made) _ a rest equal.2 in
+    let c = into_is (λ (x : CellTree). let made : SetTree = record {
+      column = n.0;
+      value = x;
+    } in made) _ a rest equal.2 in
     subst (λ (x : SetTree). assignment x ts rest) c.2 (equal.0, (n.1, name_is _ _ _ n.2, equal.1), cell_sound _ _ _ c.1)
 
 assignment_complete : CompleteBefore EndsExpr assignment assignment_at
@@ -126,7 +146,8 @@ unfolding assignment_at
 assignment_complete ts a rest s ends =
     rw (name_of ts a.column s.1.0 s.1.1, expected_of s.1.2, cell_complete s.0 a.value rest s.2 ends) refl
 
-pub update_sound : (ts us : List Token) (s : Statement) (rest : List Token) → ts ≡ Word (codes "UPDATE") ∷ us → update_at us ≡ Read s rest → statement s ts rest
+pub update_sound : (ts us : List Token) (s : Statement) (rest : List Token) → ts ≡ Word (codes "UPDATE") ∷ us
+    → update_at us ≡ Read s rest → statement s ts rest
 unfolding update_at
 update_sound ts us s rest word e =
     let n = and_then e in
@@ -148,20 +169,30 @@ condition_ends = record { expr = record { dot = refl; star = refl; plus = refl; 
 -- assignments end before [WHERE ..] and no more
 changes_end : (ts : List Token) (c : Option Condition) → where_clause c ts [] → EndsList EndsExpr ts
 changes_end ts None s =
-    record { item = record { dot = rw s refl; star = rw s refl; plus = rw s refl; minus = rw s refl }; comma = rw s refl }
+    record {
+      item = record { dot = rw s refl; star = rw s refl; plus = rw s refl; minus = rw s refl };
+      comma = rw s refl;
+    }
 changes_end ts (Some c) s =
     let w = s.1 in
-    record { item = record { dot = rw w refl; star = rw w refl; plus = rw w refl; minus = rw w refl }; comma = rw w refl }
+    record {
+      item = record { dot = rw w refl; star = rw w refl; plus = rw w refl; minus = rw w refl };
+      comma = rw w refl;
+    }
 
-pub update_complete : (n : Name) (p : Option PortionTree) (a : SetTree) (others : List SetTree) (c : Option Condition) (ts : List Token) (s : statement (UpdateTree n p a others c) ts []) → update_at s.1.1.1.1.0 ≡ Read (UpdateTree n p a others c) []
+pub update_complete : (n : Name) (p : Option PortionTree) (a : SetTree) (others : List SetTree)
+    (c : Option Condition) (ts : List Token) (s : statement (UpdateTree n p a others c) ts [])
+    → update_at s.1.1.1.1.0 ≡ Read (UpdateTree n p a others c) []
 unfolding update_at
 update_complete n p a others c ts s =
     let changes = s.1.2 in
     let set = s.1.1 in
     let for = set.1 in
     let ends = changes_end s.0 c s.2 in
-    let more = more_next_of assignment assignment_at EndsExpr expr_ends_comma assignment_complete (shortens assignment takes_assignment) changes.0 others s.0 changes.2 ends in
-    let behind_first = commas_front assignment assignment_at EndsExpr expr_ends_comma others changes.0 s.0 changes.2 ends.item in
+    let more = more_next_of assignment assignment_at EndsExpr expr_ends_comma assignment_complete
+    (shortens assignment takes_assignment) changes.0 others s.0 changes.2 ends in
+    let behind_first = commas_front assignment assignment_at EndsExpr expr_ends_comma others changes.0 s.0 changes.2
+    ends.item in
     rw (
       name_of for.1.0 n for.0 for.1.2,
       portion_complete for.0 p set.0 for.2 (rw set.2 refl),
@@ -171,7 +202,8 @@ update_complete n p a others c ts s =
       where_complete s.0 c [] s.2 condition_ends refl,
     ) refl
 
-pub delete_sound : (ts us : List Token) (s : Statement) (rest : List Token) → ts ≡ Word (codes "DELETE") ∷ us → delete_at us ≡ Read s rest → statement s ts rest
+pub delete_sound : (ts us : List Token) (s : Statement) (rest : List Token) → ts ≡ Word (codes "DELETE") ∷ us
+    → delete_at us ≡ Read s rest → statement s ts rest
 unfolding delete_at
 delete_sound ts us s rest word e =
     let from = expected _ e in
@@ -186,7 +218,8 @@ where_no_for : (ts : List Token) (c : Option Condition) → where_clause c ts []
 where_no_for ts None s = rw s refl
 where_no_for ts (Some c) s = rw s.1 refl
 
-pub delete_complete : (n : Name) (p : Option PortionTree) (c : Option Condition) (ts : List Token) (s : statement (DeleteTree n p c) ts []) → delete_at s.1.1.1.0 ≡ Read (DeleteTree n p c) []
+pub delete_complete : (n : Name) (p : Option PortionTree) (c : Option Condition) (ts : List Token)
+    (s : statement (DeleteTree n p c) ts []) → delete_at s.1.1.1.0 ≡ Read (DeleteTree n p c) []
 unfolding delete_at
 delete_complete n p c ts s =
     let named = s.1.1 in
@@ -217,10 +250,12 @@ unfolding column_list_at
 column_list_complete ts [] rest s stops = rw (s, stops, eat_false (Sign Open) rest stops) refl
 column_list_complete ts (c ∷ cs) rest s stops =
     let always : (us : List Token) → Always (Sign Comma ∷ us) = λ us. tt in
-    let names = separated_of name name_at Always always (λ us n vs p known. name_of us n vs p) name_shortens c cs s.1.0 s.0 s.1.2 (record { item = tt; comma = rw s.2 refl }) in
+    let names = separated_of name name_at Always always (λ us n vs p known. name_of us n vs p) name_shortens c cs
+    s.1.0 s.0 s.1.2 (record { item = tt; comma = rw s.2 refl }) in
     rw (s.1.1, names, expected_of s.2) refl
 
-pub insert_sound : (ts us : List Token) (s : Statement) (rest : List Token) → ts ≡ Word (codes "INSERT") ∷ us → insert_at us ≡ Read s rest → statement s ts rest
+pub insert_sound : (ts us : List Token) (s : Statement) (rest : List Token) → ts ≡ Word (codes "INSERT") ∷ us
+    → insert_at us ≡ Read s rest → statement s ts rest
 unfolding insert_at values_at
 insert_sound ts us s rest word e =
     let into_word = expected _ e in
@@ -240,17 +275,20 @@ insert_sound ts us s rest word e =
       | inr a ↦
           let select_word = expected _ (rw a.0 at a.1) in
           let q = into_is (InsertSelect n.0 cs.0) _ s rest select_word.2 in
-          subst (λ (x : Statement). statement x ts rest) q.2 (cs.1, head, select_sound cs.1 select_word.0 q.0 rest select_word.1 q.1)
+          subst (λ (x : Statement). statement x ts rest) q.2
+          (cs.1, head, select_sound cs.1 select_word.0 q.0 rest select_word.1 q.1)
     ]
 
-pub values_complete : (n : Name) (cs : List Name) (t : Tuple) (others : List Tuple) (ts : List Token) (s : statement (InsertValues n cs t others) ts []) → insert_at s.1.1.1.1.0 ≡ Read (InsertValues n cs t others) []
+pub values_complete : (n : Name) (cs : List Name) (t : Tuple) (others : List Tuple) (ts : List Token)
+    (s : statement (InsertValues n cs t others) ts []) → insert_at s.1.1.1.1.0 ≡ Read (InsertValues n cs t others) []
 unfolding insert_at values_at
 values_complete n cs t others ts s =
     let values = s.1 in
     let columns = values.1 in
     let named = columns.1 in
     let always : (us : List Token) → Always (Sign Comma ∷ us) = λ us. tt in
-    let more = more_next_of tuple tuple_at Always always (λ us x vs p known. tuple_complete us x vs p) (shortens tuple takes_tuple) s.2.0 others [] s.2.2 (record { item = tt; comma = refl }) in
+    let more = more_next_of tuple tuple_at Always always (λ us x vs p known. tuple_complete us x vs p)
+    (shortens tuple takes_tuple) s.2.0 others [] s.2.2 (record { item = tt; comma = refl }) in
     rw (
       expected_of named.1.2,
       name_of named.0 n columns.0 named.2,
@@ -260,7 +298,8 @@ values_complete n cs t others ts s =
       more,
     ) refl
 
-pub insert_select_complete : (n : Name) (cs : List Name) (q : SelectTree) (ts : List Token) (s : statement (InsertSelect n cs q) ts []) → insert_at s.1.1.1.0 ≡ Read (InsertSelect n cs q) []
+pub insert_select_complete : (n : Name) (cs : List Name) (q : SelectTree) (ts : List Token)
+    (s : statement (InsertSelect n cs q) ts []) → insert_at s.1.1.1.0 ≡ Read (InsertSelect n cs q) []
 unfolding insert_at
 insert_select_complete n cs q ts s =
     let columns = s.1 in

@@ -3,12 +3,19 @@ use Rattle.std.specs.Prelude.{◌≡◌, refl, ℕ, Bool, true, false, ◌||◌,
 use Rattle.std.proofs.Common.{sym, ◌∙◌, subst, inl, inr}
 use Rattle.tql_spec.specs.Definition.{Name}
 use Rattle.tql_spec.specs.Token.{Token, Word, Number, Sign, Open}
-use Rattle.tql_spec.specs.Syntax.{TypeName, IntegerType, VarcharType, DateType, TimestampType, Generated, RowStart, RowEnd, ColumnTree, Element, ColumnElement, PeriodElement}
-use Rattle.tql_spec.specs.Grammar.{Phrase, token, key, ◌⨟◌, maybe, when, optional, in_parens, name, type_name, generated, not_null, column_tail, column, element}
+use Rattle.tql_spec.specs.Syntax.{TypeName, IntegerType, VarcharType, DateType, TimestampType, Generated, RowStart}
+use Rattle.tql_spec.specs.Syntax.{RowEnd, ColumnTree, Element, ColumnElement, PeriodElement}
+use Rattle.tql_spec.specs.Grammar.{Phrase, token, key, ◌⨟◌, maybe, when, optional, in_parens, name, type_name}
+use Rattle.tql_spec.specs.Grammar.{generated, not_null, column_tail, column, element}
 use Rattle.tql_grammar.specs.Outcome.{Read, Parser, ◌>>=◌, begins, behind}
-use Rattle.tql_grammar.specs.ReadingStatements.{size_at, precision_at, zone_at, timestamp_type_at, type_at, not_null_at, generated_at, column_of, column_end, column_at, period_at}
+use Rattle.tql_grammar.specs.ReadingStatements.{size_at, precision_at, zone_at, timestamp_type_at, type_at}
+use Rattle.tql_grammar.specs.ReadingStatements.{not_null_at, generated_at, column_of, column_end, column_at}
+use Rattle.tql_grammar.specs.ReadingStatements.{period_at}
 use Rattle.tql_grammar.proofs.WordLaws.{period_name_sound, period_name_complete}
-use Rattle.tql_grammar.proofs.Steps.{Sound, Complete, CompleteBefore, Stops, read_is, and_then, into_is, choose, spelled, into_sound, eat_false, eat_of, begins_eat, begins_of, expected, expected_is, expected_of, name_is, name_of, number_is, number_of, front_is, option_is, behind_some, behind_none}
+use Rattle.tql_grammar.proofs.Steps.{Sound, Complete, CompleteBefore, Stops, read_is, and_then, into_is, choose}
+use Rattle.tql_grammar.proofs.Steps.{spelled, into_sound, eat_false, eat_of, begins_eat, begins_of, expected}
+use Rattle.tql_grammar.proofs.Steps.{expected_is, expected_of, name_is, name_of, number_is, number_of, front_is}
+use Rattle.tql_grammar.proofs.Steps.{option_is, behind_some, behind_none}
 
 -- ---- types
 
@@ -39,7 +46,8 @@ precision_sound ts p rest e =
 precision_complete : CompleteBefore (Stops (Sign Open)) (optional size) precision_at
 unfolding precision_at
 precision_complete ts None rest s stops = rw (s, begins_eat (Sign Open) rest, stops) refl
-precision_complete ts (Some ds) rest s stops = rw (begins_of (Sign Open) ts s.1.0 s.1.1, size_complete ts ds rest s) refl
+precision_complete ts (Some ds) rest s stops =
+    rw (begins_of (Sign Open) ts s.1.0 s.1.1, size_complete ts ds rest s) refl
 
 -- [WITHOUT TIME ZONE]
 abbrev zone : Phrase
@@ -68,7 +76,8 @@ pub record EndsType (rest : List Token) : Type 0 where
   pub opened : Stops (Sign Open) rest
   pub without : Stops (Word (codes "WITHOUT")) rest
 
-timestamp_sound : (ts us : List Token) (t : TypeName) (rest : List Token) → ts ≡ Word (codes "TIMESTAMP") ∷ us → timestamp_type_at us ≡ Read t rest → type_name t ts rest
+timestamp_sound : (ts us : List Token) (t : TypeName) (rest : List Token) → ts ≡ Word (codes "TIMESTAMP") ∷ us
+    → timestamp_type_at us ≡ Read t rest → type_name t ts rest
 unfolding timestamp_type_at
 timestamp_sound ts us t rest word e =
     let p = and_then e in
@@ -139,7 +148,8 @@ unfolding not_null_at
 required_complete ts true rest s stops = rw (s.1, expected_of s.2) refl
 required_complete ts false rest s stops = rw (s, stops, eat_false (Word (codes "NOT")) rest stops) refl
 
-generated_sound : (ts us : List Token) (g : Generated) (rest : List Token) → ts ≡ Word (codes "GENERATED") ∷ us → generated_at us ≡ Read g rest → generated g ts rest
+generated_sound : (ts us : List Token) (g : Generated) (rest : List Token) → ts ≡ Word (codes "GENERATED") ∷ us
+    → generated_at us ≡ Read g rest → generated g ts rest
 unfolding generated_at
 generated_sound ts us g rest word e =
     let a = expected _ e in
@@ -154,20 +164,25 @@ generated_sound ts us g rest word e =
           subst (λ (h : Generated). generated h ts rest) end.2 (c.0, row, expected_is end.1)
     ]
 
-generated_complete : (g : Generated) (ts rest : List Token) (s : generated g ts rest) → generated_at s.1.1.1.0 ≡ Read g rest
+generated_complete : (g : Generated) (ts rest : List Token) (s : generated g ts rest)
+    → generated_at s.1.1.1.0 ≡ Read g rest
 unfolding generated_at
 generated_complete RowStart ts rest s = rw (expected_of s.1.1.1.2, expected_of s.1.1.2, expected_of s.1.2, s.2) refl
-generated_complete RowEnd ts rest s = rw (expected_of s.1.1.1.2, expected_of s.1.1.2, expected_of s.1.2, s.2, expected_of refl) refl
+generated_complete RowEnd ts rest s =
+    rw (expected_of s.1.1.1.2, expected_of s.1.1.2, expected_of s.1.2, s.2, expected_of refl) refl
 
-plain_tail : (first : Bool) (b c d : List Token) → when first not_null b c → c ≡ d → column_tail (first || false) None b d
+plain_tail : (first : Bool) (b c d : List Token) → when first not_null b c → c ≡ d
+    → column_tail (first || false) None b d
 plain_tail true b c d f same = subst (λ (us : List Token). not_null b us) same f
 plain_tail false b c d f same = f ∙ same
 
-generated_tail : (first second : Bool) (g : Generated) (b c d rest : List Token) → when first not_null b c → generated g c d → when second not_null d rest → column_tail (first || second) (Some g) b rest
+generated_tail : (first second : Bool) (g : Generated) (b c d rest : List Token) → when first not_null b c
+    → generated g c d → when second not_null d rest → column_tail (first || second) (Some g) b rest
 generated_tail true true g b c d rest f s t = inl (d, (c, f, s), inr t)
 generated_tail true false g b c d rest f s t = inl (d, (c, f, s), inl t)
 generated_tail false true g b c d rest f s t = inr (d, subst (λ (us : List Token). generated g us d) (sym f) s, t)
-generated_tail false false g b c d rest f s t = subst (λ (us : List Token). generated g us rest) (sym f) (subst (λ (us : List Token). generated g c us) t s)
+generated_tail false false g b c d rest f s t =
+    subst (λ (us : List Token). generated g us rest) (sym f) (subst (λ (us : List Token). generated g c us) t s)
 
 pub column_sound : Sound element column_at
 unfolding column_at
@@ -183,7 +198,8 @@ column_sound ts e rest r =
           let end = subst (λ (x : Option Generated). column_end n.0 t.0 first.0 x g.1 ≡ Read e rest) o.4 g.3 in
           let second = and_then end in
           let last = required_sound _ _ _ second.2 in
-          let tail = generated_tail first.0 second.0 o.0 t.1 first.1 g.1 second.1 not (generated_sound _ _ _ _ o.2 o.3) last in
+          let tail = generated_tail first.0 second.0 o.0 t.1 first.1 g.1 second.1 not
+          (generated_sound _ _ _ _ o.2 o.3) last in
           spelled element {x = column_of n.0 t.0 first.0 (Some o.0) second.0} second.3 (t.1, head, tail)
       | inr o ↦
           let end = subst (λ (x : Option Generated). column_end n.0 t.0 first.0 x g.1 ≡ Read e rest) o.0 g.3 in
@@ -198,7 +214,8 @@ pub record EndsColumn (rest : List Token) : Type 0 where
   pub generated : Stops (Word (codes "GENERATED")) rest
 
 -- a type ends before the tail of a column
-tail_front : (required : Bool) (g : Option Generated) (ts rest : List Token) → column_tail required g ts rest → EndsColumn rest → EndsType ts
+tail_front : (required : Bool) (g : Option Generated) (ts rest : List Token) → column_tail required g ts rest
+    → EndsColumn rest → EndsType ts
 tail_front false None ts rest s ends = subst EndsType (sym s) ends.type_name
 tail_front true None ts rest s ends = record { opened = rw s.1 refl; without = rw s.1 refl }
 tail_front false (Some g) ts rest s ends = let w = s.1.1.1.1 in record { opened = rw w refl; without = rw w refl }
@@ -217,7 +234,8 @@ abbrev column_with : Name → TypeName → Bool → Option Generated → Element
 column_with n t required g = ColumnElement (record { name = n; type_name = t; required = required; generated = g })
 
 -- GENERATED .. [NOT NULL], with no NOT NULL before it
-late_tail : (n : Name) (t : TypeName) (g : Generated) (second : Bool) (ts mid rest : List Token) → generated g ts mid → when second not_null mid rest → EndsColumn rest → tail_at n t ts ≡ Read (column_with n t second (Some g)) rest
+late_tail : (n : Name) (t : TypeName) (g : Generated) (second : Bool) (ts mid rest : List Token) → generated g ts mid
+    → when second not_null mid rest → EndsColumn rest → tail_at n t ts ≡ Read (column_with n t second (Some g)) rest
 late_tail n t g second ts mid rest s r ends =
     let word : ts ≡ Word (codes "GENERATED") ∷ s.1.1.1.0 = s.1.1.1.1 in
     let plain : when false not_null ts ts = refl in
@@ -228,7 +246,9 @@ late_tail n t g second ts mid rest s r ends =
     ) refl
 
 -- NOT NULL GENERATED .. [NOT NULL]
-early_tail : (n : Name) (t : TypeName) (g : Generated) (second : Bool) (ts us mid rest : List Token) → not_null ts us → generated g us mid → when second not_null mid rest → EndsColumn rest → tail_at n t ts ≡ Read (column_with n t true (Some g)) rest
+early_tail : (n : Name) (t : TypeName) (g : Generated) (second : Bool) (ts us mid rest : List Token) → not_null ts us
+    → generated g us mid → when second not_null mid rest → EndsColumn rest
+    → tail_at n t ts ≡ Read (column_with n t true (Some g)) rest
 early_tail n t g second ts us mid rest f s r ends =
     let word : us ≡ Word (codes "GENERATED") ∷ s.1.1.1.0 = s.1.1.1.1 in
     rw (
@@ -237,11 +257,20 @@ early_tail n t g second ts us mid rest f s r ends =
       required_complete mid second rest r ends.not,
     ) refl
 
-tail_complete : (n : Name) (t : TypeName) (required : Bool) (g : Option Generated) (ts rest : List Token) → column_tail required g ts rest → EndsColumn rest → tail_at n t ts ≡ Read (column_with n t required g) rest
+tail_complete : (n : Name) (t : TypeName) (required : Bool) (g : Option Generated) (ts rest : List Token)
+    → column_tail required g ts rest → EndsColumn rest → tail_at n t ts ≡ Read (column_with n t required g) rest
 tail_complete n t false None ts rest s ends =
-    rw (required_complete ts false rest s ends.not, behind_none (Word (codes "GENERATED")) generated_at rest ends.generated) refl
+    rw (
+      required_complete ts false rest s ends.not,
+      behind_none (Word (codes "GENERATED")) generated_at rest
+          ends.generated,
+    ) refl
 tail_complete n t true None ts rest s ends =
-    rw (required_complete ts true rest s ends.not, behind_none (Word (codes "GENERATED")) generated_at rest ends.generated) refl
+    rw (
+      required_complete ts true rest s ends.not,
+      behind_none (Word (codes "GENERATED")) generated_at rest
+          ends.generated,
+    ) refl
 tail_complete n t false (Some g) ts rest s ends = late_tail n t g false ts rest rest s refl ends
 tail_complete n t true (Some g) ts rest s ends =
     elim s [
@@ -253,7 +282,8 @@ tail_complete n t true (Some g) ts rest s ends =
       | inr a ↦ late_tail n t g true ts a.0 rest a.1 a.2 ends
     ]
 
-pub column_complete : (ts : List Token) (c : ColumnTree) (rest : List Token) → column c ts rest → EndsColumn rest → column_at ts ≡ Read (ColumnElement c) rest
+pub column_complete : (ts : List Token) (c : ColumnTree) (rest : List Token) → column c ts rest → EndsColumn rest
+    → column_at ts ≡ Read (ColumnElement c) rest
 unfolding column_at
 column_complete ts c rest s ends =
     let type_ends = tail_front c.required c.generated s.0 rest s.2 ends in
@@ -265,7 +295,8 @@ column_complete ts c rest s ends =
 
 -- ---- periods
 
-pub period_sound : (ts us : List Token) (e : Element) (rest : List Token) → ts ≡ Word (codes "PERIOD") ∷ us → period_at us ≡ Read e rest → element e ts rest
+pub period_sound : (ts us : List Token) (e : Element) (rest : List Token) → ts ≡ Word (codes "PERIOD") ∷ us
+    → period_at us ≡ Read e rest → element e ts rest
 unfolding period_at
 period_sound ts us e rest word r =
     let for = expected _ r in
@@ -281,7 +312,8 @@ period_sound ts us e rest word r =
       (end.1, (opened.0, opened.1, (comma.0, (start.1, name_is _ _ _ start.2, comma.1), name_is _ _ _ end.2)), close.1),
     )
 
-pub period_complete : (p : Option Name) (start end : Name) (ts rest : List Token) (s : element (PeriodElement p start end) ts rest) → period_at s.1.1.0 ≡ Read (PeriodElement p start end) rest
+pub period_complete : (p : Option Name) (start end : Name) (ts rest : List Token)
+    (s : element (PeriodElement p start end) ts rest) → period_at s.1.1.0 ≡ Read (PeriodElement p start end) rest
 unfolding period_at
 period_complete p start end ts rest s =
     let inner = s.2.1.2 in

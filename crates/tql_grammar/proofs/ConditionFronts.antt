@@ -1,22 +1,33 @@
 -- The tokens that conditions and periods begin with, and how many they take.
-use Rattle.std.specs.Prelude.{◌≡◌, refl, ◌<◌, ◌≤◌, Bool, true, false, ◌&&◌, List, [], ◌∷◌, codes, length, Option, Some, None}
+use Rattle.std.specs.Prelude.{◌≡◌, refl, ◌<◌, ◌≤◌, Bool, true, false, ◌&&◌, List, [], ◌∷◌, codes, length, Option}
+use Rattle.std.specs.Prelude.{Some, None}
 use Rattle.std.specs.List.{list_any}
 use Rattle.std.proofs.Common.{◌∙◌, ap, arith, inl, inr}
 use Rattle.tql_spec.specs.Words.{same_text}
 use Rattle.tql_spec.specs.Datum.{Comparison, Equals, Differs, Below, AtMost, Above, AtLeast}
-use Rattle.tql_spec.specs.Period.{Relation, Overlaps, Includes, SameAs, Precedes, Succeeds, ImmediatelyPrecedes, ImmediatelySucceeds}
+use Rattle.tql_spec.specs.Period.{Relation, Overlaps, Includes, SameAs, Precedes, Succeeds, ImmediatelyPrecedes}
+use Rattle.tql_spec.specs.Period.{ImmediatelySucceeds}
 use Rattle.tql_spec.specs.Expression.{Function, Count, Min, Max}
 use Rattle.tql_spec.specs.Expression as function
 use Rattle.tql_spec.specs.Definition.{Name}
-use Rattle.tql_spec.specs.Token.{Token, Word, Sign, Dot, PlusSign, MinusSign, Star, EqualSign, UnequalSign, LessSign, AtMostSign, MoreSign, AtLeastSign}
-use Rattle.tql_spec.specs.Syntax.{Named, Sum, Product, Terms, Factors, Signed, Unsigned, Positive, Negative, Primary, NumberLiteral, TextLiteral, DateLiteral, TimestampLiteral, ColumnNamed, Enclosed, CountStar, Over, Marked, FromEnds, SystemTime, Operand, ByMark, ByName, Condition, AnyOf, MoreConjs, NoConj, OrConj, Conj, AllOf, MoreTests, NoTest, AndTest, Factor, Straight, Negated, Test, Grouped, Compared, NullTest, BetweenTest, InTest, RelationTest, ContainsPeriod, ContainsPoint}
-use Rattle.tql_spec.specs.Grammar.{sign, ◌⨟◌, optional, name, named, function_name, expr, term, signed, primary, comparison, relation, marked, operand, negation, condition, more_conjs, conj, more_tests, factor, test}
+use Rattle.tql_spec.specs.Token.{Token, Word, Sign, Dot, PlusSign, MinusSign, Star, EqualSign, UnequalSign, LessSign}
+use Rattle.tql_spec.specs.Token.{AtMostSign, MoreSign, AtLeastSign}
+use Rattle.tql_spec.specs.Syntax.{Named, Sum, Product, Terms, Factors, Signed, Unsigned, Positive, Negative, Primary}
+use Rattle.tql_spec.specs.Syntax.{NumberLiteral, TextLiteral, DateLiteral, TimestampLiteral, ColumnNamed, Enclosed}
+use Rattle.tql_spec.specs.Syntax.{CountStar, Over, Marked, FromEnds, SystemTime, Operand, ByMark, ByName, Condition}
+use Rattle.tql_spec.specs.Syntax.{AnyOf, MoreConjs, NoConj, OrConj, Conj, AllOf, MoreTests, NoTest, AndTest, Factor}
+use Rattle.tql_spec.specs.Syntax.{Straight, Negated, Test, Grouped, Compared, NullTest, BetweenTest, InTest}
+use Rattle.tql_spec.specs.Syntax.{RelationTest, ContainsPeriod, ContainsPoint}
+use Rattle.tql_spec.specs.Grammar.{sign, ◌⨟◌, optional, name, named, function_name, expr, term, signed, primary}
+use Rattle.tql_spec.specs.Grammar.{comparison, relation, marked, operand, negation, condition, more_conjs, conj}
+use Rattle.tql_spec.specs.Grammar.{more_tests, factor, test}
 use Rattle.tql_grammar.specs.Outcome.{is_name, begins, begins_second, begins_third, begins_name}
 use Rattle.tql_grammar.specs.ReadingExpressions.{expr_here, begins_marked}
 use Rattle.tql_grammar.proofs.Ends.{EndsExpr}
 use Rattle.tql_grammar.proofs.Steps.{Shortens, Stops, name_begins, begins_eat, commas_shortens}
 use Rattle.tql_grammar.proofs.FirstTokens.{Begins, stops_at, at_token, at_name, starts_expr, ends_expr}
-use Rattle.tql_grammar.proofs.ExpressionLaws.{named_shortens, qualifier_within, at_named, opens, at_expr, expr_shortens, factor_end, term_end}
+use Rattle.tql_grammar.proofs.ExpressionLaws.{named_shortens, qualifier_within, at_named, opens, at_expr}
+use Rattle.tql_grammar.proofs.ExpressionLaws.{expr_shortens, factor_end, term_end}
 
 -- ---- conditions take a token
 
@@ -54,13 +65,15 @@ negation_within true ts rest s = omega (arith, ap length s)
 negation_within false ts rest s = omega (arith, ap length s)
 
 mutual
-  pub condition_shortens : (ts : List Token) (c : Condition) (rest : List Token) → condition c ts rest → length rest < length ts
+  pub condition_shortens : (ts : List Token) (c : Condition) (rest : List Token) → condition c ts rest
+      → length rest < length ts
   condition_shortens ts (AnyOf c more) rest s =
       let a = conj_shortens ts c s.0 s.1 in
       let b = more_conjs_within s.0 more rest s.2 in
       omega arith
 
-  more_conjs_within : (ts : List Token) (m : MoreConjs) (rest : List Token) → more_conjs m ts rest → length rest ≤ length ts
+  more_conjs_within : (ts : List Token) (m : MoreConjs) (rest : List Token) → more_conjs m ts rest
+      → length rest ≤ length ts
   more_conjs_within ts NoConj rest s = omega (arith, ap length s)
   more_conjs_within ts (OrConj c more) rest s =
       let a = conj_shortens s.1.0 c s.0 s.1.2 in
@@ -73,7 +86,8 @@ mutual
       let b = more_tests_within s.0 more rest s.2 in
       omega arith
 
-  pub more_tests_within : (ts : List Token) (m : MoreTests) (rest : List Token) → more_tests m ts rest → length rest ≤ length ts
+  pub more_tests_within : (ts : List Token) (m : MoreTests) (rest : List Token) → more_tests m ts rest
+      → length rest ≤ length ts
   more_tests_within ts NoTest rest s = omega (arith, ap length s)
   more_tests_within ts (AndTest f more) rest s =
       let a = factor_shortens s.1.0 f s.0 s.1.2 in
@@ -127,11 +141,13 @@ mutual
 second_behind_name : (t : Token) (n : Name) (ts rest : List Token) → name n ts rest → begins_second t ts ≡ begins t rest
 second_behind_name t n ts rest s = elim s [ inl w ↦ rw w.0 refl | inr q ↦ rw q refl ]
 
-third_behind_name : (t : Token) (n : Name) (ts rest : List Token) → name n ts rest → begins_third t ts ≡ begins_second t rest
+third_behind_name : (t : Token) (n : Name) (ts rest : List Token) → name n ts rest
+    → begins_third t ts ≡ begins_second t rest
 third_behind_name t n ts rest s = elim s [ inl w ↦ rw w.0 refl | inr q ↦ rw q refl ]
 
 -- a token that fails the test does not begin the list
-begins_none : (test : Token → Bool) (t : Token) (ts : List Token) → test t ≡ false → Begins test ts → begins t ts ≡ false
+begins_none : (test : Token → Bool) (t : Token) (ts : List Token) → test t ≡ false → Begins test ts
+    → begins t ts ≡ false
 begins_none test t ts fails b = begins_eat t ts ∙ stops_at test t ts fails b
 
 pub marked_begins : (m : Marked) (ts rest : List Token) → marked m ts rest → begins_marked ts ≡ true
@@ -154,13 +170,27 @@ abbrev begins_qualified : List Token → Bool
 begins_qualified ts = begins_name ts && (begins_second (Sign Dot) ts && begins_third (Word (codes "SYSTEM_TIME")) ts)
 
 -- no period is in front of what begins with neither word and no qualified SYSTEM_TIME
-unmarked_by : (test : Token → Bool) (ts : List Token) → test (Word (codes "PERIOD")) ≡ false → test (Word (codes "SYSTEM_TIME")) ≡ false → Begins test ts → begins_qualified ts ≡ false → begins_marked ts ≡ false
+unmarked_by : (test : Token → Bool) (ts : List Token) → test (Word (codes "PERIOD")) ≡ false
+    → test (Word (codes "SYSTEM_TIME")) ≡ false → Begins test ts → begins_qualified ts ≡ false
+    → begins_marked ts ≡ false
 unmarked_by test ts period system b qualified =
-    rw (begins_none test (Word (codes "PERIOD")) ts period b, begins_none test (Word (codes "SYSTEM_TIME")) ts system b, qualified) refl
+    rw (
+      begins_none test (Word (codes "PERIOD")) ts period b,
+      begins_none test (Word (codes "SYSTEM_TIME")) ts system
+          b,
+      qualified,
+    ) refl
 
-named_unqualified : (q : Option Name) (n : Name) (ts mid rest : List Token) → optional (λ m. name m ⨟ sign Dot) q ts mid → name n mid rest → Stops (Sign Dot) rest → begins_qualified ts ≡ false
+named_unqualified : (q : Option Name) (n : Name) (ts mid rest : List Token)
+    → optional (λ m. name m ⨟ sign Dot) q ts mid → name n mid rest → Stops (Sign Dot) rest → begins_qualified ts ≡ false
 named_unqualified None n ts mid rest s name stops =
-    rw (s, name_begins n mid rest name, second_behind_name (Sign Dot) n mid rest name, begins_eat (Sign Dot) rest, stops) refl
+    rw (
+      s,
+      name_begins n mid rest name,
+      second_behind_name (Sign Dot) n mid rest name,
+      begins_eat (Sign Dot) rest,
+      stops,
+    ) refl
 named_unqualified (Some q) n ts mid rest s name stops =
     rw (
       name_begins q ts s.0 s.1,
@@ -170,11 +200,14 @@ named_unqualified (Some q) n ts mid rest s name stops =
       begins_none is_name (Word (codes "SYSTEM_TIME")) mid refl (at_name n mid rest name),
     ) refl
 
-qualified_none : (r : Named) (ts rest : List Token) → named r ts rest → Stops (Sign Dot) rest → begins_qualified ts ≡ false
+qualified_none : (r : Named) (ts rest : List Token) → named r ts rest → Stops (Sign Dot) rest
+    → begins_qualified ts ≡ false
 qualified_none r ts rest s stops = named_unqualified r.qualifier r.name ts s.0 rest s.1 s.2 stops
 
-pub named_unmarked : (r : Named) (ts rest : List Token) → named r ts rest → Stops (Sign Dot) rest → begins_marked ts ≡ false
-named_unmarked r ts rest s stops = unmarked_by is_name ts refl refl (at_named r ts rest s) (qualified_none r ts rest s stops)
+pub named_unmarked : (r : Named) (ts rest : List Token) → named r ts rest → Stops (Sign Dot) rest
+    → begins_marked ts ≡ false
+named_unmarked r ts rest s stops =
+    unmarked_by is_name ts refl refl (at_named r ts rest s) (qualified_none r ts rest s stops)
 
 function_unqualified : (f : Function) (ts rest : List Token) → function_name f ts rest → begins_qualified ts ≡ false
 function_unqualified Count ts rest s = rw s refl
@@ -182,7 +215,8 @@ function_unqualified function.Sum ts rest s = rw s refl
 function_unqualified Min ts rest s = rw s refl
 function_unqualified Max ts rest s = rw s refl
 
-primary_unqualified : (p : Primary) (ts rest : List Token) → primary p ts rest → Stops (Sign Dot) rest → begins_qualified ts ≡ false
+primary_unqualified : (p : Primary) (ts rest : List Token) → primary p ts rest → Stops (Sign Dot) rest
+    → begins_qualified ts ≡ false
 primary_unqualified (NumberLiteral ds) ts rest s stops = rw s refl
 primary_unqualified (TextLiteral t) ts rest s stops = rw s refl
 primary_unqualified (DateLiteral t) ts rest s stops = rw s.1 refl
@@ -192,19 +226,22 @@ primary_unqualified (Enclosed e) ts rest s stops = rw s.1.1 refl
 primary_unqualified CountStar ts rest s stops = rw s.1 refl
 primary_unqualified (Over f e) ts rest s stops = function_unqualified f ts s.1.1.0 s.1.1.1
 
-signed_unqualified : (f : Signed) (ts rest : List Token) → signed f ts rest → Stops (Sign Dot) rest → begins_qualified ts ≡ false
+signed_unqualified : (f : Signed) (ts rest : List Token) → signed f ts rest → Stops (Sign Dot) rest
+    → begins_qualified ts ≡ false
 signed_unqualified (Unsigned p) ts rest s stops = primary_unqualified p ts rest s stops
 signed_unqualified (Positive p) ts rest s stops = rw s.1 refl
 signed_unqualified (Negative p) ts rest s stops = rw s.1 refl
 
-term_unqualified : (t : Product) (ts rest : List Token) → term t ts rest → Stops (Sign Dot) rest → begins_qualified ts ≡ false
+term_unqualified : (t : Product) (ts rest : List Token) → term t ts rest → Stops (Sign Dot) rest
+    → begins_qualified ts ≡ false
 term_unqualified (Factors f more) ts rest s stops = signed_unqualified f ts s.0 s.1 (factor_end more s.0 rest s.2 stops)
 
 expr_unqualified : (e : Sum) (ts rest : List Token) → expr e ts rest → EndsExpr rest → begins_qualified ts ≡ false
 expr_unqualified (Terms t more) ts rest s ends = term_unqualified t ts s.0 s.1 (term_end more s.0 rest s.2 ends).dot
 
 pub expr_unmarked : (e : Sum) (ts rest : List Token) → expr e ts rest → EndsExpr rest → begins_marked ts ≡ false
-expr_unmarked e ts rest s ends = unmarked_by (starts_expr (opens e)) ts refl refl (at_expr e ts rest s) (expr_unqualified e ts rest s ends)
+expr_unmarked e ts rest s ends =
+    unmarked_by (starts_expr (opens e)) ts refl refl (at_expr e ts rest s) (expr_unqualified e ts rest s ends)
 
 -- ---- NOT is in front of no test
 
@@ -242,7 +279,8 @@ comparison_front Above ts rest s = at_token ends_expr (Sign MoreSign) ts rest re
 comparison_front AtLeast ts rest s = at_token ends_expr (Sign AtLeastSign) ts rest refl s
 
 -- an expression ends before [NOT] and a word
-pub negation_front : (b : Bool) (w : Name) (ts mid rest : List Token) → negation b ts mid → mid ≡ Word w ∷ rest → Begins ends_expr ts
+pub negation_front : (b : Bool) (w : Name) (ts mid rest : List Token) → negation b ts mid → mid ≡ Word w ∷ rest
+    → Begins ends_expr ts
 negation_front true w ts mid rest s is = at_token ends_expr (Word (codes "NOT")) ts mid refl s
 negation_front false w ts mid rest s is = at_token ends_expr (Word w) ts rest refl (s ∙ is)
 
@@ -250,7 +288,8 @@ negation_front false w ts mid rest s is = at_token ends_expr (Word w) ts rest re
 abbrev pub relates : Token → Bool
 relates (Word w) =
     list_any (same_text w)
-    (codes "OVERLAPS" ∷ codes "EQUALS" ∷ codes "PRECEDES" ∷ codes "SUCCEEDS" ∷ codes "IMMEDIATELY" ∷ codes "CONTAINS" ∷ [])
+    (codes "OVERLAPS" ∷ codes "EQUALS" ∷ codes "PRECEDES" ∷ codes "SUCCEEDS" ∷ codes "IMMEDIATELY" ∷ codes "CONTAINS"
+    ∷ [])
 relates _ = false
 
 pub relation_front : (r : Relation) (ts rest : List Token) → relation r ts rest → Begins relates ts

@@ -1,26 +1,50 @@
 -- Conditions: what is spelled is read.
-use Rattle.std.specs.Prelude.{◌≡◌, refl, ℕ, zero, suc, ◌≤◌, Bool, true, false, List, [], ◌∷◌, codes, length, Option, Some, None}
+use Rattle.std.specs.Prelude.{◌≡◌, refl, ℕ, zero, suc, ◌≤◌, Bool, true, false, List, [], ◌∷◌, codes, length, Option}
+use Rattle.std.specs.Prelude.{Some, None}
 use Rattle.std.proofs.Common.{sym, ◌∙◌, ap, subst, arith}
 use Rattle.tql_spec.specs.Datum.{Comparison, Equals, Differs, Below, AtMost, Above, AtLeast}
-use Rattle.tql_spec.specs.Period.{Relation, Overlaps, Includes, SameAs, Precedes, Succeeds, ImmediatelyPrecedes, ImmediatelySucceeds}
-use Rattle.tql_spec.specs.Token.{Token, Word, Sign, Open, Close, Comma, Dot, EqualSign, UnequalSign, LessSign, AtMostSign, MoreSign, AtLeastSign}
-use Rattle.tql_spec.specs.Syntax.{Named, Sum, MoreTerms, NoTerm, Terms, MoreFactors, NoFactor, Factors, Unsigned, ColumnNamed, Enclosed, Marked, FromEnds, SystemTime, Operand, ByMark, ByName, Condition, AnyOf, MoreConjs, NoConj, OrConj, Conj, AllOf, MoreTests, NoTest, AndTest, Factor, Straight, Negated, Test, Grouped, Compared, NullTest, BetweenTest, InTest, RelationTest, ContainsPeriod, ContainsPoint}
-use Rattle.tql_spec.specs.Grammar.{key, sign, ◌⨟◌, in_parens, each, commas, name, expr, comparison, relation, marked, operand, negation, condition, more_conjs, conj, more_tests, factor, test}
+use Rattle.tql_spec.specs.Period.{Relation, Overlaps, Includes, SameAs, Precedes, Succeeds, ImmediatelyPrecedes}
+use Rattle.tql_spec.specs.Period.{ImmediatelySucceeds}
+use Rattle.tql_spec.specs.Token.{Token, Word, Sign, Open, Close, Comma, Dot, EqualSign, UnequalSign, LessSign}
+use Rattle.tql_spec.specs.Token.{AtMostSign, MoreSign, AtLeastSign}
+use Rattle.tql_spec.specs.Syntax.{Named, Sum, MoreTerms, NoTerm, Terms, MoreFactors, NoFactor, Factors, Unsigned}
+use Rattle.tql_spec.specs.Syntax.{ColumnNamed, Enclosed, Marked, FromEnds, SystemTime, Operand, ByMark, ByName}
+use Rattle.tql_spec.specs.Syntax.{Condition, AnyOf, MoreConjs, NoConj, OrConj, Conj, AllOf, MoreTests, NoTest}
+use Rattle.tql_spec.specs.Syntax.{AndTest, Factor, Straight, Negated, Test, Grouped, Compared, NullTest, BetweenTest}
+use Rattle.tql_spec.specs.Syntax.{InTest, RelationTest, ContainsPeriod, ContainsPoint}
+use Rattle.tql_spec.specs.Grammar.{key, sign, ◌⨟◌, in_parens, each, commas, name, expr, comparison, relation, marked}
+use Rattle.tql_spec.specs.Grammar.{operand, negation, condition, more_conjs, conj, more_tests, factor, test}
 use Rattle.tql_grammar.specs.Outcome.{Read, Parser, eat, is_name, more, next}
 use Rattle.tql_spec.specs.Parts.{tests_of, conjs_of}
-use Rattle.tql_grammar.specs.ReadingExpressions.{sum_over, expr_at, comparison_at, immediate_at, relation_at, as_named, WholeTest, BareExpr, Mixed, WholeCondition, WholeExpr, ends_over, qualified_system_at, marked_over, operand_over, contained_over, related_over, null_test_at, between_over, in_over, denied_over, period_test_over, word_test_over, test_behind, marked_test_over, closed_over, opened_over, tested_over, test_over, factor_over, next_test, conj_behind, conj_over, next_conj, condition_behind, condition_over, mixed_over, mixed_at, condition_at, condition_here}
+use Rattle.tql_grammar.specs.ReadingExpressions.{sum_over, expr_at, comparison_at, immediate_at, relation_at}
+use Rattle.tql_grammar.specs.ReadingExpressions.{as_named, WholeTest, BareExpr, Mixed, WholeCondition, WholeExpr}
+use Rattle.tql_grammar.specs.ReadingExpressions.{ends_over, qualified_system_at, marked_over, operand_over}
+use Rattle.tql_grammar.specs.ReadingExpressions.{contained_over, related_over, null_test_at, between_over, in_over}
+use Rattle.tql_grammar.specs.ReadingExpressions.{denied_over, period_test_over, word_test_over, test_behind}
+use Rattle.tql_grammar.specs.ReadingExpressions.{marked_test_over, closed_over, opened_over, tested_over, test_over}
+use Rattle.tql_grammar.specs.ReadingExpressions.{factor_over, next_test, conj_behind, conj_over, next_conj}
+use Rattle.tql_grammar.specs.ReadingExpressions.{condition_behind, condition_over, mixed_over, mixed_at, condition_at}
+use Rattle.tql_grammar.specs.ReadingExpressions.{condition_here}
 use Rattle.tql_grammar.proofs.Ends.{EndsExpr, EndsCondition}
-use Rattle.tql_grammar.proofs.Steps.{CompleteBefore, Shortens, Stops, expect_of, name_of, behind_some, behind_none, behind_comma, commas_front}
-use Rattle.tql_grammar.proofs.FirstTokens.{Begins, eat_not, eat_none, at_token, at_name, starts_expr, ends_at, ends_before}
-use Rattle.tql_grammar.proofs.ExpressionLaws.{named_complete, opens, at_expr, expr_shortens, ReadsWithin, more_within, sum_of, sum_from_of, expr_at_of}
+use Rattle.tql_grammar.proofs.Steps.{CompleteBefore, Shortens, Stops, expect_of, name_of, behind_some, behind_none}
+use Rattle.tql_grammar.proofs.Steps.{behind_comma, commas_front}
+use Rattle.tql_grammar.proofs.FirstTokens.{Begins, eat_not, eat_none, at_token, at_name, starts_expr, ends_at}
+use Rattle.tql_grammar.proofs.FirstTokens.{ends_before}
+use Rattle.tql_grammar.proofs.ExpressionLaws.{named_complete, opens, at_expr, expr_shortens, ReadsWithin, more_within}
+use Rattle.tql_grammar.proofs.ExpressionLaws.{sum_of, sum_from_of, expr_at_of}
 use Rattle.tql_grammar.proofs.ConditionSound.{mixed_phrase}
 pub use Rattle.tql_grammar.proofs.ConditionSound.{condition_sound}
 pub use Rattle.tql_grammar.proofs.ConditionFronts.{condition_shortens}
-use Rattle.tql_grammar.proofs.ConditionFronts.{comparison_shortens, relation_shortens, operand_shortens, negation_within, conj_shortens, more_tests_within, factor_shortens, test_shortens, marked_begins, named_unmarked, expr_unmarked, stops_expr, stops_test, comparison_front, negation_front, relates, relation_front, relates_ends}
+use Rattle.tql_grammar.proofs.ConditionFronts.{comparison_shortens, relation_shortens, operand_shortens}
+use Rattle.tql_grammar.proofs.ConditionFronts.{negation_within, conj_shortens, more_tests_within, factor_shortens}
+use Rattle.tql_grammar.proofs.ConditionFronts.{test_shortens, marked_begins, named_unmarked, expr_unmarked}
+use Rattle.tql_grammar.proofs.ConditionFronts.{stops_expr, stops_test, comparison_front, negation_front, relates}
+use Rattle.tql_grammar.proofs.ConditionFronts.{relation_front, relates_ends}
 
 -- ---- words
 
-comparison_of : (op : Comparison) (ts rest : List Token) → comparison op ts rest → comparison_at ts ≡ Read (Some op) rest
+comparison_of : (op : Comparison) (ts rest : List Token) → comparison op ts rest
+    → comparison_at ts ≡ Read (Some op) rest
 unfolding comparison_at
 comparison_of Equals ts rest s = rw s refl
 comparison_of Differs ts rest s = rw s refl
@@ -36,10 +60,12 @@ relation_of SameAs ts rest s = rw s refl
 relation_of Precedes ts rest s = rw s refl
 relation_of Succeeds ts rest s = rw s refl
 relation_of ImmediatelyPrecedes ts rest s = rw (s.1, s.2) refl
-relation_of ImmediatelySucceeds ts rest s = rw (s.1, s.2, expect_of (Word (codes "SUCCEEDS")) (Word (codes "SUCCEEDS") ∷ rest) rest refl) refl
+relation_of ImmediatelySucceeds ts rest s =
+    rw (s.1, s.2, expect_of (Word (codes "SUCCEEDS")) (Word (codes "SUCCEEDS") ∷ rest) rest refl) refl
 relation_of Includes ts rest s = absurd s
 
-negation_of : (b : Bool) (w : List ℕ) (ts mid rest : List Token) → negation b ts mid → mid ≡ Word w ∷ rest → Stops (Word (codes "NOT")) mid → eat (Word (codes "NOT")) ts ≡ (b, mid)
+negation_of : (b : Bool) (w : List ℕ) (ts mid rest : List Token) → negation b ts mid → mid ≡ Word w ∷ rest
+    → Stops (Word (codes "NOT")) mid → eat (Word (codes "NOT")) ts ≡ (b, mid)
 negation_of true w ts mid rest s is stops = rw s refl
 negation_of false w ts mid rest s is stops = rw s (eat_not (Word (codes "NOT")) mid stops)
 
@@ -70,7 +96,8 @@ tests_back : (m : MoreTests) → tests_of (test_list m) ≡ m
 tests_back NoTest = refl
 tests_back (AndTest f more) = ap (AndTest f) (tests_back more)
 
-tests_each : (m : MoreTests) (ts rest : List Token) → more_tests m ts rest → each (λ f. key (codes "AND") ⨟ factor f) (test_list m) ts rest
+tests_each : (m : MoreTests) (ts rest : List Token) → more_tests m ts rest
+    → each (λ f. key (codes "AND") ⨟ factor f) (test_list m) ts rest
 tests_each NoTest ts rest s = s
 tests_each (AndTest f more) ts rest s = (s.0, s.1, tests_each more s.0 rest s.2)
 
@@ -82,7 +109,8 @@ conjs_back : (m : MoreConjs) → conjs_of (conj_list m) ≡ m
 conjs_back NoConj = refl
 conjs_back (OrConj c more) = ap (OrConj c) (conjs_back more)
 
-conjs_each : (m : MoreConjs) (ts rest : List Token) → more_conjs m ts rest → each (λ c. key (codes "OR") ⨟ conj c) (conj_list m) ts rest
+conjs_each : (m : MoreConjs) (ts rest : List Token) → more_conjs m ts rest
+    → each (λ c. key (codes "OR") ⨟ conj c) (conj_list m) ts rest
 conjs_each NoConj ts rest s = s
 conjs_each (OrConj c more) ts rest s = (s.0, s.1, conjs_each more s.0 rest s.2)
 
@@ -127,7 +155,8 @@ conjs_front (OrConj c more) ts rest s ends = or_front ts s.1.0 s.1.1
 -- ---- the rules over expressions that lie one level deeper
 
 module _ (n : ℕ) (inner : Parser Sum) (reads : ReadsWithin n EndsExpr expr inner) where
-  qualified_of : (q : List ℕ) (ts rest : List Token) → (name q ⨟ sign Dot ⨟ key (codes "SYSTEM_TIME")) ts rest → qualified_system_at ts ≡ Read (SystemTime (Some q)) rest
+  qualified_of : (q : List ℕ) (ts rest : List Token) → (name q ⨟ sign Dot ⨟ key (codes "SYSTEM_TIME")) ts rest
+      → qualified_system_at ts ≡ Read (SystemTime (Some q)) rest
   unfolding qualified_system_at
   qualified_of q ts rest s =
       rw (
@@ -136,7 +165,8 @@ module _ (n : ℕ) (inner : Parser Sum) (reads : ReadsWithin n EndsExpr expr inn
         expect_of (Word (codes "SYSTEM_TIME")) s.0 rest s.2,
       ) refl
 
-  ends_of : (a e : Sum) (ts rest : List Token) → length ts ≤ suc n → in_parens (expr a ⨟ sign Comma ⨟ expr e) ts rest → ends_over inner ts ≡ Read (FromEnds a e) rest
+  ends_of : (a e : Sum) (ts rest : List Token) → length ts ≤ suc n → in_parens (expr a ⨟ sign Comma ⨟ expr e) ts rest
+      → ends_over inner ts ≡ Read (FromEnds a e) rest
   unfolding ends_over
   ends_of a e ts rest fuel s =
       let inside = s.1.2 in
@@ -152,7 +182,8 @@ module _ (n : ℕ) (inner : Parser Sum) (reads : ReadsWithin n EndsExpr expr inn
         expect_of (Sign Close) s.0 rest s.2,
       ) refl
 
-  marked_of : (ts : List Token) (m : Marked) (rest : List Token) → length ts ≤ suc n → marked m ts rest → marked_over inner ts ≡ Read m rest
+  marked_of : (ts : List Token) (m : Marked) (rest : List Token) → length ts ≤ suc n → marked m ts rest
+      → marked_over inner ts ≡ Read m rest
   unfolding marked_over
   marked_of ts (FromEnds a e) rest fuel s =
       let h : length s.0 ≤ suc n = omega (arith, ap length s.1) in
@@ -166,59 +197,81 @@ module _ (n : ℕ) (inner : Parser Sum) (reads : ReadsWithin n EndsExpr expr inn
         qualified_of q ts rest s,
       ) refl
 
-  operand_of : (ts : List Token) (x : Operand) (rest : List Token) → length ts ≤ suc n → operand x ts rest → Stops (Sign Dot) rest → operand_over inner ts ≡ Read x rest
+  operand_of : (ts : List Token) (x : Operand) (rest : List Token) → length ts ≤ suc n → operand x ts rest
+      → Stops (Sign Dot) rest → operand_over inner ts ≡ Read x rest
   unfolding operand_over
   operand_of ts (ByMark m) rest fuel s stops = rw (marked_begins m ts rest s, marked_of ts m rest fuel s) refl
-  operand_of ts (ByName r) rest fuel s stops = rw (named_unmarked r ts rest s stops, named_complete ts r rest s stops) refl
+  operand_of ts (ByName r) rest fuel s stops =
+      rw (named_unmarked r ts rest s stops, named_complete ts r rest s stops) refl
 
   -- behind an operand
-  relation_test_of : (x : Operand) (r : Relation) (y : Operand) (ts mid rest : List Token) → length ts ≤ suc n → relation r ts mid → operand y mid rest → Stops (Sign Dot) rest → related_over inner x ts ≡ Read (Some (RelationTest x r y)) rest
+  relation_test_of : (x : Operand) (r : Relation) (y : Operand) (ts mid rest : List Token) → length ts ≤ suc n
+      → relation r ts mid → operand y mid rest → Stops (Sign Dot) rest
+      → related_over inner x ts ≡ Read (Some (RelationTest x r y)) rest
   unfolding related_over
   relation_test_of x r y ts mid rest fuel s t stops =
       let h = relation_shortens ts r mid s in
       rw (relation_of r ts mid s, operand_of mid y rest (omega arith) t stops) refl
 
-  contains_of : (x : Operand) (t : Test) (ts mid rest : List Token) → ts ≡ Word (codes "CONTAINS") ∷ mid → contained_over inner x mid ≡ Read t rest → related_over inner x ts ≡ Read (Some t) rest
+  contains_of : (x : Operand) (t : Test) (ts mid rest : List Token) → ts ≡ Word (codes "CONTAINS") ∷ mid
+      → contained_over inner x mid ≡ Read t rest → related_over inner x ts ≡ Read (Some t) rest
   unfolding related_over relation_at
   contains_of x t ts mid rest is e = rw (is, e) refl
 
-  period_of : (x : Operand) (m : Marked) (ts rest : List Token) → length ts ≤ suc n → marked m ts rest → contained_over inner x ts ≡ Read (ContainsPeriod x m) rest
+  period_of : (x : Operand) (m : Marked) (ts rest : List Token) → length ts ≤ suc n → marked m ts rest
+      → contained_over inner x ts ≡ Read (ContainsPeriod x m) rest
   unfolding contained_over
   period_of x m ts rest fuel s = rw (marked_begins m ts rest s, marked_of ts m rest fuel s) refl
 
-  point_of : (x : Operand) (e : Sum) (ts rest : List Token) → length ts ≤ suc n → expr e ts rest → EndsExpr rest → contained_over inner x ts ≡ Read (ContainsPoint x e) rest
+  point_of : (x : Operand) (e : Sum) (ts rest : List Token) → length ts ≤ suc n → expr e ts rest → EndsExpr rest
+      → contained_over inner x ts ≡ Read (ContainsPoint x e) rest
   unfolding contained_over
-  point_of x e ts rest fuel s ends = rw (expr_unmarked e ts rest s ends, sum_of n inner reads ts e rest fuel s ends) refl
+  point_of x e ts rest fuel s ends =
+      rw (expr_unmarked e ts rest s ends, sum_of n inner reads ts e rest fuel s ends) refl
 
   -- behind an expression
-  compared_of : (e : Sum) (op : Comparison) (b : Sum) (ts mid rest : List Token) → length mid ≤ suc n → comparison op ts mid → expr b mid rest → EndsExpr rest → test_behind inner e ts ≡ Read (WholeTest (Compared op e b)) rest
+  compared_of : (e : Sum) (op : Comparison) (b : Sum) (ts mid rest : List Token) → length mid ≤ suc n
+      → comparison op ts mid → expr b mid rest → EndsExpr rest
+      → test_behind inner e ts ≡ Read (WholeTest (Compared op e b)) rest
   unfolding test_behind
-  compared_of e op b ts mid rest fuel s t ends = rw (comparison_of op ts mid s, sum_of n inner reads mid b rest fuel t ends) refl
+  compared_of e op b ts mid rest fuel s t ends =
+      rw (comparison_of op ts mid s, sum_of n inner reads mid b rest fuel t ends) refl
 
-  null_of : (e : Sum) (b : Bool) (ts mid rest : List Token) → negation b ts mid → mid ≡ Word (codes "NULL") ∷ rest → null_test_at e ts ≡ Read (NullTest b e) rest
+  null_of : (e : Sum) (b : Bool) (ts mid rest : List Token) → negation b ts mid → mid ≡ Word (codes "NULL") ∷ rest
+      → null_test_at e ts ≡ Read (NullTest b e) rest
   unfolding null_test_at
   null_of e b ts mid rest not null =
-      rw (negation_of b (codes "NULL") ts mid rest not null (rw null refl), expect_of (Word (codes "NULL")) mid rest null) refl
+      rw (
+        negation_of b (codes "NULL") ts mid rest not null (rw null refl),
+        expect_of (Word (codes "NULL")) mid rest
+            null,
+      ) refl
 
   -- a word behind an expression, and then the rest of the test
-  is_of : (e : Sum) (t : Test) (ts mid rest : List Token) → ts ≡ Word (codes "IS") ∷ mid → null_test_at e mid ≡ Read t rest → test_behind inner e ts ≡ Read (WholeTest t) rest
+  is_of : (e : Sum) (t : Test) (ts mid rest : List Token) → ts ≡ Word (codes "IS") ∷ mid
+      → null_test_at e mid ≡ Read t rest → test_behind inner e ts ≡ Read (WholeTest t) rest
   unfolding test_behind comparison_at word_test_over
   is_of e t ts mid rest is r = rw (is, r) refl
 
-  not_of : (e : Sum) (t : Test) (ts mid rest : List Token) → ts ≡ Word (codes "NOT") ∷ mid → denied_over inner e mid ≡ Read t rest → test_behind inner e ts ≡ Read (WholeTest t) rest
+  not_of : (e : Sum) (t : Test) (ts mid rest : List Token) → ts ≡ Word (codes "NOT") ∷ mid
+      → denied_over inner e mid ≡ Read t rest → test_behind inner e ts ≡ Read (WholeTest t) rest
   unfolding test_behind comparison_at word_test_over
   not_of e t ts mid rest is r = rw (is, r) refl
 
-  between_of : (e : Sum) (t : Test) (ts mid rest : List Token) → ts ≡ Word (codes "BETWEEN") ∷ mid → between_over inner false e mid ≡ Read t rest → test_behind inner e ts ≡ Read (WholeTest t) rest
+  between_of : (e : Sum) (t : Test) (ts mid rest : List Token) → ts ≡ Word (codes "BETWEEN") ∷ mid
+      → between_over inner false e mid ≡ Read t rest → test_behind inner e ts ≡ Read (WholeTest t) rest
   unfolding test_behind comparison_at word_test_over
   between_of e t ts mid rest is r = rw (is, r) refl
 
-  in_of : (e : Sum) (t : Test) (ts mid rest : List Token) → ts ≡ Word (codes "IN") ∷ mid → in_over inner false e mid ≡ Read t rest → test_behind inner e ts ≡ Read (WholeTest t) rest
+  in_of : (e : Sum) (t : Test) (ts mid rest : List Token) → ts ≡ Word (codes "IN") ∷ mid
+      → in_over inner false e mid ≡ Read t rest → test_behind inner e ts ≡ Read (WholeTest t) rest
   unfolding test_behind comparison_at word_test_over
   in_of e t ts mid rest is r = rw (is, r) refl
 
   -- low AND high, behind [NOT] BETWEEN
-  range_of : (b : Bool) (e low high : Sum) (ts rest : List Token) → length ts ≤ suc n → (expr low ⨟ key (codes "AND") ⨟ expr high) ts rest → EndsExpr rest → between_over inner b e ts ≡ Read (BetweenTest b e low high) rest
+  range_of : (b : Bool) (e low high : Sum) (ts rest : List Token) → length ts ≤ suc n
+      → (expr low ⨟ key (codes "AND") ⨟ expr high) ts rest → EndsExpr rest
+      → between_over inner b e ts ≡ Read (BetweenTest b e low high) rest
   unfolding between_over
   range_of b e low high ts rest fuel s ends =
       let first = s.1.1 in
@@ -230,23 +283,29 @@ module _ (n : ℕ) (inner : Parser Sum) (reads : ReadsWithin n EndsExpr expr inn
         sum_of n inner reads s.0 high rest shorter s.2 ends,
       ) refl
 
-  next_expr_of : (ts : List Token) (e : Sum) (rest : List Token) → length ts ≤ suc n → behind_comma expr e ts rest → EndsExpr rest → next (sum_over inner) ts ≡ Read (Some e) rest
+  next_expr_of : (ts : List Token) (e : Sum) (rest : List Token) → length ts ≤ suc n → behind_comma expr e ts rest
+      → EndsExpr rest → next (sum_over inner) ts ≡ Read (Some e) rest
   next_expr_of ts e rest fuel s ends =
       let h : length s.0 ≤ suc n = omega (arith, ap length s.1) in
       behind_some (Sign Comma) (sum_over inner) ts s.0 e rest s.1 (sum_of n inner reads s.0 e rest h s.2 ends)
 
-  more_exprs_of : (es : List Sum) (ts mid rest : List Token) → length ts ≤ suc n → each (behind_comma expr) es ts mid → mid ≡ Sign Close ∷ rest → more (next (sum_over inner)) [] ts ≡ Read es mid
+  more_exprs_of : (es : List Sum) (ts mid rest : List Token) → length ts ≤ suc n → each (behind_comma expr) es ts mid
+      → mid ≡ Sign Close ∷ rest → more (next (sum_over inner)) [] ts ≡ Read es mid
   more_exprs_of es ts mid rest fuel s close =
       more_within (suc n) (behind_comma expr) (next (sum_over inner)) EndsExpr next_expr_of
-      (λ us e vs w. ends_before (Sign Comma) us w.0 refl w.1) comma_shortens ts es mid fuel s (ends_before (Sign Close) mid rest refl close)
+      (λ us e vs w. ends_before (Sign Comma) us w.0 refl w.1) comma_shortens ts es mid fuel s
+      (ends_before (Sign Close) mid rest refl close)
       (behind_none (Sign Comma) (sum_over inner) mid (rw close refl))
 
   -- what stands behind an expression of a list
-  behind_list : (es : List Sum) (ts rest : List Token) → each (behind_comma expr) es ts rest → EndsExpr rest → EndsExpr ts
-  behind_list = commas_front expr (sum_over inner) EndsExpr (λ us. ends_before (Sign Comma) (Sign Comma ∷ us) us refl refl)
+  behind_list : (es : List Sum) (ts rest : List Token) → each (behind_comma expr) es ts rest → EndsExpr rest
+      → EndsExpr ts
+  behind_list = commas_front expr (sum_over inner) EndsExpr
+      (λ us. ends_before (Sign Comma) (Sign Comma ∷ us) us refl refl)
 
   -- ( expr {, expr} ), behind [NOT] IN
-  list_of : (b : Bool) (e x : Sum) (xs : List Sum) (ts rest : List Token) → length ts ≤ suc n → in_parens (commas expr x xs) ts rest → in_over inner b e ts ≡ Read (InTest b e x xs) rest
+  list_of : (b : Bool) (e x : Sum) (xs : List Sum) (ts rest : List Token) → length ts ≤ suc n
+      → in_parens (commas expr x xs) ts rest → in_over inner b e ts ≡ Read (InTest b e x xs) rest
   unfolding in_over
   list_of b e x xs ts rest fuel s =
       let list = s.1.2 in
@@ -255,31 +314,40 @@ module _ (n : ℕ) (inner : Parser Sum) (reads : ReadsWithin n EndsExpr expr inn
       let others : length list.0 ≤ suc n = omega (arith, ap length s.1.1) in
       rw (
         expect_of (Sign Open) ts s.1.0 s.1.1,
-        sum_of n inner reads s.1.0 x list.0 first list.1 (behind_list xs list.0 s.0 list.2 (ends_before (Sign Close) s.0 rest refl s.2)),
+        sum_of n inner reads s.1.0 x list.0 first list.1
+            (behind_list xs list.0 s.0 list.2 (ends_before (Sign Close) s.0 rest refl s.2)),
         more_exprs_of xs list.0 s.0 rest others list.2 s.2,
         expect_of (Sign Close) s.0 rest s.2,
       ) refl
 
-  denied_between_of : (e : Sum) (t : Test) (ts mid rest : List Token) → ts ≡ Word (codes "BETWEEN") ∷ mid → between_over inner true e mid ≡ Read t rest → denied_over inner e ts ≡ Read t rest
+  denied_between_of : (e : Sum) (t : Test) (ts mid rest : List Token) → ts ≡ Word (codes "BETWEEN") ∷ mid
+      → between_over inner true e mid ≡ Read t rest → denied_over inner e ts ≡ Read t rest
   unfolding denied_over
   denied_between_of e t ts mid rest is r = rw (is, r) refl
 
-  denied_in_of : (e : Sum) (t : Test) (ts mid rest : List Token) → ts ≡ Word (codes "IN") ∷ mid → in_over inner true e mid ≡ Read t rest → denied_over inner e ts ≡ Read t rest
+  denied_in_of : (e : Sum) (t : Test) (ts mid rest : List Token) → ts ≡ Word (codes "IN") ∷ mid
+      → in_over inner true e mid ≡ Read t rest → denied_over inner e ts ≡ Read t rest
   unfolding denied_over
   denied_in_of e t ts mid rest is r = rw (is, expect_of (Word (codes "IN")) (Word (codes "IN") ∷ mid) mid refl, r) refl
 
   -- [NOT] BETWEEN, and then the rest of the test
-  between_behind : (b : Bool) (e : Sum) (t : Test) (ts a mid rest : List Token) → negation b ts a → a ≡ Word (codes "BETWEEN") ∷ mid → between_over inner b e mid ≡ Read t rest → test_behind inner e ts ≡ Read (WholeTest t) rest
+  between_behind : (b : Bool) (e : Sum) (t : Test) (ts a mid rest : List Token) → negation b ts a
+      → a ≡ Word (codes "BETWEEN") ∷ mid → between_over inner b e mid ≡ Read t rest
+      → test_behind inner e ts ≡ Read (WholeTest t) rest
   between_behind true e t ts a mid rest not is r = not_of e t ts a rest not (denied_between_of e t a mid rest is r)
   between_behind false e t ts a mid rest not is r = between_of e t ts mid rest (not ∙ is) r
 
   -- [NOT] IN, and then the rest of the test
-  in_behind : (b : Bool) (e : Sum) (t : Test) (ts a mid rest : List Token) → negation b ts a → a ≡ Word (codes "IN") ∷ mid → in_over inner b e mid ≡ Read t rest → test_behind inner e ts ≡ Read (WholeTest t) rest
+  in_behind : (b : Bool) (e : Sum) (t : Test) (ts a mid rest : List Token) → negation b ts a
+      → a ≡ Word (codes "IN") ∷ mid → in_over inner b e mid ≡ Read t rest
+      → test_behind inner e ts ≡ Read (WholeTest t) rest
   in_behind true e t ts a mid rest not is r = not_of e t ts a rest not (denied_in_of e t a mid rest is r)
   in_behind false e t ts a mid rest not is r = in_of e t ts mid rest (not ∙ is) r
 
   -- one column reference, and then a word that relates operands
-  word_behind_column : (r : Named) (t : Test) (ts rest : List Token) → Begins relates ts → related_over inner (ByName r) ts ≡ Read (Some t) rest → word_test_over inner (Terms (Factors (Unsigned (ColumnNamed r)) NoFactor) NoTerm) ts ≡ Read (WholeTest t) rest
+  word_behind_column : (r : Named) (t : Test) (ts rest : List Token) → Begins relates ts
+      → related_over inner (ByName r) ts ≡ Read (Some t) rest
+      → word_test_over inner (Terms (Factors (Unsigned (ColumnNamed r)) NoFactor) NoTerm) ts ≡ Read (WholeTest t) rest
   unfolding word_test_over
   word_behind_column r t ts rest b e =
       rw (
@@ -290,17 +358,21 @@ module _ (n : ℕ) (inner : Parser Sum) (reads : ReadsWithin n EndsExpr expr inn
         e,
       ) refl
 
-  column_behind : (r : Named) (t : Test) (ts rest : List Token) → Begins relates ts → related_over inner (ByName r) ts ≡ Read (Some t) rest → test_behind inner (Terms (Factors (Unsigned (ColumnNamed r)) NoFactor) NoTerm) ts ≡ Read (WholeTest t) rest
+  column_behind : (r : Named) (t : Test) (ts rest : List Token) → Begins relates ts
+      → related_over inner (ByName r) ts ≡ Read (Some t) rest
+      → test_behind inner (Terms (Factors (Unsigned (ColumnNamed r)) NoFactor) NoTerm) ts ≡ Read (WholeTest t) rest
   unfolding test_behind
   column_behind r t ts rest b e = rw (no_comparison ts b, word_behind_column r t ts rest b e) refl
 
   -- nothing goes on before `)`
-  unrelated : (e : Sum) (r : Option Named) (ts rest : List Token) → ts ≡ Sign Close ∷ rest → period_test_over inner e r ts ≡ Read (BareExpr e) ts
+  unrelated : (e : Sum) (r : Option Named) (ts rest : List Token) → ts ≡ Sign Close ∷ rest
+      → period_test_over inner e r ts ≡ Read (BareExpr e) ts
   unfolding related_over relation_at
   unrelated e None ts rest close = refl
   unrelated e (Some r) ts rest close = rw close refl
 
-  bare_behind : (e : Sum) (ts rest : List Token) → ts ≡ Sign Close ∷ rest → test_behind inner e ts ≡ Read (BareExpr e) ts
+  bare_behind : (e : Sum) (ts rest : List Token) → ts ≡ Sign Close ∷ rest
+      → test_behind inner e ts ≡ Read (BareExpr e) ts
   unfolding test_behind comparison_at word_test_over
   bare_behind e ts rest close = rw close (unrelated e (as_named e) (Sign Close ∷ rest) rest refl)
 
@@ -310,12 +382,15 @@ module _ (n : ℕ) (inner : Parser Sum) (reads : ReadsWithin n EndsExpr expr inn
     unfolding tested_over
     opened_is ts a is = rw is refl
 
-    opened_of : (m : Mixed) (a b c : List Token) → length a ≤ n → mixed_phrase m a b → b ≡ Sign Close ∷ c → opened_over inner mixed a ≡ closed_over inner mixed m c
+    opened_of : (m : Mixed) (a b c : List Token) → length a ≤ n → mixed_phrase m a b → b ≡ Sign Close ∷ c
+        → opened_over inner mixed a ≡ closed_over inner mixed m c
     unfolding opened_over
     opened_of m a b c fuel s close = rw (reads_mixed a m b fuel s (c, close), expect_of (Sign Close) b c close) refl
 
     -- an expression that begins with one in parentheses
-    enclosed_of : (e : Sum) (fs : MoreFactors) (ms : MoreTerms) (ts mid : List Token) → length ts ≤ suc n → expr (Terms (Factors (Unsigned (Enclosed e)) fs) ms) ts mid → EndsExpr mid → tested_over inner mixed ts ≡ test_behind inner (Terms (Factors (Unsigned (Enclosed e)) fs) ms) mid
+    enclosed_of : (e : Sum) (fs : MoreFactors) (ms : MoreTerms) (ts mid : List Token) → length ts ≤ suc n
+        → expr (Terms (Factors (Unsigned (Enclosed e)) fs) ms) ts mid → EndsExpr mid
+        → tested_over inner mixed ts ≡ test_behind inner (Terms (Factors (Unsigned (Enclosed e)) fs) ms) mid
     enclosed_of e fs ms ts mid fuel s ends =
         let term = s.1 in
         let parens = term.1 in
@@ -327,7 +402,8 @@ module _ (n : ℕ) (inner : Parser Sum) (reads : ReadsWithin n EndsExpr expr inn
         opened_is ts a parens.1.1 ∙ opened_of (WholeExpr e) a parens.0 term.0 inside parens.1.2 parens.2 ∙ rw first refl
 
     -- any other expression
-    unopened_of : (e : Sum) (ts mid : List Token) → length ts ≤ suc n → expr e ts mid → EndsExpr mid → opens e ≡ false → tested_over inner mixed ts ≡ test_behind inner e mid
+    unopened_of : (e : Sum) (ts mid : List Token) → length ts ≤ suc n → expr e ts mid → EndsExpr mid
+        → opens e ≡ false → tested_over inner mixed ts ≡ test_behind inner e mid
     unfolding tested_over
     unopened_of e ts mid fuel s ends is =
         rw (
@@ -337,21 +413,29 @@ module _ (n : ℕ) (inner : Parser Sum) (reads : ReadsWithin n EndsExpr expr inn
         ) refl
 
     -- behind an expression a test goes on
-    tested_expr_of : (e : Sum) (ts mid : List Token) → length ts ≤ suc n → expr e ts mid → EndsExpr mid → tested_over inner mixed ts ≡ test_behind inner e mid
-    tested_expr_of (Terms (Factors (Unsigned (Enclosed e)) fs) ms) ts mid fuel s ends = enclosed_of e fs ms ts mid fuel s ends
+    tested_expr_of : (e : Sum) (ts mid : List Token) → length ts ≤ suc n → expr e ts mid → EndsExpr mid
+        → tested_over inner mixed ts ≡ test_behind inner e mid
+    tested_expr_of (Terms (Factors (Unsigned (Enclosed e)) fs) ms) ts mid fuel s ends =
+        enclosed_of e fs ms ts mid fuel s ends
     tested_expr_of e ts mid fuel s ends = unopened_of e ts mid fuel s ends refl
 
-    marked_test_of : (m : Marked) (t : Test) (ts mid rest : List Token) → length ts ≤ suc n → marked m ts mid → related_over inner (ByMark m) mid ≡ Read (Some t) rest → tested_over inner mixed ts ≡ Read (WholeTest t) rest
+    marked_test_of : (m : Marked) (t : Test) (ts mid rest : List Token) → length ts ≤ suc n → marked m ts mid
+        → related_over inner (ByMark m) mid ≡ Read (Some t) rest → tested_over inner mixed ts ≡ Read (WholeTest t) rest
     unfolding tested_over marked_test_over
     marked_test_of m t ts mid rest fuel s e = rw (marked_begins m ts mid s, marked_of ts m mid fuel s, e) refl
 
-    related_test_of : (x : Operand) (t : Test) (ts mid rest : List Token) → length ts ≤ suc n → operand x ts mid → Begins relates mid → related_over inner x mid ≡ Read (Some t) rest → tested_over inner mixed ts ≡ Read (WholeTest t) rest
+    related_test_of : (x : Operand) (t : Test) (ts mid rest : List Token) → length ts ≤ suc n → operand x ts mid
+        → Begins relates mid → related_over inner x mid ≡ Read (Some t) rest
+        → tested_over inner mixed ts ≡ Read (WholeTest t) rest
     related_test_of (ByMark m) t ts mid rest fuel s b e = marked_test_of m t ts mid rest fuel s e
     related_test_of (ByName r) t ts mid rest fuel s b e =
-        tested_expr_of (Terms (Factors (Unsigned (ColumnNamed r)) NoFactor) NoTerm) ts mid fuel (mid, (mid, s, refl), refl) (relates_ends mid b)
+        tested_expr_of (Terms (Factors (Unsigned (ColumnNamed r)) NoFactor) NoTerm) ts mid fuel
+        (mid, (mid, s, refl), refl) (relates_ends mid b)
         ∙ column_behind r t mid rest b e
 
-    between_test_of : (b : Bool) (e low high : Sum) (ts rest : List Token) → length ts ≤ suc n → test (BetweenTest b e low high) ts rest → EndsExpr rest → tested_over inner mixed ts ≡ Read (WholeTest (BetweenTest b e low high)) rest
+    between_test_of : (b : Bool) (e low high : Sum) (ts rest : List Token) → length ts ≤ suc n
+        → test (BetweenTest b e low high) ts rest → EndsExpr rest
+        → tested_over inner mixed ts ≡ Read (WholeTest (BetweenTest b e low high)) rest
     between_test_of b e low high ts rest fuel s ends =
         let first = s.1.1 in
         let not = first.1.1 in
@@ -359,10 +443,12 @@ module _ (n : ℕ) (inner : Parser Sum) (reads : ReadsWithin n EndsExpr expr inn
         let k = negation_within b not.0 first.1.0 not.2 in
         let shorter : length first.0 ≤ suc n = omega (arith, ap length first.1.2) in
         let range = range_of b e low high first.0 rest shorter (s.0, (s.1.0, first.2, s.1.2), s.2) ends in
-        tested_expr_of e ts not.0 fuel not.1 (ends_at not.0 (negation_front b (codes "BETWEEN") not.0 first.1.0 first.0 not.2 first.1.2))
+        tested_expr_of e ts not.0 fuel not.1
+        (ends_at not.0 (negation_front b (codes "BETWEEN") not.0 first.1.0 first.0 not.2 first.1.2))
         ∙ between_behind b e (BetweenTest b e low high) not.0 first.1.0 first.0 rest not.2 first.1.2 range
 
-    in_test_of : (b : Bool) (e x : Sum) (xs : List Sum) (ts rest : List Token) → length ts ≤ suc n → test (InTest b e x xs) ts rest → tested_over inner mixed ts ≡ Read (WholeTest (InTest b e x xs)) rest
+    in_test_of : (b : Bool) (e x : Sum) (xs : List Sum) (ts rest : List Token) → length ts ≤ suc n
+        → test (InTest b e x xs) ts rest → tested_over inner mixed ts ≡ Read (WholeTest (InTest b e x xs)) rest
     in_test_of b e x xs ts rest fuel s =
         let not = s.1.1 in
         let h = expr_shortens ts e not.0 not.1 in
@@ -371,7 +457,8 @@ module _ (n : ℕ) (inner : Parser Sum) (reads : ReadsWithin n EndsExpr expr inn
         tested_expr_of e ts not.0 fuel not.1 (ends_at not.0 (negation_front b (codes "IN") not.0 s.1.0 s.0 not.2 s.1.2))
         ∙ in_behind b e (InTest b e x xs) not.0 s.1.0 s.0 rest not.2 s.1.2 (list_of b e x xs s.0 rest shorter s.2)
 
-    whole_test_of : (ts : List Token) (t : Test) (rest : List Token) → length ts ≤ suc n → test t ts rest → EndsExpr rest → tested_over inner mixed ts ≡ Read (WholeTest t) rest
+    whole_test_of : (ts : List Token) (t : Test) (rest : List Token) → length ts ≤ suc n → test t ts rest
+        → EndsExpr rest → tested_over inner mixed ts ≡ Read (WholeTest t) rest
     whole_test_of ts (Grouped c) rest fuel s ends =
         let inside : length s.1.0 ≤ n = omega (arith, ap length s.1.1) in
         opened_is ts s.1.0 s.1.1 ∙ opened_of (WholeCondition c) s.1.0 s.0 rest inside s.1.2 s.2
@@ -393,12 +480,14 @@ module _ (n : ℕ) (inner : Parser Sum) (reads : ReadsWithin n EndsExpr expr inn
     whole_test_of ts (ContainsPeriod x m) rest fuel s ends =
         let h = operand_shortens ts x s.1.0 s.1.1 in
         let shorter : length s.0 ≤ suc n = omega (arith, ap length s.1.2) in
-        related_test_of x (ContainsPeriod x m) ts s.1.0 rest fuel s.1.1 (at_token relates (Word (codes "CONTAINS")) s.1.0 s.0 refl s.1.2)
+        related_test_of x (ContainsPeriod x m) ts s.1.0 rest fuel s.1.1
+        (at_token relates (Word (codes "CONTAINS")) s.1.0 s.0 refl s.1.2)
         (contains_of x (ContainsPeriod x m) s.1.0 s.0 rest s.1.2 (period_of x m s.0 rest shorter s.2))
     whole_test_of ts (ContainsPoint x e) rest fuel s ends =
         let h = operand_shortens ts x s.1.0 s.1.1 in
         let shorter : length s.0 ≤ suc n = omega (arith, ap length s.1.2) in
-        related_test_of x (ContainsPoint x e) ts s.1.0 rest fuel s.1.1 (at_token relates (Word (codes "CONTAINS")) s.1.0 s.0 refl s.1.2)
+        related_test_of x (ContainsPoint x e) ts s.1.0 rest fuel s.1.1
+        (at_token relates (Word (codes "CONTAINS")) s.1.0 s.0 refl s.1.2)
         (contains_of x (ContainsPoint x e) s.1.0 s.0 rest s.1.2 (point_of x e s.0 rest shorter s.2 ends))
 
     test_of : ReadsWithin (suc n) EndsExpr test (test_over inner mixed)
@@ -407,12 +496,14 @@ module _ (n : ℕ) (inner : Parser Sum) (reads : ReadsWithin n EndsExpr expr inn
 
     factor_of : ReadsWithin (suc n) EndsExpr factor (factor_over inner mixed)
     unfolding factor_over
-    factor_of ts (Straight t) rest fuel s ends = rw (eat_not (Word (codes "NOT")) ts (stops_test t ts rest s), test_of ts t rest fuel s ends) refl
+    factor_of ts (Straight t) rest fuel s ends =
+        rw (eat_not (Word (codes "NOT")) ts (stops_test t ts rest s), test_of ts t rest fuel s ends) refl
     factor_of ts (Negated t) rest fuel s ends =
         let h : length s.0 ≤ suc n = omega (arith, ap length s.1) in
         rw (s.1, test_of s.0 t rest h s.2 ends) refl
 
-    next_test_of : (ts : List Token) (f : Factor) (rest : List Token) → length ts ≤ suc n → (key (codes "AND") ⨟ factor f) ts rest → EndsExpr rest → next_test inner mixed ts ≡ Read (Some f) rest
+    next_test_of : (ts : List Token) (f : Factor) (rest : List Token) → length ts ≤ suc n
+        → (key (codes "AND") ⨟ factor f) ts rest → EndsExpr rest → next_test inner mixed ts ≡ Read (Some f) rest
     unfolding next_test
     next_test_of ts f rest fuel s ends =
         let h : length s.0 ≤ suc n = omega (arith, ap length s.1) in
@@ -422,12 +513,15 @@ module _ (n : ℕ) (inner : Parser Sum) (reads : ReadsWithin n EndsExpr expr inn
     unfolding next_test
     no_test ts stops = behind_none (Word (codes "AND")) (factor_over inner mixed) ts stops
 
-    more_tests_of : (ts : List Token) (m : MoreTests) (rest : List Token) → length ts ≤ suc n → more_tests m ts rest → EndsConj rest → more (next_test inner mixed) [] ts ≡ Read (test_list m) rest
+    more_tests_of : (ts : List Token) (m : MoreTests) (rest : List Token) → length ts ≤ suc n → more_tests m ts rest
+        → EndsConj rest → more (next_test inner mixed) [] ts ≡ Read (test_list m) rest
     more_tests_of ts m rest fuel s ends =
         more_within (suc n) (λ f. key (codes "AND") ⨟ factor f) (next_test inner mixed) EndsExpr next_test_of
-        (λ us f vs w. ends_before (Word (codes "AND")) us w.0 refl w.1) and_shortens ts (test_list m) rest fuel (tests_each m ts rest s) ends.expr (no_test rest ends.also)
+        (λ us f vs w. ends_before (Word (codes "AND")) us w.0 refl w.1) and_shortens ts (test_list m) rest fuel
+        (tests_each m ts rest s) ends.expr (no_test rest ends.also)
 
-    conj_behind_of : (f : Factor) (ts : List Token) (m : MoreTests) (rest : List Token) → length ts ≤ suc n → more_tests m ts rest → EndsConj rest → conj_behind inner mixed f ts ≡ Read (AllOf f m) rest
+    conj_behind_of : (f : Factor) (ts : List Token) (m : MoreTests) (rest : List Token) → length ts ≤ suc n
+        → more_tests m ts rest → EndsConj rest → conj_behind inner mixed f ts ≡ Read (AllOf f m) rest
     unfolding conj_behind
     conj_behind_of f ts m rest fuel s ends =
         rw (more_tests_of ts m rest fuel s ends) (ap (λ (l : MoreTests). Read (AllOf f l) rest) (tests_back m))
@@ -436,9 +530,11 @@ module _ (n : ℕ) (inner : Parser Sum) (reads : ReadsWithin n EndsExpr expr inn
     unfolding conj_over
     conj_of ts (AllOf f m) rest fuel s ends =
         let h = factor_shortens ts f s.0 s.1 in
-        rw (factor_of ts f s.0 fuel s.1 (tests_front m s.0 rest s.2 ends.expr)) (conj_behind_of f s.0 m rest (omega arith) s.2 ends)
+        rw (factor_of ts f s.0 fuel s.1 (tests_front m s.0 rest s.2 ends.expr))
+        (conj_behind_of f s.0 m rest (omega arith) s.2 ends)
 
-    next_conj_of : (ts : List Token) (c : Conj) (rest : List Token) → length ts ≤ suc n → (key (codes "OR") ⨟ conj c) ts rest → EndsConj rest → next_conj inner mixed ts ≡ Read (Some c) rest
+    next_conj_of : (ts : List Token) (c : Conj) (rest : List Token) → length ts ≤ suc n
+        → (key (codes "OR") ⨟ conj c) ts rest → EndsConj rest → next_conj inner mixed ts ≡ Read (Some c) rest
     unfolding next_conj
     next_conj_of ts c rest fuel s ends =
         let h : length s.0 ≤ suc n = omega (arith, ap length s.1) in
@@ -448,17 +544,25 @@ module _ (n : ℕ) (inner : Parser Sum) (reads : ReadsWithin n EndsExpr expr inn
     unfolding next_conj
     no_conj ts stops = behind_none (Word (codes "OR")) (conj_over inner mixed) ts stops
 
-    more_conjs_of : (ts : List Token) (m : MoreConjs) (rest : List Token) → length ts ≤ suc n → more_conjs m ts rest → EndsCondition rest → more (next_conj inner mixed) [] ts ≡ Read (conj_list m) rest
+    more_conjs_of : (ts : List Token) (m : MoreConjs) (rest : List Token) → length ts ≤ suc n → more_conjs m ts rest
+        → EndsCondition rest → more (next_conj inner mixed) [] ts ≡ Read (conj_list m) rest
     more_conjs_of ts m rest fuel s ends =
         more_within (suc n) (λ c. key (codes "OR") ⨟ conj c) (next_conj inner mixed) EndsConj next_conj_of
-        (λ us c vs w. or_front us w.0 w.1) or_shortens ts (conj_list m) rest fuel (conjs_each m ts rest s) (ends_conj rest ends) (no_conj rest ends.or)
+        (λ us c vs w. or_front us w.0 w.1) or_shortens ts (conj_list m) rest fuel (conjs_each m ts rest s)
+        (ends_conj rest ends) (no_conj rest ends.or)
 
     -- the condition that begins with this factor
-    condition_behind_of : (f : Factor) (ts : List Token) (m : MoreTests) (mid : List Token) (k : MoreConjs) (rest : List Token) → length ts ≤ suc n → more_tests m ts mid → more_conjs k mid rest → EndsCondition rest → condition_behind inner mixed f ts ≡ Read (AnyOf (AllOf f m) k) rest
+    condition_behind_of : (f : Factor) (ts : List Token) (m : MoreTests) (mid : List Token) (k : MoreConjs)
+        (rest : List Token) → length ts ≤ suc n → more_tests m ts mid → more_conjs k mid rest → EndsCondition rest
+        → condition_behind inner mixed f ts ≡ Read (AnyOf (AllOf f m) k) rest
     unfolding condition_behind
     condition_behind_of f ts m mid k rest fuel s t ends =
         let h = more_tests_within ts m mid s in
-        rw (conj_behind_of f ts m mid fuel s (conjs_front k mid rest t (ends_conj rest ends)), more_conjs_of mid k rest (omega arith) t ends)
+        rw (
+          conj_behind_of f ts m mid fuel s (conjs_front k mid rest t (ends_conj rest ends)),
+          more_conjs_of mid k
+              rest (omega arith) t ends,
+        )
         (ap (λ (l : MoreConjs). Read (AnyOf (AllOf f m) l) rest) (conjs_back k))
 
     condition_of : ReadsWithin (suc n) EndsCondition condition (condition_over inner mixed)
@@ -470,7 +574,8 @@ module _ (n : ℕ) (inner : Parser Sum) (reads : ReadsWithin n EndsExpr expr inn
         rw (factor_of ts f first.0 fuel first.1 (tests_front m first.0 s.0 first.2 behind.expr))
         (condition_behind_of f first.0 m s.0 k rest (omega arith) first.2 s.2 ends)
 
-    mixed_condition_of : (ts : List Token) (c : Condition) (rest : List Token) → length ts ≤ suc n → condition c ts rest → EndsCondition rest → mixed_over inner mixed ts ≡ Read (WholeCondition c) rest
+    mixed_condition_of : (ts : List Token) (c : Condition) (rest : List Token) → length ts ≤ suc n
+        → condition c ts rest → EndsCondition rest → mixed_over inner mixed ts ≡ Read (WholeCondition c) rest
     unfolding mixed_over
     mixed_condition_of ts (AnyOf (AllOf (Straight t) m) k) rest fuel s ends =
         let first = s.1 in
@@ -493,10 +598,12 @@ module _ (n : ℕ) (inner : Parser Sum) (reads : ReadsWithin n EndsExpr expr inn
           condition_behind_of (Negated t) first.0 m s.0 k rest (omega arith) first.2 s.2 ends,
         ) refl
 
-    mixed_expr_of : (ts : List Token) (e : Sum) (rest : List Token) → length ts ≤ suc n → expr e ts rest → AtClose rest → mixed_over inner mixed ts ≡ Read (WholeExpr e) rest
+    mixed_expr_of : (ts : List Token) (e : Sum) (rest : List Token) → length ts ≤ suc n → expr e ts rest
+        → AtClose rest → mixed_over inner mixed ts ≡ Read (WholeExpr e) rest
     unfolding mixed_over
     mixed_expr_of ts e rest fuel s close =
-        let behind = tested_expr_of e ts rest fuel s (ends_before (Sign Close) rest close.0 refl close.1) ∙ bare_behind e rest close.0 close.1 in
+        let behind = tested_expr_of e ts rest fuel s (ends_before (Sign Close) rest close.0 refl close.1)
+        ∙ bare_behind e rest close.0 close.1 in
         rw (eat_not (Word (codes "NOT")) ts (stops_expr e ts rest s), behind) refl
 
     mixed_of : ReadsWithin (suc n) AtClose mixed_phrase (mixed_over inner mixed)
@@ -510,12 +617,14 @@ mixed_shortens ts (WholeExpr e) rest s = expr_shortens ts e rest s
 mixed_at_of : (n : ℕ) → ReadsWithin n AtClose mixed_phrase (mixed_at n)
 unfolding mixed_at
 mixed_at_of zero ts m rest fuel s close = let h = mixed_shortens ts m rest s in absurd (omega arith)
-mixed_at_of (suc n) ts m rest fuel s close = mixed_of n (expr_at n) (expr_at_of n) (mixed_at n) (mixed_at_of n) ts m rest fuel s close
+mixed_at_of (suc n) ts m rest fuel s close =
+    mixed_of n (expr_at n) (expr_at_of n) (mixed_at n) (mixed_at_of n) ts m rest fuel s close
 
 condition_at_of : (n : ℕ) → ReadsWithin n EndsCondition condition (condition_at n)
 unfolding condition_at
 condition_at_of zero ts c rest fuel s ends = let h = condition_shortens ts c rest s in absurd (omega arith)
-condition_at_of (suc n) ts c rest fuel s ends = condition_of n (expr_at n) (expr_at_of n) (mixed_at n) (mixed_at_of n) ts c rest fuel s ends
+condition_at_of (suc n) ts c rest fuel s ends =
+    condition_of n (expr_at n) (expr_at_of n) (mixed_at n) (mixed_at_of n) ts c rest fuel s ends
 
 pub condition_complete : CompleteBefore EndsCondition condition condition_here
 condition_complete ts c rest s ends = condition_at_of (length ts) ts c rest (omega arith) s ends

@@ -1,16 +1,34 @@
 -- Conditions: what is read is spelled.
-use Rattle.std.specs.Prelude.{◌≡◌, refl, ℕ, zero, suc, Bool, true, false, List, [], ◌∷◌, codes, length, Option, Some, None}
+use Rattle.std.specs.Prelude.{◌≡◌, refl, ℕ, zero, suc, Bool, true, false, List, [], ◌∷◌, codes, length, Option, Some}
+use Rattle.std.specs.Prelude.{None}
 use Rattle.std.proofs.Common.{sym, ◌∙◌, ap, subst, inl, inr}
 use Rattle.tql_spec.specs.Datum.{Comparison, Equals, Differs, Below, AtMost, Above, AtLeast}
-use Rattle.tql_spec.specs.Period.{Relation, Overlaps, SameAs, Precedes, Succeeds, ImmediatelyPrecedes, ImmediatelySucceeds}
-use Rattle.tql_spec.specs.Token.{Token, Word, Sign, Open, Close, Comma, Dot, EqualSign, UnequalSign, LessSign, AtMostSign, MoreSign, AtLeastSign}
-use Rattle.tql_spec.specs.Syntax.{Named, Sum, NoTerm, Terms, NoFactor, Factors, Unsigned, ColumnNamed, Enclosed, Marked, FromEnds, SystemTime, Operand, ByMark, ByName, Condition, AnyOf, Conj, AllOf, Factor, Straight, Negated, Test, Grouped, Compared, NullTest, BetweenTest, InTest, RelationTest, ContainsPeriod, ContainsPoint}
-use Rattle.tql_spec.specs.Grammar.{Phrase, key, sign, ◌⨟◌, optional, each, named, expr, comparison, relation, marked, operand, negation, condition, more_conjs, conj, more_tests, factor, test}
+use Rattle.tql_spec.specs.Period.{Relation, Overlaps, SameAs, Precedes, Succeeds, ImmediatelyPrecedes}
+use Rattle.tql_spec.specs.Period.{ImmediatelySucceeds}
+use Rattle.tql_spec.specs.Token.{Token, Word, Sign, Open, Close, Comma, Dot, EqualSign, UnequalSign, LessSign}
+use Rattle.tql_spec.specs.Token.{AtMostSign, MoreSign, AtLeastSign}
+use Rattle.tql_spec.specs.Syntax.{Named, Sum, NoTerm, Terms, NoFactor, Factors, Unsigned, ColumnNamed, Enclosed}
+use Rattle.tql_spec.specs.Syntax.{Marked, FromEnds, SystemTime, Operand, ByMark, ByName, Condition, AnyOf, Conj}
+use Rattle.tql_spec.specs.Syntax.{AllOf, Factor, Straight, Negated, Test, Grouped, Compared, NullTest, BetweenTest}
+use Rattle.tql_spec.specs.Syntax.{InTest, RelationTest, ContainsPeriod, ContainsPoint}
+use Rattle.tql_spec.specs.Grammar.{Phrase, key, sign, ◌⨟◌, optional, each, named, expr, comparison, relation, marked}
+use Rattle.tql_spec.specs.Grammar.{operand, negation, condition, more_conjs, conj, more_tests, factor, test}
 use Rattle.tql_grammar.specs.Outcome.{Read, Parser, ◌>>=◌, into, eat, expect, keyword, name_at, more, next}
 use Rattle.tql_spec.specs.Parts.{tests_of, conjs_of}
-use Rattle.tql_grammar.specs.ReadingExpressions.{named_at, sum_over, sum_from, expr_at, comparison_at, immediate_at, relation_at, begins_marked, as_named, Tested, WholeTest, BareExpr, Mixed, WholeCondition, WholeExpr, the_test, wanted_test, test_or, ends_over, qualified_system_at, marked_over, operand_over, contained_over, related_by, related_over, null_test_at, between_over, in_over, denied_over, period_test_over, word_test_over, compared_by, test_behind, marked_test_over, closed_over, opened_over, unmarked_over, tested_over, test_over, factor_over, next_test, conj_behind, conj_over, next_conj, condition_behind, condition_over, mixed_behind, mixed_over, mixed_at, condition_at, condition_here}
-use Rattle.tql_grammar.proofs.Steps.{then_is, into_sound, choose, spelled_as, Sound, eat_true, eat_false, expect_is, expect_then, name_is, behind_is, more_is, more_next_is}
-use Rattle.tql_grammar.proofs.ExpressionLaws.{made_is, front_or, found_or, found_sound, named_sound, sum_sound, sum_from_sound, expr_at_sound}
+use Rattle.tql_grammar.specs.ReadingExpressions.{named_at, sum_over, sum_from, expr_at, comparison_at, immediate_at}
+use Rattle.tql_grammar.specs.ReadingExpressions.{relation_at, begins_marked, as_named, Tested, WholeTest, BareExpr}
+use Rattle.tql_grammar.specs.ReadingExpressions.{Mixed, WholeCondition, WholeExpr, the_test, wanted_test, test_or}
+use Rattle.tql_grammar.specs.ReadingExpressions.{ends_over, qualified_system_at, marked_over, operand_over}
+use Rattle.tql_grammar.specs.ReadingExpressions.{contained_over, related_by, related_over, null_test_at, between_over}
+use Rattle.tql_grammar.specs.ReadingExpressions.{in_over, denied_over, period_test_over, word_test_over, compared_by}
+use Rattle.tql_grammar.specs.ReadingExpressions.{test_behind, marked_test_over, closed_over, opened_over}
+use Rattle.tql_grammar.specs.ReadingExpressions.{unmarked_over, tested_over, test_over, factor_over, next_test}
+use Rattle.tql_grammar.specs.ReadingExpressions.{conj_behind, conj_over, next_conj, condition_behind, condition_over}
+use Rattle.tql_grammar.specs.ReadingExpressions.{mixed_behind, mixed_over, mixed_at, condition_at, condition_here}
+use Rattle.tql_grammar.proofs.Steps.{then_is, into_sound, choose, spelled_as, Sound, eat_true, eat_false, expect_is}
+use Rattle.tql_grammar.proofs.Steps.{expect_then, name_is, behind_is, more_is, more_next_is}
+use Rattle.tql_grammar.proofs.ExpressionLaws.{made_is, front_or, found_or, found_sound, named_sound, sum_sound}
+use Rattle.tql_grammar.proofs.ExpressionLaws.{sum_from_sound, expr_at_sound}
 
 -- ---- words
 
@@ -26,11 +44,17 @@ comparison_sound =
     (found_sound (optional comparison) None (λ ts. refl)))))))
 
 -- PRECEDES or SUCCEEDS, behind IMMEDIATELY
-immediate_sound : (before ts : List Token) → before ≡ Word (codes "IMMEDIATELY") ∷ ts → (r : Relation) (rest : List Token) → immediate_at ts ≡ Read r rest → relation r before rest
+immediate_sound : (before ts : List Token) → before ≡ Word (codes "IMMEDIATELY") ∷ ts
+    → (r : Relation) (rest : List Token) → immediate_at ts ≡ Read r rest → relation r before rest
 unfolding immediate_at
 immediate_sound before ts is r rest e =
     front_or (λ q us vs. us ≡ ts → relation q before vs) (Word (codes "PRECEDES")) _ _
-    (λ us mid precedes q vs o same. spelled_as relation before ImmediatelyPrecedes q mid vs o (ts, is, sym same ∙ precedes))
+    (λ us mid precedes q vs o same. spelled_as relation before ImmediatelyPrecedes q mid vs o (
+      ts,
+      is,
+      sym same
+          ∙ precedes,
+    ))
     (λ us q vs o same.
     made_is relation (λ _. ImmediatelySucceeds) (keyword (codes "SUCCEEDS") us) before q vs
     (λ u w. (ts, is, sym same ∙ expect_is (Word (codes "SUCCEEDS")) us vs u w)) o)
@@ -44,15 +68,18 @@ relation_sound =
     (found_or (optional relation) (Word (codes "PRECEDES")) (Some Precedes) _ (λ ts rest e. e)
     (found_or (optional relation) (Word (codes "SUCCEEDS")) (Some Succeeds) _ (λ ts rest e. e)
     (front_or (optional relation) (Word (codes "IMMEDIATELY")) _ _
-    (λ ts mid is o rest e. made_is (optional relation) Some (immediate_at mid) ts o rest (λ r w. immediate_sound ts mid is r rest w) e)
+    (λ ts mid is o rest e. made_is (optional relation) Some (immediate_at mid) ts o rest
+    (λ r w. immediate_sound ts mid is r rest w) e)
     (found_sound (optional relation) None (λ ts. refl))))))
 
-negation_by : (b : Bool) (ts : List Token) → (eat (Word (codes "NOT")) ts).0 ≡ b → negation b ts (eat (Word (codes "NOT")) ts).1
+negation_by : (b : Bool) (ts : List Token) → (eat (Word (codes "NOT")) ts).0 ≡ b
+    → negation b ts (eat (Word (codes "NOT")) ts).1
 negation_by true ts e = eat_true (Word (codes "NOT")) ts e
 negation_by false ts e = sym (eat_false (Word (codes "NOT")) ts e)
 
 -- an expression that is one column reference is spelled as that
-column_alone : (e : Sum) (r : Named) (before ts : List Token) → as_named e ≡ Some r → expr e before ts → named r before ts
+column_alone : (e : Sum) (r : Named) (before ts : List Token) → as_named e ≡ Some r → expr e before ts
+    → named r before ts
 column_alone (Terms (Factors (Unsigned (ColumnNamed q)) NoFactor) NoTerm) r before ts is s =
     let same : q ≡ r = cc in
     subst (λ (n : Named). named n before ts) same (subst (λ (us : List Token). named q before us) (s.1.2 ∙ s.2) s.1.1)
@@ -77,18 +104,21 @@ related before (Some t) = λ ts rest. test t before rest
 
 -- ---- the parts behind the first
 
-tests_spelled : (fs : List Factor) (ts rest : List Token) → each (λ f. key (codes "AND") ⨟ factor f) fs ts rest → more_tests (tests_of fs) ts rest
+tests_spelled : (fs : List Factor) (ts rest : List Token) → each (λ f. key (codes "AND") ⨟ factor f) fs ts rest
+    → more_tests (tests_of fs) ts rest
 tests_spelled [] ts rest s = s
 tests_spelled (f ∷ fs) ts rest s = (s.0, s.1, tests_spelled fs s.0 rest s.2)
 
-conjs_spelled : (cs : List Conj) (ts rest : List Token) → each (λ c. key (codes "OR") ⨟ conj c) cs ts rest → more_conjs (conjs_of cs) ts rest
+conjs_spelled : (cs : List Conj) (ts rest : List Token) → each (λ c. key (codes "OR") ⨟ conj c) cs ts rest
+    → more_conjs (conjs_of cs) ts rest
 conjs_spelled [] ts rest s = s
 conjs_spelled (c ∷ cs) ts rest s = (s.0, s.1, conjs_spelled cs s.0 rest s.2)
 
 -- ---- the rules over expressions that lie one level deeper
 
 module _ (inner : Parser Sum) (sound : Sound expr inner) where
-  ends_sound : (before ts : List Token) → before ≡ Word (codes "PERIOD") ∷ ts → (m : Marked) (rest : List Token) → ends_over inner ts ≡ Read m rest → marked m before rest
+  ends_sound : (before ts : List Token) → before ≡ Word (codes "PERIOD") ∷ ts → (m : Marked) (rest : List Token)
+      → ends_over inner ts ≡ Read m rest → marked m before rest
   unfolding ends_over
   ends_sound before ts period m rest r =
       let a = expect_then (Sign Open) ts _ m rest r in
@@ -129,7 +159,9 @@ module _ (inner : Parser Sum) (sound : Sound expr inner) where
       ]
 
   -- CONTAINS is read
-  contained_sound : (x : Operand) (before mid ts : List Token) → operand x before mid → mid ≡ Word (codes "CONTAINS") ∷ ts → (t : Test) (rest : List Token) → contained_over inner x ts ≡ Read t rest → test t before rest
+  contained_sound : (x : Operand) (before mid ts : List Token) → operand x before mid
+      → mid ≡ Word (codes "CONTAINS") ∷ ts → (t : Test) (rest : List Token) → contained_over inner x ts ≡ Read t rest
+      → test t before rest
   unfolding contained_over
   contained_sound x before mid ts first contains t rest e =
       elim (choose (begins_marked ts) _ _ t rest e) [
@@ -141,7 +173,9 @@ module _ (inner : Parser Sum) (sound : Sound expr inner) where
             (λ p o. (ts, (mid, first, contains), sum_sound inner sound ts p rest o)) a.1
       ]
 
-  related_by_sound : (x : Operand) (r : Option Relation) (before ts mid : List Token) → operand x before ts → optional relation r ts mid → (o : Option Test) (rest : List Token) → related_by inner x r mid ≡ Read o rest → related before o ts rest
+  related_by_sound : (x : Operand) (r : Option Relation) (before ts mid : List Token) → operand x before ts
+      → optional relation r ts mid → (o : Option Test) (rest : List Token) → related_by inner x r mid ≡ Read o rest
+      → related before o ts rest
   related_by_sound x None before ts mid first s o rest e =
       front_or (λ q us vs. us ≡ ts → related before q ts vs) (Word (codes "CONTAINS")) _ _
       (λ us vs is q ws w same.
@@ -153,28 +187,43 @@ module _ (inner : Parser Sum) (sound : Sound expr inner) where
       made_is (related before) (λ y. Some (RelationTest x r y)) (operand_over inner mid) ts o rest
       (λ y v. (mid, (ts, first, s), operand_sound mid y rest v)) e
 
-  related_sound : (x : Operand) (before ts : List Token) → operand x before ts → (o : Option Test) (rest : List Token) → related_over inner x ts ≡ Read o rest → related before o ts rest
+  related_sound : (x : Operand) (before ts : List Token) → operand x before ts
+      → (o : Option Test) (rest : List Token) → related_over inner x ts ≡ Read o rest → related before o ts rest
   unfolding related_over
   related_sound x before ts first o rest e =
       let a = then_is (relation_at ts) _ o rest e in
       related_by_sound x a.0 before ts a.1 first (relation_sound ts a.0 a.1 a.2) o rest a.3
 
-  null_sound : (e : Sum) (before mid ts : List Token) → expr e before mid → mid ≡ Word (codes "IS") ∷ ts → (t : Test) (rest : List Token) → null_test_at e ts ≡ Read t rest → test t before rest
+  null_sound : (e : Sum) (before mid ts : List Token) → expr e before mid → mid ≡ Word (codes "IS") ∷ ts
+      → (t : Test) (rest : List Token) → null_test_at e ts ≡ Read t rest → test t before rest
   unfolding null_test_at
   null_sound e before mid ts first is t rest r =
       let not : Token = Word (codes "NOT") in
       made_is test (λ _. NullTest (eat not ts).0 e) (keyword (codes "NULL") (eat not ts).1) before t rest
-      (λ u o. ((eat not ts).1, (ts, (mid, first, is), negation_by (eat not ts).0 ts refl), expect_is (Word (codes "NULL")) (eat not ts).1 rest u o)) r
+      (λ u o. (
+        (eat not ts).1,
+        (ts, (mid, first, is), negation_by (eat not ts).0 ts refl),
+        expect_is
+            (Word (codes "NULL")) (eat not ts).1 rest u o,
+      )) r
 
-  between_sound : (b : Bool) (e : Sum) (before ts : List Token) → (expr e ⨟ negation b ⨟ key (codes "BETWEEN")) before ts → (t : Test) (rest : List Token) → between_over inner b e ts ≡ Read t rest → test t before rest
+  between_sound : (b : Bool) (e : Sum) (before ts : List Token)
+      → (expr e ⨟ negation b ⨟ key (codes "BETWEEN")) before ts → (t : Test) (rest : List Token)
+      → between_over inner b e ts ≡ Read t rest → test t before rest
   unfolding between_over
   between_sound b e before ts first t rest r =
       let low = then_is (sum_over inner ts) _ t rest r in
       let c = expect_then (Word (codes "AND")) low.1 _ t rest low.3 in
       made_is test (λ high. BetweenTest b e low.0 high) (sum_over inner c.0) before t rest
-      (λ high o. (c.0, (low.1, (ts, first, sum_sound inner sound ts low.0 low.1 low.2), c.1), sum_sound inner sound c.0 high rest o)) c.2
+      (λ high o. (
+        c.0,
+        (low.1, (ts, first, sum_sound inner sound ts low.0 low.1 low.2), c.1),
+        sum_sound inner sound
+            c.0 high rest o,
+      )) c.2
 
-  in_sound : (b : Bool) (e : Sum) (before ts : List Token) → (expr e ⨟ negation b ⨟ key (codes "IN")) before ts → (t : Test) (rest : List Token) → in_over inner b e ts ≡ Read t rest → test t before rest
+  in_sound : (b : Bool) (e : Sum) (before ts : List Token) → (expr e ⨟ negation b ⨟ key (codes "IN")) before ts
+      → (t : Test) (rest : List Token) → in_over inner b e ts ≡ Read t rest → test t before rest
   unfolding in_over
   in_sound b e before ts first t rest r =
       let a = expect_then (Sign Open) ts _ t rest r in
@@ -182,42 +231,77 @@ module _ (inner : Parser Sum) (sound : Sound expr inner) where
       let xs = then_is (more (next (sum_over inner)) [] x.1) _ t rest x.3 in
       let others = more_next_is expr (sum_over inner) (sum_sound inner sound) x.1 xs.0 xs.1 xs.2 in
       made_is test (λ _. InTest b e x.0 xs.0) (expect (Sign Close) xs.1) before t rest
-      (λ u o.
-      (ts, first, (xs.1, (a.0, a.1, (x.1, sum_sound inner sound a.0 x.0 x.1 x.2, others)), expect_is (Sign Close) xs.1 rest u o)))
+      (λ u o. (
+        ts,
+        first,
+        (
+          xs.1,
+          (a.0, a.1, (x.1, sum_sound inner sound a.0 x.0 x.1 x.2, others)),
+          expect_is (Sign Close)
+              xs.1 rest u o,
+        ),
+      ))
       xs.3
 
   -- NOT is read
-  denied_sound : (e : Sum) (before mid ts : List Token) → expr e before mid → mid ≡ Word (codes "NOT") ∷ ts → (t : Test) (rest : List Token) → denied_over inner e ts ≡ Read t rest → test t before rest
+  denied_sound : (e : Sum) (before mid ts : List Token) → expr e before mid → mid ≡ Word (codes "NOT") ∷ ts
+      → (t : Test) (rest : List Token) → denied_over inner e ts ≡ Read t rest → test t before rest
   unfolding denied_over
   denied_sound e before mid ts first not t rest r =
-      front_or (λ q us vs. us ≡ ts → test q before vs) (Word (codes "BETWEEN")) (between_over inner true e) (λ us. keyword (codes "IN") us >>= λ _ a. in_over inner true e a)
-      (λ us vs is q ws w same. between_sound true e before vs (us, (mid, first, not ∙ ap (λ (zs : List Token). Word (codes "NOT") ∷ zs) (sym same)), is) q ws w)
+      front_or (λ q us vs. us ≡ ts
+      → test q before vs) (Word (codes "BETWEEN")) (between_over inner true e)
+      (λ us. keyword (codes "IN") us >>= λ _ a. in_over inner true e a)
+      (λ us vs is q ws w same. between_sound true e before vs (
+        us,
+        (
+          mid,
+          first,
+          not
+              ∙ ap (λ (zs : List Token). Word (codes "NOT") ∷ zs) (sym same),
+        ),
+        is,
+      ) q ws w)
       (λ us q ws w same.
       let a = expect_then (Word (codes "IN")) us (λ _ vs. in_over inner true e vs) q ws w in
-      in_sound true e before a.0 (us, (mid, first, not ∙ ap (λ (zs : List Token). Word (codes "NOT") ∷ zs) (sym same)), a.1) q ws a.2)
+      in_sound true e before a.0 (
+        us,
+        (
+          mid,
+          first,
+          not
+              ∙ ap (λ (zs : List Token). Word (codes "NOT") ∷ zs) (sym same),
+        ),
+        a.1,
+      ) q ws a.2)
       ts t rest r refl
 
   -- what was found behind the expression, or it alone
-  or_alone : (e : Sum) (before ts : List Token) → expr e before ts → (o : Option Test) (rest : List Token) → related before o ts rest → tested (test_or e o) before rest
+  or_alone : (e : Sum) (before ts : List Token) → expr e before ts → (o : Option Test) (rest : List Token)
+      → related before o ts rest → tested (test_or e o) before rest
   or_alone e before ts first None rest s = subst (λ us. expr e before us) s first
   or_alone e before ts first (Some t) rest s = s
 
-  period_test_sound : (e : Sum) (r : Option Named) → as_named e ≡ r → (before ts : List Token) → expr e before ts → (x : Tested) (rest : List Token) → period_test_over inner e r ts ≡ Read x rest → tested x before rest
+  period_test_sound : (e : Sum) (r : Option Named) → as_named e ≡ r → (before ts : List Token) → expr e before ts
+      → (x : Tested) (rest : List Token) → period_test_over inner e r ts ≡ Read x rest → tested x before rest
   period_test_sound e None is before ts first x rest w = spelled_as tested before (BareExpr e) x ts rest w first
   period_test_sound e (Some r) is before ts first x rest w =
       made_is tested (test_or e) (related_over inner (ByName r) ts) before x rest
-      (λ o v. or_alone e before ts first o rest (related_sound (ByName r) before ts (column_alone e r before ts is first) o rest v)) w
+      (λ o v. or_alone e before ts first o rest
+      (related_sound (ByName r) before ts (column_alone e r before ts is first) o rest v)) w
 
-  word_test_sound : (e : Sum) (before ts : List Token) → expr e before ts → (x : Tested) (rest : List Token) → word_test_over inner e ts ≡ Read x rest → tested x before rest
+  word_test_sound : (e : Sum) (before ts : List Token) → expr e before ts → (x : Tested) (rest : List Token)
+      → word_test_over inner e ts ≡ Read x rest → tested x before rest
   unfolding word_test_over
   word_test_sound e before ts first x rest w =
       let P : Tested → Phrase = λ q us vs. us ≡ ts → tested q before vs in
       front_or P (Word (codes "IS")) _ _
       (λ us vs is q ws v same.
-      made_is tested WholeTest (null_test_at e vs) before q ws (λ t o. null_sound e before ts vs first (sym same ∙ is) t ws o) v)
+      made_is tested WholeTest (null_test_at e vs) before q ws (λ t o. null_sound e before ts vs first (sym same
+      ∙ is) t ws o) v)
       (front_or P (Word (codes "NOT")) _ _
       (λ us vs is q ws v same.
-      made_is tested WholeTest (denied_over inner e vs) before q ws (λ t o. denied_sound e before ts vs first (sym same ∙ is) t ws o) v)
+      made_is tested WholeTest (denied_over inner e vs) before q ws
+      (λ t o. denied_sound e before ts vs first (sym same ∙ is) t ws o) v)
       (front_or P (Word (codes "BETWEEN")) _ _
       (λ us vs is q ws v same.
       made_is tested WholeTest (between_over inner false e vs) before q ws
@@ -226,23 +310,29 @@ module _ (inner : Parser Sum) (sound : Sound expr inner) where
       (λ us vs is q ws v same.
       made_is tested WholeTest (in_over inner false e vs) before q ws
       (λ t o. in_sound false e before vs (ts, (ts, first, refl), sym same ∙ is) t ws o) v)
-      (λ us q ws v same. period_test_sound e (as_named e) refl before us (subst (λ zs. expr e before zs) (sym same) first) q ws v))))
+      (λ us q ws v same. period_test_sound e (as_named e) refl before us
+      (subst (λ zs. expr e before zs) (sym same) first) q ws v))))
       ts x rest w refl
 
-  compared_sound : (e : Sum) (op : Option Comparison) (before ts mid : List Token) → expr e before ts → optional comparison op ts mid → (x : Tested) (rest : List Token) → compared_by inner e op mid ≡ Read x rest → tested x before rest
-  compared_sound e None before ts mid first s x rest w = word_test_sound e before mid (subst (λ us. expr e before us) s first) x rest w
+  compared_sound : (e : Sum) (op : Option Comparison) (before ts mid : List Token) → expr e before ts
+      → optional comparison op ts mid → (x : Tested) (rest : List Token) → compared_by inner e op mid ≡ Read x rest
+      → tested x before rest
+  compared_sound e None before ts mid first s x rest w =
+      word_test_sound e before mid (subst (λ us. expr e before us) s first) x rest w
   compared_sound e (Some op) before ts mid first s x rest w =
       made_is tested (λ b. WholeTest (Compared op e b)) (sum_over inner mid) before x rest
       (λ b o. (mid, (ts, first, s), sum_sound inner sound mid b rest o)) w
 
   -- behind this expression a test goes on, or it stands alone
-  test_behind_sound : (e : Sum) (before ts : List Token) → expr e before ts → (x : Tested) (rest : List Token) → test_behind inner e ts ≡ Read x rest → tested x before rest
+  test_behind_sound : (e : Sum) (before ts : List Token) → expr e before ts → (x : Tested) (rest : List Token)
+      → test_behind inner e ts ≡ Read x rest → tested x before rest
   unfolding test_behind
   test_behind_sound e before ts first x rest w =
       let a = then_is (comparison_at ts) _ x rest w in
       compared_sound e a.0 before ts a.1 first (comparison_sound ts a.0 a.1 a.2) x rest a.3
 
-  wanted_sound : (o : Option Test) (before mid ts : List Token) → related before o mid ts → (t : Test) (rest : List Token) → wanted_test o ts ≡ Read t rest → test t before rest
+  wanted_sound : (o : Option Test) (before mid ts : List Token) → related before o mid ts
+      → (t : Test) (rest : List Token) → wanted_test o ts ≡ Read t rest → test t before rest
   wanted_sound None before mid ts s t rest w = absurd cc
   wanted_sound (Some q) before mid ts s t rest w = spelled_as test before q t ts rest w s
 
@@ -257,14 +347,17 @@ module _ (inner : Parser Sum) (sound : Sound expr inner) where
 
   -- and over what lies between parentheses
   module _ (mixed : Parser Mixed) (mixed_sound : Sound mixed_phrase mixed) where
-    closed_sound : (m : Mixed) (before ts : List Token) → (sign Open ⨟ mixed_phrase m ⨟ sign Close) before ts → (x : Tested) (rest : List Token) → closed_over inner mixed m ts ≡ Read x rest → tested x before rest
-    closed_sound (WholeCondition c) before ts s x rest w = spelled_as tested before (WholeTest (Grouped c)) x ts rest w s
+    closed_sound : (m : Mixed) (before ts : List Token) → (sign Open ⨟ mixed_phrase m ⨟ sign Close) before ts
+        → (x : Tested) (rest : List Token) → closed_over inner mixed m ts ≡ Read x rest → tested x before rest
+    closed_sound (WholeCondition c) before ts s x rest w =
+        spelled_as tested before (WholeTest (Grouped c)) x ts rest w s
     closed_sound (WholeExpr e) before ts s x rest w =
         let a = then_is (sum_from inner (Enclosed e) ts) _ x rest w in
         test_behind_sound a.0 before a.1 (sum_from_sound inner sound (Enclosed e) before ts a.0 a.1 s a.2) x rest a.3
 
     -- `(` is read
-    opened_sound : (before ts : List Token) → before ≡ Sign Open ∷ ts → (x : Tested) (rest : List Token) → opened_over inner mixed ts ≡ Read x rest → tested x before rest
+    opened_sound : (before ts : List Token) → before ≡ Sign Open ∷ ts → (x : Tested) (rest : List Token)
+        → opened_over inner mixed ts ≡ Read x rest → tested x before rest
     unfolding opened_over
     opened_sound before ts opened x rest w =
         let m = then_is (mixed ts) _ x rest w in
@@ -277,7 +370,8 @@ module _ (inner : Parser Sum) (sound : Sound expr inner) where
         test_behind_sound e.0 ts e.1 (sum_sound inner sound ts e.0 e.1 e.2) x rest e.3
 
     unmarked_sound : Sound tested (unmarked_over inner mixed)
-    unmarked_sound = front_or tested (Sign Open) (opened_over inner mixed) (λ us. sum_over inner us >>= λ e a. test_behind inner e a) opened_sound bare_sound
+    unmarked_sound = front_or tested (Sign Open) (opened_over inner mixed)
+        (λ us. sum_over inner us >>= λ e a. test_behind inner e a) opened_sound bare_sound
 
     tested_sound : Sound tested (tested_over inner mixed)
     unfolding tested_over
@@ -287,7 +381,8 @@ module _ (inner : Parser Sum) (sound : Sound expr inner) where
           | inr a ↦ unmarked_sound ts x rest a.1
         ]
 
-    the_test_sound : (x : Tested) (before ts : List Token) → tested x before ts → (t : Test) (rest : List Token) → the_test x ts ≡ Read t rest → test t before rest
+    the_test_sound : (x : Tested) (before ts : List Token) → tested x before ts → (t : Test) (rest : List Token)
+        → the_test x ts ≡ Read t rest → test t before rest
     the_test_sound (WholeTest q) before ts s t rest w = spelled_as test before q t ts rest w s
     the_test_sound (BareExpr e) before ts s t rest w = absurd cc
 
@@ -301,7 +396,8 @@ module _ (inner : Parser Sum) (sound : Sound expr inner) where
     unfolding factor_over
     factor_sound =
         front_or factor (Word (codes "NOT")) _ _
-        (λ ts mid is f rest e. made_is factor Negated (test_over inner mixed mid) ts f rest (λ t o. (mid, is, test_sound mid t rest o)) e)
+        (λ ts mid is f rest e. made_is factor Negated (test_over inner mixed mid) ts f rest
+        (λ t o. (mid, is, test_sound mid t rest o)) e)
         (into_sound factor Straight (test_over inner mixed) test_sound)
 
     next_test_sound : Sound (optional (λ f. key (codes "AND") ⨟ factor f)) (next_test inner mixed)
@@ -309,11 +405,17 @@ module _ (inner : Parser Sum) (sound : Sound expr inner) where
     next_test_sound = behind_is (Word (codes "AND")) factor (factor_over inner mixed) factor_sound
 
     -- the conjunction that begins with this factor
-    conj_behind_sound : (f : Factor) (before ts : List Token) → factor f before ts → (c : Conj) (rest : List Token) → conj_behind inner mixed f ts ≡ Read c rest → conj c before rest
+    conj_behind_sound : (f : Factor) (before ts : List Token) → factor f before ts → (c : Conj) (rest : List Token)
+        → conj_behind inner mixed f ts ≡ Read c rest → conj c before rest
     unfolding conj_behind
     conj_behind_sound f before ts first c rest w =
         made_is conj (λ fs. AllOf f (tests_of fs)) (more (next_test inner mixed) [] ts) before c rest
-        (λ fs o. (ts, first, tests_spelled fs ts rest (more_is (λ g. key (codes "AND") ⨟ factor g) (next_test inner mixed) next_test_sound ts fs rest o))) w
+        (λ fs o. (
+          ts,
+          first,
+          tests_spelled fs ts rest
+              (more_is (λ g. key (codes "AND") ⨟ factor g) (next_test inner mixed) next_test_sound ts fs rest o),
+        )) w
 
     conj_sound : Sound conj (conj_over inner mixed)
     unfolding conj_over
@@ -326,7 +428,9 @@ module _ (inner : Parser Sum) (sound : Sound expr inner) where
     next_conj_sound = behind_is (Word (codes "OR")) conj (conj_over inner mixed) conj_sound
 
     -- the condition that begins with this factor
-    condition_behind_sound : (f : Factor) (before ts : List Token) → factor f before ts → (c : Condition) (rest : List Token) → condition_behind inner mixed f ts ≡ Read c rest → condition c before rest
+    condition_behind_sound : (f : Factor) (before ts : List Token) → factor f before ts
+        → (c : Condition) (rest : List Token) → condition_behind inner mixed f ts ≡ Read c rest
+        → condition c before rest
     unfolding condition_behind
     condition_behind_sound f before ts first c rest w =
         let a = then_is (conj_behind inner mixed f ts) _ c rest w in
@@ -334,7 +438,8 @@ module _ (inner : Parser Sum) (sound : Sound expr inner) where
         (λ cs o. (
           a.1,
           conj_behind_sound f before ts first a.0 a.1 a.2,
-          conjs_spelled cs a.1 rest (more_is (λ d. key (codes "OR") ⨟ conj d) (next_conj inner mixed) next_conj_sound a.1 cs rest o),
+          conjs_spelled cs a.1 rest
+              (more_is (λ d. key (codes "OR") ⨟ conj d) (next_conj inner mixed) next_conj_sound a.1 cs rest o),
         ))
         a.3
 
@@ -345,13 +450,16 @@ module _ (inner : Parser Sum) (sound : Sound expr inner) where
         condition_behind_sound a.0 ts a.1 (factor_sound ts a.0 a.1 a.2) c rest a.3
 
     -- behind a test or an expression
-    mixed_behind_sound : (x : Tested) (before ts : List Token) → tested x before ts → (m : Mixed) (rest : List Token) → mixed_behind inner mixed x ts ≡ Read m rest → mixed_phrase m before rest
+    mixed_behind_sound : (x : Tested) (before ts : List Token) → tested x before ts → (m : Mixed) (rest : List Token)
+        → mixed_behind inner mixed x ts ≡ Read m rest → mixed_phrase m before rest
     mixed_behind_sound (WholeTest t) before ts s m rest w =
         made_is mixed_phrase WholeCondition (condition_behind inner mixed (Straight t) ts) before m rest
         (λ c o. condition_behind_sound (Straight t) before ts s c rest o) w
     mixed_behind_sound (BareExpr e) before ts s m rest w = spelled_as mixed_phrase before (WholeExpr e) m ts rest w s
 
-    negated_sound : (ts mid : List Token) → ts ≡ Word (codes "NOT") ∷ mid → (m : Mixed) (rest : List Token) → (test_over inner mixed mid >>= λ t a. into WholeCondition (condition_behind inner mixed (Negated t) a)) ≡ Read m rest → mixed_phrase m ts rest
+    negated_sound : (ts mid : List Token) → ts ≡ Word (codes "NOT") ∷ mid → (m : Mixed) (rest : List Token)
+        → (test_over inner mixed mid >>= λ t a. into WholeCondition (condition_behind inner mixed (Negated t) a)) ≡
+        Read m rest → mixed_phrase m ts rest
     negated_sound ts mid is m rest w =
         let t = then_is (test_over inner mixed mid) _ m rest w in
         made_is mixed_phrase WholeCondition (condition_behind inner mixed (Negated t.0) t.1) ts m rest
@@ -369,12 +477,14 @@ module _ (inner : Parser Sum) (sound : Sound expr inner) where
 mixed_at_sound : (n : ℕ) → Sound mixed_phrase (mixed_at n)
 unfolding mixed_at
 mixed_at_sound zero ts m rest w = absurd cc
-mixed_at_sound (suc n) ts m rest w = mixed_over_sound (expr_at n) (expr_at_sound n) (mixed_at n) (mixed_at_sound n) ts m rest w
+mixed_at_sound (suc n) ts m rest w =
+    mixed_over_sound (expr_at n) (expr_at_sound n) (mixed_at n) (mixed_at_sound n) ts m rest w
 
 condition_at_sound : (n : ℕ) → Sound condition (condition_at n)
 unfolding condition_at
 condition_at_sound zero ts c rest w = absurd cc
-condition_at_sound (suc n) ts c rest w = condition_over_sound (expr_at n) (expr_at_sound n) (mixed_at n) (mixed_at_sound n) ts c rest w
+condition_at_sound (suc n) ts c rest w =
+    condition_over_sound (expr_at n) (expr_at_sound n) (mixed_at n) (mixed_at_sound n) ts c rest w
 
 pub condition_sound : Sound condition condition_here
 condition_sound ts c rest w = condition_at_sound (length ts) ts c rest w

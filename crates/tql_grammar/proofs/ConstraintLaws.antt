@@ -1,15 +1,23 @@
 -- Keys, references and checks: what is read is spelled, and what is spelled is read.
-use Rattle.std.specs.Prelude.{◌≡◌, refl, ℕ, zero, suc, ◌<◌, ◌≤◌, Bool, true, false, List, ◌∷◌, codes, length, Option, Some, None}
+use Rattle.std.specs.Prelude.{◌≡◌, refl, ℕ, zero, suc, ◌<◌, ◌≤◌, Bool, true, false, List, ◌∷◌, codes, length, Option}
+use Rattle.std.specs.Prelude.{Some, None}
 use Rattle.std.proofs.Common.{sym, ◌∙◌, ap, subst, arith, inl, inr}
 use Rattle.tql_spec.specs.Definition.{Name}
 use Rattle.tql_spec.specs.Token.{Token, Word, Sign, Close, Comma}
 use Rattle.tql_spec.specs.Syntax.{Condition, RefList, Constraint, KeyTree, ForeignTree, CheckTree}
-use Rattle.tql_spec.specs.Grammar.{Phrase, key, sign, ◌⨟◌, ◌∣◌, optional, commas, in_parens, name, condition, reflist, NoActions, none, more, key_word, without_overlaps, constraint}
+use Rattle.tql_spec.specs.Grammar.{Phrase, key, sign, ◌⨟◌, ◌∣◌, optional, commas, in_parens, name, condition, reflist}
+use Rattle.tql_spec.specs.Grammar.{NoActions, none, more, key_word, without_overlaps, constraint}
 use Rattle.tql_grammar.specs.Outcome.{Read, begins_third, found, eat, keyword, name_at, if_front, next}
-use Rattle.tql_grammar.specs.ReadingStatements.{begins_key_period, begins_reference_period, next_key_column, key_period_at, key_at, next_reference_column, reference_period_at, reflist_at, no_action_at, no_actions_from, foreign_at, check_at, constraint_at}
+use Rattle.tql_grammar.specs.ReadingStatements.{begins_key_period, begins_reference_period, next_key_column}
+use Rattle.tql_grammar.specs.ReadingStatements.{key_period_at, key_at, next_reference_column, reference_period_at}
+use Rattle.tql_grammar.specs.ReadingStatements.{reflist_at, no_action_at, no_actions_from, foreign_at, check_at}
+use Rattle.tql_grammar.specs.ReadingStatements.{constraint_at}
 use Rattle.tql_grammar.proofs.Ends.{EndsCondition}
 use Rattle.tql_grammar.proofs.ConditionLaws.{condition_sound, condition_complete}
-use Rattle.tql_grammar.proofs.Steps.{Always, behind_comma, more_is, more_of, next_is, Sound, Complete, CompleteBefore, Shortens, Stops, read_is, and_then, choose, spelled, eat_false, begins_eat, begins_of, expected, expected_is, expected_of, name_is, name_of, name_shortens, name_no_word, front_is, option_is, behind_some}
+use Rattle.tql_grammar.proofs.Steps.{Always, behind_comma, more_is, more_of, next_is, Sound, Complete, CompleteBefore}
+use Rattle.tql_grammar.proofs.Steps.{Shortens, Stops, read_is, and_then, choose, spelled, eat_false, begins_eat}
+use Rattle.tql_grammar.proofs.Steps.{begins_of, expected, expected_is, expected_of, name_is, name_of, name_shortens}
+use Rattle.tql_grammar.proofs.Steps.{name_no_word, front_is, option_is, behind_some}
 
 -- ---- keys
 
@@ -22,17 +30,21 @@ key_column_sound ts c rest e =
     ]
 
 -- behind a comma and a name stands what stands in the third place
-third_token : (t : Token) (n : Name) (ts rest : List Token) → behind_comma name n ts rest → begins_third t ts ≡ (eat t rest).0
+third_token : (t : Token) (n : Name) (ts rest : List Token) → behind_comma name n ts rest
+    → begins_third t ts ≡ (eat t rest).0
 third_token t n ts rest s =
     elim s.2 [
       | inl w ↦ rw (s.1, w.0) (begins_eat t rest)
       | inr q ↦ rw (s.1, q) (begins_eat t rest)
     ]
 
-no_key_period : (n : Name) (ts rest : List Token) → behind_comma name n ts rest → Stops (Word (codes "WITHOUT")) rest → begins_key_period ts ≡ false
-no_key_period n ts rest s stops = rw (begins_of (Sign Comma) ts s.0 s.1, third_token (Word (codes "WITHOUT")) n ts rest s, stops) refl
+no_key_period : (n : Name) (ts rest : List Token) → behind_comma name n ts rest → Stops (Word (codes "WITHOUT")) rest
+    → begins_key_period ts ≡ false
+no_key_period n ts rest s stops =
+    rw (begins_of (Sign Comma) ts s.0 s.1, third_token (Word (codes "WITHOUT")) n ts rest s, stops) refl
 
-key_column_complete : (ts : List Token) (n : Name) (rest : List Token) → behind_comma name n ts rest → Stops (Word (codes "WITHOUT")) rest → next_key_column ts ≡ Read (Some n) rest
+key_column_complete : (ts : List Token) (n : Name) (rest : List Token) → behind_comma name n ts rest
+    → Stops (Word (codes "WITHOUT")) rest → next_key_column ts ≡ Read (Some n) rest
 unfolding next_key_column
 key_column_complete ts n rest s stops =
     rw (no_key_period n ts rest s stops) (behind_some (Sign Comma) name_at ts s.0 n rest s.1 (name_of s.0 n rest s.2))
@@ -40,7 +52,8 @@ key_column_complete ts n rest s stops =
 comma_name_shortens : Shortens (behind_comma name)
 comma_name_shortens ts n rest s = let h = name_shortens s.0 n rest s.2 in omega (arith, ap length s.1)
 
-key_period_sound : (ts us : List Token) (p : Name) (rest : List Token) → ts ≡ Sign Comma ∷ us → key_period_at us ≡ Read p rest → without_overlaps p ts rest
+key_period_sound : (ts us : List Token) (p : Name) (rest : List Token) → ts ≡ Sign Comma ∷ us
+    → key_period_at us ≡ Read p rest → without_overlaps p ts rest
 unfolding key_period_at
 key_period_sound ts us p rest comma e =
     let n = and_then e in
@@ -51,30 +64,36 @@ key_period_sound ts us p rest comma e =
 next_key_period_sound : Sound (optional without_overlaps) (next key_period_at)
 next_key_period_sound ts p rest e =
     elim (option_is (Sign Comma) key_period_at ts e) [
-      | inl a ↦ subst (λ (q : Option Name). optional without_overlaps q ts rest) (sym a.4) (key_period_sound ts a.1 a.0 rest a.2 a.3)
+      | inl a ↦ subst (λ (q : Option Name). optional without_overlaps q ts rest) (sym a.4)
+          (key_period_sound ts a.1 a.0 rest a.2 a.3)
       | inr a ↦ subst (λ (q : Option Name). optional without_overlaps q ts rest) (sym a.0) a.1
     ]
 
-next_key_period_complete : (ts : List Token) (p : Option Name) (rest : List Token) → optional without_overlaps p ts rest → Stops (Sign Comma) rest → next key_period_at ts ≡ Read p rest
+next_key_period_complete : (ts : List Token) (p : Option Name) (rest : List Token)
+    → optional without_overlaps p ts rest → Stops (Sign Comma) rest → next key_period_at ts ≡ Read p rest
 unfolding key_period_at
 next_key_period_complete ts None rest s stops = rw (s, stops, eat_false (Sign Comma) rest stops) refl
 next_key_period_complete ts (Some p) rest s stops =
     rw (s.1.1.1, name_of s.1.1.0 p s.1.0 s.1.1.2, expected_of s.1.2, expected_of s.2) refl
 
 -- no column of the key is read where its period stands, or nothing more
-no_key_column : (ts : List Token) (p : Option Name) (rest : List Token) → optional without_overlaps p ts rest → Stops (Sign Comma) rest → next_key_column ts ≡ Read None ts
+no_key_column : (ts : List Token) (p : Option Name) (rest : List Token) → optional without_overlaps p ts rest
+    → Stops (Sign Comma) rest → next_key_column ts ≡ Read None ts
 unfolding next_key_column
 no_key_column ts None rest s stops = rw (s, begins_eat (Sign Comma) rest, stops, eat_false (Sign Comma) rest stops) refl
 no_key_column ts (Some p) rest s stops =
-    let third : begins_third (Word (codes "WITHOUT")) ts ≡ true = third_token (Word (codes "WITHOUT")) p ts s.1.0 s.1.1 ∙ rw s.1.2 refl in
+    let third : begins_third (Word (codes "WITHOUT")) ts ≡ true =
+    third_token (Word (codes "WITHOUT")) p ts s.1.0 s.1.1 ∙ rw s.1.2 refl in
     rw (begins_of (Sign Comma) ts s.1.1.0 s.1.1.1, third) refl
 
 -- in front of the period of a key, or of nothing, WITHOUT doesn't stand
-key_period_front : (ts : List Token) (p : Option Name) (rest : List Token) → optional without_overlaps p ts rest → Stops (Word (codes "WITHOUT")) rest → Stops (Word (codes "WITHOUT")) ts
+key_period_front : (ts : List Token) (p : Option Name) (rest : List Token) → optional without_overlaps p ts rest
+    → Stops (Word (codes "WITHOUT")) rest → Stops (Word (codes "WITHOUT")) ts
 key_period_front ts None rest s stops = rw s stops
 key_period_front ts (Some p) rest s stops = rw s.1.1.1 refl
 
-key_sound : (primary : Bool) (ts us : List Token) (c : Constraint) (rest : List Token) → key_word primary ts us → key_at primary us ≡ Read c rest → constraint c ts rest
+key_sound : (primary : Bool) (ts us : List Token) (c : Constraint) (rest : List Token) → key_word primary ts us
+    → key_at primary us ≡ Read c rest → constraint c ts rest
 unfolding key_at
 key_sound primary ts us c rest word e =
     let a = expected _ e in
@@ -87,7 +106,9 @@ key_sound primary ts us c rest word e =
     spelled constraint {x = KeyTree primary n.0 more.0 p.0} close.2
     (us, word, (p.1, (a.0, a.1, (more.1, columns, next_key_period_sound _ _ _ p.2)), close.1))
 
-key_complete : (primary : Bool) (c : Name) (cs : List Name) (p : Option Name) (us rest : List Token) → in_parens (commas name c cs ⨟ optional without_overlaps p) us rest → key_at primary us ≡ Read (KeyTree primary c cs p) rest
+key_complete : (primary : Bool) (c : Name) (cs : List Name) (p : Option Name) (us rest : List Token)
+    → in_parens (commas name c cs ⨟ optional without_overlaps p) us rest
+    → key_at primary us ≡ Read (KeyTree primary c cs p) rest
 unfolding key_at
 key_complete primary c cs p us rest s =
     let close : s.0 ≡ Sign Close ∷ rest = s.2 in
@@ -96,7 +117,8 @@ key_complete primary c cs p us rest s =
     let end = s.1.2.0 in
     let more =
     more_of (behind_comma name) next_key_column (Stops (Word (codes "WITHOUT"))) key_column_complete
-    (λ ts y vs z. rw z.1 refl) comma_name_shortens columns.0 cs end columns.2 (key_period_front end p s.0 period (rw close refl))
+    (λ ts y vs z. rw z.1 refl) comma_name_shortens columns.0 cs end columns.2
+    (key_period_front end p s.0 period (rw close refl))
     (no_key_column end p s.0 period (rw close refl)) in
     rw (
       expected_of s.1.1,
@@ -116,12 +138,14 @@ reference_column_sound ts c rest e =
       | inr a ↦ next_is name name_at name_is ts c rest a.1
     ]
 
-no_reference_period : (n : Name) (ts rest : List Token) → behind_comma name n ts rest → begins_reference_period ts ≡ false
+no_reference_period : (n : Name) (ts rest : List Token) → behind_comma name n ts rest
+    → begins_reference_period ts ≡ false
 no_reference_period n ts rest s =
     let word = name_no_word (codes "PERIOD") n s.0 rest refl s.2 in
     rw (s.1, begins_eat (Word (codes "PERIOD")) s.0, word) refl
 
-reference_column_complete : (ts : List Token) (n : Name) (rest : List Token) → behind_comma name n ts rest → next_reference_column ts ≡ Read (Some n) rest
+reference_column_complete : (ts : List Token) (n : Name) (rest : List Token) → behind_comma name n ts rest
+    → next_reference_column ts ≡ Read (Some n) rest
 unfolding next_reference_column
 reference_column_complete ts n rest s =
     rw (no_reference_period n ts rest s) (behind_some (Sign Comma) name_at ts s.0 n rest s.1 (name_of s.0 n rest s.2))
@@ -136,19 +160,23 @@ next_reference_period_sound ts p rest e =
     elim (option_is (Sign Comma) reference_period_at ts e) [
       | inl a ↦
           let word = expected _ a.3 in
-          subst (λ (q : Option Name). optional reference_period q ts rest) (sym a.4) (word.0, (a.1, a.2, word.1), name_is _ _ _ word.2)
+          subst (λ (q : Option Name). optional reference_period q ts rest) (sym a.4)
+          (word.0, (a.1, a.2, word.1), name_is _ _ _ word.2)
       | inr a ↦ subst (λ (q : Option Name). optional reference_period q ts rest) (sym a.0) a.1
     ]
 
-next_reference_period_complete : (ts : List Token) (p : Option Name) (rest : List Token) → optional reference_period p ts rest → Stops (Sign Comma) rest → next reference_period_at ts ≡ Read p rest
+next_reference_period_complete : (ts : List Token) (p : Option Name) (rest : List Token)
+    → optional reference_period p ts rest → Stops (Sign Comma) rest → next reference_period_at ts ≡ Read p rest
 unfolding reference_period_at
 next_reference_period_complete ts None rest s stops = rw (s, stops, eat_false (Sign Comma) rest stops) refl
 next_reference_period_complete ts (Some p) rest s stops = rw (s.1.1, expected_of s.1.2, name_of s.0 p rest s.2) refl
 
 -- no column of the reference is read where its period stands, or nothing more
-no_reference_column : (ts : List Token) (p : Option Name) (rest : List Token) → optional reference_period p ts rest → Stops (Sign Comma) rest → next_reference_column ts ≡ Read None ts
+no_reference_column : (ts : List Token) (p : Option Name) (rest : List Token) → optional reference_period p ts rest
+    → Stops (Sign Comma) rest → next_reference_column ts ≡ Read None ts
 unfolding next_reference_column
-no_reference_column ts None rest s stops = rw (s, begins_eat (Sign Comma) rest, stops, eat_false (Sign Comma) rest stops) refl
+no_reference_column ts None rest s stops =
+    rw (s, begins_eat (Sign Comma) rest, stops, eat_false (Sign Comma) rest stops) refl
 no_reference_column ts (Some p) rest s stops = rw (s.1.1, s.1.2) refl
 
 reflist_sound : Sound reflist reflist_at
@@ -172,8 +200,10 @@ reflist_complete ts r rest s =
     let columns = s.1.2.1 in
     let end = s.1.2.0 in
     let more =
-    more_of (behind_comma name) next_reference_column Always (λ us y vs z known. reference_column_complete us y vs z) (λ us y vs z. tt)
-    comma_name_shortens columns.0 r.more end columns.2 tt (no_reference_column end r.period s.0 period (rw close refl)) in
+    more_of (behind_comma name) next_reference_column Always (λ us y vs z known. reference_column_complete us y vs z)
+    (λ us y vs z. tt)
+    comma_name_shortens columns.0 r.more end columns.2 tt
+    (no_reference_column end r.period s.0 period (rw close refl)) in
     rw (
       expected_of s.1.1,
       name_of s.1.0 r.first columns.0 columns.1,
@@ -186,17 +216,21 @@ reflist_complete ts r rest s =
 abbrev no_action : Phrase
 no_action = key (codes "ON") ⨟ (key (codes "DELETE") ∣ key (codes "UPDATE")) ⨟ key (codes "NO") ⨟ key (codes "ACTION")
 
-changed_sound : (ts : List Token) (u : Unit {0}) (rest : List Token) → if_front (Word (codes "DELETE")) (found tt) (keyword (codes "UPDATE")) ts ≡ Read u rest → (key (codes "DELETE") ∣ key (codes "UPDATE")) ts rest
+changed_sound : (ts : List Token) (u : Unit {0}) (rest : List Token)
+    → if_front (Word (codes "DELETE")) (found tt) (keyword (codes "UPDATE")) ts ≡ Read u rest
+    → (key (codes "DELETE") ∣ key (codes "UPDATE")) ts rest
 changed_sound ts u rest e =
     elim (front_is (Word (codes "DELETE")) ts e) [
       | inl a ↦ inl (spelled (λ (_ : Unit {0}). key (codes "DELETE")) a.1 a.0)
       | inr a ↦ inr (expected_is (rw a.0 at a.1))
     ]
 
-changed_complete : (ts rest : List Token) → (key (codes "DELETE") ∣ key (codes "UPDATE")) ts rest → if_front (Word (codes "DELETE")) (found tt) (keyword (codes "UPDATE")) ts ≡ Read tt rest
+changed_complete : (ts rest : List Token) → (key (codes "DELETE") ∣ key (codes "UPDATE")) ts rest
+    → if_front (Word (codes "DELETE")) (found tt) (keyword (codes "UPDATE")) ts ≡ Read tt rest
 changed_complete ts rest s = elim s [ inl d ↦ rw d refl | inr u ↦ rw (u, expected_of refl) refl ]
 
-no_action_sound : (ts us : List Token) (u : Unit {0}) (rest : List Token) → ts ≡ Word (codes "ON") ∷ us → no_action_at us ≡ Read u rest → no_action ts rest
+no_action_sound : (ts us : List Token) (u : Unit {0}) (rest : List Token) → ts ≡ Word (codes "ON") ∷ us
+    → no_action_at us ≡ Read u rest → no_action ts rest
 unfolding no_action_at
 no_action_sound ts us u rest on e =
     let which = and_then e in
@@ -207,7 +241,8 @@ no_action_complete : (ts rest : List Token) (s : no_action ts rest) → no_actio
 unfolding no_action_at
 no_action_complete ts rest s = rw (changed_complete _ _ s.1.1.2, expected_of s.1.2, expected_of s.2) refl
 
-no_actions_from_sound : (n : ℕ) (ts : List Token) (u : Unit {0}) (rest : List Token) → no_actions_from n ts ≡ Read u rest → NoActions ts rest
+no_actions_from_sound : (n : ℕ) (ts : List Token) (u : Unit {0}) (rest : List Token)
+    → no_actions_from n ts ≡ Read u rest → NoActions ts rest
 unfolding no_actions_from
 no_actions_from_sound zero ts u rest e = subst (λ (us : List Token). NoActions ts us) (read_is tt u ts rest e).rest none
 no_actions_from_sound (suc n) ts u rest e =
@@ -225,17 +260,20 @@ no_action_shortens ts rest s =
       | inr d ↦ omega (arith, ap length s.1.1.1, ap length d, ap length s.1.2, ap length s.2)
     ]
 
-no_actions_from_complete : (n : ℕ) (ts rest : List Token) → length ts ≤ n → NoActions ts rest → Stops (Word (codes "ON")) rest → no_actions_from n ts ≡ Read tt rest
+no_actions_from_complete : (n : ℕ) (ts rest : List Token) → length ts ≤ n → NoActions ts rest
+    → Stops (Word (codes "ON")) rest → no_actions_from n ts ≡ Read tt rest
 unfolding no_actions_from
 no_actions_from_complete zero ts rest fuel none stops = refl
 no_actions_from_complete (suc n) ts rest fuel none stops = rw (stops, eat_false (Word (codes "ON")) ts stops) refl
-no_actions_from_complete zero ts rest fuel (more {mid = mid} one others) stops = let h = no_action_shortens ts mid one in absurd (omega arith)
+no_actions_from_complete zero ts rest fuel (more {mid = mid} one others) stops = let h =
+    no_action_shortens ts mid one in absurd (omega arith)
 no_actions_from_complete (suc n) ts rest fuel (more {mid = mid} one others) stops =
     let h = no_action_shortens ts mid one in
     let shorter : length mid ≤ n = omega arith in
     rw (one.1.1.1, no_action_complete ts mid one) (no_actions_from_complete n mid rest shorter others stops)
 
-foreign_sound : (ts us : List Token) (c : Constraint) (rest : List Token) → ts ≡ Word (codes "FOREIGN") ∷ us → foreign_at us ≡ Read c rest → constraint c ts rest
+foreign_sound : (ts us : List Token) (c : Constraint) (rest : List Token) → ts ≡ Word (codes "FOREIGN") ∷ us
+    → foreign_at us ≡ Read c rest → constraint c ts rest
 unfolding foreign_at
 foreign_sound ts us c rest word e =
     let key = expected _ e in
@@ -248,13 +286,20 @@ foreign_sound ts us c rest word e =
       parent.1,
       (
         table.1,
-        (references.0, (child.1, (key.0, (us, word, key.1), reflist_sound _ _ _ child.2), references.1), name_is _ _ _ table.2),
+        (
+          references.0,
+          (child.1, (key.0, (us, word, key.1), reflist_sound _ _ _ child.2), references.1),
+          name_is _ _
+              _ table.2,
+        ),
         reflist_sound _ _ _ parent.2,
       ),
       no_actions_from_sound _ _ _ _ actions.2,
     )
 
-foreign_complete : (child : RefList) (t : Name) (parent : RefList) (ts rest : List Token) (s : constraint (ForeignTree child t parent) ts rest) → Stops (Word (codes "ON")) rest → foreign_at s.1.1.1.1.1.0 ≡ Read (ForeignTree child t parent) rest
+foreign_complete : (child : RefList) (t : Name) (parent : RefList) (ts rest : List Token)
+    (s : constraint (ForeignTree child t parent) ts rest) → Stops (Word (codes "ON")) rest
+    → foreign_at s.1.1.1.1.1.0 ≡ Read (ForeignTree child t parent) rest
 unfolding foreign_at
 foreign_complete child t parent ts rest s stops =
     let references = s.1.1.1 in
@@ -269,19 +314,26 @@ foreign_complete child t parent ts rest s stops =
 
 -- ---- checks, and all constraints
 
-check_sound : (ts us : List Token) (c : Constraint) (rest : List Token) → ts ≡ Word (codes "CHECK") ∷ us → check_at us ≡ Read c rest → constraint c ts rest
+check_sound : (ts us : List Token) (c : Constraint) (rest : List Token) → ts ≡ Word (codes "CHECK") ∷ us
+    → check_at us ≡ Read c rest → constraint c ts rest
 unfolding check_at
 check_sound ts us c rest word e =
     let a = expected _ e in
     let inner = and_then a.2 in
     let close = expected _ inner.3 in
-    spelled constraint {x = CheckTree inner.0} close.2 (us, word, (inner.1, (a.0, a.1, condition_sound _ _ _ inner.2), close.1))
+    spelled constraint {x = CheckTree inner.0} close.2
+    (us, word, (inner.1, (a.0, a.1, condition_sound _ _ _ inner.2), close.1))
 
 -- a condition ends before a parenthesis that closes
 condition_ends_close : (ts : List Token) → EndsCondition (Sign Close ∷ ts)
-condition_ends_close ts = record { expr = record { dot = refl; star = refl; plus = refl; minus = refl }; also = refl; or = refl }
+condition_ends_close ts = record {
+  expr = record { dot = refl; star = refl; plus = refl; minus = refl };
+  also = refl;
+  or = refl;
+}
 
-check_complete : (c : Condition) (ts rest : List Token) → in_parens (condition c) ts rest → check_at ts ≡ Read (CheckTree c) rest
+check_complete : (c : Condition) (ts rest : List Token) → in_parens (condition c) ts rest
+    → check_at ts ≡ Read (CheckTree c) rest
 unfolding check_at
 check_complete c ts rest s =
     let ends = subst EndsCondition (sym s.2) (condition_ends_close rest) in

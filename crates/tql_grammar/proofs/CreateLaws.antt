@@ -3,19 +3,25 @@ use Rattle.std.specs.Prelude.{◌≡◌, refl, Bool, true, false, List, ◌∷�
 use Rattle.std.proofs.Common.{sym, ◌∙◌, subst, inl, inr}
 use Rattle.tql_spec.specs.Definition.{Name}
 use Rattle.tql_spec.specs.Token.{Token, Word, Sign, Close, Comma}
-use Rattle.tql_spec.specs.Syntax.{Constraint, KeyTree, ForeignTree, CheckTree, Element, ColumnElement, PeriodElement, ConstraintElement, Statement, CreateTree, DropTree}
+use Rattle.tql_spec.specs.Syntax.{Constraint, KeyTree, ForeignTree, CheckTree, Element, ColumnElement, PeriodElement}
+use Rattle.tql_spec.specs.Syntax.{ConstraintElement, Statement, CreateTree, DropTree}
 use Rattle.tql_spec.specs.Grammar.{Phrase, key, ◌⨟◌, when, commas, name, constraint, element, statement}
 use Rattle.tql_grammar.specs.Outcome.{Read}
-use Rattle.tql_grammar.specs.ReadingStatements.{constraint_at, named_constraint_at, begins_constraint, constraint_or_column_at, element_at, versioning_at, create_at, drop_at}
+use Rattle.tql_grammar.specs.ReadingStatements.{constraint_at, named_constraint_at, begins_constraint}
+use Rattle.tql_grammar.specs.ReadingStatements.{constraint_or_column_at, element_at, versioning_at, create_at}
+use Rattle.tql_grammar.specs.ReadingStatements.{drop_at}
 use Rattle.tql_grammar.proofs.Lengths.{takes_element, shortens}
 use Rattle.tql_grammar.proofs.WordLaws.{noise_spelled, noise_eaten}
 use Rattle.tql_grammar.proofs.ColumnLaws.{EndsColumn, column_sound, column_complete, period_sound, period_complete}
 use Rattle.tql_grammar.proofs.ConstraintLaws.{constraint_sound, constraint_complete}
-use Rattle.tql_grammar.proofs.Steps.{more_next_is, more_next_of, commas_front, Sound, CompleteBefore, Stops, and_then, into_is, choose, spelled, into_sound, eat_false, begins_eat, expected, expected_is, expected_of, name_is, name_of, name_no_word, front_is}
+use Rattle.tql_grammar.proofs.Steps.{more_next_is, more_next_of, commas_front, Sound, CompleteBefore, Stops, and_then}
+use Rattle.tql_grammar.proofs.Steps.{into_is, choose, spelled, into_sound, eat_false, begins_eat, expected}
+use Rattle.tql_grammar.proofs.Steps.{expected_is, expected_of, name_is, name_of, name_no_word, front_is}
 
 -- ---- elements
 
-named_constraint_sound : (ts us : List Token) (c : Constraint) (rest : List Token) → ts ≡ Word (codes "CONSTRAINT") ∷ us → named_constraint_at us ≡ Read c rest → element (ConstraintElement c) ts rest
+named_constraint_sound : (ts us : List Token) (c : Constraint) (rest : List Token)
+    → ts ≡ Word (codes "CONSTRAINT") ∷ us → named_constraint_at us ≡ Read c rest → element (ConstraintElement c) ts rest
 unfolding named_constraint_at
 named_constraint_sound ts us c rest word e =
     let n = and_then e in
@@ -69,12 +75,24 @@ record BeginsConstraint (ts : List Token) : Type 0 where
   begins : begins_constraint ts ≡ true
 
 constraint_front : (c : Constraint) (ts rest : List Token) → constraint c ts rest → BeginsConstraint ts
-constraint_front (KeyTree true c cs p) ts rest s = let w = s.1.1 in record { period = rw w refl; constraint = rw w refl; begins = rw w refl }
-constraint_front (KeyTree false c cs p) ts rest s = let w = s.1 in record { period = rw w refl; constraint = rw w refl; begins = rw w refl }
+constraint_front (KeyTree true c cs p) ts rest s = let w = s.1.1 in record {
+  period = rw w refl;
+  constraint = rw w refl;
+  begins = rw w refl;
+}
+constraint_front (KeyTree false c cs p) ts rest s = let w = s.1 in record {
+  period = rw w refl;
+  constraint = rw w refl;
+  begins = rw w refl;
+}
 constraint_front (ForeignTree child t parent) ts rest s =
     let w = s.1.1.1.1.1.1 in
     record { period = rw w refl; constraint = rw w refl; begins = rw w refl }
-constraint_front (CheckTree c) ts rest s = let w = s.1 in record { period = rw w refl; constraint = rw w refl; begins = rw w refl }
+constraint_front (CheckTree c) ts rest s = let w = s.1 in record {
+  period = rw w refl;
+  constraint = rw w refl;
+  begins = rw w refl;
+}
 
 -- how a column begins
 record BeginsColumn (ts : List Token) : Type 0 where
@@ -94,9 +112,11 @@ column_front n ts rest s =
       begins = rw (primary, unique, foreign, check) refl;
     }
 
-named_constraint_complete : (n : Name) (c : Constraint) (ts mid rest : List Token) → name n ts mid → constraint c mid rest → EndsElement rest → named_constraint_at ts ≡ Read c rest
+named_constraint_complete : (n : Name) (c : Constraint) (ts mid rest : List Token) → name n ts mid
+    → constraint c mid rest → EndsElement rest → named_constraint_at ts ≡ Read c rest
 unfolding named_constraint_at
-named_constraint_complete n c ts mid rest s t ends = rw (name_of ts n mid s, constraint_complete mid c rest t ends.on) refl
+named_constraint_complete n c ts mid rest s t ends =
+    rw (name_of ts n mid s, constraint_complete mid c rest t ends.on) refl
 
 pub element_complete : CompleteBefore EndsElement element element_at
 unfolding element_at
@@ -148,7 +168,8 @@ unfolding versioning_at
 versioning_complete ts true rest s stops = rw (s.1.1, expected_of s.1.2, expected_of s.2) refl
 versioning_complete ts false rest s stops = rw (s, stops, eat_false (Word (codes "WITH")) rest stops) refl
 
-pub create_sound : (ts us : List Token) (s : Statement) (rest : List Token) → ts ≡ Word (codes "CREATE") ∷ us → create_at us ≡ Read s rest → statement s ts rest
+pub create_sound : (ts us : List Token) (s : Statement) (rest : List Token) → ts ≡ Word (codes "CREATE") ∷ us
+    → create_at us ≡ Read s rest → statement s ts rest
 unfolding create_at
 create_sound ts us s rest word e =
     let table = expected _ e in
@@ -166,7 +187,9 @@ create_sound ts us s rest word e =
       versioning_sound _ _ _ v.2,
     )
 
-pub create_complete : (n : Name) (e : Element) (es : List Element) (v : Bool) (ts rest : List Token) (s : statement (CreateTree n e es v) ts rest) → Stops (Word (codes "WITH")) rest → create_at s.1.1.1.0 ≡ Read (CreateTree n e es v) rest
+pub create_complete : (n : Name) (e : Element) (es : List Element) (v : Bool) (ts rest : List Token)
+    (s : statement (CreateTree n e es v) ts rest) → Stops (Word (codes "WITH")) rest
+    → create_at s.1.1.1.0 ≡ Read (CreateTree n e es v) rest
 unfolding create_at
 create_complete n e es v ts rest s stops =
     let head = s.1.1 in
@@ -175,13 +198,15 @@ create_complete n e es v ts rest s stops =
     let list = parens.1.2 in
     let ends : EndsElement parens.0 = subst EndsElement (sym close) (element_ends_close s.0) in
     let others =
-    more_next_of element element_at EndsElement element_ends_comma element_complete (shortens element takes_element) list.0 es parens.0 list.2
+    more_next_of element element_at EndsElement element_ends_comma element_complete (shortens element takes_element)
+    list.0 es parens.0 list.2
     (record { item = ends; comma = rw close refl }) in
     rw (
       expected_of head.1.2,
       name_of head.0 n s.1.0 head.2,
       expected_of parens.1.1,
-      element_complete parens.1.0 e list.0 list.1 (commas_front element element_at EndsElement element_ends_comma es list.0 parens.0 list.2 ends),
+      element_complete parens.1.0 e list.0 list.1
+          (commas_front element element_at EndsElement element_ends_comma es list.0 parens.0 list.2 ends),
       others,
       expected_of close,
       versioning_complete s.0 v rest s.2 stops,
@@ -189,7 +214,8 @@ create_complete n e es v ts rest s stops =
 
 -- ---- DROP
 
-pub drop_sound : (ts us : List Token) (s : Statement) (rest : List Token) → ts ≡ Word (codes "DROP") ∷ us → drop_at us ≡ Read s rest → statement s ts rest
+pub drop_sound : (ts us : List Token) (s : Statement) (rest : List Token) → ts ≡ Word (codes "DROP") ∷ us
+    → drop_at us ≡ Read s rest → statement s ts rest
 unfolding drop_at
 drop_sound ts us s rest word e =
     let table = expected _ e in
@@ -197,7 +223,8 @@ drop_sound ts us s rest word e =
     spelled statement {x = DropTree n.0} n.3
     (n.1, (table.0, (us, word, table.1), name_is _ _ _ n.2), noise_spelled (codes "RESTRICT") n.1)
 
-pub drop_complete : (n : Name) (ts rest : List Token) (s : statement (DropTree n) ts rest) → Stops (Word (codes "RESTRICT")) rest → drop_at s.1.1.0 ≡ Read (DropTree n) rest
+pub drop_complete : (n : Name) (ts rest : List Token) (s : statement (DropTree n) ts rest)
+    → Stops (Word (codes "RESTRICT")) rest → drop_at s.1.1.0 ≡ Read (DropTree n) rest
 unfolding drop_at
 drop_complete n ts rest s stops =
     rw (expected_of s.1.1.2, name_of s.1.0 n s.0 s.1.2, noise_eaten (codes "RESTRICT") s.0 rest s.2 stops) refl

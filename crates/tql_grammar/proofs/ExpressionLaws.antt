@@ -1,29 +1,47 @@
 -- Expressions: what is read is spelled, and what is spelled is read.
-use Rattle.std.specs.Prelude.{◌≡◌, refl, ℕ, zero, suc, ◌<◌, ◌≤◌, Bool, true, false, List, [], ◌∷◌, codes, length, Option, Some, None}
+use Rattle.std.specs.Prelude.{◌≡◌, refl, ℕ, zero, suc, ◌<◌, ◌≤◌, Bool, true, false, List, [], ◌∷◌, codes, length}
+use Rattle.std.specs.Prelude.{Option, Some, None}
 use Rattle.std.proofs.Common.{sym, ◌∙◌, ap, subst, arith, inl, inr}
 use Rattle.tql_spec.specs.Expression.{Function, Count, Min, Max}
 use Rattle.tql_spec.specs.Expression as function
 use Rattle.tql_spec.specs.Definition.{Name}
-use Rattle.tql_spec.specs.Token.{Token, Word, QuotedName, Number, Quote, Sign, Open, Close, Dot, PlusSign, MinusSign, Star}
-use Rattle.tql_spec.specs.Syntax.{Named, Sum, Product, MoreTerms, NoTerm, PlusTerm, MinusTerm, Terms, MoreFactors, NoFactor, TimesFactor, Factors, Signed, Unsigned, Positive, Negative, Primary, NumberLiteral, TextLiteral, DateLiteral, TimestampLiteral, ColumnNamed, Enclosed, CountStar, Over}
-use Rattle.tql_spec.specs.Grammar.{Phrase, sign, ◌⨟◌, optional, each, name, named, function_name, date_literal, moment, expr, more_terms, term, more_factors, signed, primary}
-use Rattle.tql_grammar.specs.Outcome.{Outcome, Read, Parser, found, into, is_token, eat, expect, name_at, quote_at, is_name, if_front, more}
+use Rattle.tql_spec.specs.Token.{Token, Word, QuotedName, Number, Quote, Sign, Open, Close, Dot, PlusSign, MinusSign}
+use Rattle.tql_spec.specs.Token.{Star}
+use Rattle.tql_spec.specs.Syntax.{Named, Sum, Product, MoreTerms, NoTerm, PlusTerm, MinusTerm, Terms, MoreFactors}
+use Rattle.tql_spec.specs.Syntax.{NoFactor, TimesFactor, Factors, Signed, Unsigned, Positive, Negative, Primary}
+use Rattle.tql_spec.specs.Syntax.{NumberLiteral, TextLiteral, DateLiteral, TimestampLiteral, ColumnNamed, Enclosed}
+use Rattle.tql_spec.specs.Syntax.{CountStar, Over}
+use Rattle.tql_spec.specs.Grammar.{Phrase, sign, ◌⨟◌, optional, each, name, named, function_name, date_literal}
+use Rattle.tql_spec.specs.Grammar.{moment, expr, more_terms, term, more_factors, signed, primary}
+use Rattle.tql_grammar.specs.Outcome.{Outcome, Read, Parser, found, into, is_token, eat, expect, name_at, quote_at}
+use Rattle.tql_grammar.specs.Outcome.{is_name, if_front, more}
 use Rattle.tql_spec.specs.Parts.{AddedTerm, with_term, terms_of, factors_of}
-use Rattle.tql_grammar.specs.ReadingExpressions.{named_at, simple_at, function_at, inside_over, count_over, aggregate_or_simple, other_primary, primary_over, signed_over, next_factor, term_behind, term_over, next_term, sum_behind, sum_over, sum_from, expr_at, expr_here}
+use Rattle.tql_grammar.specs.ReadingExpressions.{named_at, simple_at, function_at, inside_over, count_over}
+use Rattle.tql_grammar.specs.ReadingExpressions.{aggregate_or_simple, other_primary, primary_over, signed_over}
+use Rattle.tql_grammar.specs.ReadingExpressions.{next_factor, term_behind, term_over, next_term, sum_behind, sum_over}
+use Rattle.tql_grammar.specs.ReadingExpressions.{sum_from, expr_at, expr_here}
 use Rattle.tql_grammar.proofs.Ends.{EndsExpr}
-use Rattle.tql_grammar.proofs.Steps.{then_is, into_is, into_sound, choose, spelled_as, Sound, CompleteBefore, Shortens, Stops, eat_true, eat_false, expect_is, expect_of, expect_then, name_is, name_of, name_shortens, quote_is, quote_of, if_front_is, behind_is, behind_some, behind_none, more_is, more_of}
-use Rattle.tql_grammar.proofs.FirstTokens.{Begins, eat_not, eat_none, at_token, at_name, starts_primary, starts_expr, name_begins_primary, primary_begins_expr, ends_before}
+use Rattle.tql_grammar.proofs.Steps.{then_is, into_is, into_sound, choose, spelled_as, Sound, CompleteBefore}
+use Rattle.tql_grammar.proofs.Steps.{Shortens, Stops, eat_true, eat_false, expect_is, expect_of, expect_then, name_is}
+use Rattle.tql_grammar.proofs.Steps.{name_of, name_shortens, quote_is, quote_of, if_front_is, behind_is, behind_some}
+use Rattle.tql_grammar.proofs.Steps.{behind_none, more_is, more_of}
+use Rattle.tql_grammar.proofs.FirstTokens.{Begins, eat_not, eat_none, at_token, at_name, starts_primary, starts_expr}
+use Rattle.tql_grammar.proofs.FirstTokens.{name_begins_primary, primary_begins_expr, ends_before}
 
 -- ---- steps
 
 -- what was made of what was read
-pub made_is : {A B : Type 0} (P : B → Phrase) (make : A → B) (o : Outcome A) (before : List Token) (y : B) (rest : List Token) → ((x : A) → o ≡ Read x rest → P (make x) before rest) → into make o ≡ Read y rest → P y before rest
+pub made_is : {A B : Type 0} (P : B → Phrase) (make : A
+    → B) (o : Outcome A) (before : List Token) (y : B) (rest : List Token)
+    → ((x : A) → o ≡ Read x rest → P (make x) before rest) → into make o ≡ Read y rest → P y before rest
 made_is P make o before y rest f e =
     let b = into_is make o y rest e in
     subst (λ z. P z before rest) b.2 (f b.0 b.1)
 
 -- a rule behind the token where it is in front, else another rule
-pub front_or : {A : Type 0} (P : A → Phrase) (t : Token) (p q : Parser A) → ((ts mid : List Token) → ts ≡ t ∷ mid → (y : A) (rest : List Token) → p mid ≡ Read y rest → P y ts rest) → Sound P q → Sound P (if_front t p q)
+pub front_or : {A : Type 0} (P : A → Phrase) (t : Token) (p q : Parser A)
+    → ((ts mid : List Token) → ts ≡ t ∷ mid → (y : A) (rest : List Token) → p mid ≡ Read y rest → P y ts rest)
+    → Sound P q → Sound P (if_front t p q)
 front_or P t p q first second ts y rest e =
     elim (if_front_is t p q ts y rest e) [
       | inl a ↦ first ts a.0 a.1 y rest a.2
@@ -31,8 +49,10 @@ front_or P t p q first second ts y rest e =
     ]
 
 -- a token in front that stands for one value, or another rule
-pub found_or : {A : Type 0} (P : A → Phrase) (t : Token) (x : A) (q : Parser A) → ((ts rest : List Token) → ts ≡ t ∷ rest → P x ts rest) → Sound P q → Sound P (if_front t (found x) q)
-found_or P t x q spelled sound = front_or P t (found x) q (λ ts mid is y rest e. spelled_as P ts x y mid rest e (spelled ts mid is)) sound
+pub found_or : {A : Type 0} (P : A → Phrase) (t : Token) (x : A) (q : Parser A)
+    → ((ts rest : List Token) → ts ≡ t ∷ rest → P x ts rest) → Sound P q → Sound P (if_front t (found x) q)
+found_or P t x q spelled sound =
+    front_or P t (found x) q (λ ts mid is y rest e. spelled_as P ts x y mid rest e (spelled ts mid is)) sound
 
 pub found_sound : {A : Type 0} (P : A → Phrase) (x : A) → ((ts : List Token) → P x ts ts) → Sound P (found x)
 found_sound P x spelled ts y rest e = spelled_as P ts x y ts rest e (spelled ts)
@@ -54,15 +74,18 @@ named_sound ts r rest e =
           (ts, refl, subst (λ (us : List Token). name a.0 ts us) (sym (eat_false (Sign Dot) a.1 d.0)) first)
     ]
 
-named_by : (q : Option Name) (n : Name) (ts rest : List Token) → named (record { qualifier = q; name = n }) ts rest → Stops (Sign Dot) rest → named_at ts ≡ Read (record { qualifier = q; name = n }) rest
+named_by : (q : Option Name) (n : Name) (ts rest : List Token) → named (record { qualifier = q; name = n }) ts rest
+    → Stops (Sign Dot) rest → named_at ts ≡ Read (record { qualifier = q; name = n }) rest
 unfolding named_at
 named_by None n ts rest s stops = rw (s.1, name_of s.0 n rest s.2, stops, eat_false (Sign Dot) rest stops) refl
 named_by (Some q) n ts rest s stops = rw (name_of ts q s.1.0 s.1.1, s.1.2, name_of s.0 n rest s.2) refl
 
-pub named_complete : (ts : List Token) (r : Named) (rest : List Token) → named r ts rest → Stops (Sign Dot) rest → named_at ts ≡ Read r rest
+pub named_complete : (ts : List Token) (r : Named) (rest : List Token) → named r ts rest → Stops (Sign Dot) rest
+    → named_at ts ≡ Read r rest
 named_complete ts r rest s stops = named_by r.qualifier r.name ts rest s stops
 
-pub qualifier_within : (q : Option Name) (ts mid : List Token) → optional (λ m. name m ⨟ sign Dot) q ts mid → length mid ≤ length ts
+pub qualifier_within : (q : Option Name) (ts mid : List Token) → optional (λ m. name m ⨟ sign Dot) q ts mid
+    → length mid ≤ length ts
 qualifier_within None ts mid s = omega (arith, ap length s)
 qualifier_within (Some q) ts mid s = let h = name_shortens ts q s.0 s.1 in omega (arith, ap length s.2)
 
@@ -72,7 +95,8 @@ named_shortens ts r rest s =
     let b = name_shortens s.0 r.name rest s.2 in
     omega arith
 
-qualifier_first : (q : Option Name) (n : Name) (ts mid rest : List Token) → optional (λ m. name m ⨟ sign Dot) q ts mid → name n mid rest → Begins is_name ts
+qualifier_first : (q : Option Name) (n : Name) (ts mid rest : List Token)
+    → optional (λ m. name m ⨟ sign Dot) q ts mid → name n mid rest → Begins is_name ts
 qualifier_first None n ts mid rest s name = subst (Begins is_name) (sym s) (at_name n mid rest name)
 qualifier_first (Some q) n ts mid rest s name = at_name q ts s.0 s.1
 
@@ -101,7 +125,8 @@ mutual
       let b = more_terms_within s.0 more rest s.2 in
       omega arith
 
-  more_terms_within : (ts : List Token) (m : MoreTerms) (rest : List Token) → more_terms m ts rest → length rest ≤ length ts
+  more_terms_within : (ts : List Token) (m : MoreTerms) (rest : List Token) → more_terms m ts rest
+      → length rest ≤ length ts
   more_terms_within ts NoTerm rest s = omega (arith, ap length s)
   more_terms_within ts (PlusTerm t more) rest s =
       let a = term_shortens s.1.0 t s.0 s.1.2 in
@@ -118,7 +143,8 @@ mutual
       let b = more_factors_within s.0 more rest s.2 in
       omega arith
 
-  more_factors_within : (ts : List Token) (m : MoreFactors) (rest : List Token) → more_factors m ts rest → length rest ≤ length ts
+  more_factors_within : (ts : List Token) (m : MoreFactors) (rest : List Token) → more_factors m ts rest
+      → length rest ≤ length ts
   more_factors_within ts NoFactor rest s = omega (arith, ap length s)
   more_factors_within ts (TimesFactor f more) rest s =
       let a = signed_shortens s.1.0 f s.0 s.1.2 in
@@ -130,7 +156,8 @@ mutual
   signed_shortens ts (Positive p) rest s = let a = primary_shortens s.0 p rest s.2 in omega (arith, ap length s.1)
   signed_shortens ts (Negative p) rest s = let a = primary_shortens s.0 p rest s.2 in omega (arith, ap length s.1)
 
-  pub primary_shortens : (ts : List Token) (p : Primary) (rest : List Token) → primary p ts rest → length rest < length ts
+  pub primary_shortens : (ts : List Token) (p : Primary) (rest : List Token) → primary p ts rest
+      → length rest < length ts
   primary_shortens ts (NumberLiteral ds) rest s = omega (arith, ap length s)
   primary_shortens ts (TextLiteral t) rest s = omega (arith, ap length s)
   primary_shortens ts (DateLiteral t) rest s = date_shortens ts t rest s
@@ -162,7 +189,8 @@ simple_sound (Quote t ∷ ts) p rest e = spelled_as primary (Quote t ∷ ts) (Te
 simple_sound ts p rest e = made_is primary ColumnNamed (named_at ts) ts p rest (λ r o. named_sound ts r rest o) e
 
 -- the factors as the tree has them
-factors_spelled : (ss : List Signed) (ts rest : List Token) → each (λ s. sign Star ⨟ signed s) ss ts rest → more_factors (factors_of ss) ts rest
+factors_spelled : (ss : List Signed) (ts rest : List Token) → each (λ s. sign Star ⨟ signed s) ss ts rest
+    → more_factors (factors_of ss) ts rest
 factors_spelled [] ts rest s = s
 factors_spelled (f ∷ ss) ts rest s = (s.0, s.1, factors_spelled ss s.0 rest s.2)
 
@@ -174,13 +202,16 @@ added_by false t = sign PlusSign ⨟ term t
 abbrev added_term : AddedTerm → Phrase
 added_term a = added_by a.is_minus a.term
 
-with_spelled : (b : Bool) (t : Product) (m : MoreTerms) (ts rest : List Token) → (added_by b t ⨟ more_terms m) ts rest → more_terms (with_term (record { is_minus = b; term = t }) m) ts rest
+with_spelled : (b : Bool) (t : Product) (m : MoreTerms) (ts rest : List Token)
+    → (added_by b t ⨟ more_terms m) ts rest → more_terms (with_term (record { is_minus = b; term = t }) m) ts rest
 with_spelled true t m ts rest s = s
 with_spelled false t m ts rest s = s
 
-terms_spelled : (as' : List AddedTerm) (ts rest : List Token) → each added_term as' ts rest → more_terms (terms_of as') ts rest
+terms_spelled : (as' : List AddedTerm) (ts rest : List Token) → each added_term as' ts rest
+    → more_terms (terms_of as') ts rest
 terms_spelled [] ts rest s = s
-terms_spelled (a ∷ as') ts rest s = with_spelled a.is_minus a.term (terms_of as') ts rest (s.0, s.1, terms_spelled as' s.0 rest s.2)
+terms_spelled (a ∷ as') ts rest s =
+    with_spelled a.is_minus a.term (terms_of as') ts rest (s.0, s.1, terms_spelled as' s.0 rest s.2)
 
 module _ (inner : Parser Sum) (sound : Sound expr inner) where
   pub inside_sound : Sound (λ e. expr e ⨟ sign Close) (inside_over inner)
@@ -190,12 +221,14 @@ module _ (inner : Parser Sum) (sound : Sound expr inner) where
       let b = expect_then (Sign Close) a.1 _ e rest a.3 in
       spelled_as (λ x. expr x ⨟ sign Close) ts a.0 e b.0 rest b.2 (a.1, sound ts a.0 a.1 a.2, b.1)
 
-  over_sound : (f : Function) (ts mid a : List Token) (p : Primary) (rest : List Token) → function_name f ts mid → mid ≡ Sign Open ∷ a → into (Over f) (inside_over inner a) ≡ Read p rest → primary p ts rest
+  over_sound : (f : Function) (ts mid a : List Token) (p : Primary) (rest : List Token) → function_name f ts mid
+      → mid ≡ Sign Open ∷ a → into (Over f) (inside_over inner a) ≡ Read p rest → primary p ts rest
   over_sound f ts mid a p rest named opened e =
       made_is primary (Over f) (inside_over inner a) ts p rest
       (λ x o. let s = inside_sound a x rest o in (s.0, (a, (mid, named, opened), s.1), s.2)) e
 
-  count_sound : (ts a : List Token) → ts ≡ Word (codes "COUNT") ∷ a → (p : Primary) (rest : List Token) → count_over inner a ≡ Read p rest → primary p ts rest
+  count_sound : (ts a : List Token) → ts ≡ Word (codes "COUNT") ∷ a → (p : Primary) (rest : List Token)
+      → count_over inner a ≡ Read p rest → primary p ts rest
   unfolding count_over
   count_sound ts a count p rest e =
       let b = expect_then (Sign Open) a _ p rest e in
@@ -203,10 +236,12 @@ module _ (inner : Parser Sum) (sound : Sound expr inner) where
       (λ us mid star q vs r same.
       made_is primary (λ _. CountStar) (expect (Sign Close) mid) ts q vs
       (λ u o. (a, count, (mid, (b.0, b.1, sym same ∙ star), expect_is (Sign Close) mid vs u o))) r)
-      (λ us q vs r same. over_sound Count ts a us q vs count (b.1 ∙ ap (λ (ws : List Token). Sign Open ∷ ws) (sym same)) r)
+      (λ us q vs r same. over_sound Count ts a us q vs count (b.1
+      ∙ ap (λ (ws : List Token). Sign Open ∷ ws) (sym same)) r)
       b.0 p rest b.2 refl
 
-  aggregate_sound : (o : Option Function) (ts mid : List Token) (p : Primary) (rest : List Token) → optional function_name o ts mid → aggregate_or_simple inner o mid ≡ Read p rest → primary p ts rest
+  aggregate_sound : (o : Option Function) (ts mid : List Token) (p : Primary) (rest : List Token)
+      → optional function_name o ts mid → aggregate_or_simple inner o mid ≡ Read p rest → primary p ts rest
   aggregate_sound None ts mid p rest f e = subst (λ us. primary p us rest) (sym f) (simple_sound mid p rest e)
   aggregate_sound (Some f) ts mid p rest named e =
       let b = expect_then (Sign Open) mid _ p rest e in
@@ -225,18 +260,22 @@ module _ (inner : Parser Sum) (sound : Sound expr inner) where
       made_is primary Enclosed (inside_over inner mid) ts p rest
       (λ x o. let s = inside_sound mid x rest o in (s.0, (mid, is, s.1), s.2)) e)
       (front_or primary (Word (codes "DATE")) _ _
-      (λ ts mid is p rest e. made_is primary DateLiteral (quote_at mid) ts p rest (λ t o. (mid, is, quote_is mid t rest o)) e)
+      (λ ts mid is p rest e. made_is primary DateLiteral (quote_at mid) ts p rest
+      (λ t o. (mid, is, quote_is mid t rest o)) e)
       (front_or primary (Word (codes "TIMESTAMP")) _ _
-      (λ ts mid is p rest e. made_is primary TimestampLiteral (quote_at mid) ts p rest (λ t o. (mid, is, quote_is mid t rest o)) e)
+      (λ ts mid is p rest e. made_is primary TimestampLiteral (quote_at mid) ts p rest
+      (λ t o. (mid, is, quote_is mid t rest o)) e)
       (front_or primary (Word (codes "COUNT")) _ _ count_sound other_sound)))
 
   pub signed_sound : Sound signed (signed_over inner)
   unfolding signed_over
   signed_sound =
       front_or signed (Sign PlusSign) _ _
-      (λ ts mid is f rest e. made_is signed Positive (primary_over inner mid) ts f rest (λ p o. (mid, is, primary_sound mid p rest o)) e)
+      (λ ts mid is f rest e. made_is signed Positive (primary_over inner mid) ts f rest
+      (λ p o. (mid, is, primary_sound mid p rest o)) e)
       (front_or signed (Sign MinusSign) _ _
-      (λ ts mid is f rest e. made_is signed Negative (primary_over inner mid) ts f rest (λ p o. (mid, is, primary_sound mid p rest o)) e)
+      (λ ts mid is f rest e. made_is signed Negative (primary_over inner mid) ts f rest
+      (λ p o. (mid, is, primary_sound mid p rest o)) e)
       (into_sound signed Unsigned (primary_over inner) primary_sound))
 
   next_factor_sound : Sound (optional (λ s. sign Star ⨟ signed s)) (next_factor inner)
@@ -244,11 +283,17 @@ module _ (inner : Parser Sum) (sound : Sound expr inner) where
   next_factor_sound = behind_is (Sign Star) signed (signed_over inner) signed_sound
 
   -- the term that begins with this factor
-  term_behind_sound : (f : Signed) (before ts : List Token) (t : Product) (rest : List Token) → signed f before ts → term_behind inner f ts ≡ Read t rest → term t before rest
+  term_behind_sound : (f : Signed) (before ts : List Token) (t : Product) (rest : List Token) → signed f before ts
+      → term_behind inner f ts ≡ Read t rest → term t before rest
   unfolding term_behind
   term_behind_sound f before ts t rest first e =
       made_is term (λ ss. Factors f (factors_of ss)) (more (next_factor inner) [] ts) before t rest
-      (λ ss o. (ts, first, factors_spelled ss ts rest (more_is (λ s. sign Star ⨟ signed s) (next_factor inner) next_factor_sound ts ss rest o))) e
+      (λ ss o. (
+        ts,
+        first,
+        factors_spelled ss ts rest
+            (more_is (λ s. sign Star ⨟ signed s) (next_factor inner) next_factor_sound ts ss rest o),
+      )) e
 
   term_sound : Sound term (term_over inner)
   unfolding term_over
@@ -270,11 +315,17 @@ module _ (inner : Parser Sum) (sound : Sound expr inner) where
       (found_sound (optional added_term) None (λ ts. refl)))
 
   -- the expression that begins with this term
-  sum_behind_sound : (t : Product) (before ts : List Token) (e : Sum) (rest : List Token) → term t before ts → sum_behind inner t ts ≡ Read e rest → expr e before rest
+  sum_behind_sound : (t : Product) (before ts : List Token) (e : Sum) (rest : List Token) → term t before ts
+      → sum_behind inner t ts ≡ Read e rest → expr e before rest
   unfolding sum_behind
   sum_behind_sound t before ts e rest first r =
       made_is expr (λ added. Terms t (terms_of added)) (more (next_term inner) [] ts) before e rest
-      (λ added o. (ts, first, terms_spelled added ts rest (more_is added_term (next_term inner) next_term_sound ts added rest o))) r
+      (λ added o. (
+        ts,
+        first,
+        terms_spelled added ts rest
+            (more_is added_term (next_term inner) next_term_sound ts added rest o),
+      )) r
 
   pub sum_sound : Sound expr (sum_over inner)
   unfolding sum_over
@@ -283,7 +334,8 @@ module _ (inner : Parser Sum) (sound : Sound expr inner) where
       sum_behind_sound a.0 ts a.1 e rest (term_sound ts a.0 a.1 a.2) a.3
 
   -- the expression that begins with this primary
-  pub sum_from_sound : (p : Primary) (before ts : List Token) (e : Sum) (rest : List Token) → primary p before ts → sum_from inner p ts ≡ Read e rest → expr e before rest
+  pub sum_from_sound : (p : Primary) (before ts : List Token) (e : Sum) (rest : List Token) → primary p before ts
+      → sum_from inner p ts ≡ Read e rest → expr e before rest
   unfolding sum_from
   sum_from_sound p before ts e rest first r =
       let a = then_is (term_behind inner (Unsigned p) ts) _ e rest r in
@@ -346,13 +398,15 @@ at_expr (Terms t more) ts rest s = at_term t ts s.0 s.1
 
 -- what is spelled so by at most n tokens, before a rest like this, is what the rule reads
 abbrev pub ReadsWithin : {A : Type 0} → ℕ → (List Token → Type 0) → (A → Phrase) → Parser A → Type 0
-ReadsWithin {A} n Ends P p = (ts : List Token) (x : A) (rest : List Token) → length ts ≤ n → P x ts rest → Ends rest → p ts ≡ Read x rest
+ReadsWithin {A} n Ends P p = (ts : List Token) (x : A) (rest : List Token) → length ts ≤ n → P x ts rest → Ends rest
+    → p ts ≡ Read x rest
 
 -- a phrase of at most n tokens
 abbrev pub within : {A : Type 0} → ℕ → (A → Phrase) → A → Phrase
 within n P x ts rest = (length ts ≤ n) × P x ts rest
 
-pub each_within : {A : Type 0} (n : ℕ) (P : A → Phrase) → Shortens P → (xs : List A) (ts rest : List Token) → length ts ≤ n → each P xs ts rest → each (within n P) xs ts rest
+pub each_within : {A : Type 0} (n : ℕ) (P : A → Phrase) → Shortens P → (xs : List A) (ts rest : List Token)
+    → length ts ≤ n → each P xs ts rest → each (within n P) xs ts rest
 each_within n P shortens [] ts rest fuel s = s
 each_within n P shortens (x ∷ xs) ts rest fuel s =
     let h = shortens ts x s.0 s.1 in
@@ -360,9 +414,11 @@ each_within n P shortens (x ∷ xs) ts rest fuel s =
 
 -- as many as there are, where each is read that takes at most n tokens
 pub more_within : {A : Type 0} (n : ℕ) (P : A → Phrase) (step : Parser (Option A)) (Mid : List Token → Type 0)
-    → ((ts : List Token) (y : A) (rest : List Token) → length ts ≤ n → P y ts rest → Mid rest → step ts ≡ Read (Some y) rest)
+    → ((ts : List Token) (y : A) (rest : List Token) → length ts ≤ n → P y ts rest → Mid rest
+    → step ts ≡ Read (Some y) rest)
     → ((ts : List Token) (y : A) (rest : List Token) → P y ts rest → Mid ts)
-    → Shortens P → (ts : List Token) (ys : List A) (rest : List Token) → length ts ≤ n → each P ys ts rest → Mid rest → step rest ≡ Read None rest
+    → Shortens P → (ts : List Token) (ys : List A) (rest : List Token) → length ts ≤ n → each P ys ts rest → Mid rest
+    → step rest ≡ Read None rest
     → more step [] ts ≡ Read ys rest
 more_within n P step Mid one front shortens ts ys rest fuel s ends stops =
     more_of (within n P) step Mid (λ us y vs w known. one us y vs w.0 w.1 known) (λ us y vs w. front us y vs w.1)
@@ -374,7 +430,8 @@ pub record EndsTerm (rest : List Token) : Type 0 where
   pub star : Stops (Sign Star) rest
 
 -- a term ends before a token that is neither a dot nor a star
-ends_term : (u : Token) (ts rest : List Token) → is_token (Sign Dot) u ≡ false → is_token (Sign Star) u ≡ false → ts ≡ u ∷ rest → EndsTerm ts
+ends_term : (u : Token) (ts rest : List Token) → is_token (Sign Dot) u ≡ false → is_token (Sign Star) u ≡ false
+    → ts ≡ u ∷ rest → EndsTerm ts
 ends_term u ts rest dot star is = rw is (record { dot = rw dot refl; star = rw star refl })
 
 stops_dot : (u : Token) (ts rest : List Token) → is_token (Sign Dot) u ≡ false → ts ≡ u ∷ rest → Stops (Sign Dot) ts
@@ -389,7 +446,8 @@ factors_back : (m : MoreFactors) → factors_of (factor_list m) ≡ m
 factors_back NoFactor = refl
 factors_back (TimesFactor f more) = ap (TimesFactor f) (factors_back more)
 
-factors_each : (m : MoreFactors) (ts rest : List Token) → more_factors m ts rest → each (λ s. sign Star ⨟ signed s) (factor_list m) ts rest
+factors_each : (m : MoreFactors) (ts rest : List Token) → more_factors m ts rest
+    → each (λ s. sign Star ⨟ signed s) (factor_list m) ts rest
 factors_each NoFactor ts rest s = s
 factors_each (TimesFactor f more) ts rest s = (s.0, s.1, factors_each more s.0 rest s.2)
 
@@ -430,7 +488,8 @@ term_end (PlusTerm t more) ts rest s ends = ends_term (Sign PlusSign) ts s.1.0 r
 term_end (MinusTerm t more) ts rest s ends = ends_term (Sign MinusSign) ts s.1.0 refl refl s.1.1
 
 -- what stands behind a factor
-pub factor_end : (m : MoreFactors) (ts rest : List Token) → more_factors m ts rest → Stops (Sign Dot) rest → Stops (Sign Dot) ts
+pub factor_end : (m : MoreFactors) (ts rest : List Token) → more_factors m ts rest → Stops (Sign Dot) rest
+    → Stops (Sign Dot) ts
 factor_end NoFactor ts rest s stops = subst (Stops (Sign Dot)) (sym s) stops
 factor_end (TimesFactor f more) ts rest s stops = stops_dot (Sign Star) ts s.1.0 refl s.1.1
 
@@ -439,7 +498,8 @@ name_at_front : (ts : List Token) → Begins is_name ts → simple_at ts ≡ int
 unfolding simple_at
 name_at_front ts b = rw b.is (simple_of b.first b.others b.passes)
   where
-    simple_of : (u : Token) (us : List Token) → is_name u ≡ true → simple_at (u ∷ us) ≡ into ColumnNamed (named_at (u ∷ us))
+    simple_of : (u : Token) (us : List Token) → is_name u ≡ true
+        → simple_at (u ∷ us) ≡ into ColumnNamed (named_at (u ∷ us))
     simple_of (Word w) us e = refl
     simple_of (QuotedName n) us e = refl
     simple_of _ us e = absurd cc
@@ -457,12 +517,18 @@ behind_token : (n : ℕ) (u : Token) (ts mid : List Token) → length ts ≤ suc
 behind_token n u ts mid fuel is = omega (arith, ap length is)
 
 module _ (n : ℕ) (inner : Parser Sum) (reads : ReadsWithin n EndsExpr expr inner) where
-  pub inside_of : (ts : List Token) (e : Sum) (mid rest : List Token) → length ts ≤ n → expr e ts mid → mid ≡ Sign Close ∷ rest → inside_over inner ts ≡ Read e rest
+  pub inside_of : (ts : List Token) (e : Sum) (mid rest : List Token) → length ts ≤ n → expr e ts mid
+      → mid ≡ Sign Close ∷ rest → inside_over inner ts ≡ Read e rest
   unfolding inside_over
   inside_of ts e mid rest fuel s close =
-      rw (reads ts e mid fuel s (ends_before (Sign Close) mid rest refl close), expect_of (Sign Close) mid rest close) refl
+      rw (
+        reads ts e mid fuel s (ends_before (Sign Close) mid rest refl close),
+        expect_of (Sign Close) mid rest
+            close,
+      ) refl
 
-  named_primary_of : (ts : List Token) (r : Named) (rest : List Token) → named r ts rest → Stops (Sign Dot) rest → primary_over inner ts ≡ Read (ColumnNamed r) rest
+  named_primary_of : (ts : List Token) (r : Named) (rest : List Token) → named r ts rest → Stops (Sign Dot) rest
+      → primary_over inner ts ≡ Read (ColumnNamed r) rest
   unfolding primary_over
   named_primary_of ts r rest s stops =
       let b = at_named r ts rest s in
@@ -477,7 +543,8 @@ module _ (n : ℕ) (inner : Parser Sum) (reads : ReadsWithin n EndsExpr expr inn
       ) refl
 
   -- behind COUNT and `(` an expression is read
-  count_of : (a b : List Token) (e : Sum) (mid rest : List Token) → length b ≤ n → a ≡ Sign Open ∷ b → expr e b mid → mid ≡ Sign Close ∷ rest → count_over inner a ≡ Read (Over Count e) rest
+  count_of : (a b : List Token) (e : Sum) (mid rest : List Token) → length b ≤ n → a ≡ Sign Open ∷ b → expr e b mid
+      → mid ≡ Sign Close ∷ rest → count_over inner a ≡ Read (Over Count e) rest
   unfolding count_over
   count_of a b e mid rest fuel opened s close =
       rw (
@@ -486,12 +553,18 @@ module _ (n : ℕ) (inner : Parser Sum) (reads : ReadsWithin n EndsExpr expr inn
         inside_of b e mid rest fuel s close,
       ) refl
 
-  over_of : (f : Function) (ts a b : List Token) (e : Sum) (mid rest : List Token) → length b ≤ n → function_name f ts a → a ≡ Sign Open ∷ b → expr e b mid → mid ≡ Sign Close ∷ rest → primary_over inner ts ≡ Read (Over f e) rest
+  over_of : (f : Function) (ts a b : List Token) (e : Sum) (mid rest : List Token) → length b ≤ n
+      → function_name f ts a → a ≡ Sign Open ∷ b → expr e b mid → mid ≡ Sign Close ∷ rest
+      → primary_over inner ts ≡ Read (Over f e) rest
   unfolding primary_over
-  over_of Count ts a b e mid rest fuel named opened s close = rw (named, count_of a b e mid rest fuel opened s close) refl
-  over_of function.Sum ts a b e mid rest fuel named opened s close = rw (named, expect_of (Sign Open) a b opened, inside_of b e mid rest fuel s close) refl
-  over_of Min ts a b e mid rest fuel named opened s close = rw (named, expect_of (Sign Open) a b opened, inside_of b e mid rest fuel s close) refl
-  over_of Max ts a b e mid rest fuel named opened s close = rw (named, expect_of (Sign Open) a b opened, inside_of b e mid rest fuel s close) refl
+  over_of Count ts a b e mid rest fuel named opened s close =
+      rw (named, count_of a b e mid rest fuel opened s close) refl
+  over_of function.Sum ts a b e mid rest fuel named opened s close =
+      rw (named, expect_of (Sign Open) a b opened, inside_of b e mid rest fuel s close) refl
+  over_of Min ts a b e mid rest fuel named opened s close =
+      rw (named, expect_of (Sign Open) a b opened, inside_of b e mid rest fuel s close) refl
+  over_of Max ts a b e mid rest fuel named opened s close =
+      rw (named, expect_of (Sign Open) a b opened, inside_of b e mid rest fuel s close) refl
 
   pub primary_of : ReadsWithin (suc n) (Stops (Sign Dot)) primary (primary_over inner)
   unfolding primary_over simple_at count_over
@@ -508,7 +581,8 @@ module _ (n : ℕ) (inner : Parser Sum) (reads : ReadsWithin n EndsExpr expr inn
       let h = function_shortens ts f s.1.1.0 s.1.1.1 in
       over_of f ts s.1.1.0 s.1.0 e s.0 rest (omega (arith, ap length s.1.1.2)) s.1.1.1 s.1.1.2 s.1.2 s.2
 
-  unsigned_of : (ts : List Token) (p : Primary) (rest : List Token) → length ts ≤ suc n → primary p ts rest → Stops (Sign Dot) rest → signed_over inner ts ≡ Read (Unsigned p) rest
+  unsigned_of : (ts : List Token) (p : Primary) (rest : List Token) → length ts ≤ suc n → primary p ts rest
+      → Stops (Sign Dot) rest → signed_over inner ts ≡ Read (Unsigned p) rest
   unfolding signed_over
   unsigned_of ts p rest fuel s stops =
       let b = at_primary p ts rest s in
@@ -528,7 +602,8 @@ module _ (n : ℕ) (inner : Parser Sum) (reads : ReadsWithin n EndsExpr expr inn
       let h : length s.0 ≤ suc n = omega (arith, ap length s.1) in
       rw (s.1, primary_of s.0 p rest h s.2 stops) refl
 
-  next_factor_of : (ts : List Token) (f : Signed) (rest : List Token) → length ts ≤ suc n → (sign Star ⨟ signed f) ts rest → Stops (Sign Dot) rest → next_factor inner ts ≡ Read (Some f) rest
+  next_factor_of : (ts : List Token) (f : Signed) (rest : List Token) → length ts ≤ suc n
+      → (sign Star ⨟ signed f) ts rest → Stops (Sign Dot) rest → next_factor inner ts ≡ Read (Some f) rest
   unfolding next_factor
   next_factor_of ts f rest fuel s stops =
       let h : length s.0 ≤ suc n = omega (arith, ap length s.1) in
@@ -538,12 +613,15 @@ module _ (n : ℕ) (inner : Parser Sum) (reads : ReadsWithin n EndsExpr expr inn
   unfolding next_factor
   no_factor ts stops = behind_none (Sign Star) (signed_over inner) ts stops
 
-  more_factors_of : (ts : List Token) (m : MoreFactors) (rest : List Token) → length ts ≤ suc n → more_factors m ts rest → EndsTerm rest → more (next_factor inner) [] ts ≡ Read (factor_list m) rest
+  more_factors_of : (ts : List Token) (m : MoreFactors) (rest : List Token) → length ts ≤ suc n
+      → more_factors m ts rest → EndsTerm rest → more (next_factor inner) [] ts ≡ Read (factor_list m) rest
   more_factors_of ts m rest fuel s ends =
       more_within (suc n) (λ f. sign Star ⨟ signed f) (next_factor inner) (Stops (Sign Dot)) next_factor_of
-      (λ us f vs w. stops_dot (Sign Star) us w.0 refl w.1) factor_shortens ts (factor_list m) rest fuel (factors_each m ts rest s) ends.dot (no_factor rest ends.star)
+      (λ us f vs w. stops_dot (Sign Star) us w.0 refl w.1) factor_shortens ts (factor_list m) rest fuel
+      (factors_each m ts rest s) ends.dot (no_factor rest ends.star)
 
-  term_behind_of : (f : Signed) (ts : List Token) (m : MoreFactors) (rest : List Token) → length ts ≤ suc n → more_factors m ts rest → EndsTerm rest → term_behind inner f ts ≡ Read (Factors f m) rest
+  term_behind_of : (f : Signed) (ts : List Token) (m : MoreFactors) (rest : List Token) → length ts ≤ suc n
+      → more_factors m ts rest → EndsTerm rest → term_behind inner f ts ≡ Read (Factors f m) rest
   unfolding term_behind
   term_behind_of f ts m rest fuel s ends =
       rw (more_factors_of ts m rest fuel s ends) (ap (λ (l : MoreFactors). Read (Factors f l) rest) (factors_back m))
@@ -552,9 +630,11 @@ module _ (n : ℕ) (inner : Parser Sum) (reads : ReadsWithin n EndsExpr expr inn
   unfolding term_over
   term_of ts (Factors f m) rest fuel s ends =
       let h = signed_shortens ts f s.0 s.1 in
-      rw (signed_of ts f s.0 fuel s.1 (factor_end m s.0 rest s.2 ends.dot)) (term_behind_of f s.0 m rest (omega arith) s.2 ends)
+      rw (signed_of ts f s.0 fuel s.1 (factor_end m s.0 rest s.2 ends.dot))
+      (term_behind_of f s.0 m rest (omega arith) s.2 ends)
 
-  added_of : (b : Bool) (t : Product) (ts rest : List Token) → length ts ≤ suc n → added_by b t ts rest → EndsTerm rest → next_term inner ts ≡ Read (Some (record { is_minus = b; term = t })) rest
+  added_of : (b : Bool) (t : Product) (ts rest : List Token) → length ts ≤ suc n → added_by b t ts rest
+      → EndsTerm rest → next_term inner ts ≡ Read (Some (record { is_minus = b; term = t })) rest
   unfolding next_term
   added_of true t ts rest fuel s ends =
       let h : length s.0 ≤ suc n = omega (arith, ap length s.1) in
@@ -567,13 +647,17 @@ module _ (n : ℕ) (inner : Parser Sum) (reads : ReadsWithin n EndsExpr expr inn
   unfolding next_term
   no_term ts ends = rw (eat_not (Sign PlusSign) ts ends.plus, eat_not (Sign MinusSign) ts ends.minus) refl
 
-  more_terms_of : (ts : List Token) (m : MoreTerms) (rest : List Token) → length ts ≤ suc n → more_terms m ts rest → EndsExpr rest → more (next_term inner) [] ts ≡ Read (term_list m) rest
+  more_terms_of : (ts : List Token) (m : MoreTerms) (rest : List Token) → length ts ≤ suc n → more_terms m ts rest
+      → EndsExpr rest → more (next_term inner) [] ts ≡ Read (term_list m) rest
   more_terms_of ts m rest fuel s ends =
-      more_within (suc n) added_term (next_term inner) EndsTerm (λ us a vs h w known. added_of a.is_minus a.term us vs h w known)
-      (λ us a vs w. added_front a.is_minus a.term us vs w) added_shortens ts (term_list m) rest fuel (terms_each m ts rest s)
+      more_within (suc n) added_term (next_term inner) EndsTerm
+      (λ us a vs h w known. added_of a.is_minus a.term us vs h w known)
+      (λ us a vs w. added_front a.is_minus a.term us vs w) added_shortens ts (term_list m) rest fuel
+      (terms_each m ts rest s)
       (record { dot = ends.dot; star = ends.star }) (no_term rest ends)
 
-  sum_behind_of : (t : Product) (ts : List Token) (m : MoreTerms) (rest : List Token) → length ts ≤ suc n → more_terms m ts rest → EndsExpr rest → sum_behind inner t ts ≡ Read (Terms t m) rest
+  sum_behind_of : (t : Product) (ts : List Token) (m : MoreTerms) (rest : List Token) → length ts ≤ suc n
+      → more_terms m ts rest → EndsExpr rest → sum_behind inner t ts ≡ Read (Terms t m) rest
   unfolding sum_behind
   sum_behind_of t ts m rest fuel s ends =
       rw (more_terms_of ts m rest fuel s ends) (ap (λ (l : MoreTerms). Read (Terms t l) rest) (terms_back m))
@@ -585,11 +669,14 @@ module _ (n : ℕ) (inner : Parser Sum) (reads : ReadsWithin n EndsExpr expr inn
       rw (term_of ts t s.0 fuel s.1 (term_end m s.0 rest s.2 ends)) (sum_behind_of t s.0 m rest (omega arith) s.2 ends)
 
   -- the expression that begins with this primary, where that is read
-  pub sum_from_of : (p : Primary) (fs : MoreFactors) (m : MoreTerms) (ts mid rest : List Token) → length ts ≤ suc n → more_factors fs ts mid → more_terms m mid rest → EndsExpr rest → sum_from inner p ts ≡ Read (Terms (Factors (Unsigned p) fs) m) rest
+  pub sum_from_of : (p : Primary) (fs : MoreFactors) (m : MoreTerms) (ts mid rest : List Token) → length ts ≤ suc n
+      → more_factors fs ts mid → more_terms m mid rest → EndsExpr rest
+      → sum_from inner p ts ≡ Read (Terms (Factors (Unsigned p) fs) m) rest
   unfolding sum_from
   sum_from_of p fs m ts mid rest fuel s t ends =
       let h = more_factors_within ts fs mid s in
-      rw (term_behind_of (Unsigned p) ts fs mid fuel s (term_end m mid rest t ends)) (sum_behind_of (Factors (Unsigned p) fs) mid m rest (omega arith) t ends)
+      rw (term_behind_of (Unsigned p) ts fs mid fuel s (term_end m mid rest t ends))
+      (sum_behind_of (Factors (Unsigned p) fs) mid m rest (omega arith) t ends)
 
 pub expr_at_of : (n : ℕ) → ReadsWithin n EndsExpr expr (expr_at n)
 unfolding expr_at

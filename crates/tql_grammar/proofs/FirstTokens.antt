@@ -36,7 +36,8 @@ eat_not t ts stops = pair_is (eat t ts) ts stops (eat_false t ts stops)
     pair_is p us a b = rw (← a, ← b) refl
 
 -- nothing is eaten by a token that fails the test
-pub eat_none : (test : Token → Bool) (t : Token) (ts : List Token) → test t ≡ false → Begins test ts → eat t ts ≡ (false, ts)
+pub eat_none : (test : Token → Bool) (t : Token) (ts : List Token) → test t ≡ false → Begins test ts
+    → eat t ts ≡ (false, ts)
 eat_none test t ts fails b = eat_not t ts (stops_at test t ts fails b)
 
 -- the first token, by itself
@@ -77,15 +78,26 @@ name_starts opens (QuotedName n) e = refl
 name_starts opens _ e = absurd cc
 
 pub name_begins_primary : (opens : Bool) (ts : List Token) → Begins is_name ts → Begins (starts_primary opens) ts
-name_begins_primary opens ts b = record { first = b.first; others = b.others; is = b.is; passes = name_starts opens b.first b.passes }
+name_begins_primary opens ts b = record {
+  first = b.first;
+  others = b.others;
+  is = b.is;
+  passes = name_starts opens b.first b.passes;
+}
 
 primary_starts : (opens : Bool) (u : Token) → starts_primary opens u ≡ true → starts_expr opens u ≡ true
 primary_starts opens (Sign PlusSign) e = refl
 primary_starts opens (Sign MinusSign) e = refl
 primary_starts opens _ e = e
 
-pub primary_begins_expr : (opens : Bool) (ts : List Token) → Begins (starts_primary opens) ts → Begins (starts_expr opens) ts
-primary_begins_expr opens ts b = record { first = b.first; others = b.others; is = b.is; passes = primary_starts opens b.first b.passes }
+pub primary_begins_expr : (opens : Bool) (ts : List Token) → Begins (starts_primary opens) ts
+    → Begins (starts_expr opens) ts
+primary_begins_expr opens ts b = record {
+  first = b.first;
+  others = b.others;
+  is = b.is;
+  passes = primary_starts opens b.first b.passes;
+}
 
 -- whether a token ends an expression that stands before it
 abbrev pub ends_expr : Token → Bool

@@ -3,35 +3,47 @@ use Rattle.std.specs.Prelude.{◌≡◌, refl, Bool, false, ◌||◌, List, ◌�
 use Rattle.std.proofs.Common.{sym, ◌∙◌, subst, inl, inr}
 use Rattle.tql_spec.specs.Definition.{Name}
 use Rattle.tql_spec.specs.Token.{Token, Word, Sign, Dot, Star, PlusSign, MinusSign}
-use Rattle.tql_spec.specs.Syntax.{Condition, SpanTree, NoSpan, AsOfTree, FromToTree, BetweenTree, RefTree, JoinTree, InnerJoin, LeftJoin, CrossJoin, ChainTree}
+use Rattle.tql_spec.specs.Syntax.{Condition, SpanTree, NoSpan, AsOfTree, FromToTree, BetweenTree, RefTree, JoinTree}
+use Rattle.tql_spec.specs.Syntax.{InnerJoin, LeftJoin, CrossJoin, ChainTree}
 use Rattle.tql_spec.specs.Grammar.{Phrase, key, ◌⨟◌, maybe, optional, name, condition, span, alias, ref, join, chain}
 use Rattle.tql_grammar.specs.Outcome.{Read, begins_name, eat}
-use Rattle.tql_grammar.specs.ReadingStatements.{from_to_at, between_at, span_behind, span_at, name_or_none, alias_at, ref_at, joined_on_at, inner_at, left_at, cross_at, next_join, chain_at}
+use Rattle.tql_grammar.specs.ReadingStatements.{from_to_at, between_at, span_behind, span_at, name_or_none, alias_at}
+use Rattle.tql_grammar.specs.ReadingStatements.{ref_at, joined_on_at, inner_at, left_at, cross_at, next_join}
+use Rattle.tql_grammar.specs.ReadingStatements.{chain_at}
 use Rattle.tql_grammar.proofs.Ends.{EndsCondition}
 use Rattle.tql_grammar.proofs.ConditionLaws.{condition_sound, condition_complete}
 use Rattle.tql_grammar.proofs.Lengths.{takes_join, shortens}
 use Rattle.tql_grammar.proofs.WordLaws.{noise_spelled, noise_eaten, moment_sound, moment_complete}
-use Rattle.tql_grammar.proofs.Steps.{Sound, CompleteBefore, Stops, and_then, into_is, choose, spelled, eat_false, expected, expected_of, name_is, name_of, name_begins, name_no_word, front_is, option_is, more_is, more_of, each_front, neither}
+use Rattle.tql_grammar.proofs.Steps.{Sound, CompleteBefore, Stops, and_then, into_is, choose, spelled, eat_false}
+use Rattle.tql_grammar.proofs.Steps.{expected, expected_of, name_is, name_of, name_begins, name_no_word, front_is}
+use Rattle.tql_grammar.proofs.Steps.{option_is, more_is, more_of, each_front, neither}
 
 -- ---- FOR SYSTEM_TIME
 
-from_to_sound : (ts us : List Token) (s : SpanTree) (rest : List Token) → (key (codes "FOR") ⨟ key (codes "SYSTEM_TIME") ⨟ key (codes "FROM")) ts us → from_to_at us ≡ Read s rest → span s ts rest
+from_to_sound : (ts us : List Token) (s : SpanTree) (rest : List Token)
+    → (key (codes "FOR") ⨟ key (codes "SYSTEM_TIME") ⨟ key (codes "FROM")) ts us → from_to_at us ≡ Read s rest
+    → span s ts rest
 unfolding from_to_at
 from_to_sound ts us s rest head e =
     let a = and_then e in
     let to = expected _ a.3 in
     let b = into_is (FromToTree a.0) _ s rest to.2 in
-    subst (λ (t : SpanTree). span t ts rest) b.2 (to.0, (a.1, (us, head, moment_sound _ _ _ a.2), to.1), moment_sound _ _ _ b.1)
+    subst (λ (t : SpanTree). span t ts rest) b.2
+    (to.0, (a.1, (us, head, moment_sound _ _ _ a.2), to.1), moment_sound _ _ _ b.1)
 
-between_sound : (ts us : List Token) (s : SpanTree) (rest : List Token) → (key (codes "FOR") ⨟ key (codes "SYSTEM_TIME") ⨟ key (codes "BETWEEN")) ts us → between_at us ≡ Read s rest → span s ts rest
+between_sound : (ts us : List Token) (s : SpanTree) (rest : List Token)
+    → (key (codes "FOR") ⨟ key (codes "SYSTEM_TIME") ⨟ key (codes "BETWEEN")) ts us → between_at us ≡ Read s rest
+    → span s ts rest
 unfolding between_at
 between_sound ts us s rest head e =
     let a = and_then e in
     let to = expected _ a.3 in
     let b = into_is (BetweenTree a.0) _ s rest to.2 in
-    subst (λ (t : SpanTree). span t ts rest) b.2 (to.0, (a.1, (us, head, moment_sound _ _ _ a.2), to.1), moment_sound _ _ _ b.1)
+    subst (λ (t : SpanTree). span t ts rest) b.2
+    (to.0, (a.1, (us, head, moment_sound _ _ _ a.2), to.1), moment_sound _ _ _ b.1)
 
-span_behind_sound : (ts us : List Token) (s : SpanTree) (rest : List Token) → ts ≡ Word (codes "FOR") ∷ us → span_behind us ≡ Read s rest → span s ts rest
+span_behind_sound : (ts us : List Token) (s : SpanTree) (rest : List Token) → ts ≡ Word (codes "FOR") ∷ us
+    → span_behind us ≡ Read s rest → span s ts rest
 unfolding span_behind
 span_behind_sound ts us s rest word e =
     let system = expected _ e in
@@ -44,7 +56,8 @@ span_behind_sound ts us s rest word e =
       | inr a ↦
           elim (front_is (Word (codes "FROM")) system.0 (rw a.0 at a.1)) [
             | inl b ↦ from_to_sound ts _ s rest (system.0, head, b.0) b.1
-            | inr b ↦ let between = expected _ (rw b.0 at b.1) in between_sound ts between.0 s rest (system.0, head, between.1) between.2
+            | inr b ↦ let between =
+                expected _ (rw b.0 at b.1) in between_sound ts between.0 s rest (system.0, head, between.1) between.2
           ]
     ]
 
@@ -64,7 +77,14 @@ span_complete ts (AsOfTree m) rest s stops =
     rw (words.1.1, expected_of words.1.2, words.2, expected_of s.1.2, moment_complete s.0 m rest s.2) refl
 span_complete ts (FromToTree a b) rest s stops =
     let words = s.1.1.1 in
-    rw (words.1.1, expected_of words.1.2, words.2, moment_complete s.1.1.0 a s.1.0 s.1.1.2, expected_of s.1.2, moment_complete s.0 b rest s.2) refl
+    rw (
+      words.1.1,
+      expected_of words.1.2,
+      words.2,
+      moment_complete s.1.1.0 a s.1.0 s.1.1.2,
+      expected_of s.1.2,
+      moment_complete s.0 b rest s.2,
+    ) refl
 span_complete ts (BetweenTree a b) rest s stops =
     let words = s.1.1.1 in
     rw (
@@ -114,7 +134,8 @@ alias_complete ts (Some n) rest s ends =
     ]
 
 -- FOR is not in front of another name, nor of none where it isn't in front of the rest
-alias_no_for : (ts : List Token) (n : Option Name) (rest : List Token) → optional alias n ts rest → Stops (Word (codes "FOR")) rest → Stops (Word (codes "FOR")) ts
+alias_no_for : (ts : List Token) (n : Option Name) (rest : List Token) → optional alias n ts rest
+    → Stops (Word (codes "FOR")) rest → Stops (Word (codes "FOR")) ts
 alias_no_for ts None rest s stops = rw s stops
 alias_no_for ts (Some n) rest s stops =
     elim s.1 [
@@ -129,8 +150,13 @@ unfolding ref_at
 ref_sound ts r rest e =
     let t = and_then e in
     let s = and_then t.3 in
-    let n = into_is (λ (a : Option Name). let made : RefTree = record { table = t.0; span = s.0; alias = a } in made) _ r rest s.3 in
-    subst (λ (x : RefTree). ref x ts rest) n.2 (s.1, (t.1, name_is _ _ _ t.2, span_sound _ _ _ s.2), alias_sound _ _ _ n.1)
+    let n = into_is (λ (a : Option Name). let made : RefTree = record {
+      table = t.0;
+      span = s.0;
+      alias = a;
+    } in made) _ r rest s.3 in
+    subst (λ (x : RefTree). ref x ts rest) n.2
+    (s.1, (t.1, name_is _ _ _ t.2, span_sound _ _ _ s.2), alias_sound _ _ _ n.1)
 
 -- what has to be known of the tokens behind a reference
 pub record EndsRef (rest : List Token) : Type 0 where
@@ -149,13 +175,16 @@ ref_complete ts r rest s ends =
 -- ---- joins
 
 -- a join with its condition, behind its words
-record TookJoin (make : RefTree → Condition → JoinTree) (head : Phrase) (j : JoinTree) (ts rest : List Token) : Type 0 where
+record TookJoin (make : RefTree → Condition
+    → JoinTree) (head : Phrase) (j : JoinTree) (ts rest : List Token) : Type 0 where
   reference : RefTree
   on : Condition
   is : make reference on ≡ j
   spelled : (head ⨟ ref reference ⨟ key (codes "ON") ⨟ condition on) ts rest
 
-joined_sound : (make : RefTree → Condition → JoinTree) (head : Phrase) (ts us : List Token) (j : JoinTree) (rest : List Token) → head ts us → joined_on_at make us ≡ Read j rest → TookJoin make head j ts rest
+joined_sound : (make : RefTree → Condition
+    → JoinTree) (head : Phrase) (ts us : List Token) (j : JoinTree) (rest : List Token) → head ts us
+    → joined_on_at make us ≡ Read j rest → TookJoin make head j ts rest
 unfolding joined_on_at
 joined_sound make head ts us j rest h e =
     let r = and_then e in
@@ -172,7 +201,10 @@ joined_sound make head ts us j rest h e =
 ref_ends_on : (ts rest : List Token) → ts ≡ Word (codes "ON") ∷ rest → EndsRef ts
 ref_ends_on ts rest e = record { alias = record { word = rw e refl; name = rw e refl }; span = rw e refl }
 
-joined_complete : (make : RefTree → Condition → JoinTree) (head : Phrase) (r : RefTree) (c : Condition) (ts rest : List Token) (s : (head ⨟ ref r ⨟ key (codes "ON") ⨟ condition c) ts rest) → EndsCondition rest → joined_on_at make s.1.1.0 ≡ Read (make r c) rest
+joined_complete : (make : RefTree → Condition
+    → JoinTree) (head : Phrase) (r : RefTree) (c : Condition) (ts rest : List Token)
+    (s : (head ⨟ ref r ⨟ key (codes "ON") ⨟ condition c) ts rest) → EndsCondition rest
+    → joined_on_at make s.1.1.0 ≡ Read (make r c) rest
 unfolding joined_on_at
 joined_complete make head r c ts rest s ends =
     rw (
@@ -181,12 +213,15 @@ joined_complete make head r c ts rest s ends =
       condition_complete s.0 c rest s.2 ends,
     ) refl
 
-inner_sound : (ts us : List Token) (j : JoinTree) (rest : List Token) → (maybe (key (codes "INNER")) ⨟ key (codes "JOIN")) ts us → joined_on_at InnerJoin us ≡ Read j rest → join j ts rest
+inner_sound : (ts us : List Token) (j : JoinTree) (rest : List Token)
+    → (maybe (key (codes "INNER")) ⨟ key (codes "JOIN")) ts us → joined_on_at InnerJoin us ≡ Read j rest
+    → join j ts rest
 inner_sound ts us j rest head e =
     let took = joined_sound InnerJoin (maybe (key (codes "INNER")) ⨟ key (codes "JOIN")) ts us j rest head e in
     subst (λ (x : JoinTree). join x ts rest) took.is took.spelled
 
-left_sound : (ts us : List Token) (j : JoinTree) (rest : List Token) → ts ≡ Word (codes "LEFT") ∷ us → left_at us ≡ Read j rest → join j ts rest
+left_sound : (ts us : List Token) (j : JoinTree) (rest : List Token) → ts ≡ Word (codes "LEFT") ∷ us
+    → left_at us ≡ Read j rest → join j ts rest
 unfolding left_at
 left_sound ts us j rest word e =
     let head : Phrase = key (codes "LEFT") ⨟ maybe (key (codes "OUTER")) ⨟ key (codes "JOIN") in
@@ -195,7 +230,8 @@ left_sound ts us j rest word e =
     let took = joined_sound LeftJoin head ts joined.0 j rest spelled joined.2 in
     subst (λ (x : JoinTree). join x ts rest) took.is took.spelled
 
-cross_sound : (ts us : List Token) (j : JoinTree) (rest : List Token) → ts ≡ Word (codes "CROSS") ∷ us → cross_at us ≡ Read j rest → join j ts rest
+cross_sound : (ts us : List Token) (j : JoinTree) (rest : List Token) → ts ≡ Word (codes "CROSS") ∷ us
+    → cross_at us ≡ Read j rest → join j ts rest
 unfolding cross_at
 cross_sound ts us j rest word e =
     let joined = expected _ e in
@@ -209,12 +245,14 @@ join_sound ts j rest e =
       | inl a ↦
           let o = into_is Some _ j rest a.1 in
           let joined = expected _ o.1 in
-          subst (λ (x : Option JoinTree). optional join x ts rest) o.2 (inner_sound ts joined.0 o.0 rest (_, inr a.0, joined.1) joined.2)
+          subst (λ (x : Option JoinTree). optional join x ts rest) o.2
+          (inner_sound ts joined.0 o.0 rest (_, inr a.0, joined.1) joined.2)
       | inr a ↦
           elim (front_is (Word (codes "JOIN")) ts (rw a.0 at a.1)) [
             | inl b ↦
                 let o = into_is Some _ j rest b.1 in
-                subst (λ (x : Option JoinTree). optional join x ts rest) o.2 (inner_sound ts _ o.0 rest (ts, inl refl, b.0) o.1)
+                subst (λ (x : Option JoinTree). optional join x ts rest) o.2
+                (inner_sound ts _ o.0 rest (ts, inl refl, b.0) o.1)
             | inr b ↦
                 elim (front_is (Word (codes "LEFT")) ts (rw b.0 at b.1)) [
                   | inl c ↦
@@ -222,7 +260,8 @@ join_sound ts j rest e =
                       subst (λ (x : Option JoinTree). optional join x ts rest) o.2 (left_sound ts _ o.0 rest c.0 o.1)
                   | inr c ↦
                       elim (option_is (Word (codes "CROSS")) cross_at ts (rw c.0 at c.1)) [
-                        | inl d ↦ subst (λ (x : Option JoinTree). optional join x ts rest) (sym d.4) (cross_sound ts d.1 d.0 rest d.2 d.3)
+                        | inl d ↦ subst (λ (x : Option JoinTree). optional join x ts rest) (sym d.4)
+                            (cross_sound ts d.1 d.0 rest d.2 d.3)
                         | inr d ↦ subst (λ (x : Option JoinTree). optional join x ts rest) (sym d.0) d.1
                       ]
                 ]
@@ -234,7 +273,8 @@ pub record EndsJoin (rest : List Token) : Type 0 where
   pub condition : EndsCondition rest
   pub ref : EndsRef rest
 
-left_complete : (r : RefTree) (c : Condition) (ts rest : List Token) (s : join (LeftJoin r c) ts rest) → EndsCondition rest → left_at s.1.1.1.1.0 ≡ Read (LeftJoin r c) rest
+left_complete : (r : RefTree) (c : Condition) (ts rest : List Token) (s : join (LeftJoin r c) ts rest)
+    → EndsCondition rest → left_at s.1.1.1.1.0 ≡ Read (LeftJoin r c) rest
 unfolding left_at
 left_complete r c ts rest s ends =
     let head : Phrase = key (codes "LEFT") ⨟ maybe (key (codes "OUTER")) ⨟ key (codes "JOIN") in
@@ -246,11 +286,13 @@ left_complete r c ts rest s ends =
       joined_complete LeftJoin head r c ts rest s ends,
     ) refl
 
-join_complete : (ts : List Token) (j : JoinTree) (rest : List Token) → join j ts rest → EndsJoin rest → next_join ts ≡ Read (Some j) rest
+join_complete : (ts : List Token) (j : JoinTree) (rest : List Token) → join j ts rest → EndsJoin rest
+    → next_join ts ≡ Read (Some j) rest
 unfolding next_join inner_at cross_at
 join_complete ts (InnerJoin r c) rest s ends =
     let words = s.1.1.1 in
-    let inner = joined_complete InnerJoin (maybe (key (codes "INNER")) ⨟ key (codes "JOIN")) r c ts rest s ends.condition in
+    let inner = joined_complete InnerJoin (maybe (key (codes "INNER")) ⨟ key (codes "JOIN")) r c ts rest s
+    ends.condition in
     elim words.1 [
       | inl same ↦ let here : ts ≡ Word (codes "JOIN") ∷ s.1.1.0 = same ∙ words.2 in rw (here, inner) refl
       | inr word ↦ rw (word, expected_of words.2, inner) refl
@@ -344,13 +386,18 @@ pub chain_sound : Sound chain chain_at
 unfolding chain_at
 chain_sound ts c rest e =
     let r = and_then e in
-    let js = into_is (λ (l : List JoinTree). let made : ChainTree = record { first = r.0; joins = l } in made) _ c rest r.3 in
-    subst (λ (x : ChainTree). chain x ts rest) js.2 (r.1, ref_sound _ _ _ r.2, more_is join next_join join_sound _ _ _ js.1)
+    let js = into_is (λ (l : List JoinTree). let made : ChainTree = record {
+      first = r.0;
+      joins = l;
+    } in made) _ c rest r.3 in
+    subst (λ (x : ChainTree). chain x ts rest) js.2
+    (r.1, ref_sound _ _ _ r.2, more_is join next_join join_sound _ _ _ js.1)
 
 pub chain_complete : CompleteBefore EndsChain chain chain_at
 unfolding chain_at
 chain_complete ts c rest s ends =
     let behind = each_front join EndsJoin join_front c.joins s.0 rest s.2 ends.join in
     let joins =
-    more_of join next_join EndsJoin join_complete join_front (shortens join takes_join) s.0 c.joins rest s.2 ends.join (no_join rest ends) in
+    more_of join next_join EndsJoin join_complete join_front (shortens join takes_join) s.0 c.joins rest s.2
+    ends.join (no_join rest ends) in
     rw (ref_complete ts c.first s.0 s.1 behind.ref, joins) refl

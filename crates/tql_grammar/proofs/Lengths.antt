@@ -3,8 +3,17 @@ use Rattle.std.specs.Prelude.{ℕ, ◌<◌, ◌≤◌, Bool, true, false, List, 
 use Rattle.std.proofs.Common.{ap, arith, inl, inr}
 use Rattle.tql_spec.specs.Definition.{Name}
 use Rattle.tql_spec.specs.Token.{Token}
-use Rattle.tql_spec.specs.Syntax.{Sum, Condition, TypeName, IntegerType, VarcharType, DateType, TimestampType, Generated, RowStart, RowEnd, RefList, Constraint, KeyTree, ForeignTree, CheckTree, Element, ColumnElement, PeriodElement, ConstraintElement, SpanTree, NoSpan, AsOfTree, FromToTree, BetweenTree, RefTree, JoinTree, InnerJoin, LeftJoin, CrossJoin, ChainTree, Item, KeyName, ByHeading, ByPosition, OrderTree, CellTree, NullCell, ValueCell, Tuple, SetTree}
-use Rattle.tql_spec.specs.Grammar.{Phrase, token, ◌⨟◌, ◌∣◌, empty, maybe, when, optional, each, commas, in_parens, name, moment, condition, type_name, generated, not_null, column_tail, period_name, reflist, NoActions, none, more, key_word, without_overlaps, constraint, any_name, element, span, alias, ref, join, chain, item, expr, key_name, direction, order_key, cell, tuple, assignment}
+use Rattle.tql_spec.specs.Syntax.{Sum, Condition, TypeName, IntegerType, VarcharType, DateType, TimestampType}
+use Rattle.tql_spec.specs.Syntax.{Generated, RowStart, RowEnd, RefList, Constraint, KeyTree, ForeignTree, CheckTree}
+use Rattle.tql_spec.specs.Syntax.{Element, ColumnElement, PeriodElement, ConstraintElement, SpanTree, NoSpan}
+use Rattle.tql_spec.specs.Syntax.{AsOfTree, FromToTree, BetweenTree, RefTree, JoinTree, InnerJoin, LeftJoin}
+use Rattle.tql_spec.specs.Syntax.{CrossJoin, ChainTree, Item, KeyName, ByHeading, ByPosition, OrderTree, CellTree}
+use Rattle.tql_spec.specs.Syntax.{NullCell, ValueCell, Tuple, SetTree}
+use Rattle.tql_spec.specs.Grammar.{Phrase, token, ◌⨟◌, ◌∣◌, empty, maybe, when, optional, each, commas, in_parens}
+use Rattle.tql_spec.specs.Grammar.{name, moment, condition, type_name, generated, not_null, column_tail, period_name}
+use Rattle.tql_spec.specs.Grammar.{reflist, NoActions, none, more, key_word, without_overlaps, constraint, any_name}
+use Rattle.tql_spec.specs.Grammar.{element, span, alias, ref, join, chain, item, expr, key_name, direction, order_key}
+use Rattle.tql_spec.specs.Grammar.{cell, tuple, assignment}
 use Rattle.tql_grammar.proofs.ExpressionLaws.{expr_shortens}
 use Rattle.tql_grammar.proofs.ConditionLaws.{condition_shortens}
 use Rattle.tql_grammar.proofs.Steps.{Shortens, behind_comma, name_shortens}
@@ -44,7 +53,8 @@ then_takes h k =
     record { less = λ before after s. let x = h.less before s.0 s.1 in let y = k.less s.0 after s.2 in omega arith }
 
 pub keeps_or : {a b : Phrase} → Keeps a → Keeps b → Keeps (a ∣ b)
-keeps_or h k = record { less = λ before after s. elim s [ inl x ↦ h.less before after x | inr y ↦ k.less before after y ] }
+keeps_or h k = record
+    { less = λ before after s. elim s [ inl x ↦ h.less before after x | inr y ↦ k.less before after y ] }
 
 pub keeps_maybe : {a : Phrase} → Keeps a → Keeps (maybe a)
 keeps_maybe h = keeps_or keeps_empty h
@@ -61,7 +71,8 @@ pub keeps_each : {A : Type 0} (f : A → Phrase) → ((x : A) → Keeps (f x)) �
 keeps_each f h [] = keeps_empty
 keeps_each f h (x ∷ xs) = keeps_then (h x) (keeps_each f h xs)
 
-pub takes_commas : {A : Type 0} (f : A → Phrase) → ((x : A) → Takes (f x)) → (x : A) (xs : List A) → Takes (commas f x xs)
+pub takes_commas : {A : Type 0} (f : A → Phrase) → ((x : A) → Takes (f x)) → (x : A) (xs : List A)
+    → Takes (commas f x xs)
 takes_commas f h x xs =
     takes_then (h x) (keeps_each (behind_comma f) (λ y. kept (then_takes (keeps_token _) (h y))) xs)
 
@@ -132,7 +143,9 @@ keeps_reflist r =
 no_actions_less : (ts rest : List Token) → NoActions ts rest → length rest ≤ length ts
 no_actions_less ts rest none = omega arith
 no_actions_less ts rest (more {mid = mid} one others) =
-    let action = keeps_then (keeps_then (keeps_then (keeps_token _) (keeps_or (keeps_token _) (keeps_token _))) (keeps_token _)) (keeps_token _) in
+    let action = keeps_then
+    (keeps_then (keeps_then (keeps_token _) (keeps_or (keeps_token _) (keeps_token _))) (keeps_token _))
+    (keeps_token _) in
     let h = action.less ts mid one in
     let k = no_actions_less mid rest others in
     omega arith
@@ -144,10 +157,12 @@ keeps_key_word false = keeps_token _
 takes_constraint : (c : Constraint) → Takes (constraint c)
 takes_constraint (KeyTree primary c cs p) =
     then_takes (keeps_key_word primary) (takes_parens (keeps_then (keeps_names c cs)
-    (keeps_optional without_overlaps (λ q. keeps_then (keeps_then (keeps_then (keeps_token _) (keeps_name q)) (keeps_token _)) (keeps_token _)) p)))
+    (keeps_optional without_overlaps
+    (λ q. keeps_then (keeps_then (keeps_then (keeps_token _) (keeps_name q)) (keeps_token _)) (keeps_token _)) p)))
 takes_constraint (ForeignTree child t parent) =
     let references = keeps_then (keeps_then (keeps_two _ _) (keeps_reflist child)) (keeps_token _) in
-    takes_then (takes_then (then_takes references (takes_name t)) (keeps_reflist parent)) (record { less = no_actions_less })
+    takes_then (takes_then (then_takes references (takes_name t)) (keeps_reflist parent))
+    (record { less = no_actions_less })
 takes_constraint (CheckTree c) = then_takes (keeps_token _) (takes_parens (keeps_condition c))
 
 keeps_any_name : Keeps any_name
@@ -170,14 +185,17 @@ keeps_moment t = keeps_two _ _
 keeps_span : (s : SpanTree) → Keeps (span s)
 keeps_span NoSpan = keeps_empty
 keeps_span (AsOfTree m) = keeps_then (keeps_four _ _ _ _) (keeps_moment m)
-keeps_span (FromToTree a b) = keeps_then (keeps_then (keeps_then (keeps_three _ _ _) (keeps_moment a)) (keeps_token _)) (keeps_moment b)
-keeps_span (BetweenTree a b) = keeps_then (keeps_then (keeps_then (keeps_three _ _ _) (keeps_moment a)) (keeps_token _)) (keeps_moment b)
+keeps_span (FromToTree a b) =
+    keeps_then (keeps_then (keeps_then (keeps_three _ _ _) (keeps_moment a)) (keeps_token _)) (keeps_moment b)
+keeps_span (BetweenTree a b) =
+    keeps_then (keeps_then (keeps_then (keeps_three _ _ _) (keeps_moment a)) (keeps_token _)) (keeps_moment b)
 
 keeps_alias : (n : Name) → Keeps (alias n)
 keeps_alias n = keeps_then (keeps_maybe (keeps_token _)) (keeps_name n)
 
 takes_ref : (r : RefTree) → Takes (ref r)
-takes_ref r = takes_then (takes_then (takes_name r.table) (keeps_span r.span)) (keeps_optional alias keeps_alias r.alias)
+takes_ref r = takes_then (takes_then (takes_name r.table) (keeps_span r.span))
+    (keeps_optional alias keeps_alias r.alias)
 
 keeps_ref : (r : RefTree) → Keeps (ref r)
 keeps_ref r = kept (takes_ref r)

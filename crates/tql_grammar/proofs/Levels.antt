@@ -12,9 +12,12 @@ expr_level (suc n) ts e = let k : n ≡ suc n - 1 = omega arith in ap (λ (m : �
 pub mixed_level : (n : ℕ) (ts : List Token) → n ≢ 0 → mixed_at n ts ≡ mixed_over (expr_at (n - 1)) (mixed_at (n - 1)) ts
 unfolding mixed_at
 mixed_level zero ts e = absurd (e refl)
-mixed_level (suc n) ts e = let k : n ≡ suc n - 1 = omega arith in ap (λ (m : ℕ). mixed_over (expr_at m) (mixed_at m) ts) k
+mixed_level (suc n) ts e = let k : n ≡ suc n - 1 =
+    omega arith in ap (λ (m : ℕ). mixed_over (expr_at m) (mixed_at m) ts) k
 
-pub condition_level : (n : ℕ) (ts : List Token) → n ≢ 0 → condition_at n ts ≡ condition_over (expr_at (n - 1)) (mixed_at (n - 1)) ts
+pub condition_level : (n : ℕ) (ts : List Token) → n ≢ 0
+    → condition_at n ts ≡ condition_over (expr_at (n - 1)) (mixed_at (n - 1)) ts
 unfolding condition_at
 condition_level zero ts e = absurd (e refl)
-condition_level (suc n) ts e = let k : n ≡ suc n - 1 = omega arith in ap (λ (m : ℕ). condition_over (expr_at m) (mixed_at m) ts) k
+condition_level (suc n) ts e = let k : n ≡ suc n - 1 =
+    omega arith in ap (λ (m : ℕ). condition_over (expr_at m) (mixed_at m) ts) k

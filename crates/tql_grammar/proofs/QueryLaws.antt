@@ -3,19 +3,28 @@ use Rattle.std.specs.Prelude.{◌≡◌, refl, Bool, true, false, List, [], ◌�
 use Rattle.std.proofs.Common.{sym, ◌∙◌, ap, subst, inl, inr}
 use Rattle.tql_spec.specs.Definition.{Name}
 use Rattle.tql_spec.specs.Token.{Token, Word, QuotedName, Number, Sign, Comma, Dot, Star}
-use Rattle.tql_spec.specs.Syntax.{Named, Condition, ChainTree, Item, Items, AllColumns, TheseItems, SelectTree, KeyName, ByHeading, ByPosition, OrderTree, Statement, QueryTree}
-use Rattle.tql_spec.specs.Grammar.{Phrase, key, ◌⨟◌, optional, commas, named, condition, alias, chain, item, items, distinct, where_clause, group_by, select, key_name, direction, order_key, order_by, statement}
+use Rattle.tql_spec.specs.Syntax.{Named, Condition, ChainTree, Item, Items, AllColumns, TheseItems, SelectTree}
+use Rattle.tql_spec.specs.Syntax.{KeyName, ByHeading, ByPosition, OrderTree, Statement, QueryTree}
+use Rattle.tql_spec.specs.Grammar.{Phrase, key, ◌⨟◌, optional, commas, named, condition, alias, chain, item, items}
+use Rattle.tql_spec.specs.Grammar.{distinct, where_clause, group_by, select, key_name, direction, order_key, order_by}
+use Rattle.tql_spec.specs.Grammar.{statement}
 use Rattle.tql_grammar.specs.Outcome.{Read, name_at}
 use Rattle.tql_grammar.specs.ReadingExpressions.{named_at, condition_here}
-use Rattle.tql_grammar.specs.ReadingStatements.{chain_at, item_at, items_behind, items_at, distinct_at, where_at, having_at, group_by_at, select_end, select_at, key_name_at, direction_at, order_key_at, order_by_at, query_at}
+use Rattle.tql_grammar.specs.ReadingStatements.{chain_at, item_at, items_behind, items_at, distinct_at, where_at}
+use Rattle.tql_grammar.specs.ReadingStatements.{having_at, group_by_at, select_end, select_at, key_name_at}
+use Rattle.tql_grammar.specs.ReadingStatements.{direction_at, order_key_at, order_by_at, query_at}
 use Rattle.tql_grammar.proofs.Ends.{EndsExpr, EndsCondition}
 use Rattle.tql_grammar.proofs.ExpressionLaws.{expr_sound, expr_complete, named_sound, named_complete, named_shortens}
 use Rattle.tql_grammar.proofs.ConditionLaws.{condition_sound, condition_complete}
 use Rattle.tql_grammar.proofs.Lengths.{takes_item, takes_chain, takes_order_key, shortens}
 use Rattle.tql_grammar.proofs.WordLaws.{noise_spelled}
 use Rattle.tql_grammar.proofs.Fronts.{expr_front}
-use Rattle.tql_grammar.proofs.FromLaws.{EndsAlias, alias_sound, alias_complete, EndsChain, chain_sound, chain_complete, chain_ends}
-use Rattle.tql_grammar.proofs.Steps.{Sound, Complete, CompleteBefore, Stops, EndsList, read_is, and_then, into_is, spelled, into_sound, eat_false, expected, expected_of, name_is, name_of, front_is, behind_is, behind_of, more_next_is, more_next_of, commas_front, separated_is, separated_of}
+use Rattle.tql_grammar.proofs.FromLaws.{EndsAlias, alias_sound, alias_complete, EndsChain, chain_sound}
+use Rattle.tql_grammar.proofs.FromLaws.{chain_complete, chain_ends}
+use Rattle.tql_grammar.proofs.Steps.{Sound, Complete, CompleteBefore, Stops, EndsList, read_is, and_then, into_is}
+use Rattle.tql_grammar.proofs.Steps.{spelled, into_sound, eat_false, expected, expected_of, name_is, name_of}
+use Rattle.tql_grammar.proofs.Steps.{front_is, behind_is, behind_of, more_next_is, more_next_of, commas_front}
+use Rattle.tql_grammar.proofs.Steps.{separated_is, separated_of}
 
 -- ---- items
 
@@ -32,14 +41,17 @@ record EndsItem (rest : List Token) : Type 0 where
   alias : EndsAlias rest
 
 -- an expression ends before another name
-alias_ends_expr : (ts : List Token) (n : Option Name) (rest : List Token) → optional alias n ts rest → EndsExpr rest → EndsExpr ts
+alias_ends_expr : (ts : List Token) (n : Option Name) (rest : List Token) → optional alias n ts rest → EndsExpr rest
+    → EndsExpr ts
 alias_ends_expr ts None rest s ends = subst EndsExpr (sym s) ends
 alias_ends_expr ts (Some n) rest s ends =
     elim s.1 [
       | inl same ↦
           elim s.2 [
-            | inl word ↦ let w : ts ≡ Word n ∷ rest = same ∙ word.0 in record { dot = rw w refl; star = rw w refl; plus = rw w refl; minus = rw w refl }
-            | inr quoted ↦ let w : ts ≡ QuotedName n ∷ rest = same ∙ quoted in record { dot = rw w refl; star = rw w refl; plus = rw w refl; minus = rw w refl }
+            | inl word ↦ let w : ts ≡ Word n ∷ rest = same
+                ∙ word.0 in record { dot = rw w refl; star = rw w refl; plus = rw w refl; minus = rw w refl }
+            | inr quoted ↦ let w : ts ≡ QuotedName n ∷ rest = same
+                ∙ quoted in record { dot = rw w refl; star = rw w refl; plus = rw w refl; minus = rw w refl }
           ]
       | inr word ↦ record { dot = rw word refl; star = rw word refl; plus = rw word refl; minus = rw word refl }
     ]
@@ -54,7 +66,10 @@ item_complete ts i rest s ends =
 
 item_ends_comma : (ts : List Token) → EndsItem (Sign Comma ∷ ts)
 item_ends_comma ts =
-    record { expr = record { dot = refl; star = refl; plus = refl; minus = refl }; alias = record { word = refl; name = refl } }
+    record {
+      expr = record { dot = refl; star = refl; plus = refl; minus = refl };
+      alias = record { word = refl; name = refl };
+    }
 
 -- items end before FROM
 items_end_from : (ts us : List Token) → ts ≡ Word (codes "FROM") ∷ us → EndsList EndsItem ts
@@ -85,7 +100,8 @@ items_complete ts AllColumns rest s ends = rw s refl
 items_complete ts (TheseItems i is) rest s ends =
     let front = expr_front i.value ts s.1.0 s.1.1 in
     let behind_first = commas_front item item_at EndsItem item_ends_comma is s.0 rest s.2 ends.item in
-    let others = more_next_of item item_at EndsItem item_ends_comma item_complete (shortens item takes_item) s.0 is rest s.2 ends in
+    let others = more_next_of item item_at EndsItem item_ends_comma item_complete (shortens item takes_item) s.0 is
+    rest s.2 ends in
     rw (front.star, eat_false (Sign Star) ts front.star, item_complete ts i s.0 s.1 behind_first, others) refl
 
 -- how items begin
@@ -114,7 +130,13 @@ unfolding distinct_at
 distinct_complete ts true rest s ends = rw s refl
 distinct_complete ts false rest s ends =
     elim s [
-      | inl same ↦ rw (same, ends.distinct, eat_false (Word (codes "DISTINCT")) rest ends.distinct, eat_false (Word (codes "ALL")) rest ends.all) refl
+      | inl same ↦ rw (
+        same,
+        ends.distinct,
+        eat_false (Word (codes "DISTINCT")) rest ends.distinct,
+        eat_false
+            (Word (codes "ALL")) rest ends.all,
+      ) refl
       | inr word ↦ rw (word) refl
     ]
 
@@ -122,7 +144,8 @@ pub where_sound : Sound where_clause where_at
 unfolding where_at
 where_sound = behind_is (Word (codes "WHERE")) condition condition_here condition_sound
 
-pub where_complete : (ts : List Token) (c : Option Condition) (rest : List Token) → where_clause c ts rest → EndsCondition rest → Stops (Word (codes "WHERE")) rest → where_at ts ≡ Read c rest
+pub where_complete : (ts : List Token) (c : Option Condition) (rest : List Token) → where_clause c ts rest
+    → EndsCondition rest → Stops (Word (codes "WHERE")) rest → where_at ts ≡ Read c rest
 unfolding where_at
 where_complete = behind_of (Word (codes "WHERE")) condition condition_here EndsCondition condition_complete
 
@@ -134,7 +157,8 @@ having_sound : Sound having_clause having_at
 unfolding having_at
 having_sound = behind_is (Word (codes "HAVING")) condition condition_here condition_sound
 
-having_complete : (ts : List Token) (c : Option Condition) (rest : List Token) → having_clause c ts rest → EndsCondition rest → Stops (Word (codes "HAVING")) rest → having_at ts ≡ Read c rest
+having_complete : (ts : List Token) (c : Option Condition) (rest : List Token) → having_clause c ts rest
+    → EndsCondition rest → Stops (Word (codes "HAVING")) rest → having_at ts ≡ Read c rest
 unfolding having_at
 having_complete = behind_of (Word (codes "HAVING")) condition condition_here EndsCondition condition_complete
 
@@ -149,7 +173,8 @@ group_by_sound ts g rest e =
       | inr a ↦ spelled group_by (rw a.0 at a.1) refl
     ]
 
-group_by_complete : (ts : List Token) (g : List Named) (rest : List Token) → group_by g ts rest → EndsList (Stops (Sign Dot)) rest → Stops (Word (codes "GROUP")) rest → group_by_at ts ≡ Read g rest
+group_by_complete : (ts : List Token) (g : List Named) (rest : List Token) → group_by g ts rest
+    → EndsList (Stops (Sign Dot)) rest → Stops (Word (codes "GROUP")) rest → group_by_at ts ≡ Read g rest
 unfolding group_by_at
 group_by_complete ts [] rest s ends stops = rw (s, stops, eat_false (Word (codes "GROUP")) rest stops) refl
 group_by_complete ts (c ∷ cs) rest s ends stops =
@@ -161,7 +186,8 @@ group_by_complete ts (c ∷ cs) rest s ends stops =
 
 -- ---- SELECT
 
--- what has to be known of the tokens behind the chains of FROM, behind [WHERE ..], behind [GROUP BY ..] and behind a select
+-- what has to be known of the tokens behind the chains of FROM, behind [WHERE ..], behind [GROUP BY ..] and behind a
+-- select
 pub record EndsFrom (rest : List Token) : Type 0 where
   pub chain : EndsList EndsChain rest
 
@@ -200,15 +226,18 @@ ends_at_having ts us e =
     let chain : EndsList EndsChain ts = record { item = chain_ends ts (rw e refl) (rw e refl); comma = rw e refl } in
     record { filter = record { from = record { chain = chain }; word = rw e refl }; word = rw e refl }
 
-where_front : (ts : List Token) (c : Option Condition) (rest : List Token) → where_clause c ts rest → EndsWhere rest → EndsFrom ts
+where_front : (ts : List Token) (c : Option Condition) (rest : List Token) → where_clause c ts rest → EndsWhere rest
+    → EndsFrom ts
 where_front ts None rest s ends = subst EndsFrom (sym s) ends.from
 where_front ts (Some c) rest s ends = ends_at_where ts s.0 s.1
 
-group_front : (ts : List Token) (g : List Named) (rest : List Token) → group_by g ts rest → EndsGroup rest → EndsWhere ts
+group_front : (ts : List Token) (g : List Named) (rest : List Token) → group_by g ts rest → EndsGroup rest
+    → EndsWhere ts
 group_front ts [] rest s ends = subst EndsWhere (sym s) ends.filter
 group_front ts (c ∷ cs) rest s ends = ends_at_group ts s.1.0 s.1.1
 
-having_front : (ts : List Token) (c : Option Condition) (rest : List Token) → having_clause c ts rest → EndsSelect rest → EndsGroup ts
+having_front : (ts : List Token) (c : Option Condition) (rest : List Token) → having_clause c ts rest
+    → EndsSelect rest → EndsGroup ts
 having_front ts None rest s ends = subst EndsGroup (sym s) ends.grouping
 having_front ts (Some c) rest s ends = ends_at_having ts s.0 s.1
 
@@ -216,7 +245,9 @@ having_front ts (Some c) rest s ends = ends_at_having ts s.0 s.1
 abbrev select_head : Bool → Items → ChainTree → List ChainTree → Phrase
 select_head d is c cs = key (codes "SELECT") ⨟ distinct d ⨟ items is ⨟ key (codes "FROM") ⨟ commas chain c cs
 
-select_end_sound : (d : Bool) (is : Items) (c : ChainTree) (cs : List ChainTree) (ts us : List Token) (s : SelectTree) (rest : List Token) → select_head d is c cs ts us → select_end d is c cs us ≡ Read s rest → select s ts rest
+select_end_sound : (d : Bool) (is : Items) (c : ChainTree) (cs : List ChainTree) (ts us : List Token)
+    (s : SelectTree) (rest : List Token) → select_head d is c cs ts us → select_end d is c cs us ≡ Read s rest
+    → select s ts rest
 unfolding select_end
 select_end_sound d is c cs ts us s rest head e =
     let w = and_then e in
@@ -227,7 +258,9 @@ select_end_sound d is c cs ts us s rest head e =
     spelled select {x = made} h.3
     (g.1, (w.1, (us, head, where_sound _ _ _ w.2), group_by_sound _ _ _ g.2), having_sound _ _ _ h.2)
 
-select_end_complete : (s : SelectTree) (ts a b rest : List Token) → where_clause s.filter ts a → group_by s.grouping a b → having_clause s.having b rest → EndsSelect rest → select_end s.distinct s.items s.first s.more ts ≡ Read s rest
+select_end_complete : (s : SelectTree) (ts a b rest : List Token) → where_clause s.filter ts a
+    → group_by s.grouping a b → having_clause s.having b rest → EndsSelect rest
+    → select_end s.distinct s.items s.first s.more ts ≡ Read s rest
 unfolding select_end
 select_end_complete s ts a b rest w g h ends =
     let at_having = having_front b s.having rest h ends in
@@ -238,7 +271,8 @@ select_end_complete s ts a b rest w g h ends =
       having_complete b s.having rest h (from_ends rest ends.grouping.filter.from) ends.word,
     ) refl
 
-pub select_sound : (ts us : List Token) (s : SelectTree) (rest : List Token) → ts ≡ Word (codes "SELECT") ∷ us → select_at us ≡ Read s rest → select s ts rest
+pub select_sound : (ts us : List Token) (s : SelectTree) (rest : List Token) → ts ≡ Word (codes "SELECT") ∷ us
+    → select_at us ≡ Read s rest → select s ts rest
 unfolding select_at
 select_sound ts us s rest word e =
     let d = and_then e in
@@ -253,7 +287,8 @@ select_sound ts us s rest word e =
     select_end_sound d.0 is.0 c.0 cs.0 ts cs.1 s rest head cs.3
 
 -- what is read stands behind SELECT
-pub select_complete : (s : SelectTree) (ts rest : List Token) (p : select s ts rest) → EndsSelect rest → select_at p.1.1.1.1.1.1.0 ≡ Read s rest
+pub select_complete : (s : SelectTree) (ts rest : List Token) (p : select s ts rest) → EndsSelect rest
+    → select_at p.1.1.1.1.1.1.0 ≡ Read s rest
 unfolding select_at
 select_complete s ts rest p ends =
     let end = p.1.1.0 in
@@ -269,8 +304,10 @@ select_complete s ts rest p ends =
       distinct_complete words.1.0 s.distinct words.0 words.1.2 (items_front s.items words.0 from.0 words.2),
       items_complete words.0 s.items from.0 words.2 items_end,
       expected_of from.2,
-      chain_complete list s.first chains.0 chains.1 (commas_front chain chain_at EndsChain chain_ends_comma s.more chains.0 end chains.2 at_end.chain.item),
-      more_next_of chain chain_at EndsChain chain_ends_comma chain_complete (shortens chain takes_chain) chains.0 s.more end chains.2 at_end.chain,
+      chain_complete list s.first chains.0 chains.1
+          (commas_front chain chain_at EndsChain chain_ends_comma s.more chains.0 end chains.2 at_end.chain.item),
+      more_next_of chain chain_at EndsChain chain_ends_comma chain_complete (shortens chain takes_chain) chains.0
+          s.more end chains.2 at_end.chain,
       select_end_complete s end p.1.0 p.0 rest p.1.1.2 p.1.2 p.2 ends,
     ) refl
 
@@ -310,7 +347,13 @@ unfolding direction_at
 direction_complete ts true rest s ends = rw s refl
 direction_complete ts false rest s ends =
     elim s [
-      | inl same ↦ rw (same, ends.down, eat_false (Word (codes "DESC")) rest ends.down, eat_false (Word (codes "ASC")) rest ends.up) refl
+      | inl same ↦ rw (
+        same,
+        ends.down,
+        eat_false (Word (codes "DESC")) rest ends.down,
+        eat_false
+            (Word (codes "ASC")) rest ends.up,
+      ) refl
       | inr word ↦ rw word refl
     ]
 
@@ -323,7 +366,8 @@ order_key_sound ts k rest e =
 
 order_key_complete : CompleteBefore EndsKey order_key order_key_at
 unfolding order_key_at
-order_key_complete ts k rest s ends = rw (key_name_complete ts k.key s.0 s.1, direction_complete s.0 k.falls rest s.2 ends) refl
+order_key_complete ts k rest s ends =
+    rw (key_name_complete ts k.key s.0 s.1, direction_complete s.0 k.falls rest s.2 ends) refl
 
 order_by_sound : Sound order_by order_by_at
 unfolding order_by_at
@@ -349,17 +393,20 @@ order_by_complete ts (k ∷ ks) rest s ends =
     rw (
       s.1.1,
       expected_of s.1.2,
-      separated_of order_key order_key_at EndsKey comma order_key_complete (shortens order_key takes_order_key) k ks s.0 rest s.2 ends.key,
+      separated_of order_key order_key_at EndsKey comma order_key_complete (shortens order_key takes_order_key) k ks
+          s.0 rest s.2 ends.key,
     ) refl
 
 -- ---- queries
 
-pub query_sound : (ts us : List Token) (s : Statement) (rest : List Token) → ts ≡ Word (codes "SELECT") ∷ us → query_at us ≡ Read s rest → statement s ts rest
+pub query_sound : (ts us : List Token) (s : Statement) (rest : List Token) → ts ≡ Word (codes "SELECT") ∷ us
+    → query_at us ≡ Read s rest → statement s ts rest
 unfolding query_at
 query_sound ts us s rest word e =
     let q = and_then e in
     let keys = into_is (QueryTree q.0) _ s rest q.3 in
-    subst (λ (x : Statement). statement x ts rest) keys.2 (q.1, select_sound ts us q.0 q.1 word q.2, order_by_sound _ _ _ keys.1)
+    subst (λ (x : Statement). statement x ts rest) keys.2
+    (q.1, select_sound ts us q.0 q.1 word q.2, order_by_sound _ _ _ keys.1)
 
 -- a select ends before ORDER
 select_ends_order : (ts us : List Token) → ts ≡ Word (codes "ORDER") ∷ us → EndsSelect ts
@@ -373,7 +420,10 @@ select_ends_order ts us e =
 pub select_ends : EndsSelect []
 select_ends =
     let chain : EndsList EndsChain [] = record { item = chain_ends [] refl refl; comma = refl } in
-    let grouping : EndsGroup [] = record { filter = record { from = record { chain = chain }; word = refl }; word = refl } in
+    let grouping : EndsGroup [] = record {
+      filter = record { from = record { chain = chain }; word = refl };
+      word = refl;
+    } in
     record { grouping = grouping; word = refl }
 
 order_front : (ts : List Token) (ks : List OrderTree) → order_by ks ts [] → EndsSelect ts
@@ -381,8 +431,12 @@ order_front ts [] s = subst EndsSelect (sym s) select_ends
 order_front ts (k ∷ ks) s = select_ends_order ts s.1.0 s.1.1
 
 -- what is read stands behind SELECT
-pub query_complete : (q : SelectTree) (keys : List OrderTree) (ts : List Token) (p : statement (QueryTree q keys) ts []) → query_at p.1.1.1.1.1.1.1.0 ≡ Read (QueryTree q keys) []
+pub query_complete : (q : SelectTree) (keys : List OrderTree) (ts : List Token)
+    (p : statement (QueryTree q keys) ts []) → query_at p.1.1.1.1.1.1.1.0 ≡ Read (QueryTree q keys) []
 unfolding query_at
 query_complete q keys ts p =
-    let ends : EndsOrder [] = record { key = record { item = record { down = refl; up = refl }; comma = refl }; word = refl } in
+    let ends : EndsOrder [] = record {
+      key = record { item = record { down = refl; up = refl }; comma = refl };
+      word = refl;
+    } in
     rw (select_complete q ts p.0 p.1 (order_front p.0 keys p.2), order_by_complete p.0 keys [] p.2 ends) refl

@@ -6,7 +6,8 @@ use Rattle.tql_spec.specs.Grammar.{IsStatement}
 use Rattle.tql_spec.specs.Running.{does_run, Runs}
 use Rattle.tql_spec.specs.Run.{Language, Sense, HasSense, RunBy, Run, respond_to}
 use Rattle.tql_grammar.specs.ReadingTexts.{read_sense}
-use Rattle.tql_grammar.specs.ReadingRuns.{replies_by, state_by, read_state, every, AnswersIn, ReadsTheTokens, ReadsTheSense, ReadsTheRun, ReadsTheWholeRun}
+use Rattle.tql_grammar.specs.ReadingRuns.{replies_by, state_by, read_state, every, AnswersIn, ReadsTheTokens}
+use Rattle.tql_grammar.specs.ReadingRuns.{ReadsTheSense, ReadsTheRun, ReadsTheWholeRun}
 use Rattle.tql_grammar.proofs.TextReading.{tokens_are_read, reads_tokens, runs_kept, all_kept, sense_is_read}
 
 -- what is read of a text are its tokens, and no other

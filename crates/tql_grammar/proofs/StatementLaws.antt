@@ -2,14 +2,16 @@
 use Rattle.std.specs.Prelude.{◌≡◌, refl, List, [], codes, Some}
 use Rattle.std.proofs.Common.{ap, subst, inl, inr}
 use Rattle.tql_spec.specs.Token.{Token, Word}
-use Rattle.tql_spec.specs.Syntax.{Statement, CreateTree, DropTree, InsertValues, InsertSelect, UpdateTree, DeleteTree, QueryTree, StartTree, CommitTree, RollbackTree, AtTree}
+use Rattle.tql_spec.specs.Syntax.{Statement, CreateTree, DropTree, InsertValues, InsertSelect, UpdateTree, DeleteTree}
+use Rattle.tql_spec.specs.Syntax.{QueryTree, StartTree, CommitTree, RollbackTree, AtTree}
 use Rattle.tql_spec.specs.Grammar.{statement, IsStatement, SpellsOnce}
 use Rattle.tql_grammar.specs.Outcome.{Read, whole}
 use Rattle.tql_grammar.specs.ReadingStatements.{control_at, change_at, statement_at, read_statement}
 use Rattle.tql_grammar.proofs.WordLaws.{noise_spelled, noise_eaten, moment_sound, moment_complete}
 use Rattle.tql_grammar.proofs.CreateLaws.{create_sound, create_complete, drop_sound, drop_complete}
 use Rattle.tql_grammar.proofs.QueryLaws.{query_sound, query_complete}
-use Rattle.tql_grammar.proofs.ChangeLaws.{insert_sound, values_complete, insert_select_complete, update_sound, update_complete, delete_sound, delete_complete}
+use Rattle.tql_grammar.proofs.ChangeLaws.{insert_sound, values_complete, insert_select_complete, update_sound}
+use Rattle.tql_grammar.proofs.ChangeLaws.{update_complete, delete_sound, delete_complete}
 use Rattle.tql_grammar.proofs.Steps.{Sound, into_is, spelled, expected, expected_is, expected_of, front_is, whole_is}
 
 control_sound : Sound statement control_at

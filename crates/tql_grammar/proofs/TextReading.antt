@@ -1,13 +1,17 @@
 -- What is read of a text are its tokens, and what is read of a piece of a script is its sense.
-use Rattle.std.proofs.Common.{◌≡◌, ◌<◌, ◌≤◌, refl, sym, ap, subst, ◌∙◌, ℕ, zero, suc, Bool, true, false, List, [], ◌∷◌, length, drop, arith, length-drop}
+use Rattle.std.proofs.Common.{◌≡◌, ◌<◌, ◌≤◌, refl, sym, ap, subst, ◌∙◌, ℕ, zero, suc, Bool, true, false, List, []}
+use Rattle.std.proofs.Common.{◌∷◌, length, drop, arith, length-drop}
 use Rattle.std.specs.Prelude.{Option, Some, None, nat_lt, not, IsUtf8, if◌then◌else◌}
 use Rattle.std.specs.Str.{is_utf8}
 use Rattle.std.proofs.lemmas.Bool.Decides.{nat_tests}
 use Rattle.std.proofs.lemmas.Str.{IsUtf8-from_is_utf8, is_utf8-from_IsUtf8}
 use Rattle.tql_spec.specs.Words.{with_front}
-use Rattle.tql_spec.specs.Refusal.{NotAStatement, NotUtf8, UnfinishedStatement, StatementTooLong, NestedTooDeep, TooManyColumnsOrTables}
+use Rattle.tql_spec.specs.Refusal.{NotAStatement, NotUtf8, UnfinishedStatement, StatementTooLong, NestedTooDeep}
+use Rattle.tql_spec.specs.Refusal.{TooManyColumnsOrTables}
 use Rattle.tql_spec.specs.Script.{Piece, without_lead}
-use Rattle.tql_spec.specs.Token.{Token, Word, QuotedName, Number, Quote, Sign, Symbol, Open, Close, Comma, Dot, PlusSign, MinusSign, Star, EqualSign, UnequalSign, LessSign, AtMostSign, MoreSign, AtLeastSign, symbol_text, Spells, AreTokens, depth}
+use Rattle.tql_spec.specs.Token.{Token, Word, QuotedName, Number, Quote, Sign, Symbol, Open, Close, Comma, Dot}
+use Rattle.tql_spec.specs.Token.{PlusSign, MinusSign, Star, EqualSign, UnequalSign, LessSign, AtMostSign, MoreSign}
+use Rattle.tql_spec.specs.Token.{AtLeastSign, symbol_text, Spells, AreTokens, depth}
 use Rattle.tql_spec.specs.FirstToken.{Reading, first_token}
 use Rattle.tql_spec.specs.Syntax.{Statement, is_too_wide}
 use Rattle.tql_spec.specs.Grammar.{IsStatement}
@@ -16,7 +20,8 @@ use Rattle.tql_spec.specs.Run.{Language, Says, Faulty, HasSense, IsWhole}
 use Rattle.tql_spec.proofs.TokenLaws.{first_token_sound, one_list}
 use Rattle.tql_lex.proofs.TokensLemmas.{begin_tokens, one_more_token, end_tokens, no_tokens, next_place}
 use Rattle.tql_grammar.specs.ReadingStatements.{read_statement}
-use Rattle.tql_grammar.specs.ReadingTexts.{with_token, tokens_here, tokens_within, read_tokens, kept, sense_of_tree, sense_of_tokens, read_sense}
+use Rattle.tql_grammar.specs.ReadingTexts.{with_token, tokens_here, tokens_within, read_tokens, kept, sense_of_tree}
+use Rattle.tql_grammar.specs.ReadingTexts.{sense_of_tokens, read_sense}
 use Rattle.tql_grammar.proofs.StatementLaws.{reads_statement, statement_is_read}
 use Rattle.tql_grammar.proofs.TextLaws.{not_deep}
 

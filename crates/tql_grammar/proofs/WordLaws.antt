@@ -7,7 +7,8 @@ use Rattle.tql_spec.specs.Syntax.{PointTree, DatePoint, MomentPoint}
 use Rattle.tql_spec.specs.Grammar.{key, maybe, period_name, moment, point}
 use Rattle.tql_grammar.specs.Outcome.{eat, name_at}
 use Rattle.tql_grammar.specs.ReadingStatements.{period_name_at, moment_at, point_at}
-use Rattle.tql_grammar.proofs.Steps.{Sound, Complete, Stops, into_is, spelled, eat_true, eat_false, eat_of, expected, expected_of, name_is, name_of, name_no_word, quote_is, quote_of, front_is}
+use Rattle.tql_grammar.proofs.Steps.{Sound, Complete, Stops, into_is, spelled, eat_true, eat_false, eat_of, expected}
+use Rattle.tql_grammar.proofs.Steps.{expected_of, name_is, name_of, name_no_word, quote_is, quote_of, front_is}
 
 -- ---- words that say nothing
 
@@ -24,7 +25,8 @@ noise_spelled w ts =
     ]
 
 -- nothing but such a word is eaten
-pub noise_eaten : (w : List ℕ) (ts rest : List Token) → maybe (key w) ts rest → Stops (Word w) rest → (eat (Word w) ts).1 ≡ rest
+pub noise_eaten : (w : List ℕ) (ts rest : List Token) → maybe (key w) ts rest → Stops (Word w) rest
+    → (eat (Word w) ts).1 ≡ rest
 noise_eaten w ts rest s stops =
     elim s [
       | inl same ↦ rw same (eat_false (Word w) rest stops)

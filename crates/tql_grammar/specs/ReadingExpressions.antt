@@ -1,13 +1,24 @@
--- Reading expressions and conditions. A number bounds how deep parentheses may go; as many as there are tokens are enough.
-use Rattle.std.specs.Prelude.{ℕ, zero, suc, Bool, true, false, ◌&&◌, ◌||◌, if◌then◌else◌, List, [], ◌∷◌, codes, length, Option, Some, None}
+-- Reading expressions and conditions. A number bounds how deep parentheses may go; as many as there are tokens are
+-- enough.
+use Rattle.std.specs.Prelude.{ℕ, zero, suc, Bool, true, false, ◌&&◌, ◌||◌, if◌then◌else◌, List, [], ◌∷◌, codes}
+use Rattle.std.specs.Prelude.{length, Option, Some, None}
 use Rattle.tql_spec.specs.Datum.{Comparison, Equals, Differs, Below, AtMost, Above, AtLeast}
-use Rattle.tql_spec.specs.Period.{Relation, Overlaps, SameAs, Precedes, Succeeds, ImmediatelyPrecedes, ImmediatelySucceeds}
+use Rattle.tql_spec.specs.Period.{Relation, Overlaps, SameAs, Precedes, Succeeds, ImmediatelyPrecedes}
+use Rattle.tql_spec.specs.Period.{ImmediatelySucceeds}
 use Rattle.tql_spec.specs.Expression.{Function, Count, Min, Max}
 use Rattle.tql_spec.specs.Expression as function
-use Rattle.tql_spec.specs.Token.{Token, Word, Number, Quote, Sign, Open, Close, Comma, Dot, PlusSign, MinusSign, Star, EqualSign, UnequalSign, LessSign, AtMostSign, MoreSign, AtLeastSign}
-use Rattle.tql_spec.specs.Syntax.{Named, Sum, Product, NoTerm, Terms, NoFactor, Factors, Signed, Unsigned, Positive, Negative, Primary, NumberLiteral, TextLiteral, DateLiteral, TimestampLiteral, ColumnNamed, Enclosed, CountStar, Over, Marked, FromEnds, SystemTime, Operand, ByMark, ByName, Condition, AnyOf, Conj, AllOf, Factor, Straight, Negated, Test, Grouped, Compared, NullTest, BetweenTest, InTest, RelationTest, ContainsPeriod, ContainsPoint}
+use Rattle.tql_spec.specs.Token.{Token, Word, Number, Quote, Sign, Open, Close, Comma, Dot, PlusSign, MinusSign, Star}
+use Rattle.tql_spec.specs.Token.{EqualSign, UnequalSign, LessSign, AtMostSign, MoreSign, AtLeastSign}
+use Rattle.tql_spec.specs.Syntax.{Named, Sum, Product, NoTerm, Terms, NoFactor, Factors, Signed, Unsigned, Positive}
+use Rattle.tql_spec.specs.Syntax.{Negative, Primary, NumberLiteral, TextLiteral, DateLiteral, TimestampLiteral}
+use Rattle.tql_spec.specs.Syntax.{ColumnNamed, Enclosed, CountStar, Over, Marked, FromEnds, SystemTime, Operand}
+use Rattle.tql_spec.specs.Syntax.{ByMark, ByName, Condition, AnyOf, Conj, AllOf, Factor, Straight, Negated, Test}
+use Rattle.tql_spec.specs.Syntax.{Grouped, Compared, NullTest, BetweenTest, InTest, RelationTest, ContainsPeriod}
+use Rattle.tql_spec.specs.Syntax.{ContainsPoint}
 use Rattle.tql_spec.specs.Parts.{AddedTerm, terms_of, factors_of, tests_of, conjs_of}
-use Rattle.tql_grammar.specs.Outcome.{Failed, Read, Parser, ◌>>=◌, found, into, eat, keyword, symbol, name_at, quote_at, begins, begins_second, begins_third, begins_name, if_front, behind, more, next}
+use Rattle.tql_grammar.specs.Outcome.{Failed, Read, Parser, ◌>>=◌, found, into, eat, keyword, symbol, name_at}
+use Rattle.tql_grammar.specs.Outcome.{quote_at, begins, begins_second, begins_third, begins_name, if_front, behind}
+use Rattle.tql_grammar.specs.Outcome.{more, next}
 
 -- ---- expressions
 
@@ -80,7 +91,8 @@ module _ (inner : Parser Sum) where
   unfoldable pub next_term : Parser (Option AddedTerm)
   next_term =
       if_front (Sign PlusSign) (λ us. into (λ t. Some (record { is_minus = false; term = t })) (term_over us))
-      (if_front (Sign MinusSign) (λ us. into (λ t. Some (record { is_minus = true; term = t })) (term_over us)) (found None))
+      (if_front (Sign MinusSign) (λ us. into (λ t. Some (record { is_minus = true; term = t })) (term_over us))
+      (found None))
 
   -- the expression that begins with this term
   unfoldable pub sum_behind : Product → Parser Sum
@@ -113,7 +125,8 @@ comparison_at =
 -- IMMEDIATELY is read: PRECEDES or SUCCEEDS
 unfoldable pub immediate_at : Parser Relation
 immediate_at =
-    if_front (Word (codes "PRECEDES")) (found ImmediatelyPrecedes) (λ us. into (λ _. ImmediatelySucceeds) (keyword (codes "SUCCEEDS") us))
+    if_front (Word (codes "PRECEDES")) (found ImmediatelyPrecedes)
+    (λ us. into (λ _. ImmediatelySucceeds) (keyword (codes "SUCCEEDS") us))
 
 -- a relation that is a word, or none
 unfoldable pub relation_at : Parser (Option Relation)
@@ -193,7 +206,8 @@ module _ (inner : Parser Sum) where
 
   -- CONTAINS is read, behind this operand
   unfoldable pub contained_over : Operand → Parser Test
-  contained_over x ts = if begins_marked ts then into (ContainsPeriod x) (marked_over ts) else into (ContainsPoint x) (sum_over inner ts)
+  contained_over x ts = if begins_marked ts then into (ContainsPeriod x) (marked_over ts) else into (ContainsPoint x)
+      (sum_over inner ts)
 
   -- behind this operand: a relation and an operand, CONTAINS, or neither
   abbrev pub related_by : Operand → Option Relation → Parser (Option Test)
@@ -206,7 +220,8 @@ module _ (inner : Parser Sum) where
   -- expr AND expr, behind BETWEEN
   unfoldable pub between_over : Bool → Sum → Parser Test
   between_over b e ts =
-      sum_over inner ts >>= λ low a. keyword (codes "AND") a >>= λ _ c. into (λ high. BetweenTest b e low high) (sum_over inner c)
+      sum_over inner ts >>= λ low a. keyword (codes "AND") a >>= λ _ c. into (λ high. BetweenTest b e low high)
+      (sum_over inner c)
 
   -- ( expr {, expr} ), behind IN
   unfoldable pub in_over : Bool → Sum → Parser Test
@@ -217,7 +232,8 @@ module _ (inner : Parser Sum) where
   -- NOT is read: BETWEEN or IN
   unfoldable pub denied_over : Sum → Parser Test
   denied_over e =
-      if_front (Word (codes "BETWEEN")) (between_over true e) (λ us. keyword (codes "IN") us >>= λ _ a. in_over true e a)
+      if_front (Word (codes "BETWEEN")) (between_over true e)
+      (λ us. keyword (codes "IN") us >>= λ _ a. in_over true e a)
 
   -- behind this expression: a relation or CONTAINS where it is one column reference, or nothing
   abbrev pub period_test_over : Sum → Option Named → Parser Tested
@@ -297,7 +313,8 @@ module _ (inner : Parser Sum) where
 
     unfoldable pub mixed_over : Parser Mixed
     mixed_over =
-        if_front (Word (codes "NOT")) (λ us. test_over us >>= λ t a. into WholeCondition (condition_behind (Negated t) a))
+        if_front (Word (codes "NOT"))
+        (λ us. test_over us >>= λ t a. into WholeCondition (condition_behind (Negated t) a))
         (λ us. tested_over us >>= λ t a. mixed_behind t a)
 
 -- a condition or an expression

@@ -1,9 +1,20 @@
 -- Reading statements.
-use Rattle.std.specs.Prelude.{ℕ, zero, suc, Bool, true, false, ◌||◌, ◌&&◌, if◌then◌else◌, List, [], ◌∷◌, codes, length, Option, Some, None}
+use Rattle.std.specs.Prelude.{ℕ, zero, suc, Bool, true, false, ◌||◌, ◌&&◌, if◌then◌else◌, List, [], ◌∷◌, codes}
+use Rattle.std.specs.Prelude.{length, Option, Some, None}
 use Rattle.tql_spec.specs.Definition.{Name}
 use Rattle.tql_spec.specs.Token.{Token, Word, Number, Sign, Open, Close, Comma, Star, EqualSign}
-use Rattle.tql_spec.specs.Syntax.{Named, Condition, TypeName, IntegerType, VarcharType, DateType, TimestampType, Generated, RowStart, RowEnd, RefList, Constraint, KeyTree, ForeignTree, CheckTree, Element, ColumnElement, PeriodElement, ConstraintElement, MomentTree, SpanTree, NoSpan, AsOfTree, FromToTree, BetweenTree, RefTree, JoinTree, InnerJoin, LeftJoin, CrossJoin, ChainTree, Item, Items, AllColumns, TheseItems, SelectTree, KeyName, ByHeading, ByPosition, OrderTree, CellTree, NullCell, ValueCell, Tuple, SetTree, PointTree, DatePoint, MomentPoint, PortionTree, Statement, CreateTree, DropTree, InsertValues, InsertSelect, UpdateTree, DeleteTree, QueryTree, StartTree, CommitTree, RollbackTree, AtTree}
-use Rattle.tql_grammar.specs.Outcome.{Read, Parser, ◌>>=◌, found, into, eat, keyword, symbol, name_at, number_at, quote_at, begins, begins_second, begins_third, begins_name, if_front, behind, more, next, separated, whole}
+use Rattle.tql_spec.specs.Syntax.{Named, Condition, TypeName, IntegerType, VarcharType, DateType, TimestampType}
+use Rattle.tql_spec.specs.Syntax.{Generated, RowStart, RowEnd, RefList, Constraint, KeyTree, ForeignTree, CheckTree}
+use Rattle.tql_spec.specs.Syntax.{Element, ColumnElement, PeriodElement, ConstraintElement, MomentTree, SpanTree}
+use Rattle.tql_spec.specs.Syntax.{NoSpan, AsOfTree, FromToTree, BetweenTree, RefTree, JoinTree, InnerJoin, LeftJoin}
+use Rattle.tql_spec.specs.Syntax.{CrossJoin, ChainTree, Item, Items, AllColumns, TheseItems, SelectTree, KeyName}
+use Rattle.tql_spec.specs.Syntax.{ByHeading, ByPosition, OrderTree, CellTree, NullCell, ValueCell, Tuple, SetTree}
+use Rattle.tql_spec.specs.Syntax.{PointTree, DatePoint, MomentPoint, PortionTree, Statement, CreateTree, DropTree}
+use Rattle.tql_spec.specs.Syntax.{InsertValues, InsertSelect, UpdateTree, DeleteTree, QueryTree, StartTree}
+use Rattle.tql_spec.specs.Syntax.{CommitTree, RollbackTree, AtTree}
+use Rattle.tql_grammar.specs.Outcome.{Read, Parser, ◌>>=◌, found, into, eat, keyword, symbol, name_at, number_at}
+use Rattle.tql_grammar.specs.Outcome.{quote_at, begins, begins_second, begins_third, begins_name, if_front, behind}
+use Rattle.tql_grammar.specs.Outcome.{more, next, separated, whole}
 use Rattle.tql_grammar.specs.ReadingExpressions.{named_at, expr_here, condition_here}
 
 -- ---- types and columns
@@ -18,7 +29,8 @@ precision_at ts = if begins (Sign Open) ts then into Some (size_at ts) else Read
 
 -- [WITHOUT TIME ZONE]
 unfoldable pub zone_at : Parser (Unit {0})
-zone_at = if_front (Word (codes "WITHOUT")) (λ us. keyword (codes "TIME") us >>= λ _ a. keyword (codes "ZONE") a) (found tt)
+zone_at = if_front (Word (codes "WITHOUT")) (λ us. keyword (codes "TIME") us >>= λ _ a. keyword (codes "ZONE") a)
+    (found tt)
 
 -- TIMESTAMP is read
 unfoldable pub timestamp_type_at : Parser TypeName
@@ -28,7 +40,8 @@ timestamp_type_at ts = precision_at ts >>= λ p a. into (λ _. TimestampType p) 
 abbrev pub other_type_at : Parser TypeName
 other_type_at =
     if_front (Word (codes "VARCHAR")) (λ us. into VarcharType (size_at us))
-    (if_front (Word (codes "DATE")) (found DateType) (λ us. keyword (codes "TIMESTAMP") us >>= λ _ a. timestamp_type_at a))
+    (if_front (Word (codes "DATE")) (found DateType)
+    (λ us. keyword (codes "TIMESTAMP") us >>= λ _ a. timestamp_type_at a))
 
 unfoldable pub type_at : Parser TypeName
 type_at =
@@ -48,7 +61,12 @@ generated_at ts =
 
 -- a column, of its parts; NOT NULL may stand on either side of GENERATED
 abbrev pub column_of : Name → TypeName → Bool → Option Generated → Bool → Element
-column_of n t first g second = ColumnElement (record { name = n; type_name = t; required = first || second; generated = g })
+column_of n t first g second = ColumnElement (record {
+  name = n;
+  type_name = t;
+  required = first || second;
+  generated = g;
+})
 
 -- behind the first [NOT NULL] of a column
 abbrev pub column_end : Name → TypeName → Bool → Option Generated → Parser Element
@@ -105,7 +123,8 @@ reference_period_at ts = keyword (codes "PERIOD") ts >>= λ _ a. name_at a
 
 unfoldable pub reflist_at : Parser RefList
 reflist_at ts =
-    symbol Open ts >>= λ _ a. name_at a >>= λ c b. more next_reference_column [] b >>= λ cs d. next reference_period_at d >>= λ p e.
+    symbol Open ts >>= λ _ a. name_at a >>= λ c b. more next_reference_column [] b >>= λ cs d. next
+    reference_period_at d >>= λ p e.
     symbol Close e >>= λ _ rest. Read (record { first = c; more = cs; period = p }) rest
 
 -- ON is read: DELETE or UPDATE, and NO ACTION
@@ -128,7 +147,8 @@ no_actions ts = no_actions_from (length ts) ts
 -- FOREIGN is read
 unfoldable pub foreign_at : Parser Constraint
 foreign_at ts =
-    keyword (codes "KEY") ts >>= λ _ a. reflist_at a >>= λ child b. keyword (codes "REFERENCES") b >>= λ _ c. name_at c >>= λ t d.
+    keyword (codes "KEY") ts >>= λ _ a. reflist_at a >>= λ child b. keyword (codes "REFERENCES") b >>= λ _ c. name_at
+    c >>= λ t d.
     reflist_at d >>= λ parent e. no_actions e >>= λ _ rest. Read (ForeignTree child t parent) rest
 
 -- CHECK is read
@@ -158,7 +178,8 @@ constraint_or_column_at ts = if begins_constraint ts then into ConstraintElement
 unfoldable pub element_at : Parser Element
 element_at =
     if_front (Word (codes "PERIOD")) period_at
-    (if_front (Word (codes "CONSTRAINT")) (λ us. into ConstraintElement (named_constraint_at us)) constraint_or_column_at)
+    (if_front (Word (codes "CONSTRAINT")) (λ us. into ConstraintElement (named_constraint_at us))
+    constraint_or_column_at)
 
 -- ---- CREATE and DROP
 
@@ -172,7 +193,8 @@ versioning_at =
 unfoldable pub create_at : Parser Statement
 create_at ts =
     keyword (codes "TABLE") ts >>= λ _ a. name_at a >>= λ n b. symbol Open b >>= λ _ c. element_at c >>= λ e d.
-    more (next element_at) [] d >>= λ es f. symbol Close f >>= λ _ g. versioning_at g >>= λ v rest. Read (CreateTree n e es v) rest
+    more (next element_at) [] d >>= λ es f. symbol Close f >>= λ _ g. versioning_at g >>= λ v rest. Read
+    (CreateTree n e es v) rest
 
 -- an optional word that says nothing
 abbrev pub noise : List ℕ → Parser (Unit {0})
@@ -181,7 +203,8 @@ noise w ts = Read tt (eat (Word w) ts).1
 -- DROP is read
 unfoldable pub drop_at : Parser Statement
 drop_at ts =
-    keyword (codes "TABLE") ts >>= λ _ a. name_at a >>= λ n b. noise (codes "RESTRICT") b >>= λ _ rest. Read (DropTree n) rest
+    keyword (codes "TABLE") ts >>= λ _ a. name_at a >>= λ n b. noise (codes "RESTRICT") b >>= λ _ rest. Read
+    (DropTree n) rest
 
 -- ---- literals
 
@@ -222,7 +245,11 @@ unfoldable pub alias_at : Parser (Option Name)
 alias_at = if_front (Word (codes "AS")) (λ us. into Some (name_at us)) name_or_none
 
 unfoldable pub ref_at : Parser RefTree
-ref_at ts = name_at ts >>= λ t a. span_at a >>= λ s b. into (λ n. record { table = t; span = s; alias = n }) (alias_at b)
+ref_at ts = name_at ts >>= λ t a. span_at a >>= λ s b. into (λ n. record {
+  table = t;
+  span = s;
+  alias = n;
+}) (alias_at b)
 
 -- ref ON condition, joined so
 unfoldable pub joined_on_at : (RefTree → Condition → JoinTree) → Parser JoinTree
@@ -301,7 +328,8 @@ order_key_at ts = key_name_at ts >>= λ k a. into (λ d. record { key = k; falls
 
 -- [ORDER BY key {, key}]
 unfoldable pub order_by_at : Parser (List OrderTree)
-order_by_at = if_front (Word (codes "ORDER")) (λ us. keyword (codes "BY") us >>= λ _ a. separated order_key_at a) (found [])
+order_by_at = if_front (Word (codes "ORDER")) (λ us. keyword (codes "BY") us >>= λ _ a. separated order_key_at a)
+    (found [])
 
 -- SELECT is read
 unfoldable pub query_at : Parser Statement
@@ -329,7 +357,10 @@ unfoldable pub portion_at : Parser (Option PortionTree)
 portion_at = behind (Word (codes "FOR")) portion_behind
 
 unfoldable pub assignment_at : Parser SetTree
-assignment_at ts = name_at ts >>= λ n a. symbol EqualSign a >>= λ _ b. into (λ c. record { column = n; value = c }) (cell_at b)
+assignment_at ts = name_at ts >>= λ n a. symbol EqualSign a >>= λ _ b. into (λ c. record {
+  column = n;
+  value = c;
+}) (cell_at b)
 
 -- UPDATE is read
 unfoldable pub update_at : Parser Statement

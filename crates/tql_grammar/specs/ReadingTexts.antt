@@ -1,8 +1,10 @@
 -- Reading a text: its tokens, and the sense of a piece of a script.
-use Rattle.std.specs.Prelude.{ℕ, zero, suc, Bool, false, not, nat_lt, if◌then◌else◌, List, [], ◌∷◌, length, take, drop, Option, Some, None}
+use Rattle.std.specs.Prelude.{ℕ, zero, suc, Bool, false, not, nat_lt, if◌then◌else◌, List, [], ◌∷◌, length, take}
+use Rattle.std.specs.Prelude.{drop, Option, Some, None}
 use Rattle.std.specs.Str.{is_utf8}
 use Rattle.tql_spec.specs.Words.{with_front}
-use Rattle.tql_spec.specs.Refusal.{NotAStatement, NotUtf8, UnfinishedStatement, StatementTooLong, NestedTooDeep, TooManyColumnsOrTables}
+use Rattle.tql_spec.specs.Refusal.{NotAStatement, NotUtf8, UnfinishedStatement, StatementTooLong, NestedTooDeep}
+use Rattle.tql_spec.specs.Refusal.{TooManyColumnsOrTables}
 use Rattle.tql_spec.specs.Script.{Piece, without_lead}
 use Rattle.tql_spec.specs.Token.{Token, depth}
 use Rattle.tql_spec.specs.FirstToken.{Reading, token_with, first_token}

@@ -1,5 +1,6 @@
 -- The best of values, taken from the left, and their sum.
-use Rattle.std.specs.Prelude.{◌≡◌, refl, ℕ, Bool, true, false, List, [], ◌∷◌, if◌then◌else◌, ℤ, pos, ◌+ℤ◌, Option, Some, None, ◌+◌, ◌^◌, ◌<◌, neg_ℤ, ◌≤ℤ◌, ◌<ℤ◌, length}
+use Rattle.std.specs.Prelude.{◌≡◌, refl, ℕ, Bool, true, false, List, [], ◌∷◌, if◌then◌else◌, ℤ, pos, ◌+ℤ◌, Option}
+use Rattle.std.specs.Prelude.{Some, None, ◌+◌, ◌^◌, ◌<◌, neg_ℤ, ◌≤ℤ◌, ◌<ℤ◌, length}
 use Rattle.std.proofs.Common.{sym, ap, ◌∙◌, arith}
 use Rattle.std.proofs.lemmas.Int.{ints}
 use Rattle.std.proofs.lemmas.Bool.Decides.{nat_tests}
@@ -42,7 +43,8 @@ module _ (lt : Datum → Datum → Bool) (o : IsStrictWeakOrder lt) where
   beats m b a true h k e = refl
   beats m b a false h k e = let no = o.chain m a b e (o.one_way b a k) in cc
 
-  chosen : (a b m : Datum) (p q r : Bool) → lt m b ≡ p → lt b a ≡ q → lt m a ≡ r → of_two a (of_two b m) ≡ of_two (of_two a b) m
+  chosen : (a b m : Datum) (p q r : Bool) → lt m b ≡ p → lt b a ≡ q → lt m a ≡ r
+      → of_two a (of_two b m) ≡ of_two (of_two a b) m
   chosen a b m true true r e f g = let g' : lt m a ≡ true = g ∙ beats m b a r e f g in simp (e, f, g')
   chosen a b m true false r e f g = simp (e, f)
   chosen a b m false true r e f g = simp (e, f, g)
@@ -54,16 +56,22 @@ module _ (lt : Datum → Datum → Bool) (o : IsStrictWeakOrder lt) where
 
 -- one more value
 pub one_better : (greatest : Bool) (a b : Datum) (vs : List Datum)
-    → best (is_better greatest) (present (the_better greatest a b ∷ vs)) ≡ best (is_better greatest) (present (a ∷ b ∷ vs))
+    → best (is_better greatest) (present (the_better greatest a b ∷ vs)) ≡ best (is_better greatest)
+    (present (a ∷ b ∷ vs))
 one_better greatest a b vs = by_null (is_null a) (is_null b) (is_better greatest b a) refl refl refl
   where
     by_null : (p q r : Bool) → is_null a ≡ p → is_null b ≡ q → is_better greatest b a ≡ r
-        → best (is_better greatest) (present (the_better greatest a b ∷ vs)) ≡ best (is_better greatest) (present (a ∷ b ∷ vs))
+        → best (is_better greatest) (present (the_better greatest a b ∷ vs)) ≡ best (is_better greatest)
+        (present (a ∷ b ∷ vs))
     by_null true true r e f g = simp (e, f, g)
     by_null true false r e f g = simp (e, f, g)
     by_null false true r e f g = simp (e, f, g)
-    by_null false false true e f g = simp (e, f, g) (ap (λ d. best (is_better greatest) (d ∷ present vs)) (sym (simp g)) ∙ first_two (is_better greatest) (ranks greatest) a b (present vs))
-    by_null false false false e f g = simp (e, f, g) (ap (λ d. best (is_better greatest) (d ∷ present vs)) (sym (simp g)) ∙ first_two (is_better greatest) (ranks greatest) a b (present vs))
+    by_null false false true e f g =
+        simp (e, f, g) (ap (λ d. best (is_better greatest) (d ∷ present vs)) (sym (simp g))
+        ∙ first_two (is_better greatest) (ranks greatest) a b (present vs))
+    by_null false false false e f g =
+        simp (e, f, g) (ap (λ d. best (is_better greatest) (d ∷ present vs)) (sym (simp g))
+        ∙ first_two (is_better greatest) (ranks greatest) a b (present vs))
 
 -- the best of one value
 pub best_of_one : (greatest : Bool) (a : Datum) → best (is_better greatest) (present (a ∷ [])) ≡ a
@@ -81,7 +89,8 @@ sum_from_none [] = refl
 sum_from_none (v ∷ vs) = refl
 
 -- one more value
-pub one_summed : (s : Option ℤ) (v : Datum) (vs : List Datum) → sum_behind (added s v) (present vs) ≡ sum_behind s (present (v ∷ vs))
+pub one_summed : (s : Option ℤ) (v : Datum) (vs : List Datum)
+    → sum_behind (added s v) (present vs) ≡ sum_behind s (present (v ∷ vs))
 one_summed None Null vs = refl
 one_summed (Some m) Null vs = refl
 one_summed None (Int n) vs = ap (λ k. exact (k +ℤ total (present vs))) (+ℤ_idl n)
@@ -98,8 +107,12 @@ pub sum_at_end : (n : ℤ) → sum_behind (Some n) [] ≡ exact n
 sum_at_end n = ap exact (+ℤ_idr n)
 
 -- a number of 64 bits is added
-pub next_within : (n : ℕ) (s : Option ℤ) (m r : ℤ) → IsWithin n s → neg_ℤ (pos (2 ^ 63)) ≤ℤ m → m <ℤ pos (2 ^ 63) → r ≡ so_far s +ℤ m → IsWithin (n + 1) (Some r)
-next_within n s m r h low high e = record { above = omega (arith, ints, h.above, low, e); below = omega (arith, ints, h.below, high, e) }
+pub next_within : (n : ℕ) (s : Option ℤ) (m r : ℤ) → IsWithin n s → neg_ℤ (pos (2 ^ 63)) ≤ℤ m → m <ℤ pos (2 ^ 63)
+    → r ≡ so_far s +ℤ m → IsWithin (n + 1) (Some r)
+next_within n s m r h low high e = record {
+  above = omega (arith, ints, h.above, low, e);
+  below = omega (arith, ints, h.below, high, e);
+}
 
 -- ---- counts
 
@@ -107,7 +120,8 @@ fits_small : (n : ℕ) → n < 2 ^ 63 → fits (pos n) ≡ true
 fits_small n h = grind (arith, nat_tests)
 
 -- an aggregate over rows that 64 bits can count
-pub over_few : (f : Function) (e : Expr) (rows : List Row) (row : Row) (o : Option Datum) → length rows < 2 ^ 63 → o ≡ of_present (aggregate f) e rows → o ≡ eval rows row (Aggregate f e)
+pub over_few : (f : Function) (e : Expr) (rows : List Row) (row : Row) (o : Option Datum) → length rows < 2 ^ 63
+    → o ≡ of_present (aggregate f) e rows → o ≡ eval rows row (Aggregate f e)
 over_few f e rows row o few is = is ∙ sym (simp (fits_small (length rows) few))
 
 pub unwrapped : (s : Option ℤ) → unwrap_or s (pos 0) ≡ so_far s

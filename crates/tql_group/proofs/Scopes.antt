@@ -1,5 +1,6 @@
 -- What is shown of scopes, one after another.
-use Rattle.std.specs.Prelude.{◌≡◌, refl, ℕ, ◌+◌, ◌<◌, ◌≤◌, Bool, true, false, List, [], ◌∷◌, map, length, slice_index_or, Option, Some, None}
+use Rattle.std.specs.Prelude.{◌≡◌, refl, ℕ, ◌+◌, ◌<◌, ◌≤◌, Bool, true, false, List, [], ◌∷◌, map, length}
+use Rattle.std.specs.Prelude.{slice_index_or, Option, Some, None}
 use Rattle.std.proofs.Common.{sym, ap, append_assoc, ◌∙◌, drop}
 use Rattle.std.proofs.lemmas.List.{drop_more, drop_all, append-nil}
 use Rattle.tql_spec.specs.Words.{◌>>=◌, with_front, map_all, kept_if, filter_all}
@@ -10,7 +11,8 @@ use Rattle.tql_spec.specs.QueryLaws.{shown}
 use Rattle.tql_expr.specs.Evaluated.{behind}
 
 -- the value of what is kept comes before those of the rest
-kept_first : (v : Option Row) (rest : Option (List Row)) → with_front v rest ≡ with_front v (Some []) >>= λ xs. behind xs rest
+kept_first : (v : Option Row) (rest : Option (List Row))
+    → with_front v rest ≡ with_front v (Some []) >>= λ xs. behind xs rest
 kept_first None rest = refl
 kept_first (Some x) None = refl
 kept_first (Some x) (Some xs) = refl
@@ -26,44 +28,57 @@ nothing_first (Some xs) = refl
 
 -- one scope by its test
 by_test : (f : Scope → Option Row) (s : Scope) (test : Option Bool) (kept : Option (List Scope))
-    → kept_if s test kept >>= map_all f ≡ (kept_if s test (Some []) >>= map_all f) >>= λ xs. behind xs (kept >>= map_all f)
+    → kept_if s test kept >>= map_all f ≡ (kept_if s test (Some []) >>= map_all f) >>= λ xs. behind xs
+    (kept >>= map_all f)
 by_test f s None kept = refl
 by_test f s (Some true) None = none_behind (with_front (f s) (Some []))
 by_test f s (Some true) (Some ks) = kept_first (f s) (map_all f ks)
 by_test f s (Some false) None = refl
 by_test f s (Some false) (Some ks) = nothing_first (map_all f ks)
 
-twice_behind : (done : List Row) (o rest : Option (List Row)) → behind done (o >>= λ xs. behind xs rest) ≡ behind done o >>= λ ys. behind ys rest
+twice_behind : (done : List Row) (o rest : Option (List Row))
+    → behind done (o >>= λ xs. behind xs rest) ≡ behind done o >>= λ ys. behind ys rest
 twice_behind done None rest = refl
 twice_behind done (Some xs) None = refl
 twice_behind done (Some xs) (Some ys) = ap {B = Option (List Row)} (λ zs. Some zs) (sym (append_assoc done xs ys))
 
 module _ (having : List Cond) (items : List Expr) where
   -- what is shown of a scope comes before what is shown of the others
-  row_first : (s : Scope) (ss : List Scope) → shown having items (s ∷ ss) ≡ shown having items (s ∷ []) >>= λ xs. behind xs (shown having items ss)
-  row_first s ss = by_test (λ s. map_all (eval s.group s.row) items) s (passes s.group s.row having) (filter_all (λ s. passes s.group s.row having) ss)
+  row_first : (s : Scope) (ss : List Scope)
+      → shown having items (s ∷ ss) ≡ shown having items (s ∷ []) >>= λ xs. behind xs (shown having items ss)
+  row_first s ss = by_test (λ s. map_all (eval s.group s.row) items) s (passes s.group s.row having)
+      (filter_all (λ s. passes s.group s.row having) ss)
 
   first_shown : (s : Scope) (ss all : List Scope) (done : List Row) → all ≡ s ∷ ss
-      → behind done (shown having items all) ≡ behind done (shown having items (s ∷ [])) >>= λ xs. behind xs (shown having items ss)
+      → behind done (shown having items all) ≡ behind done (shown having items (s ∷ [])) >>= λ xs. behind xs
+      (shown having items ss)
   first_shown s ss all done is =
-      ap (λ ws. behind done (shown having items ws)) is ∙ ap (behind done) (row_first s ss) ∙ twice_behind done (shown having items (s ∷ [])) (shown having items ss)
+      ap (λ ws. behind done (shown having items ws)) is ∙ ap (behind done) (row_first s ss)
+      ∙ twice_behind done (shown having items (s ∷ [])) (shown having items ss)
 
   -- one more scope
-  pub one_more_shown : (s : Scope) (ss left : List Scope) (done made : List Row) (all : Option (List Row)) → left ≡ s ∷ ss
-      → behind done (shown having items (s ∷ [])) ≡ Some made → behind done (shown having items left) ≡ all → behind made (shown having items ss) ≡ all
-  one_more_shown s ss left done made all is e h = ap (λ o. o >>= λ xs. behind xs (shown having items ss)) (sym e) ∙ sym (first_shown s ss left done is) ∙ h
+  pub one_more_shown : (s : Scope) (ss left : List Scope) (done made : List Row) (all : Option (List Row))
+      → left ≡ s ∷ ss
+      → behind done (shown having items (s ∷ [])) ≡ Some made → behind done (shown having items left) ≡ all
+      → behind made (shown having items ss) ≡ all
+  one_more_shown s ss left done made all is e h = ap (λ o. o >>= λ xs. behind xs (shown having items ss)) (sym e)
+      ∙ sym (first_shown s ss left done is) ∙ h
 
   -- one that is out of range
   pub one_not_shown : (s : Scope) (ss left : List Scope) (done : List Row) (all : Option (List Row)) → left ≡ s ∷ ss
       → behind done (shown having items left) ≡ all → behind done (shown having items (s ∷ [])) ≡ None → all ≡ None
-  one_not_shown s ss left done all is h none = sym h ∙ first_shown s ss left done is ∙ ap (λ o. o >>= λ xs. behind xs (shown having items ss)) none
+  one_not_shown s ss left done all is h none = sym h ∙ first_shown s ss left done is
+      ∙ ap (λ o. o >>= λ xs. behind xs (shown having items ss)) none
 
   -- none is left
-  pub all_shown : (left : List Scope) (done : List Row) (all : Option (List Row)) → left ≡ [] → behind done (shown having items left) ≡ all → all ≡ Some done
-  all_shown left done all none h = sym h ∙ ap (λ ws. behind done (shown having items ws)) none ∙ ap {B = Option (List Row)} (λ ys. Some ys) (append-nil done)
+  pub all_shown : (left : List Scope) (done : List Row) (all : Option (List Row)) → left ≡ []
+      → behind done (shown having items left) ≡ all → all ≡ Some done
+  all_shown left done all none h = sym h ∙ ap (λ ws. behind done (shown having items ws)) none
+      ∙ ap {B = Option (List Row)} (λ ys. Some ys) (append-nil done)
 
 -- what is left at an index
-pub left_from : {X : Type 0} (view : X → Scope) (xs : List X) (i : ℕ) (x : X) → i < length xs → x ≡ slice_index_or xs i x
+pub left_from : {X : Type 0} (view : X → Scope) (xs : List X) (i : ℕ) (x : X) → i < length xs
+    → x ≡ slice_index_or xs i x
     → map view (drop i xs) ≡ view x ∷ map view (drop (i + 1) xs)
 left_from {X} view xs i x l is =
     ap (map view) (drop_more xs i x l) ∙ ap {B = List Scope} (λ y. view y ∷ map view (drop (i + 1) xs)) (sym is)

@@ -31,17 +31,25 @@ pub record NoneOf {X : Type 0} (p : X → Bool) (l : List X) (e : X) (r : List X
   pub middle : p e ≡ false
   pub right : count_by p r ≡ 0
 
-pub none_apart : {X : Type 0} (p : X → Bool) (l : List X) (e : X) (r : List X) → count_by p (l ++ e ∷ r) ≡ 0 → NoneOf p l e r
+pub none_apart : {X : Type 0} (p : X → Bool) (l : List X) (e : X) (r : List X) → count_by p (l ++ e ∷ r) ≡ 0
+    → NoneOf p l e r
 none_apart p l e r h =
     let a = count-append p l (e ∷ r) in
     let c = count-cons p e r in
-    record { left = omega (arith, a, c, h); middle = bit_none (p e) (omega (arith, a, c, h)); right = omega (arith, a, c, h) }
+    record {
+      left = omega (arith, a, c, h);
+      middle = bit_none (p e) (omega (arith, a, c, h));
+      right = omega (arith, a, c, h);
+    }
 
-pub none_joined : {X : Type 0} (p : X → Bool) (l : List X) (e : X) (r : List X) → NoneOf p l e r → count_by p (l ++ e ∷ r) ≡ 0
-none_joined p l e r h = omega (arith, count-append p l (e ∷ r), count-cons p e r, bit_of_none (p e) h.middle, h.left, h.right)
+pub none_joined : {X : Type 0} (p : X → Bool) (l : List X) (e : X) (r : List X) → NoneOf p l e r
+    → count_by p (l ++ e ∷ r) ≡ 0
+none_joined p l e r h =
+    omega (arith, count-append p l (e ∷ r), count-cons p e r, bit_of_none (p e) h.middle, h.left, h.right)
 
 -- none passes a test that implies one which none passes
-pub none_weaker : {X : Type 0} (p q : X → Bool) → ((x : X) → p x ≡ false → q x ≡ false) → (xs : List X) → count_by p xs ≡ 0 → count_by q xs ≡ 0
+pub none_weaker : {X : Type 0} (p q : X → Bool) → ((x : X) → p x ≡ false → q x ≡ false) → (xs : List X)
+    → count_by p xs ≡ 0 → count_by q xs ≡ 0
 none_weaker p q f [] h = refl
 none_weaker p q f (x ∷ xs) h =
     let c = count-cons p x xs in
@@ -55,7 +63,8 @@ pub record IsTurned (s : Entry) (x y : List Entry) (t : Entry) (z : List Entry) 
   pub inner : IsAround t y z
   pub outer : IsAround s x (y ++ t ∷ z)
 
-pub turned_right : (s : Entry) (x y : List Entry) (t : Entry) (z : List Entry) → IsAround s x y → IsAround t (x ++ s ∷ y) z → IsTurned s x y t z
+pub turned_right : (s : Entry) (x y : List Entry) (t : Entry) (z : List Entry) → IsAround s x y
+    → IsAround t (x ++ s ∷ y) z → IsTurned s x y t z
 turned_right s x y t z a b =
     let m = none_apart (λ e. is_before t e) x s y b.none_after in
     record {
@@ -65,7 +74,8 @@ turned_right s x y t z a b =
         none_before = none_joined (λ e. is_before e s) y t z (record {
           left = a.none_before;
           middle = m.middle;
-          right = none_weaker (λ e. is_before e t) (λ e. is_before e s) (λ e h. not_before_again e t s h m.middle) z b.none_before;
+          right = none_weaker (λ e. is_before e t) (λ e. is_before e s) (λ e h. not_before_again e t s h m.middle) z
+              b.none_before;
         });
       };
     }
@@ -75,14 +85,16 @@ pub record IsTurnedBack (s : Entry) (x y : List Entry) (t : Entry) (z : List Ent
   pub inner : IsAround s x y
   pub outer : IsAround t (x ++ s ∷ y) z
 
-pub turned_left : (s : Entry) (x y : List Entry) (t : Entry) (z : List Entry) → IsAround t y z → IsAround s x (y ++ t ∷ z) → IsTurnedBack s x y t z
+pub turned_left : (s : Entry) (x y : List Entry) (t : Entry) (z : List Entry) → IsAround t y z
+    → IsAround s x (y ++ t ∷ z) → IsTurnedBack s x y t z
 turned_left s x y t z a b =
     let m = none_apart (λ e. is_before e s) y t z b.none_before in
     record {
       inner = record { none_after = b.none_after; none_before = m.left };
       outer = record {
         none_after = none_joined (λ e. is_before t e) x s y (record {
-          left = none_weaker (λ e. is_before s e) (λ e. is_before t e) (λ e h. not_before_again t s e m.middle h) x b.none_after;
+          left = none_weaker (λ e. is_before s e) (λ e. is_before t e) (λ e h. not_before_again t s e m.middle h) x
+              b.none_after;
           middle = m.middle;
           right = a.none_after;
         });
@@ -92,21 +104,27 @@ turned_left s x y t z a b =
 
 -- ---- rotations of trees, told by their entries
 
-pub to_right : (s : Entry) (x y : List Entry) (t : Entry) (z l m : List Entry) → l ≡ x ++ s ∷ y → m ≡ y ++ t ∷ z → IsAround s x y → IsAround t l z → IsAround s x m
+pub to_right : (s : Entry) (x y : List Entry) (t : Entry) (z l m : List Entry) → l ≡ x ++ s ∷ y → m ≡ y ++ t ∷ z
+    → IsAround s x y → IsAround t l z → IsAround s x m
 to_right s x y t z l m e f a b = rw f ((turned_right s x y t z a (rw e at b)).outer)
 
-pub to_left : (s : Entry) (x y : List Entry) (t : Entry) (z r m : List Entry) → r ≡ y ++ t ∷ z → m ≡ x ++ s ∷ y → IsAround t y z → IsAround s x r → IsAround t m z
+pub to_left : (s : Entry) (x y : List Entry) (t : Entry) (z r m : List Entry) → r ≡ y ++ t ∷ z → m ≡ x ++ s ∷ y
+    → IsAround t y z → IsAround s x r → IsAround t m z
 to_left s x y t z r m e f a b = rw f ((turned_left s x y t z a (rw e at b)).outer)
 
 -- x s (u m v) t z: the inner side's top m becomes the top
-pub double_right : (s : Entry) (x u : List Entry) (m : Entry) (v : List Entry) (t : Entry) (z l y p q : List Entry) → l ≡ x ++ s ∷ y → y ≡ u ++ m ∷ v → p ≡ x ++ s ∷ u → q ≡ v ++ t ∷ z → IsAround s x y → IsAround m u v → IsAround t l z → IsAround m p q
+pub double_right : (s : Entry) (x u : List Entry) (m : Entry) (v : List Entry) (t : Entry) (z l y p q : List Entry)
+    → l ≡ x ++ s ∷ y → y ≡ u ++ m ∷ v → p ≡ x ++ s ∷ u → q ≡ v ++ t ∷ z → IsAround s x y → IsAround m u v
+    → IsAround t l z → IsAround m p q
 double_right s x u m v t z l y p q e f g h a b d =
     let turned = turned_left s x u m v b (rw f at a) in
     let n : l ≡ (x ++ s ∷ u) ++ m ∷ v = e ∙ ap (λ w. x ++ s ∷ w) f ∙ sym (append_assoc x (s ∷ u) (m ∷ v)) in
     rw (g, h) ((turned_right m (x ++ s ∷ u) v t z turned.outer (rw n at d)).outer)
 
 -- x t (u m v) s z: the mirror image
-pub double_left : (s : Entry) (x u : List Entry) (m : Entry) (v : List Entry) (t : Entry) (z r y p q : List Entry) → r ≡ y ++ s ∷ z → y ≡ u ++ m ∷ v → p ≡ x ++ t ∷ u → q ≡ v ++ s ∷ z → IsAround s y z → IsAround m u v → IsAround t x r → IsAround m p q
+pub double_left : (s : Entry) (x u : List Entry) (m : Entry) (v : List Entry) (t : Entry) (z r y p q : List Entry)
+    → r ≡ y ++ s ∷ z → y ≡ u ++ m ∷ v → p ≡ x ++ t ∷ u → q ≡ v ++ s ∷ z → IsAround s y z → IsAround m u v
+    → IsAround t x r → IsAround m p q
 double_left s x u m v t z r y p q e f g h a b d =
     let turned = turned_right m u v s z b (rw f at a) in
     let n : r ≡ u ++ m ∷ (v ++ s ∷ z) = e ∙ ap (λ w. w ++ s ∷ z) f ∙ append_assoc u (m ∷ v) (s ∷ z) in

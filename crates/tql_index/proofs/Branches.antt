@@ -1,5 +1,6 @@
 -- The greatest end and the height of a branch.
-use Rattle.std.specs.Prelude.{◌≡◌, refl, ℕ, zero, suc, ◌+◌, ◌*◌, ◌^◌, ◌<◌, ◌≤◌, max, List, [], ◌∷◌, ◌++◌, length, ℤ, pos, neg_ℤ, ◌≤ℤ◌}
+use Rattle.std.specs.Prelude.{◌≡◌, refl, ℕ, zero, suc, ◌+◌, ◌*◌, ◌^◌, ◌<◌, ◌≤◌, max, List, [], ◌∷◌, ◌++◌, length, ℤ}
+use Rattle.std.specs.Prelude.{pos, neg_ℤ, ◌≤ℤ◌}
 use Rattle.std.specs.Int.{int_max}
 use Rattle.std.proofs.Common.{◌⊎◌, arith, inl, inr, ap, ◌∙◌, add-one, length-append}
 use Rattle.std.proofs.Math.Nat.{pow-suc}
@@ -23,9 +24,11 @@ half a b n s =
     let t = rw pow-suc at s in
     elim (cases_lt a (2 ^ n)) [ inl p ↦ inl p | inr p ↦ inr (omega (arith, t, p)) ]
 
-shallow_more : (l r a b : ℕ) → IsShallow l a → IsShallow r b → DifferByAtMost 1 l r → IsShallow (max l r + 1) (a + (b + 1))
+shallow_more : (l r a b : ℕ) → IsShallow l a → IsShallow r b → DifferByAtMost 1 l r
+    → IsShallow (max l r + 1) (a + (b + 1))
 shallow_more l r a b h k d zero s = absurd (omega (arith, s))
-shallow_more l r a b h k d (suc n) s = elim (half a b n s) [ inl p ↦ omega (arith, h n p, d.0, d.1) | inr p ↦ omega (arith, k n p, d.0, d.1) ]
+shallow_more l r a b h k d (suc n) s =
+    elim (half a b n s) [ inl p ↦ omega (arith, h n p, d.0, d.1) | inr p ↦ omega (arith, k n p, d.0, d.1) ]
 
 deep_more : (l r a b : ℕ) → a < 2 ^ l → b < 2 ^ r → a + (b + 1) < 2 ^ (max l r + 1)
 deep_more l r a b h k =
@@ -34,10 +37,15 @@ deep_more l r a b h k =
     let p : 2 ^ (max l r + 1) ≡ 2 ^ max l r * 2 = ap (λ e. 2 ^ e) (add-one (max l r)) ∙ pow-suc 2 (max l r) in
     rw p (omega (arith, h, k, m, n))
 
-pub made : (l : Contents) (e f : Entry) (r : Contents) (h : ℕ) (g : ℤ) → IsAround e l.entries r.entries → DifferByAtMost 1 l.height r.height → IsShallow l.height (length l.entries) → IsShallow r.height (length r.entries) → length l.entries < 2 ^ l.height → length r.entries < 2 ^ r.height → f ≡ e → h ≡ max l.height r.height + 1 → g ≡ int_max (int_max (greatest_end l.entries) e.period.end) (greatest_end r.entries) → IsBranch l f h g r
+pub made : (l : Contents) (e f : Entry) (r : Contents) (h : ℕ) (g : ℤ) → IsAround e l.entries r.entries
+    → DifferByAtMost 1 l.height r.height → IsShallow l.height (length l.entries)
+    → IsShallow r.height (length r.entries) → length l.entries < 2 ^ l.height → length r.entries < 2 ^ r.height
+    → f ≡ e → h ≡ max l.height r.height + 1
+    → g ≡ int_max (int_max (greatest_end l.entries) e.period.end) (greatest_end r.entries) → IsBranch l f h g r
 made l e f r h g a d m n i j p q t =
     let m' = shallow_more l.height r.height (length l.entries) (length r.entries) m n d in
-    let c : length (l.entries ++ e ∷ r.entries) ≡ length l.entries + (length r.entries + 1) = omega (arith, length-append l.entries (e ∷ r.entries)) in
+    let c : length (l.entries ++ e ∷ r.entries) ≡ length l.entries + (length r.entries + 1) =
+    omega (arith, length-append l.entries (e ∷ r.entries)) in
     let b = greatest_end-append l.entries (e ∷ r.entries) in
     rw p (record {
       around = a;

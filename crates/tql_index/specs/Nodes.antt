@@ -16,7 +16,10 @@ entry_of b = record { period = points_of b.period; id = b.id }
 -- the entries and the height that a branch stands for
 abbrev pub contents_of : {A : Type 0} → Root A → Contents
 contents_of Empty = record { entries = []; height = 0 }
-contents_of (At b) = record { entries = b.value.left.entries ++ entry_of b.value ∷ b.value.right.entries; height = b.value.height }
+contents_of (At b) = record {
+  entries = b.value.left.entries ++ entry_of b.value ∷ b.value.right.entries;
+  height = b.value.height;
+}
 
 -- what holds at the top of a tree
 abbrev pub IsTree : {A : Type 0} → Root A → Type 0

@@ -1,5 +1,6 @@
 -- What a tree of entries is seen as, and what holds at each of its branches.
-use Rattle.std.specs.Prelude.{◌≡◌, ℕ, ◌+◌, ◌*◌, ◌^◌, ◌<◌, ◌≤◌, max, Bool, List, [], ◌∷◌, ◌++◌, length, count_by, ℤ, pos, neg_ℤ}
+use Rattle.std.specs.Prelude.{◌≡◌, ℕ, ◌+◌, ◌*◌, ◌^◌, ◌<◌, ◌≤◌, max, Bool, List, [], ◌∷◌, ◌++◌, length, count_by, ℤ}
+use Rattle.std.specs.Prelude.{pos, neg_ℤ}
 use Rattle.std.specs.Int.{int_max}
 use Rattle.std.specs.declared.cmp.Ordering.{Ordering}
 use Rattle.std.specs.Ordering.{nat_cmp, int_cmp, is_lt, ordering_then}
@@ -12,7 +13,8 @@ pub record Contents : Type 0 where
 
 -- the order of entries: by start, then end, then number
 abbrev pub entry_cmp : Entry → Entry → Ordering
-entry_cmp a b = ordering_then (int_cmp a.period.start b.period.start) (ordering_then (int_cmp a.period.end b.period.end) (nat_cmp a.id b.id))
+entry_cmp a b = ordering_then (int_cmp a.period.start b.period.start)
+    (ordering_then (int_cmp a.period.end b.period.end) (nat_cmp a.id b.id))
 
 -- whether the first stands before the second
 abbrev pub is_before : Entry → Entry → Bool

@@ -5,7 +5,9 @@ use Rattle.std.specs.Str.{bytes_eq}
 use Rattle.std.proofs.lemmas.Map.Text.{is_eq-slice_cmp}
 use Rattle.std.proofs.lemmas.Slice.Eq.{bytes_eq-Decides}
 use Rattle.tql_spec.specs.Words.{same_text}
-use Rattle.tql_spec.specs.Token.{Symbol, Open, Close, Comma, Dot, PlusSign, MinusSign, Star, EqualSign, UnequalSign, LessSign, AtMostSign, MoreSign, AtLeastSign, Token, Word, QuotedName, Number, Quote, Sign, upper}
+use Rattle.tql_spec.specs.Token.{Symbol, Open, Close, Comma, Dot, PlusSign, MinusSign, Star, EqualSign, UnequalSign}
+use Rattle.tql_spec.specs.Token.{LessSign, AtMostSign, MoreSign, AtLeastSign, Token, Word, QuotedName, Number, Quote}
+use Rattle.tql_spec.specs.Token.{Sign, upper}
 use Rattle.tql_lex.specs.Tests.{is_word, is_sign, same_symbol}
 
 pub same_bytes : (xs ys : List ℕ) → same_text xs ys ≡ bytes_eq xs ys
@@ -68,7 +70,9 @@ is_sign_tells s (Number ds) = (λ e. absurd cc, λ e. absurd cc)
 is_sign_tells s (Quote t) = (λ e. absurd cc, λ e. absurd cc)
 is_sign_tells s (Sign x) = (λ e. ap Sign (symbol_is x s e), λ e. rw (sign_is x s e) (symbol_self s))
 
-pub word_tells : (r : Bool) (w text bytes other : List ℕ) (t : Token) → r ≡ same_text (map upper bytes) other → bytes ≡ text → other ≡ w → t ≡ Word (map upper text) → (r ≡ true) ↔ (t ≡ Word w)
+pub word_tells : (r : Bool) (w text bytes other : List ℕ) (t : Token) → r ≡ same_text (map upper bytes) other
+    → bytes ≡ text → other ≡ w → t ≡ Word (map upper text) → (r ≡ true) ↔ (t ≡ Word w)
 word_tells r w text bytes other t e same wanted is =
-    let v : r ≡ is_word w t = e ∙ ap (λ (z : List ℕ). same_text (map upper z) other) same ∙ ap (same_text (map upper text)) wanted ∙ ap (is_word w) (sym is) in
+    let v : r ≡ is_word w t = e ∙ ap (λ (z : List ℕ). same_text (map upper z) other) same
+    ∙ ap (same_text (map upper text)) wanted ∙ ap (is_word w) (sym is) in
     rw v (is_word_tells w t)

@@ -1,5 +1,6 @@
 -- Where the pieces of a script are cut.
-use Rattle.std.specs.Prelude.{◌≡◌, ℕ, ◌<◌, ◌==◌, ◌&&◌, Bool, true, false, suc, List, [], ◌∷◌, ◌++◌, length, Option, Some, None, if◌then◌else◌}
+use Rattle.std.specs.Prelude.{◌≡◌, ℕ, ◌<◌, ◌==◌, ◌&&◌, Bool, true, false, suc, List, [], ◌∷◌, ◌++◌, length, Option}
+use Rattle.std.specs.Prelude.{Some, None, if◌then◌else◌}
 use Rattle.tql_spec.specs.Script as script
 use Rattle.tql_spec.specs.Script.{statements, place_after, can_end}
 use Rattle.tql_spec.specs.Lines.{placed_from}
@@ -44,7 +45,8 @@ pub record HoldsUnfinished (bytes before text rest : List ℕ) : Type 0 where
   pub at_end : rest ≡ []
   pub is : bytes ≡ before ++ text
   pub filled : 0 < length text
-  pub placed : (ahead : List ℕ) → placed_from ahead bytes ≡ record { before = ahead ++ before; piece = unfinished_piece text } ∷ []
+  pub placed : (ahead : List ℕ)
+      → placed_from ahead bytes ≡ record { before = ahead ++ before; piece = unfinished_piece text } ∷ []
   pub given : statements bytes ≡ unfinished_piece text ∷ []
 
 abbrev pub Begins : Bool → List ℕ → List ℕ → List ℕ → List ℕ → Type 0

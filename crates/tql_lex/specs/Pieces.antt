@@ -24,7 +24,8 @@ StandsFor (Unfinished t) p = (p.text ≡ t.now) × IsFalse p.finished × (length
 abbrev pub piece_found : Found → script.Piece
 piece_found f = record { text = f.text.now; finished = f.finished }
 
--- the statement is the first of those left, whatever is still to come, and stands on its line; after the end nothing comes
+-- the statement is the first of those left, whatever is still to come, and stands on its line; after the end nothing
+-- comes
 pub record GivesFirst (old new : Stream) (p : script.Piece) : Type 0 where
   pub given : statements old.left ≡ p ∷ statements new.left
   pub coming : (more : List ℕ) → IsFalse old.ended → statements (old.left ++ more) ≡ p ∷ statements (new.left ++ more)

@@ -27,11 +27,13 @@ reading_of (Some e) = Some (sort_of e.kind, e.length)
 -- where the next token may begin
 abbrev pub IsNextStart : List ℕ → ℕ → Option ℕ → Type 0
 IsNextStart text from None = without_lead false (drop from text) ≡ []
-IsNextStart text from (Some start) = (from ≤ start) × (start < length text) × (without_lead false (drop from text) ≡ drop start text)
+IsNextStart text from (Some start) =
+    (from ≤ start) × (start < length text) × (without_lead false (drop from text) ≡ drop start text)
 
 -- the token at this place
 abbrev pub IsTokenAt : List ℕ → ℕ → Option Token → Type 0
 IsTokenAt text start None = first_token (drop start text) ≡ None
 IsTokenAt text start (Some t) =
-    (t.start ≡ start) × (0 < length t.text.now) × (start + length t.text.now ≤ length text) × (t.text.now ≡ take (length t.text.now) (drop start text))
+    (t.start ≡ start) × (0 < length t.text.now) × (start + length t.text.now ≤ length text) ×
+    (t.text.now ≡ take (length t.text.now) (drop start text))
     × (first_token (drop start text) ≡ Some (sort_of t.kind, length t.text.now))

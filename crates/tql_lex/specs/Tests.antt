@@ -1,7 +1,9 @@
 -- What is asked of a token.
 use Rattle.std.specs.Prelude.{ℕ, Bool, true, false, List}
 use Rattle.tql_spec.specs.Words.{same_text}
-use Rattle.tql_spec.specs.Token.{Symbol, Open, Close, Comma, Dot, PlusSign, MinusSign, Star, EqualSign, UnequalSign, LessSign, AtMostSign, MoreSign, AtLeastSign, symbol_text, Token, Word, QuotedName, Number, Quote, Sign, is_reserved}
+use Rattle.tql_spec.specs.Token.{Symbol, Open, Close, Comma, Dot, PlusSign, MinusSign, Star, EqualSign, UnequalSign}
+use Rattle.tql_spec.specs.Token.{LessSign, AtMostSign, MoreSign, AtLeastSign, symbol_text, Token, Word, QuotedName}
+use Rattle.tql_spec.specs.Token.{Number, Quote, Sign, is_reserved}
 
 -- whether two symbols are the same
 abbrev pub same_symbol : Symbol → Symbol → Bool

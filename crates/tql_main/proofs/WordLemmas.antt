@@ -1,5 +1,6 @@
 -- What the command line makes of its words.
-use Rattle.std.proofs.Common.{nat_eq, refl, subst, sym, ap, ℕ, Bool, true, false, not, inl, inr, arith, codes, List, [], ◌∷◌, ◌==◌, ◌≡◌, ◌∙◌, Option, Some, None, Result, Ok, Err, IfOk, option_map}
+use Rattle.std.proofs.Common.{nat_eq, refl, subst, sym, ap, ℕ, Bool, true, false, not, inl, inr, arith, codes, List}
+use Rattle.std.proofs.Common.{[], ◌∷◌, ◌==◌, ◌≡◌, ◌∙◌, Option, Some, None, Result, Ok, Err, IfOk, option_map}
 use Rattle.std.specs.Prelude.{IsErrAnd}
 use Rattle.clap.specs.Words.{Text, FailsBy}
 use Rattle.clap.specs.Kinds.{HasKind, Kinds}
@@ -8,7 +9,8 @@ use Rattle.clap.proofs.OnLiterals.{clap_on_literals}
 use Rattle.clap.specs.declared.error.Error.{Error}
 use Rattle.clap.specs.declared.error.kind.ErrorKind.{ErrorKind}
 use Rattle.clap.specs.declared.error.kind.ErrorKind.TheVariants.{DisplayHelp, DisplayVersion, UnknownArgument}
-use Rattle.tql_main.specs.CommandLine.{ReadsLine, RefusesLine, TakesScript, TellsFlag, check_in, faults_in, file_of, is_plain_word, quiet_in, script_in, word_in}
+use Rattle.tql_main.specs.CommandLine.{ReadsLine, RefusesLine, TakesScript, TellsFlag, check_in, faults_in, file_of}
+use Rattle.tql_main.specs.CommandLine.{is_plain_word, quiet_in, script_in, word_in}
 use Rattle.tql_main.specs.declared.options.CommandLine.{CommandLine}
 
 alone_fits : (name : Text) → faults_in (name ∷ []) ≡ []
@@ -160,7 +162,8 @@ plain_file : (script : Text) → is_plain_word script ≡ true → file_of (Some
 plain_file [] h = refl
 plain_file (x ∷ rest) h = let apart : nat_eq x 45 ≡ false = not_true (x == 45) h in rw apart refl
 
-file_is : (words : List Text) (script : Text) → word_in words ≡ Some script → is_plain_word script ≡ true → script_in words ≡ Some script
+file_is : (words : List Text) (script : Text) → word_in words ≡ Some script → is_plain_word script ≡ true
+    → script_in words ≡ Some script
 file_is words script e h = ap file_of e ∙ plain_file script h
 
 named_script : (name script : Text) → is_plain_word script ≡ true → script_in (name ∷ script ∷ []) ≡ Some script
@@ -171,20 +174,25 @@ unfolding clap_on_literals
 named_runs name [] h = refl
 named_runs name (x ∷ rest) h = rw (no_dash x rest h, not_true (x == 45) h) refl
 
-checked_named_fits : (name script : Text) → is_plain_word script ≡ true → faults_in (name ∷ codes "--check" ∷ script ∷ []) ≡ []
+checked_named_fits : (name script : Text) → is_plain_word script ≡ true
+    → faults_in (name ∷ codes "--check" ∷ script ∷ []) ≡ []
 unfolding clap_on_literals
 checked_named_fits name [] h = refl
 checked_named_fits name (x ∷ rest) h = rw (no_dash x rest h, not_true (x == 45) h) refl
 
-checked_named_word : (name script : Text) → is_plain_word script ≡ true → word_in (name ∷ codes "--check" ∷ script ∷ []) ≡ Some script
+checked_named_word : (name script : Text) → is_plain_word script ≡ true
+    → word_in (name ∷ codes "--check" ∷ script ∷ []) ≡ Some script
 unfolding clap_on_literals
 checked_named_word name [] h = refl
 checked_named_word name (x ∷ rest) h = rw (no_dash x rest h, not_true (x == 45) h) refl
 
-checked_named_script : (name script : Text) → is_plain_word script ≡ true → script_in (name ∷ codes "--check" ∷ script ∷ []) ≡ Some script
-checked_named_script name script h = file_is (name ∷ codes "--check" ∷ script ∷ []) script (checked_named_word name script h) h
+checked_named_script : (name script : Text) → is_plain_word script ≡ true
+    → script_in (name ∷ codes "--check" ∷ script ∷ []) ≡ Some script
+checked_named_script name script h =
+    file_is (name ∷ codes "--check" ∷ script ∷ []) script (checked_named_word name script h) h
 
-checked_named_checks : (name script : Text) → is_plain_word script ≡ true → check_in (name ∷ codes "--check" ∷ script ∷ []) ≡ Some (codes "true")
+checked_named_checks : (name script : Text) → is_plain_word script ≡ true
+    → check_in (name ∷ codes "--check" ∷ script ∷ []) ≡ Some (codes "true")
 unfolding clap_on_literals
 checked_named_checks name [] h = refl
 checked_named_checks name (x ∷ rest) h = rw (no_dash x rest h, not_true (x == 45) h) refl
@@ -194,56 +202,69 @@ unfolding clap_on_literals
 named_tells name [] h = refl
 named_tells name (x ∷ rest) h = rw (no_dash x rest h, not_true (x == 45) h) refl
 
-checked_named_tells : (name script : Text) → is_plain_word script ≡ true → quiet_in (name ∷ codes "--check" ∷ script ∷ []) ≡ Some (codes "false")
+checked_named_tells : (name script : Text) → is_plain_word script ≡ true
+    → quiet_in (name ∷ codes "--check" ∷ script ∷ []) ≡ Some (codes "false")
 unfolding clap_on_literals
 checked_named_tells name [] h = refl
 checked_named_tells name (x ∷ rest) h = rw (no_dash x rest h, not_true (x == 45) h) refl
 
-quiet_named_fits : (name script : Text) → is_plain_word script ≡ true → faults_in (name ∷ codes "--quiet" ∷ script ∷ []) ≡ []
+quiet_named_fits : (name script : Text) → is_plain_word script ≡ true
+    → faults_in (name ∷ codes "--quiet" ∷ script ∷ []) ≡ []
 unfolding clap_on_literals
 quiet_named_fits name [] h = refl
 quiet_named_fits name (x ∷ rest) h = rw (no_dash x rest h, not_true (x == 45) h) refl
 
-quiet_named_word : (name script : Text) → is_plain_word script ≡ true → word_in (name ∷ codes "--quiet" ∷ script ∷ []) ≡ Some script
+quiet_named_word : (name script : Text) → is_plain_word script ≡ true
+    → word_in (name ∷ codes "--quiet" ∷ script ∷ []) ≡ Some script
 unfolding clap_on_literals
 quiet_named_word name [] h = refl
 quiet_named_word name (x ∷ rest) h = rw (no_dash x rest h, not_true (x == 45) h) refl
 
-quiet_named_runs : (name script : Text) → is_plain_word script ≡ true → check_in (name ∷ codes "--quiet" ∷ script ∷ []) ≡ Some (codes "false")
+quiet_named_runs : (name script : Text) → is_plain_word script ≡ true
+    → check_in (name ∷ codes "--quiet" ∷ script ∷ []) ≡ Some (codes "false")
 unfolding clap_on_literals
 quiet_named_runs name [] h = refl
 quiet_named_runs name (x ∷ rest) h = rw (no_dash x rest h, not_true (x == 45) h) refl
 
-quiet_named_tells : (name script : Text) → is_plain_word script ≡ true → quiet_in (name ∷ codes "--quiet" ∷ script ∷ []) ≡ Some (codes "true")
+quiet_named_tells : (name script : Text) → is_plain_word script ≡ true
+    → quiet_in (name ∷ codes "--quiet" ∷ script ∷ []) ≡ Some (codes "true")
 unfolding clap_on_literals
 quiet_named_tells name [] h = refl
 quiet_named_tells name (x ∷ rest) h = rw (no_dash x rest h, not_true (x == 45) h) refl
 
-quiet_named_script : (name script : Text) → is_plain_word script ≡ true → script_in (name ∷ codes "--quiet" ∷ script ∷ []) ≡ Some script
-quiet_named_script name script h = file_is (name ∷ codes "--quiet" ∷ script ∷ []) script (quiet_named_word name script h) h
+quiet_named_script : (name script : Text) → is_plain_word script ≡ true
+    → script_in (name ∷ codes "--quiet" ∷ script ∷ []) ≡ Some script
+quiet_named_script name script h =
+    file_is (name ∷ codes "--quiet" ∷ script ∷ []) script (quiet_named_word name script h) h
 
-short_quiet_named_fits : (name script : Text) → is_plain_word script ≡ true → faults_in (name ∷ codes "-q" ∷ script ∷ []) ≡ []
+short_quiet_named_fits : (name script : Text) → is_plain_word script ≡ true
+    → faults_in (name ∷ codes "-q" ∷ script ∷ []) ≡ []
 unfolding clap_on_literals
 short_quiet_named_fits name [] h = refl
 short_quiet_named_fits name (x ∷ rest) h = rw (no_dash x rest h, not_true (x == 45) h) refl
 
-short_quiet_named_word : (name script : Text) → is_plain_word script ≡ true → word_in (name ∷ codes "-q" ∷ script ∷ []) ≡ Some script
+short_quiet_named_word : (name script : Text) → is_plain_word script ≡ true
+    → word_in (name ∷ codes "-q" ∷ script ∷ []) ≡ Some script
 unfolding clap_on_literals
 short_quiet_named_word name [] h = refl
 short_quiet_named_word name (x ∷ rest) h = rw (no_dash x rest h, not_true (x == 45) h) refl
 
-short_quiet_named_runs : (name script : Text) → is_plain_word script ≡ true → check_in (name ∷ codes "-q" ∷ script ∷ []) ≡ Some (codes "false")
+short_quiet_named_runs : (name script : Text) → is_plain_word script ≡ true
+    → check_in (name ∷ codes "-q" ∷ script ∷ []) ≡ Some (codes "false")
 unfolding clap_on_literals
 short_quiet_named_runs name [] h = refl
 short_quiet_named_runs name (x ∷ rest) h = rw (no_dash x rest h, not_true (x == 45) h) refl
 
-short_quiet_named_tells : (name script : Text) → is_plain_word script ≡ true → quiet_in (name ∷ codes "-q" ∷ script ∷ []) ≡ Some (codes "true")
+short_quiet_named_tells : (name script : Text) → is_plain_word script ≡ true
+    → quiet_in (name ∷ codes "-q" ∷ script ∷ []) ≡ Some (codes "true")
 unfolding clap_on_literals
 short_quiet_named_tells name [] h = refl
 short_quiet_named_tells name (x ∷ rest) h = rw (no_dash x rest h, not_true (x == 45) h) refl
 
-short_quiet_named_script : (name script : Text) → is_plain_word script ≡ true → script_in (name ∷ codes "-q" ∷ script ∷ []) ≡ Some script
-short_quiet_named_script name script h = file_is (name ∷ codes "-q" ∷ script ∷ []) script (short_quiet_named_word name script h) h
+short_quiet_named_script : (name script : Text) → is_plain_word script ≡ true
+    → script_in (name ∷ codes "-q" ∷ script ∷ []) ≡ Some script
+short_quiet_named_script name script h =
+    file_is (name ∷ codes "-q" ∷ script ∷ []) script (short_quiet_named_word name script h) h
 
 several_refused : (name script more : Text) → is_plain_word script ≡ true → is_plain_word more ≡ true
     → faults_in (name ∷ script ∷ more ∷ []) ≡ UnknownArgument ∷ []
@@ -251,40 +272,51 @@ unfolding clap_on_literals
 several_refused name [] [] h k = refl
 several_refused name [] (y ∷ ys) h k = rw (no_dash y ys k, not_true (y == 45) k) refl
 several_refused name (x ∷ xs) [] h k = rw (no_dash x xs h, not_true (x == 45) h) refl
-several_refused name (x ∷ xs) (y ∷ ys) h k = rw (no_dash x xs h, not_true (x == 45) h, no_dash y ys k, not_true (y == 45) k) refl
+several_refused name (x ∷ xs) (y ∷ ys) h k =
+    rw (no_dash x xs h, not_true (x == 45) h, no_dash y ys k, not_true (y == 45) k) refl
 
 -- a line that is taken
 takes : (words : List Text) (check quiet : Bool) (script : Option Text) (r : Result CommandLine Error)
-    → IfOk r (λ line. line.check ≡ check) → IfOk r (λ line. line.quiet ≡ quiet) → IfOk r (λ line. option_map (λ s. s.now) line.script ≡ script_in words) → FailsBy (faults_in words) r
+    → IfOk r (λ line. line.check ≡ check) → IfOk r (λ line. line.quiet ≡ quiet)
+    → IfOk r (λ line. option_map (λ s. s.now) line.script ≡ script_in words) → FailsBy (faults_in words) r
     → faults_in words ≡ [] → script_in words ≡ script → TakesScript check quiet script r
 takes words check quiet script (Ok line) b q f g e s = (b, q, f ∙ s)
-takes words check quiet script (Err x) b q f g e s = elim (subst (λ (ks : Kinds). FailsBy {T = CommandLine} ks (Err x)) e g) [
-  | inl h ↦ h
-  | inr h ↦ absurd h
-]
+takes words check quiet script (Err x) b q f g e s =
+    elim (subst (λ (ks : Kinds). FailsBy {T = CommandLine} ks (Err x)) e g) [
+      | inl h ↦ h
+      | inr h ↦ absurd h
+    ]
 
-is_set : (words : List Text) (r : Result CommandLine Error) → IfOk r (λ line. TellsFlag (check_in words) line.check) → check_in words ≡ Some (codes "true") → IfOk r (λ line. line.check ≡ true)
+is_set : (words : List Text) (r : Result CommandLine Error) → IfOk r (λ line. TellsFlag (check_in words) line.check)
+    → check_in words ≡ Some (codes "true") → IfOk r (λ line. line.check ≡ true)
 is_set words (Ok line) tells e = tells.set e
 is_set words (Err x) tells e = tt
 
-is_clear : (words : List Text) (r : Result CommandLine Error) → IfOk r (λ line. TellsFlag (check_in words) line.check) → check_in words ≡ Some (codes "false") → IfOk r (λ line. line.check ≡ false)
+is_clear : (words : List Text) (r : Result CommandLine Error)
+    → IfOk r (λ line. TellsFlag (check_in words) line.check) → check_in words ≡ Some (codes "false")
+    → IfOk r (λ line. line.check ≡ false)
 is_clear words (Ok line) tells e = tells.clear e
 is_clear words (Err x) tells e = tt
 
-is_quiet : (words : List Text) (r : Result CommandLine Error) → IfOk r (λ line. TellsFlag (quiet_in words) line.quiet) → quiet_in words ≡ Some (codes "true") → IfOk r (λ line. line.quiet ≡ true)
+is_quiet : (words : List Text) (r : Result CommandLine Error)
+    → IfOk r (λ line. TellsFlag (quiet_in words) line.quiet) → quiet_in words ≡ Some (codes "true")
+    → IfOk r (λ line. line.quiet ≡ true)
 is_quiet words (Ok line) tells e = tells.set e
 is_quiet words (Err x) tells e = tt
 
-is_loud : (words : List Text) (r : Result CommandLine Error) → IfOk r (λ line. TellsFlag (quiet_in words) line.quiet) → quiet_in words ≡ Some (codes "false") → IfOk r (λ line. line.quiet ≡ false)
+is_loud : (words : List Text) (r : Result CommandLine Error) → IfOk r (λ line. TellsFlag (quiet_in words) line.quiet)
+    → quiet_in words ≡ Some (codes "false") → IfOk r (λ line. line.quiet ≡ false)
 is_loud words (Ok line) tells e = tells.clear e
 is_loud words (Err x) tells e = tt
 
 -- an error that is passed on is of the same kind
-pub passed_on : {T : Type 0} (kinds : Kinds) (e : Error) (r : Result T Error) → HasKind kinds e → IsErrAnd r (λ x. x ≡ e) → FailsBy kinds r
+pub passed_on : {T : Type 0} (kinds : Kinds) (e : Error) (r : Result T Error) → HasKind kinds e
+    → IsErrAnd r (λ x. x ≡ e) → FailsBy kinds r
 passed_on kinds e (Ok x) has same = absurd same
 passed_on kinds e (Err x) has same = subst (λ (y : Error). HasKind kinds y) (sym same) has
 
-refuses : (kinds : Kinds) (k : ErrorKind) (r : Result CommandLine Error) → FailsBy kinds r → kinds ≡ k ∷ [] → RefusesLine k r
+refuses : (kinds : Kinds) (k : ErrorKind) (r : Result CommandLine Error) → FailsBy kinds r → kinds ≡ k ∷ []
+    → RefusesLine k r
 refuses kinds k (Ok line) g e = let empty : k ∷ [] ≡ [] = sym e ∙ g in cc
 refuses kinds k (Err x) g e = elim (subst (λ (ks : Kinds). FailsBy {T = CommandLine} ks (Err x)) e g) [
   | inl h ↦ inl h
@@ -294,7 +326,8 @@ refuses kinds k (Err x) g e = elim (subst (λ (ks : Kinds). FailsBy {T = Command
 
 pub reads_line : (words : List Text) (r : Result CommandLine Error)
     → IfOk r (λ line. TellsFlag (check_in words) line.check) → IfOk r (λ line. TellsFlag (quiet_in words) line.quiet)
-    → IfOk r (λ line. option_map (λ s. s.now) line.script ≡ script_in words) → FailsBy (faults_in words) r → ReadsLine words r
+    → IfOk r (λ line. option_map (λ s. s.now) line.script ≡ script_in words) → FailsBy (faults_in words) r
+    → ReadsLine words r
 reads_line words r b q f g = record {
   alone = λ name e. takes words false false None r
       (is_clear words r b (ap check_in e ∙ alone_runs name))
@@ -359,6 +392,8 @@ reads_line words r b q f g = record {
 }
 
 -- an error that is passed on reads as the line that failed
-pub reads_error : (words : List Text) (e : Error) (r : Result CommandLine Error) → HasKind (faults_in words) e → IsErrAnd r (λ x. x ≡ e) → ReadsLine words r
+pub reads_error : (words : List Text) (e : Error) (r : Result CommandLine Error) → HasKind (faults_in words) e
+    → IsErrAnd r (λ x. x ≡ e) → ReadsLine words r
 reads_error words e (Ok line) has same = absurd same
-reads_error words e (Err x) has same = reads_line words (Err x) tt tt tt (passed_on {T = CommandLine} (faults_in words) e (Err x) has same)
+reads_error words e (Err x) has same =
+    reads_line words (Err x) tt tt tt (passed_on {T = CommandLine} (faults_in words) e (Err x) has same)

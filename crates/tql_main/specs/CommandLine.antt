@@ -1,8 +1,10 @@
 -- The command line of the program.
-use Rattle.std.specs.Prelude.{◌≡◌, ◌⊎◌, ◌==◌, Bool, true, false, not, if◌then◌else◌, List, [], ◌∷◌, Option, Some, None, codes, option_map, Result, MatchResult, IsErrAnd}
+use Rattle.std.specs.Prelude.{◌≡◌, ◌⊎◌, ◌==◌, Bool, true, false, not, if◌then◌else◌, List, [], ◌∷◌, Option, Some}
+use Rattle.std.specs.Prelude.{None, codes, option_map, Result, MatchResult, IsErrAnd}
 use Rattle.std.specs.Str.{bytes_eq}
 use Rattle.clap.specs.Simple.{on_top}
-use Rattle.clap.specs.Words.{App, Rule, Text, first_of, one_of, fault_of, kind_of, matches_of, new_app, new_rule, with_rule}
+use Rattle.clap.specs.Words.{App, Rule, Text, first_of, one_of, fault_of, kind_of, matches_of, new_app, new_rule}
+use Rattle.clap.specs.Words.{with_rule}
 use Rattle.clap.specs.Kinds.{Kinds}
 use Rattle.clap.specs.declared.builder.action.ArgAction.TheVariants.{SetTrue}
 use Rattle.clap.specs.declared.error.Error.{Error}
@@ -102,7 +104,8 @@ pub record ReadsLine (words : List Text) (r : Result CommandLine Error) : Type 0
   -- such a check
   pub quiet_check : (name : Text) → words ≡ name ∷ codes "--check" ∷ codes "--quiet" ∷ [] → TakesScript true true None r
   -- a word too many
-  pub several : (name script more : Text) → words ≡ name ∷ script ∷ more ∷ [] → is_plain_word script ≡ true → is_plain_word more ≡ true
+  pub several : (name script more : Text) → words ≡ name ∷ script ∷ more ∷ [] → is_plain_word script ≡ true
+      → is_plain_word more ≡ true
       → RefusesLine kind.UnknownArgument r
   -- help
   pub help : (name : Text) → words ≡ name ∷ codes "--help" ∷ [] → RefusesLine kind.DisplayHelp r

@@ -52,5 +52,6 @@ pub fields_seen : (Z : Al) {M : Type 1} {𝓤 : Ura M} (𝓛 : Logic 𝓤) (κ :
     → ent 𝓤 (sem 𝓛 (hidden_shr (Self Z) κ r.now r.ref_ptr.0 r.ref_ptr.1))
     (sep 𝓤 (sem 𝓛 (seen Z κ (inner_place Z r.ref_ptr) r.now.inner)) (sem 𝓛 (grants_seen κ (left_place Z r.ref_ptr))))
 fields_seen Z {𝓤 = 𝓤} 𝓛 κ r =
-    qed 𝓛 (‵ (hidden_shr (Self Z) κ r.now r.ref_ptr.0 r.ref_ptr.1) ∷ []) ∵ unhide ! $ fsplit ! $ fsplit ! $ move ! (1 ∷ []) $ fsplit ! $ keep ! (2 ∷ 0 ∷ []) $
+    qed 𝓛 (‵ (hidden_shr (Self Z) κ r.now r.ref_ptr.0 r.ref_ptr.1) ∷ []) ∵ unhide ! $ fsplit ! $ fsplit ! $ move !
+    (1 ∷ []) $ fsplit ! $ keep ! (2 ∷ 0 ∷ []) $
     use1 𝓛 (‵ (seen Z κ (inner_place Z r.ref_ptr) r.now.inner)) (id⊢ 𝓤 _) $ done !

@@ -1,5 +1,6 @@
 -- Coverage, part by part.
-use Rattle.std.specs.Prelude.{◌≡◌, ◌↔◌, ◌⊎◌, refl, ℕ, zero, suc, ◌+◌, ◌-◌, ◌<◌, ◌≤◌, List, [], ◌∷◌, map, length, ℤ, ◌≤ℤ◌, ◌<ℤ◌, Contains, IsTrue, true, false, int_le, int_lt}
+use Rattle.std.specs.Prelude.{◌≡◌, ◌↔◌, ◌⊎◌, refl, ℕ, zero, suc, ◌+◌, ◌-◌, ◌<◌, ◌≤◌, List, [], ◌∷◌, map, length, ℤ}
+use Rattle.std.specs.Prelude.{◌≤ℤ◌, ◌<ℤ◌, Contains, IsTrue, true, false, int_le, int_lt}
 use Rattle.std.specs.Int.{int_max}
 use Rattle.std.proofs.Common.{arith, sym, ap, ◌∙◌, subst, inl, inr, drop, get_or, add-one, add-zero, length-drop}
 use Rattle.std.proofs.Math.Seq.{drop-cons, drop-length}
@@ -29,9 +30,11 @@ by_either a as' p (x, (suc k, l, e), h) = inr (x, (k, omega arith, e), h)
 abbrev rest_from : ℤ → Period → Period
 rest_from reach whole = record { start = reach; end = whole.end }
 
-past_first : (a : Period) (as' : List Period) (reach : ℤ) (whole : Period) → a.start ≤ℤ reach → Covers (a ∷ as') (rest_from reach whole) ↔ Covers as' (rest_from (int_max reach a.end) whole)
+past_first : (a : Period) (as' : List Period) (reach : ℤ) (whole : Period) → a.start ≤ℤ reach
+    → Covers (a ∷ as') (rest_from reach whole) ↔ Covers as' (rest_from (int_max reach a.end) whole)
 past_first a as' reach whole s = (
-  λ h p k. elim (by_either a as' p (h p (omega (arith, ints, clamps, k.0), k.1))) [ inl i ↦ absurd (omega (arith, ints, clamps, k.0, i.1)) | inr r ↦ r ],
+  λ h p k. elim (by_either a as' p (h p (omega (arith, ints, clamps, k.0), k.1)))
+      [ inl i ↦ absurd (omega (arith, ints, clamps, k.0, i.1)) | inr r ↦ r ],
   λ h p k. by_lt_z p a.end
       (λ l. by_first a as' p (omega (arith, ints, s, k.0), l))
       (λ l. by_others a as' p (h p (omega (arith, ints, clamps, k.0, l), k.1))),
@@ -48,7 +51,8 @@ past_last reach whole = (
 )
 
 -- each part begins behind the reach: nothing may be left
-past_gap : (parts : List Period) (reach : ℤ) (whole : Period) → ((x : Period) → Contains parts x → reach <ℤ x.start) → Covers parts (rest_from reach whole) ↔ (whole.end ≤ℤ reach)
+past_gap : (parts : List Period) (reach : ℤ) (whole : Period) → ((x : Period) → Contains parts x → reach <ℤ x.start)
+    → Covers parts (rest_from reach whole) ↔ (whole.end ≤ℤ reach)
 past_gap parts reach whole f = (
   λ h. by_lt_z reach whole.end
       (λ l. let r = h reach (omega (arith, ints), l) in let g = f r.0 r.1 in absurd (omega (arith, ints, g, r.2.0)))
@@ -69,48 +73,67 @@ pub swept_none : (parts : List code.Period) (whole : Period) → Swept parts who
 swept_none parts whole = record { is = (λ h. h, λ h. h) }
 
 -- what is left of the parts, at the next part
-opened : (parts : List code.Period) (i : ℕ) (x : code.Period) → i < length parts → x ≡ get_or parts i x → map points_of (drop i parts) ≡ points_of x ∷ map points_of (drop (suc i) parts)
+opened : (parts : List code.Period) (i : ℕ) (x : code.Period) → i < length parts → x ≡ get_or parts i x
+    → map points_of (drop i parts) ≡ points_of x ∷ map points_of (drop (suc i) parts)
 opened parts i x l e =
     let k : drop i parts ≡ x ∷ drop (suc i) parts = drop-cons parts i x l ∙ ap (λ y. y ∷ drop (suc i) parts) (sym e) in
     ap (map points_of) k
 
-pub swept_more : (parts : List code.Period) (whole : Period) (i : ℕ) (reach reached : ℤ) (x : code.Period) → Swept parts whole i reach → i < length parts → x ≡ get_or parts i x → x.start ≤ℤ reach → reached ≡ int_max reach x.end → Swept parts whole (i + 1) reached
+pub swept_more : (parts : List code.Period) (whole : Period) (i : ℕ) (reach reached : ℤ) (x : code.Period)
+    → Swept parts whole i reach → i < length parts → x ≡ get_or parts i x → x.start ≤ℤ reach
+    → reached ≡ int_max reach x.end → Swept parts whole (i + 1) reached
 swept_more parts whole i reach reached x h l e s r =
     let P : List Period → Type 0 = λ ys. Covers (map points_of parts) whole ↔ Covers ys (rest_from reach whole) in
     record {
       is = rw (add-one, r)
-          (through (subst P (opened parts i x l e) h.is) (past_first (points_of x) (map points_of (drop (suc i) parts)) reach whole s));
+          (through (subst P (opened parts i x l e) h.is)
+          (past_first (points_of x) (map points_of (drop (suc i) parts)) reach whole s));
     }
 
-pub swept_all : (parts : List code.Period) (whole : Period) (i : ℕ) (reach : ℤ) → Swept parts whole i reach → i ≤ length parts → length parts ≤ i → Covers (map points_of parts) whole ↔ (whole.end ≤ℤ reach)
+pub swept_all : (parts : List code.Period) (whole : Period) (i : ℕ) (reach : ℤ) → Swept parts whole i reach
+    → i ≤ length parts → length parts ≤ i → Covers (map points_of parts) whole ↔ (whole.end ≤ℤ reach)
 swept_all parts whole i reach h k l =
-    let P : List code.Period → Type 0 = λ ys. Covers (map points_of parts) whole ↔ Covers (map points_of ys) (rest_from reach whole) in
+    let P : List code.Period
+    → Type 0 = λ ys. Covers (map points_of parts) whole ↔ Covers (map points_of ys) (rest_from reach whole) in
     let e : i ≡ length parts = omega (arith, k, l) in
     through (subst P (ap (λ n. drop n parts) e ∙ drop-length parts) h.is) (past_last reach whole)
 
 -- a list whose members start behind the reach
-far : (xs : List code.Period) (reach : ℤ) (d : code.Period) → ((k : ℕ) → k < length xs → reach <ℤ (get_or xs k d).start) → (y : Period) → Contains (map points_of xs) y → reach <ℤ y.start
+far : (xs : List code.Period) (reach : ℤ) (d : code.Period)
+    → ((k : ℕ) → k < length xs → reach <ℤ (get_or xs k d).start) → (y : Period) → Contains (map points_of xs) y
+    → reach <ℤ y.start
 far [] reach d f y (k, m, e) = absurd (omega (arith, m))
 far (x ∷ xs) reach d f y (zero, m, e) = subst (λ z. reach <ℤ z.start) e (f zero (omega arith))
 far (x ∷ xs) reach d f y (suc k, m, e) = far xs reach d (λ j l. f (suc j) (omega (arith, l))) y (k, omega (arith, m), e)
 
 -- where one part starts behind the reach, the later ones do
-later : (parts : List code.Period) (i : ℕ) (reach : ℤ) (x : code.Period) → StartsRise parts → x ≡ get_or parts i x → reach <ℤ x.start → (k : ℕ) → i + k < length parts → reach <ℤ (get_or parts (i + k) x).start
+later : (parts : List code.Period) (i : ℕ) (reach : ℤ) (x : code.Period) → StartsRise parts → x ≡ get_or parts i x
+    → reach <ℤ x.start → (k : ℕ) → i + k < length parts → reach <ℤ (get_or parts (i + k) x).start
 later parts i reach x rise e s zero l = rw (add-zero, ← e) s
 later parts i reach x rise e s (suc k) l =
     let t = rise i (i + suc k) x (omega arith) l in
     let u : x.start ≡ (get_or parts i x).start = ap (λ (z : code.Period). z.start) e in
     omega (arith, ints, s, t, u)
 
-behind : (parts : List code.Period) (i : ℕ) (reach : ℤ) (x : code.Period) → StartsRise parts → i < length parts → x ≡ get_or parts i x → reach <ℤ x.start → (y : Period) → Contains (map points_of (drop i parts)) y → reach <ℤ y.start
+behind : (parts : List code.Period) (i : ℕ) (reach : ℤ) (x : code.Period) → StartsRise parts → i < length parts
+    → x ≡ get_or parts i x → reach <ℤ x.start → (y : Period) → Contains (map points_of (drop i parts)) y
+    → reach <ℤ y.start
 behind parts i reach x rise l e s =
-    far (drop i parts) reach x (λ k m. rw (get_or-drop i parts k x) (later parts i reach x rise e s k (let n : length (drop i parts) ≡ length parts - i = length-drop i parts in omega (arith, n, m, l))))
+    far (drop i parts) reach x
+    (λ k m. rw (get_or-drop i parts k x)
+    (later parts i reach x rise e s k
+    (let n : length (drop i parts) ≡ length parts - i = length-drop i parts in omega (arith, n, m, l))))
 
-pub swept_gap : (parts : List code.Period) (whole : Period) (i : ℕ) (reach : ℤ) (x : code.Period) → Swept parts whole i reach → StartsRise parts → i < length parts → x ≡ get_or parts i x → reach <ℤ x.start → Covers (map points_of parts) whole ↔ (whole.end ≤ℤ reach)
-swept_gap parts whole i reach x h rise l e s = through h.is (past_gap (map points_of (drop i parts)) reach whole (behind parts i reach x rise l e s))
+pub swept_gap : (parts : List code.Period) (whole : Period) (i : ℕ) (reach : ℤ) (x : code.Period)
+    → Swept parts whole i reach → StartsRise parts → i < length parts → x ≡ get_or parts i x → reach <ℤ x.start
+    → Covers (map points_of parts) whole ↔ (whole.end ≤ℤ reach)
+swept_gap parts whole i reach x h rise l e s =
+    through h.is (past_gap (map points_of (drop i parts)) reach whole (behind parts i reach x rise l e s))
 
 -- the sweep's answer
-pub answers : (parts : List code.Period) (whole : Period) (e reach : ℤ) → e ≡ whole.end → Covers (map points_of parts) whole ↔ (whole.end ≤ℤ reach) → IsTrue (int_le e reach) ↔ Covers (map points_of parts) whole
+pub answers : (parts : List code.Period) (whole : Period) (e reach : ℤ) → e ≡ whole.end
+    → Covers (map points_of parts) whole ↔ (whole.end ≤ℤ reach)
+    → IsTrue (int_le e reach) ↔ Covers (map points_of parts) whole
 answers parts whole e reach q h = (λ t. h.1 (grind (arith, ints)), λ k. let l = h.0 k in grind (arith, ints))
 
 pub in_reach : (reach s t : ℤ) → int_lt reach s ≡ false → s ≡ t → t ≤ℤ reach

@@ -2,7 +2,8 @@
 use Rattle.std.specs.Prelude.{◌≡◌, ◌↔◌, IsTrue, ℤ}
 use Rattle.tql_spec.specs.Truth.{Truth, True}
 use Rattle.tql_spec.specs.Datum.{Datum}
-use Rattle.tql_spec.specs.Period.{Period, Holds, rises, ends, OnSets, Overlaps, Includes, SameAs, Precedes, Succeeds, ImmediatelyPrecedes, ImmediatelySucceeds}
+use Rattle.tql_spec.specs.Period.{Period, Holds, rises, ends, OnSets, Overlaps, Includes, SameAs, Precedes, Succeeds}
+use Rattle.tql_spec.specs.Period.{ImmediatelyPrecedes, ImmediatelySucceeds}
 use Rattle.tql_spec.specs.Period as spec
 use Rattle.tql_value.specs.declared.value.View.{View}
 use Rattle.tql_value.specs.Views.{datum_of_view}
@@ -25,7 +26,8 @@ data_of x = (datum_of_view x.0, datum_of_view x.1)
 
 -- where the ends are those of two rising periods, the answer is true exactly where their points are so
 abbrev pub SaysOfPoints : (ℤ → Datum) → spec.Relation → Datum × Datum → Datum × Datum → Truth → Type 0
-SaysOfPoints kind which x y answer = (a b : Period) → x ≡ ends kind a → y ≡ ends kind b → IsTrue (rises a) → IsTrue (rises b)
+SaysOfPoints kind which x y answer = (a b : Period) → x ≡ ends kind a → y ≡ ends kind b → IsTrue (rises a)
+    → IsTrue (rises b)
     → (answer ≡ True) ↔ OnSets which a b
 
 -- where the ends are those of a period, the answer is true exactly where it holds the point

@@ -8,7 +8,8 @@ use Rattle.tql_phrase.specs.Parsing.{Reads}
 use Rattle.tql_phrase.specs.declared.cursor.ParseError.{ParseError}
 use Rattle.tql_phrase.specs.declared.cursor.ParseError.TheVariants.{OutOfMemory}
 
-pub refused : {A B : Type 0} (view : A → B) (o : Outcome B) (r : Result A ParseError) (e : ParseError) (new : List Token)
+pub refused : {A B : Type 0} (view : A
+    → B) (o : Outcome B) (r : Result A ParseError) (e : ParseError) (new : List Token)
     → IsErr r × IsErrAnd r (λ f. f ≡ e) → (e ≢ OutOfMemory → o ≡ Failed) → Reads view o r new
 refused view o (Ok a) e new is why = search rules
 refused view o (Err f) e new is why = search rules

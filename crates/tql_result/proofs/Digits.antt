@@ -1,5 +1,6 @@
 -- The digits of numbers, padded to a width.
-use Rattle.std.proofs.Common.{◌≡◌, ℕ, ◌+◌, ◌-◌, ◌/◌, ◌%◌, ◌^◌, ◌<◌, ◌≤◌, List, [], ◌∷◌, ◌++◌, refl, sym, ◌∙◌, ap, append_assoc, length, replicate, arith, decimal, inl, inr}
+use Rattle.std.proofs.Common.{◌≡◌, ℕ, ◌+◌, ◌-◌, ◌/◌, ◌%◌, ◌^◌, ◌<◌, ◌≤◌, List, [], ◌∷◌, ◌++◌, refl, sym, ◌∙◌, ap}
+use Rattle.std.proofs.Common.{append_assoc, length, replicate, arith, decimal, inl, inr}
 use Rattle.std.proofs.lemmas.List.{length-append, replicate-append-replicate}
 use Rattle.std.proofs.lemmas.Bool.{cases_lt}
 use Rattle.std.proofs.lemmas.Fmt.{decimal_digit, decimal_step}
@@ -17,12 +18,14 @@ padded_digit n h = rw (decimal_digit n h) refl
 padded_zero : (k : ℕ) → 1 ≤ k → padded k 0 ≡ replicate k 48
 padded_zero k h =
     let zero_digit : decimal 0 ≡ 48 ∷ [] = decimal_digit 0 (omega arith) in
-    rw zero_digit (zeros_at (k - 1) (k - 1) (48 ∷ []) refl ∙ replicate-append-replicate (k - 1) 1 48 ∙ ap (λ (j : ℕ). replicate j 48) (omega arith))
+    rw zero_digit (zeros_at (k - 1) (k - 1) (48 ∷ []) refl ∙ replicate-append-replicate (k - 1) 1 48
+    ∙ ap (λ (j : ℕ). replicate j 48) (omega arith))
 
 -- one more digit, of a number of one
 padded_small : (k j n : ℕ) → 1 ≤ k → j ≡ k + 1 → n < 10 → padded j n ≡ padded k 0 ++ (48 + n) ∷ []
 padded_small k j n some next h =
-    let e : padded j n ≡ replicate k 48 ++ (48 + n) ∷ [] = rw (decimal_digit n h) (zeros_at (j - 1) k ((48 + n) ∷ []) (omega arith)) in
+    let e : padded j n ≡ replicate k 48 ++ (48 + n) ∷ [] =
+    rw (decimal_digit n h) (zeros_at (j - 1) k ((48 + n) ∷ []) (omega arith)) in
     e ∙ sym (ap (λ (l : List ℕ). l ++ (48 + n) ∷ []) (padded_zero k some))
 
 -- one more digit, of a number of more
@@ -31,7 +34,8 @@ padded_large k j n next h b =
     let before : List ℕ = decimal (n / 10) in
     let digit : List ℕ = (48 + n % 10) ∷ [] in
     rw (decimal_step n h b)
-    (zeros_at (j - length (before ++ digit)) (k - length before) (before ++ digit) (rw (length-append before digit) (omega arith))
+    (zeros_at (j - length (before ++ digit)) (k - length before) (before ++ digit)
+    (rw (length-append before digit) (omega arith))
     ∙ sym (append_assoc (replicate (k - length before) 48) before digit))
 
 -- one more digit
@@ -52,7 +56,8 @@ padded_two n h =
     ∙ ap (λ (k : ℕ). (48 + k) ∷ (48 + n % 10) ∷ []) (omega arith)
 
 -- two more digits
-padded_pair : (k j n : ℕ) → 1 ≤ k → j ≡ k + 2 → n < 2 ^ 64 → padded j n ≡ padded k (n / 100) ++ ((48 + n / 10 % 10) ∷ (48 + n % 10) ∷ [])
+padded_pair : (k j n : ℕ) → 1 ≤ k → j ≡ k + 2 → n < 2 ^ 64
+    → padded j n ≡ padded k (n / 100) ++ ((48 + n / 10 % 10) ∷ (48 + n % 10) ∷ [])
 padded_pair k j n some next b =
     let tens : n / 10 / 10 ≡ n / 100 = omega arith in
     padded_more (k + 1) j n (omega arith) (omega arith) b
@@ -61,7 +66,8 @@ padded_pair k j n some next b =
     ∙ ap (λ (m : ℕ). padded k m ++ ((48 + n / 10 % 10) ∷ (48 + n % 10) ∷ [])) tens
 
 -- four digits
-pub padded_four : (n : ℕ) → n < 10000 → padded 4 n ≡ (48 + n / 1000 % 10) ∷ (48 + n / 100 % 10) ∷ (48 + n / 10 % 10) ∷ (48 + n % 10) ∷ []
+pub padded_four : (n : ℕ) → n < 10000
+    → padded 4 n ≡ (48 + n / 1000 % 10) ∷ (48 + n / 100 % 10) ∷ (48 + n / 10 % 10) ∷ (48 + n % 10) ∷ []
 padded_four n h =
     let thousands : n / 100 / 10 ≡ n / 1000 = omega arith in
     padded_pair 2 4 n (omega arith) (omega arith) (omega arith)
@@ -69,7 +75,9 @@ padded_four n h =
     ∙ ap (λ (m : ℕ). (48 + m % 10) ∷ (48 + n / 100 % 10) ∷ (48 + n / 10 % 10) ∷ (48 + n % 10) ∷ []) thousands
 
 -- six digits
-pub padded_six : (n : ℕ) → n < 1000000 → padded 6 n ≡ (48 + n / 100000 % 10) ∷ (48 + n / 10000 % 10) ∷ (48 + n / 1000 % 10) ∷ (48 + n / 100 % 10) ∷ (48 + n / 10 % 10) ∷ (48 + n % 10) ∷ []
+pub padded_six : (n : ℕ) → n < 1000000
+    → padded 6 n ≡ (48 + n / 100000 % 10) ∷ (48 + n / 10000 % 10) ∷ (48 + n / 1000 % 10) ∷ (48 + n / 100 % 10) ∷
+    (48 + n / 10 % 10) ∷ (48 + n % 10) ∷ []
 padded_six n h =
     let fifth : n / 100 / 1000 ≡ n / 100000 = omega arith in
     let fourth : n / 100 / 100 ≡ n / 10000 = omega arith in

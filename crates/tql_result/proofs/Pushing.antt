@@ -1,5 +1,6 @@
 -- One push after another.
-use Rattle.std.proofs.Common.{◌≡◌, ℕ, ◌<◌, List, [], ◌++◌, refl, sym, ◌∙◌, ap, subst, arith, length, take, ◌∷◌, append_assoc, Option, Some}
+use Rattle.std.proofs.Common.{◌≡◌, ℕ, ◌<◌, List, [], ◌++◌, refl, sym, ◌∙◌, ap, subst, arith, length, take, ◌∷◌}
+use Rattle.std.proofs.Common.{append_assoc, Option, Some}
 use Rattle.std.proofs.lemmas.List.{append-nil}
 use Rattle.std.proofs.lemmas.Bool.Decides.{nat_tests}
 use Rattle.std.specs.Prelude.{Result, Ok, Err, IsOk, IsErr, Bool, true, false, ◌==◌, ◌&&◌, not}
@@ -18,7 +19,10 @@ Appends-none o = record { holds = λ xs e. e ∙ ap Some (sym (append-nil xs)) }
 
 -- one after the other
 pub Appends-append : {o m n : Option (List ℕ)} {a b : List ℕ} → Appends o a m → Appends m b n → Appends o (a ++ b) n
-Appends-append {a = a} {b = b} p q = record { holds = λ xs e. q.holds (xs ++ a) (p.holds xs e) ∙ ap Some (append_assoc xs a b) }
+Appends-append {a = a} {b = b} p q = record {
+  holds = λ xs e. q.holds (xs ++ a) (p.holds xs e)
+      ∙ ap Some (append_assoc xs a b);
+}
 
 pub HasFailed-later : {a b c : ℕ} → b ≡ a → HasFailed b c → HasFailed a c
 HasFailed-later {a} {b} {c} e h = subst (λ (k : ℕ). HasFailed k c) e h
@@ -26,7 +30,8 @@ HasFailed-later {a} {b} {c} e h = subst (λ (k : ℕ). HasFailed k c) e h
 pub sent_none : (text : List ℕ) (o : Option (List ℕ)) (k : ℕ) → Sent text text o o k k
 sent_none text o k = record { front = []; parts = refl; appends = Appends-none o; no_failure = refl }
 
-pub sent_more : {text rest : List ℕ} {o m n : Option (List ℕ)} {b k j : ℕ} (a others : List ℕ) → Sent text rest o m b k → rest ≡ a ++ others → Appends m a n → j ≡ k → Sent text others o n b j
+pub sent_more : {text rest : List ℕ} {o m n : Option (List ℕ)} {b k j : ℕ} (a others : List ℕ)
+    → Sent text rest o m b k → rest ≡ a ++ others → Appends m a n → j ≡ k → Sent text others o n b j
 sent_more a others s e p same = record {
   front = s.front ++ a;
   parts = s.parts ∙ ap (λ l. s.front ++ l) e ∙ sym (append_assoc s.front a others);
@@ -35,7 +40,8 @@ sent_more a others s e p same = record {
 }
 
 -- all of it
-pub pushed_whole : {T E : Type 0} {text : List ℕ} {o n : Option (List ℕ)} {b k : ℕ} (r : Result T E) → IsOk r → Sent text [] o n b k → Pushes text r o n b k
+pub pushed_whole : {T E : Type 0} {text : List ℕ} {o n : Option (List ℕ)} {b k : ℕ} (r : Result T E) → IsOk r
+    → Sent text [] o n b k → Pushes text r o n b k
 pushed_whole {text = text} {o = o} {n = n} (Ok x) ok s = record {
   whole = let P : List ℕ → Type 0 = λ t. Appends o t n in subst P (sym (s.parts ∙ append-nil s.front)) s.appends;
   no_failure = s.no_failure;
@@ -45,7 +51,9 @@ pushed_whole {text = text} {o = o} {n = n} (Ok x) ok s = record {
 pushed_whole (Err x) ok s = absurd (cc)
 
 -- a beginning of what is left, and then a failure
-pub pushed_cut : {T E : Type 0} {text rest : List ℕ} {o m n : Option (List ℕ)} {b k j : ℕ} (r : Result T E) (a others : List ℕ) → IsErr r → Sent text rest o m b k → rest ≡ a ++ others → AppendsBeginning m a n → HasFailed k j → Pushes text r o n b j
+pub pushed_cut : {T E : Type 0} {text rest : List ℕ} {o m n : Option (List ℕ)} {b k j : ℕ} (r : Result T E)
+    (a others : List ℕ) → IsErr r → Sent text rest o m b k → rest ≡ a ++ others → AppendsBeginning m a n
+    → HasFailed k j → Pushes text r o n b j
 pushed_cut (Ok x) a others err s e p failed = absurd (cc)
 pushed_cut (Err x) a others err s e p failed = record {
   whole = tt;
@@ -53,22 +61,27 @@ pushed_cut (Err x) a others err s e p failed = record {
   cut = record {
     front = s.front ++ p.front;
     back = p.back ++ others;
-    parts = s.parts ∙ ap (λ l. s.front ++ l) (e ∙ ap (λ l. l ++ others) p.parts ∙ append_assoc p.front p.back others) ∙ sym (append_assoc s.front p.front (p.back ++ others));
+    parts = s.parts ∙ ap (λ l. s.front ++ l) (e ∙ ap (λ l. l ++ others) p.parts ∙ append_assoc p.front p.back others)
+        ∙ sym (append_assoc s.front p.front (p.back ++ others));
     appends = Appends-append s.appends p.appends;
   };
   failure = HasFailed-later s.no_failure failed;
 }
 
 -- one piece of what is left
-pub step : {T E : Type 0} {text rest a : List ℕ} {o m n : Option (List ℕ)} {b k j : ℕ} {x : T} (others : List ℕ) → Sent text rest o m b k → rest ≡ a ++ others → Pushes {T = T} {E = E} a (Ok x) m n k j → Sent text others o n b j
+pub step : {T E : Type 0} {text rest a : List ℕ} {o m n : Option (List ℕ)} {b k j : ℕ} {x : T} (others : List ℕ)
+    → Sent text rest o m b k → rest ≡ a ++ others → Pushes {T = T} {E = E} a (Ok x) m n k j → Sent text others o n b j
 step {a = a} others s e p = sent_more a others s e p.whole p.no_failure
 
 -- a piece that failed
-pub stop : {T U E F : Type 0} {text rest a : List ℕ} {o m n : Option (List ℕ)} {b k j : ℕ} {x : F} (r : Result T E) (others : List ℕ) → IsErr r → Sent text rest o m b k → rest ≡ a ++ others → Pushes {T = U} {E = F} a (Err x) m n k j → Pushes text r o n b j
+pub stop : {T U E F : Type 0} {text rest a : List ℕ} {o m n : Option (List ℕ)} {b k j : ℕ} {x : F} (r : Result T E)
+    (others : List ℕ) → IsErr r → Sent text rest o m b k → rest ≡ a ++ others
+    → Pushes {T = U} {E = F} a (Err x) m n k j → Pushes text r o n b j
 stop {a = a} r others err s e p = pushed_cut r a others err s e p.cut p.failure
 
 -- the last piece
-pub last : {T E : Type 0} {text rest a : List ℕ} {o m n : Option (List ℕ)} {b k j : ℕ} (r : Result T E) → Sent text rest o m b k → rest ≡ a → Pushes a r m n k j → Pushes text r o n b j
+pub last : {T E : Type 0} {text rest a : List ℕ} {o m n : Option (List ℕ)} {b k j : ℕ} (r : Result T E)
+    → Sent text rest o m b k → rest ≡ a → Pushes a r m n k j → Pushes text r o n b j
 last {a = a} (Ok x) s e p = pushed_whole (Ok x) refl (step [] s (e ∙ sym (append-nil a)) p)
 last {a = a} (Err x) s e p = stop (Err x) [] refl s (e ∙ sym (append-nil a)) p
 
@@ -77,7 +90,8 @@ pub beginning_none : {o n : Option (List ℕ)} → Appends o [] n → AppendsBeg
 beginning_none p = record { front = []; back = []; parts = refl; appends = p }
 
 -- none taken of some bytes
-pub failed_at_none : {b k : ℕ} (taken len : ℕ) → taken ≡ 0 → 0 < len → Counts ((taken == 0) && not (len == 0)) b k → HasFailed b k
+pub failed_at_none : {b k : ℕ} (taken len : ℕ) → taken ≡ 0 → 0 < len → Counts ((taken == 0) && not (len == 0)) b k
+    → HasFailed b k
 failed_at_none {b} {k} taken len none some h =
     let e : ((taken == 0) && not (len == 0)) ≡ true = grind (arith, nat_tests) in
     let P : Bool → Type 0 = λ t. Counts t b k in subst P e h
@@ -89,7 +103,8 @@ counted_at_some {b} {k} taken len some h =
     let P : Bool → Type 0 = λ t. Counts t b k in subst P e h
 
 -- no bytes taken are no bytes more
-pub taken_none : {o n : Option (List ℕ)} (taken : ℕ) (bytes : List ℕ) → taken ≡ 0 → Appends o (take taken bytes) n → Appends o [] n
+pub taken_none : {o n : Option (List ℕ)} (taken : ℕ) (bytes : List ℕ) → taken ≡ 0 → Appends o (take taken bytes) n
+    → Appends o [] n
 taken_none {o} {n} taken bytes e p = let P : ℕ → Type 0 = λ t. Appends o (take t bytes) n in subst P e p
 
 -- a list of no length
@@ -98,17 +113,22 @@ empty_list [] e = refl
 empty_list (x ∷ xs) e = absurd (omega arith)
 
 -- nothing is left
-pub sent_all : {text : List ℕ} {o n : Option (List ℕ)} {b k : ℕ} (rest : List ℕ) → length rest ≡ 0 → Sent text rest o n b k → Sent text [] o n b k
-sent_all {text} {o} {n} {b} {k} rest e s = let P : List ℕ → Type 0 = λ l. Sent text l o n b k in subst P (empty_list rest e) s
+pub sent_all : {text : List ℕ} {o n : Option (List ℕ)} {b k : ℕ} (rest : List ℕ) → length rest ≡ 0
+    → Sent text rest o n b k → Sent text [] o n b k
+sent_all {text} {o} {n} {b} {k} rest e s = let P : List ℕ
+    → Type 0 = λ l. Sent text l o n b k in subst P (empty_list rest e) s
 
 -- one text and then another
-pub joined : {T U E : Type 0} {a t : List ℕ} {o m n : Option (List ℕ)} {b k j : ℕ} {x : U} {r : Result T E} → Pushes {T = U} {E = E} a (Ok x) o m b k → Pushes t r m n k j → Pushes (a ++ t) r o n b j
+pub joined : {T U E : Type 0} {a t : List ℕ} {o m n : Option (List ℕ)} {b k j : ℕ} {x : U} {r : Result T E}
+    → Pushes {T = U} {E = E} a (Ok x) o m b k → Pushes t r m n k j → Pushes (a ++ t) r o n b j
 joined {a = a} {t = t} {o = o} {b = b} {r = r} p q = last r (step t (sent_none (a ++ t) o b) refl p) refl q
 
 -- a text that another would have followed
-pub ended : {T U E F : Type 0} {a : List ℕ} {o n : Option (List ℕ)} {b k : ℕ} {x : F} (r : Result T E) (t : List ℕ) → IsErr r → Pushes {T = U} {E = F} a (Err x) o n b k → Pushes (a ++ t) r o n b k
+pub ended : {T U E F : Type 0} {a : List ℕ} {o n : Option (List ℕ)} {b k : ℕ} {x : F} (r : Result T E) (t : List ℕ)
+    → IsErr r → Pushes {T = U} {E = F} a (Err x) o n b k → Pushes (a ++ t) r o n b k
 ended {a = a} {o = o} {b = b} r t err p = stop r t err (sent_none (a ++ t) o b) refl p
 
 -- the same text, said otherwise
-pub as_text : {T E : Type 0} {a t : List ℕ} {o n : Option (List ℕ)} {b k : ℕ} {r : Result T E} → a ≡ t → Pushes a r o n b k → Pushes t r o n b k
+pub as_text : {T E : Type 0} {a t : List ℕ} {o n : Option (List ℕ)} {b k : ℕ} {r : Result T E} → a ≡ t
+    → Pushes a r o n b k → Pushes t r o n b k
 as_text {o = o} {n = n} {b = b} {k = k} {r = r} e p = let P : List ℕ → Type 0 = λ l. Pushes l r o n b k in subst P e p

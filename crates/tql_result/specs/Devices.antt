@@ -1,5 +1,6 @@
 -- What a device holds, and how its failures are counted.
-use Rattle.std.specs.Prelude.{◌≡◌, ℕ, ◌-◌, ◌^◌, ◌<◌, ◌≤◌, ◌⊎◌, Bool, true, ◌&&◌, ◌==◌, not, List, ◌++◌, Option, Some, Result, Ok, Err, OnOk, OnErr, MatchBool}
+use Rattle.std.specs.Prelude.{◌≡◌, ℕ, ◌-◌, ◌^◌, ◌<◌, ◌≤◌, ◌⊎◌, Bool, true, ◌&&◌, ◌==◌, not, List, ◌++◌, Option, Some}
+use Rattle.std.specs.Prelude.{Result, Ok, Err, OnOk, OnErr, MatchBool}
 
 -- where the device told what it held, it holds that, and these bytes behind it
 pub record Appends (old : Option (List ℕ)) (bytes : List ℕ) (new : Option (List ℕ)) : Type 0 where
@@ -27,7 +28,8 @@ is_failed_push (Ok n) len = (n == 0) && not (len == 0)
 is_failed_push (Err e) len = true
 
 -- a text was pushed: whole and without a failure, or a beginning of it and then something failed
-pub record Pushes {T E : Type 0} (text : List ℕ) (result : Result T E) (old new : Option (List ℕ)) (before now : ℕ) : Type 0 where
+pub record Pushes {T E : Type 0} (text : List ℕ) (result : Result T E) (old new : Option (List ℕ)) (before now : ℕ) :
+    Type 0 where
   pub whole : OnOk result (Appends old text new)
   pub no_failure : OnOk result (now ≡ before)
   pub cut : OnErr result (AppendsBeginning old text new)

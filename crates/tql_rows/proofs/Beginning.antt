@@ -1,5 +1,6 @@
 -- A transaction begins where the table is at rest.
-use Rattle.std.proofs.Common.{◌≡◌, ℕ, ◌<◌, ◌≤◌, Bool, true, false, List, [], length, sym, ap, subst, arith, inl, inr, refl}
+use Rattle.std.proofs.Common.{◌≡◌, ℕ, ◌<◌, ◌≤◌, Bool, true, false, List, [], length, sym, ap, subst, arith, inl, inr}
+use Rattle.std.proofs.Common.{refl}
 use Rattle.std.specs.Prelude.{ℤ, ◌<ℤ◌, IsTrue, Option, None, Some, if◌then◌else◌}
 use Rattle.std.proofs.lemmas.Bool.Decides.{Decides-int_eq}
 use Rattle.std.proofs.lemmas.Int.{ints}
@@ -22,7 +23,8 @@ before_end : (v : Version) → IsTrue (alive v) → v.row.start <ℤ v.end
 before_end v h = elim (lt_tells v.row.start v.end) [ inl s ↦ s.1 | inr s ↦ absurd (let e = s.0 in cc) ]
 
 -- where nothing was ended no entry is noted
-none_noted : (b : Bool) (m : ℤ) (n : ℕ) (is : List ℕ) (vs : List Version) → is ≡ [] → (if b then entries_for m n is vs else []) ≡ []
+none_noted : (b : Bool) (m : ℤ) (n : ℕ) (is : List ℕ) (vs : List Version) → is ≡ []
+    → (if b then entries_for m n is vs else []) ≡ []
 none_noted true m n is vs e = ap (λ js. entries_for m n js vs) e
 none_noted false m n is vs e = refl
 
@@ -42,7 +44,8 @@ begin-turn last m h r u below = record {
       let e : v.end <ℤ m = earlier last m v.end u (r.since.ended v i) in
       let s : v.row.start <ℤ v.end = before_end v (in_all (λ x. IsTrue (alive x)) h.closed r.indexed.proper v i) in
       (omega (arith, ints), e);
-  indexed = subst (λ (es : List Entry). IsIndexed h es) (sym (none_noted h.keeps m (length h.closed) h.ended h.current r.none_ended)) r.indexed;
+  indexed = subst (λ (es : List Entry). IsIndexed h es)
+      (sym (none_noted h.keeps m (length h.closed) h.ended h.current r.none_ended)) r.indexed;
   kept = r.kept;
 }
   where

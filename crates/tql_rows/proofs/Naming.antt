@@ -1,5 +1,6 @@
 -- Which versions the answers of a reading name.
-use Rattle.std.proofs.Common.{◌≡◌, ◌<◌, ℕ, zero, suc, ◌+◌, Bool, true, false, cond, List, [], ◌∷◌, ◌++◌, map, filter, get_or, length, append-nil, refl, sym, ap, subst, ◌∙◌, arith, inl, inr}
+use Rattle.std.proofs.Common.{◌≡◌, ◌<◌, ℕ, zero, suc, ◌+◌, Bool, true, false, cond, List, [], ◌∷◌, ◌++◌, map, filter}
+use Rattle.std.proofs.Common.{get_or, length, append-nil, refl, sym, ap, subst, ◌∙◌, arith, inl, inr}
 use Rattle.std.specs.Prelude.{All, nat_lt, nat_eq, slice_get, Some, if◌then◌else◌}
 use Rattle.std.specs.List.{sum_by}
 use Rattle.std.proofs.lemmas.Bool.Decides.{nat_tests}
@@ -13,7 +14,8 @@ use Rattle.tql_spec.specs.Definition as spec
 use Rattle.tql_index.specs.Entry.{Entry}
 use Rattle.tql_rows.specs.Changes.{alive, nothing}
 use Rattle.tql_rows.specs.Held.{Held, versions}
-use Rattle.tql_rows.specs.Readings.{Answer, Names, NamesOnce, IsReading, AreEnded, asked, is_answer, ids_sought, answer_of, version_shown, answers_from, numbered, placed}
+use Rattle.tql_rows.specs.Readings.{Answer, Names, NamesOnce, IsReading, AreEnded, asked, is_answer, ids_sought}
+use Rattle.tql_rows.specs.Readings.{answer_of, version_shown, answers_from, numbered, placed}
 use Rattle.tql_rows.specs.Views.{versions_of}
 use Rattle.tql_rows.specs.declared.kept.Kept.{Kept}
 use Rattle.tql_rows.specs.declared.readings.When.{When}
@@ -24,26 +26,38 @@ use Rattle.tql_rows.proofs.Sought.{same-list, none_current}
 
 -- ---- the versions
 
-asked-alive : (when : When) (n : ℕ) (vs : List spec.Version) → map (λ (a : Answer). a.version) (answers_from n when vs) ≡ filter (asked when) (filter alive vs)
+asked-alive : (when : When) (n : ℕ) (vs : List spec.Version)
+    → map (λ (a : Answer). a.version) (answers_from n when vs) ≡ filter (asked when) (filter alive vs)
 asked-alive when n [] = refl
 asked-alive when n (v ∷ vs) = by_bool (alive v)
     (λ e. rw e (chosen (asked when v) (asked-alive when (n + 1) vs)))
     (λ e. rw e (asked-alive when (n + 1) vs))
   where
-    chosen : (b : Bool) → map (λ (a : Answer). a.version) (answers_from (n + 1) when vs) ≡ filter (asked when) (filter alive vs)
-        → map (λ (a : Answer). a.version) (cond b (record { id = n; version = v } ∷ answers_from (n + 1) when vs) (answers_from (n + 1) when vs)) ≡ cond b (v ∷ filter (asked when) (filter alive vs)) (filter (asked when) (filter alive vs))
+    chosen : (b : Bool) → map (λ (a : Answer). a.version) (answers_from (n + 1) when vs) ≡ filter (asked when)
+        (filter alive vs)
+        → map (λ (a : Answer). a.version) (cond b (record {
+          id = n;
+          version = v;
+        } ∷ answers_from (n + 1) when vs) (answers_from (n + 1) when vs)) ≡ cond b
+        (v ∷ filter (asked when) (filter alive vs)) (filter (asked when) (filter alive vs))
     chosen true later = ap (λ us. v ∷ us) later
     chosen false later = later
 
-versions-shown : (found : List Version) → map version_shown found ≡ map (λ (a : Answer). a.version) (map answer_of found)
+versions-shown : (found : List Version)
+    → map version_shown found ≡ map (λ (a : Answer). a.version) (map answer_of found)
 versions-shown [] = refl
 versions-shown (s ∷ found) = ap (λ us. version_shown s ∷ us) (versions-shown found)
 
-pub shown-now : (when : When) (vs : List spec.Version) (found : List Version) → map answer_of found ≡ answers_from 0 when vs → map version_shown found ≡ filter (asked when) (filter alive vs)
+pub shown-now : (when : When) (vs : List spec.Version) (found : List Version)
+    → map answer_of found ≡ answers_from 0 when vs → map version_shown found ≡ filter (asked when) (filter alive vs)
 shown-now when vs found e = versions-shown found ∙ ap (map (λ (a : Answer). a.version)) e ∙ asked-alive when 0 vs
 
-shown-bag : (when : When) (vs : List spec.Version) (found : List Version) → SameBag (map answer_of found) (answers_from 0 when vs) → SameBag (map version_shown found) (filter (asked when) (filter alive vs))
-shown-bag when vs found h = same-trans (same-list (versions-shown found)) (same-trans (same-map (λ (a : Answer). a.version) h) (same-list (asked-alive when 0 vs)))
+shown-bag : (when : When) (vs : List spec.Version) (found : List Version)
+    → SameBag (map answer_of found) (answers_from 0 when vs)
+    → SameBag (map version_shown found) (filter (asked when) (filter alive vs))
+shown-bag when vs found h =
+    same-trans (same-list (versions-shown found))
+    (same-trans (same-map (λ (a : Answer). a.version) h) (same-list (asked-alive when 0 vs)))
 
 -- ---- their ids
 
@@ -55,15 +69,22 @@ in_at [] k d l = absurd (omega (arith, l))
 in_at (x ∷ xs) zero d l = inl refl
 in_at (x ∷ xs) (suc k) d l = inr (in_at xs k d (omega (arith, l)))
 
-all_named : (vs : List spec.Version) (found : List Version) → ((a : Answer) → In a (map answer_of found) → NamesAnswer vs a) → All (Names vs) found
-all_named vs found h = λ k d l. h (answer_of (get_or found k d)) (in_map answer_of (get_or found k d) found (in_at found k d l))
+all_named : (vs : List spec.Version) (found : List Version)
+    → ((a : Answer) → In a (map answer_of found) → NamesAnswer vs a) → All (Names vs) found
+all_named vs found h =
+    λ k d l. h (answer_of (get_or found k d)) (in_map answer_of (get_or found k d) found (in_at found k d l))
 
-numbered_named : (all vs : List spec.Version) (n : ℕ) → ((k : ℕ) (v : spec.Version) → slice_get vs k ≡ Some v → slice_get all (n + k) ≡ Some v) → (a : Answer) → In a (numbered n vs) → NamesAnswer all a
+numbered_named : (all vs : List spec.Version) (n : ℕ)
+    → ((k : ℕ) (v : spec.Version) → slice_get vs k ≡ Some v → slice_get all (n + k) ≡ Some v) → (a : Answer)
+    → In a (numbered n vs) → NamesAnswer all a
 numbered_named all [] n at a m = absurd m
-numbered_named all (v ∷ vs) n at a (inl e) = subst (λ x. NamesAnswer all x) (sym e) (ap (slice_get all) (omega arith) ∙ at 0 v refl)
-numbered_named all (v ∷ vs) n at a (inr m) = numbered_named all vs (n + 1) (λ k u g. ap (slice_get all) (omega arith) ∙ at (suc k) u g) a m
+numbered_named all (v ∷ vs) n at a (inl e) = subst (λ x. NamesAnswer all x) (sym e) (ap (slice_get all) (omega arith)
+    ∙ at 0 v refl)
+numbered_named all (v ∷ vs) n at a (inr m) = numbered_named all vs (n + 1) (λ k u g. ap (slice_get all) (omega arith)
+    ∙ at (suc k) u g) a m
 
-get_left : (us vs : List spec.Version) (k : ℕ) (v : spec.Version) → slice_get us k ≡ Some v → slice_get (us ++ vs) k ≡ Some v
+get_left : (us vs : List spec.Version) (k : ℕ) (v : spec.Version) → slice_get us k ≡ Some v
+    → slice_get (us ++ vs) k ≡ Some v
 get_left [] vs k v e = cc
 get_left (u ∷ us) vs zero v e = e
 get_left (u ∷ us) vs (suc k) v e = get_left us vs k v e
@@ -73,17 +94,25 @@ get_here [] k d l = absurd (omega (arith, l))
 get_here (v ∷ vs) zero d l = refl
 get_here (v ∷ vs) (suc k) d l = get_here vs k d (omega (arith, l))
 
-get_right : (us vs : List spec.Version) (k : ℕ) (d : spec.Version) → k < length vs → slice_get (us ++ vs) (length us + k) ≡ Some (get_or vs k d)
+get_right : (us vs : List spec.Version) (k : ℕ) (d : spec.Version) → k < length vs
+    → slice_get (us ++ vs) (length us + k) ≡ Some (get_or vs k d)
 get_right [] vs k d l = let e : 0 + k ≡ k = omega arith in ap (slice_get vs) e ∙ get_here vs k d l
-get_right (u ∷ us) vs k d l = let e : suc (length us) + k ≡ suc (length us + k) = omega arith in ap (slice_get (u ∷ (us ++ vs))) e ∙ get_right us vs k d l
+get_right (u ∷ us) vs k d l = let e : suc (length us) + k ≡ suc (length us + k) =
+    omega arith in ap (slice_get (u ∷ (us ++ vs))) e ∙ get_right us vs k d l
 
-current_named : (when : When) (us vs : List spec.Version) (a : Answer) → In a (answers_from 0 when us) → NamesAnswer (us ++ vs) a
-current_named when us vs a m = numbered_named (us ++ vs) us 0 (λ k v e. ap (slice_get (us ++ vs)) (omega arith) ∙ get_left us vs k v e) a
+current_named : (when : When) (us vs : List spec.Version) (a : Answer) → In a (answers_from 0 when us)
+    → NamesAnswer (us ++ vs) a
+current_named when us vs a m = numbered_named (us ++ vs) us 0 (λ k v e. ap (slice_get (us ++ vs)) (omega arith)
+    ∙ get_left us vs k v e) a
     (in_kept (λ (x : Answer). is_answer when x.version) a (numbered 0 us) m).0
 
-placed_named : (us vs : List spec.Version) (numbers : List ℕ) (a : Answer) → In a (placed (length us) vs numbers) → NamesAnswer (us ++ vs) a
+placed_named : (us vs : List spec.Version) (numbers : List ℕ) (a : Answer) → In a (placed (length us) vs numbers)
+    → NamesAnswer (us ++ vs) a
 placed_named us vs numbers a m =
-    let i = in_image (λ n. record { id = length us + n; version = get_or vs n nothing }) a (filter (λ n. nat_lt n (length vs)) numbers) m in
+    let i = in_image (λ n. record {
+      id = length us + n;
+      version = get_or vs n nothing;
+    }) a (filter (λ n. nat_lt n (length vs)) numbers) m in
     let p = in_kept (λ n. nat_lt n (length vs)) i.0 numbers i.1 in
     subst (λ x. NamesAnswer (us ++ vs) x) (sym i.2) (get_right us vs i.0 nothing (within i.0 (length vs) p.1))
   where
@@ -91,14 +120,19 @@ placed_named us vs numbers a m =
     within n l e = grind (arith, nat_tests)
 
 -- what stands in the list of the current answers names a version of the table
-pub names-now : (when : When) (us vs : List spec.Version) (found : List Version) → map answer_of found ≡ answers_from 0 when us → All (Names (us ++ vs)) found
-names-now when us vs found e = all_named (us ++ vs) found (λ a m. current_named when us vs a (subst (λ as'. In a as') e m))
+pub names-now : (when : When) (us vs : List spec.Version) (found : List Version)
+    → map answer_of found ≡ answers_from 0 when us → All (Names (us ++ vs)) found
+names-now when us vs found e =
+    all_named (us ++ vs) found (λ a m. current_named when us vs a (subst (λ as'. In a as') e m))
 
-names-all : (when : When) (us vs : List spec.Version) (numbers : List ℕ) (found : List Version) → map answer_of found ≡ answers_from 0 when us ++ placed (length us) vs numbers → All (Names (us ++ vs)) found
-names-all when us vs numbers found e = all_named (us ++ vs) found (λ a m. elim (in_either a (answers_from 0 when us) (placed (length us) vs numbers) (subst (λ as'. In a as') e m)) [
-  | inl x ↦ current_named when us vs a x
-  | inr x ↦ placed_named us vs numbers a x
-])
+names-all : (when : When) (us vs : List spec.Version) (numbers : List ℕ) (found : List Version)
+    → map answer_of found ≡ answers_from 0 when us ++ placed (length us) vs numbers → All (Names (us ++ vs)) found
+names-all when us vs numbers found e =
+    all_named (us ++ vs) found
+    (λ a m. elim (in_either a (answers_from 0 when us) (placed (length us) vs numbers) (subst (λ as'. In a as') e m)) [
+      | inl x ↦ current_named when us vs a x
+      | inr x ↦ placed_named us vs numbers a x
+    ])
 
 -- ---- each once
 
@@ -121,9 +155,19 @@ none_lower when k n (v ∷ vs) l = omega (
     apart : (n k : ℕ) → k < n → nat_eq n k ≡ false
     apart n k l = grind (arith, nat_tests)
 
-once : (when : When) (n i k : ℕ) (vs : List spec.Version) (v : spec.Version) → slice_get vs i ≡ Some v → k ≡ n + i → sum_by (weight_at when k) (numbered n vs) ≡ (if is_answer when v then 1 else 0)
+once : (when : When) (n i k : ℕ) (vs : List spec.Version) (v : spec.Version) → slice_get vs i ≡ Some v → k ≡ n + i
+    → sum_by (weight_at when k) (numbered n vs) ≡ (if is_answer when v then 1 else 0)
 once when n i k [] v at e = cc
-once when n zero k (x ∷ vs) v at e = omega (arith, sum_by-cons (weight_at when k) (record { id = n; version = x }) (numbered (n + 1) vs), first, none_lower when k (n + 1) vs (omega (arith, e)))
+once when n zero k (x ∷ vs) v at e =
+    omega (
+      arith,
+      sum_by-cons (weight_at when k) (record {
+        id = n;
+        version = x;
+      }) (numbered (n + 1) vs),
+      first,
+      none_lower when k (n + 1) vs (omega (arith, e)),
+    )
   where
     same : {x v : spec.Version} → Some x ≡ Some v → x ≡ v
     same {x} {v} e = cc
@@ -132,7 +176,8 @@ once when n zero k (x ∷ vs) v at e = omega (arith, sum_by-cons (weight_at when
     itself n k e = grind (arith, nat_tests)
 
     first : weight_at when k (record { id = n; version = x }) ≡ (if is_answer when v then 1 else 0)
-    first = ap (λ b. cond (is_answer when x) (cond {A = ℕ} b 1 0) 0) (itself n k e) ∙ ap (λ (u : spec.Version). cond {A = ℕ} (is_answer when u) 1 0) (same at)
+    first = ap (λ b. cond (is_answer when x) (cond {A = ℕ} b 1 0) 0) (itself n k e)
+        ∙ ap (λ (u : spec.Version). cond {A = ℕ} (is_answer when u) 1 0) (same at)
 once when n (suc i) k (x ∷ vs) v at e = omega (
   arith,
   sum_by-cons (weight_at when k) (record { id = n; version = x }) (numbered (n + 1) vs),
@@ -143,24 +188,35 @@ once when n (suc i) k (x ∷ vs) v at e = omega (
     apart : (n k : ℕ) → n < k → nat_eq n k ≡ false
     apart n k l = grind (arith, nat_tests)
 
-pub names-once : (when : When) (vs : List spec.Version) (found : List Version) → SameBag (map answer_of found) (answers_from 0 when vs) → NamesOnce (asked when) vs found
+pub names-once : (when : When) (vs : List spec.Version) (found : List Version)
+    → SameBag (map answer_of found) (answers_from 0 when vs) → NamesOnce (asked when) vs found
 names-once when vs found h = λ i v at.
     sym (sum-map answer_of (λ (a : Answer). cond {A = ℕ} (nat_eq a.id i) 1 0) found)
     ∙ h.totals (λ (a : Answer). cond {A = ℕ} (nat_eq a.id i) 1 0)
-    ∙ sum-filter (λ (a : Answer). is_answer when a.version) (λ (a : Answer). cond {A = ℕ} (nat_eq a.id i) 1 0) (numbered 0 vs)
+    ∙ sum-filter (λ (a : Answer). is_answer when a.version) (λ (a : Answer). cond {A = ℕ} (nat_eq a.id i) 1 0)
+    (numbered 0 vs)
     ∙ once when 0 i i vs v at (omega arith)
 
-none_among : (when : When) (n : ℕ) (vs : List spec.Version) → ((v : spec.Version) → In v vs → is_answer when v ≡ false) → answers_from n when vs ≡ []
+none_among : (when : When) (n : ℕ) (vs : List spec.Version)
+    → ((v : spec.Version) → In v vs → is_answer when v ≡ false) → answers_from n when vs ≡ []
 none_among when n [] h = refl
-none_among when n (v ∷ vs) h = ap (λ b. cond b (record { id = n; version = v } ∷ answers_from (n + 1) when vs) (answers_from (n + 1) when vs)) (h v (inl refl)) ∙ none_among when (n + 1) vs (λ u m. h u (inr m))
+none_among when n (v ∷ vs) h =
+    ap (λ b. cond b (record { id = n; version = v } ∷ answers_from (n + 1) when vs) (answers_from (n + 1) when vs))
+    (h v (inl refl)) ∙ none_among when (n + 1) vs (λ u m. h u (inr m))
 
 -- the current versions are those of the table, where no closed one is current
-pub once-now : (h : Held) (found : List Version) → AreEnded h → map answer_of found ≡ answers_from 0 Now h.current → NamesOnce (asked Now) (versions h) found
-once-now h found l e = names-once Now (versions h) found (same-list (e ∙ sym (append-nil (answers_from 0 Now h.current)) ∙ ap (λ as'. answers_from 0 Now h.current ++ as') (sym (none_among Now (length h.current) h.closed (none_current h l))) ∙ answers-append Now h.current h.closed))
+pub once-now : (h : Held) (found : List Version) → AreEnded h → map answer_of found ≡ answers_from 0 Now h.current
+    → NamesOnce (asked Now) (versions h) found
+once-now h found l e =
+    names-once Now (versions h) found (same-list (e ∙ sym (append-nil (answers_from 0 Now h.current))
+    ∙ ap (λ as'. answers_from 0 Now h.current ++ as')
+    (sym (none_among Now (length h.current) h.closed (none_current h l))) ∙ answers-append Now h.current h.closed))
 
 -- ---- a reading
 
-reading : (when : When) (h : Held) (numbers : List ℕ) (found : List Version) → map answer_of found ≡ answers_from 0 when h.current ++ placed (length h.current) h.closed numbers → SameBag numbers (ids_sought when h.entries) → IsReading when h found
+reading : (when : When) (h : Held) (numbers : List ℕ) (found : List Version)
+    → map answer_of found ≡ answers_from 0 when h.current ++ placed (length h.current) h.closed numbers
+    → SameBag numbers (ids_sought when h.entries) → IsReading when h found
 reading when h numbers found e n = record {
   bag = λ rest i s. shown-bag when (versions h) found (all_answers when h rest numbers (map answer_of found) e n i s);
   ids = names-all when h.current h.closed numbers found e;
@@ -168,8 +224,11 @@ reading when h numbers found e n = record {
 }
 
 -- a reading from the parts of a table
-pub reading_done : (when : When) (h : Held) (cs ks : List Kept) (es : List Entry) (numbers : List ℕ) (first found : List Version) → map answer_of first ≡ answers_from 0 when (versions_of cs) → map answer_of found ≡ map answer_of first ++ placed (length cs) (versions_of ks) numbers
-    → SameBag numbers (ids_sought when es) → h.current ≡ versions_of cs → h.closed ≡ versions_of ks → h.entries ≡ es → IsReading when h found
+pub reading_done : (when : When) (h : Held) (cs ks : List Kept) (es : List Entry) (numbers : List ℕ)
+    (first found : List Version) → map answer_of first ≡ answers_from 0 when (versions_of cs)
+    → map answer_of found ≡ map answer_of first ++ placed (length cs) (versions_of ks) numbers
+    → SameBag numbers (ids_sought when es) → h.current ≡ versions_of cs → h.closed ≡ versions_of ks → h.entries ≡ es
+    → IsReading when h found
 reading_done when h cs ks es numbers first found a b n p q r = reading when h numbers found
     (b ∙ ap (λ xs. xs ++ placed (length cs) (versions_of ks) numbers) (a ∙ ap (answers_from 0 when) (sym p))
     ∙ ap (λ l. answers_from 0 when h.current ++ placed l (versions_of ks) numbers) (sym (ap length p ∙ simp length-map))

@@ -1,5 +1,6 @@
 -- Which entries a question seeks.
-use Rattle.std.proofs.Common.{◌≡◌, suc, Bool, true, false, cond, List, [], ◌∷◌, map, filter, refl, sym, ap, subst, ◌∙◌, arith, inl, inr}
+use Rattle.std.proofs.Common.{◌≡◌, suc, Bool, true, false, cond, List, [], ◌∷◌, map, filter, refl, sym, ap, subst}
+use Rattle.std.proofs.Common.{◌∙◌, arith, inl, inr}
 use Rattle.std.specs.Prelude.{ℤ, pos, ◌+ℤ◌, ◌&&◌, ◌<ℤ◌, int_le, int_lt, All}
 use Rattle.std.specs.Int.{int_max, int_min}
 use Rattle.std.specs.Ordering.{int_eq}
@@ -37,11 +38,14 @@ same_ends a b x y es p q = ap (λ s. ids_between s y es) p ∙ ap (λ e. ids_bet
 -- ends that do not rise meet nothing
 pub none_between : (a b : ℤ) (es : List Entry) → int_lt a b ≡ false → ids_between a b es ≡ []
 none_between a b es f = ap (λ xs. map (λ (e : Entry). e.id) xs)
-    (none-pass (λ e. meets a b e.period) es (λ e. ap (λ c. c && share_a_point e.period (record { start = a; end = b })) f))
+    (none-pass (λ e. meets a b e.period) es
+    (λ e. ap (λ c. c && share_a_point e.period (record { start = a; end = b })) f))
 
 -- ends that rise meet what shares a point with their period
-pub some_between : (a b : ℤ) (es : List Entry) → int_lt a b ≡ true → ids_between a b es ≡ ids_sharing (record { start = a; end = b }) es
-some_between a b es t = ap (λ c. map (λ (e : Entry). e.id) (filter (λ e. c && share_a_point e.period (record { start = a; end = b })) es)) t
+pub some_between : (a b : ℤ) (es : List Entry) → int_lt a b ≡ true
+    → ids_between a b es ≡ ids_sharing (record { start = a; end = b }) es
+some_between a b es t =
+    ap (λ c. map (λ (e : Entry). e.id) (filter (λ e. c && share_a_point e.period (record { start = a; end = b })) es)) t
 
 -- nothing is sought among what is current alone
 pub none_now : (es : List Entry) → [] ≡ map (λ (e : Entry). e.id) (filter (λ (e : Entry). false) es)
@@ -65,22 +69,29 @@ rises_from v e = elim (lt_tells v.row.start v.end) [
 ]
 
 -- it does where it seeks the period of each version that holds a moment
-seeks : (when : When) (h : Held) (rest : List Entry) → IsIndexed h rest → ((v : Version) → In v h.closed → v.row.start <ℤ v.end → sought when (period_of v) ≡ asked when v) → Seeks when h.closed
-seeks when h rest i s = λ v m. s v m (rises_from v (proper_at h rest i v m)) ∙ ap (λ b. b && asked when v) (sym (proper_at h rest i v m))
+seeks : (when : When) (h : Held) (rest : List Entry) → IsIndexed h rest
+    → ((v : Version) → In v h.closed → v.row.start <ℤ v.end → sought when (period_of v) ≡ asked when v)
+    → Seeks when h.closed
+seeks when h rest i s = λ v m. s v m (rises_from v (proper_at h rest i v m))
+    ∙ ap (λ b. b && asked when v) (sym (proper_at h rest i v m))
 
 pub seeks_as_of : (t : ℤ) (h : Held) (rest : List Entry) → IsIndexed h rest → Seeks (AsOf t) h.closed
 seeks_as_of t h rest i = seeks (AsOf t) h rest i (λ v m r. refl)
 
-met : (a b s e : ℤ) → s <ℤ e → (int_lt a b && int_lt (int_max s a) (int_min e b)) ≡ (int_lt a b && (int_lt s b && int_lt a e))
+met : (a b s e : ℤ) → s <ℤ e
+    → (int_lt a b && int_lt (int_max s a) (int_min e b)) ≡ (int_lt a b && (int_lt s b && int_lt a e))
 met a b s e r = grind (arith, ints, clamps)
 
 pub seeks_from_to : (a b : ℤ) (h : Held) (rest : List Entry) → IsIndexed h rest → Seeks (FromTo a b) h.closed
 seeks_from_to a b h rest i = seeks (FromTo a b) h rest i (λ v m r. met a b v.row.start v.end r)
 
-met_through : (a b s e : ℤ) → s <ℤ e → e <ℤ high → (int_lt a (int_min b high +ℤ pos 1) && int_lt (int_max s a) (int_min e (int_min b high +ℤ pos 1))) ≡ (int_le a b && (int_le s b && int_lt a e))
+met_through : (a b s e : ℤ) → s <ℤ e → e <ℤ high
+    → (int_lt a (int_min b high +ℤ pos 1) && int_lt (int_max s a) (int_min e (int_min b high +ℤ pos 1))) ≡
+    (int_le a b && (int_le s b && int_lt a e))
 met_through a b s e r l = grind (arith, ints, clamps)
 
-pub seeks_between : (a b : ℤ) (h : Held) (rest : List Entry) → IsIndexed h rest → AreEnded h → Seeks (Between a b) h.closed
+pub seeks_between : (a b : ℤ) (h : Held) (rest : List Entry) → IsIndexed h rest → AreEnded h
+    → Seeks (Between a b) h.closed
 seeks_between a b h rest i l = seeks (Between a b) h rest i (λ v m r. met_through a b v.row.start v.end r (l v m))
 
 -- no closed version is current

@@ -1,5 +1,6 @@
 -- What a transaction does to the versions of a table.
-use Rattle.std.specs.Prelude.{ℕ, zero, suc, ◌&&◌, ◌++◌, Bool, List, [], ◌∷◌, map, filter, ℤ, int_lt, int_le, ◌≤ℤ◌, ◌<ℤ◌, slice_set, slice_index_or, Option, Some, None, if◌then◌else◌}
+use Rattle.std.specs.Prelude.{ℕ, zero, suc, ◌&&◌, ◌++◌, Bool, List, [], ◌∷◌, map, filter, ℤ, int_lt, int_le, ◌≤ℤ◌}
+use Rattle.std.specs.Prelude.{◌<ℤ◌, slice_set, slice_index_or, Option, Some, None, if◌then◌else◌}
 use Rattle.std.specs.Ordering.{int_eq}
 use Rattle.tql_spec.specs.Calendar.{high}
 use Rattle.tql_spec.specs.Datum.{Datum}

@@ -1,5 +1,6 @@
 -- What a table holds: its versions, and the open transaction's marks.
-use Rattle.std.specs.Prelude.{◌≡◌, ℕ, ◌+◌, ◌<◌, ◌≤◌, ◌⊎◌, Bool, true, false, ◌&&◌, IsTrue, if◌then◌else◌, List, [], ◌++◌, filter, length, count_by, nat_eq, All, Option, ℤ, ◌<ℤ◌, slice_index_or, Contains}
+use Rattle.std.specs.Prelude.{◌≡◌, ℕ, ◌+◌, ◌<◌, ◌≤◌, ◌⊎◌, Bool, true, false, ◌&&◌, IsTrue, if◌then◌else◌, List, []}
+use Rattle.std.specs.Prelude.{◌++◌, filter, length, count_by, nat_eq, All, Option, ℤ, ◌<ℤ◌, slice_index_or, Contains}
 use Rattle.tql_spec.specs.Bag.{SameBag, In}
 use Rattle.tql_spec.specs.Calendar.{high}
 use Rattle.tql_spec.specs.Definition.{Stamped, Version}
@@ -7,8 +8,10 @@ use Rattle.tql_index.specs.Entry.{Entry}
 use Rattle.tql_rows.specs.Changes.{alive, is_current, nothing, Past}
 use Rattle.tql_rows.specs.Entries.{entries_for, entries_from}
 
--- a table: whether it keeps its history; the versions that were current when the open transaction began, and behind them those that it
--- added; how many were there; the places of those that it ended, of the first and of the others; the versions that were closed before,
+-- a table: whether it keeps its history; the versions that were current when the open transaction began, and behind
+-- them those that it
+-- added; how many were there; the places of those that it ended, of the first and of the others; the versions that
+-- were closed before,
 -- and for how many there is room; what its index holds
 pub record Held : Type 0 where
   pub keeps : Bool
@@ -64,7 +67,8 @@ pub record AtRest (last : Option ℤ) (h : Held) : Type 0 where
 
 -- a version is not ended, or was ended by the open transaction, which noted it
 abbrev pub IsMarked : ℤ → Held → ℕ → Type 0
-IsMarked m h k = ((named h k).end ≡ high) ⊎ (((named h k).end ≡ m) × ((k < h.base → Contains h.ended k) × (h.base ≤ k → Contains h.dead k)))
+IsMarked m h k = ((named h k).end ≡ high) ⊎
+    (((named h k).end ≡ m) × ((k < h.base → Contains h.ended k) × (h.base ≤ k → Contains h.dead k)))
 
 -- in a transaction of a moment
 pub record InTurn (m : ℤ) (h : Held) : Type 0 where
@@ -85,7 +89,8 @@ pub record InTurn (m : ℤ) (h : Held) : Type 0 where
 
 -- whether the version of an id is a current one
 abbrev pub is_removable : Held → ℕ → Bool
-is_removable h id = alive (slice_index_or (versions h) id nothing) && is_current (slice_index_or (versions h) id nothing)
+is_removable h id = alive (slice_index_or (versions h) id nothing) && is_current
+    (slice_index_or (versions h) id nothing)
 
 -- the ids listed are those of current versions, each once
 pub record AreRemovable (h : Held) (removed : List ℕ) : Type 0 where
@@ -96,4 +101,5 @@ pub record AreRemovable (h : Held) (removed : List ℕ) : Type 0 where
 -- the ids listed are those of the versions that go: what goes is told by the rows' values
 abbrev pub IsJudged : (Stamped → Bool) → List ℕ → Held → Type 0
 IsJudged gone removed h = (k : ℕ) → k < length h.current
-    → (Contains removed k → (is_current (named h k) && gone (named h k).row) ≡ true) × ((Contains removed k → ⊥) → (is_current (named h k) && gone (named h k).row) ≡ false)
+    → (Contains removed k → (is_current (named h k) && gone (named h k).row) ≡ true) × ((Contains removed k → ⊥)
+    → (is_current (named h k) && gone (named h k).row) ≡ false)

@@ -1,5 +1,7 @@
 -- What a reading answers: which versions it asks for, and their ids.
-use Rattle.std.specs.Prelude.{◌≡◌, ℕ, ◌+◌, Bool, false, ◌&&◌, List, [], ◌∷◌, map, filter, length, ℤ, pos, ◌+ℤ◌, int_le, int_lt, nat_lt, nat_eq, count_by, slice_get, slice_index_or, Some, All, ◌<ℤ◌, if◌then◌else◌}
+use Rattle.std.specs.Prelude.{◌≡◌, ℕ, ◌+◌, Bool, false, ◌&&◌, List, [], ◌∷◌, map, filter, length, ℤ, pos, ◌+ℤ◌}
+use Rattle.std.specs.Prelude.{int_le, int_lt, nat_lt, nat_eq, count_by, slice_get, slice_index_or, Some, All, ◌<ℤ◌}
+use Rattle.std.specs.Prelude.{if◌then◌else◌}
 use Rattle.std.specs.Int.{int_min}
 use Rattle.tql_spec.specs.Bag.{SameBag, In}
 use Rattle.tql_spec.specs.Calendar.{high}
@@ -75,7 +77,10 @@ answers_from n when vs = filter (λ (a : Answer). is_answer when a.version) (num
 
 -- the versions at these places, each with the id that is so much higher; numbers beyond are no places
 abbrev pub placed : ℕ → List spec.Version → List ℕ → List Answer
-placed base vs numbers = map (λ n. record { id = base + n; version = slice_index_or vs n nothing }) (filter (λ n. nat_lt n (length vs)) numbers)
+placed base vs numbers = map (λ n. record {
+  id = base + n;
+  version = slice_index_or vs n nothing;
+}) (filter (λ n. nat_lt n (length vs)) numbers)
 
 -- an answer's id names its version
 abbrev pub Names : List spec.Version → Version → Type 0
@@ -98,6 +103,7 @@ AreEnded h = (v : spec.Version) → In v h.closed → v.end <ℤ high
 
 -- a reading answers what a question asks for, where the index holds the closed versions
 pub record IsReading (when : When) (h : Held) (found : List Version) : Type 0 where
-  pub bag : (rest : List Entry) → IsIndexed h rest → Seeks when h.closed → SameBag (map version_shown found) (filter (asked when) (live h))
+  pub bag : (rest : List Entry) → IsIndexed h rest → Seeks when h.closed
+      → SameBag (map version_shown found) (filter (asked when) (live h))
   pub ids : All (Names (versions h)) found
   pub once : (rest : List Entry) → IsIndexed h rest → Seeks when h.closed → NamesOnce (asked when) (versions h) found

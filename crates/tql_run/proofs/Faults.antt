@@ -15,8 +15,10 @@ use Rattle.tql_run.specs.Responding.{Answered, Standing}
 -- such a fault is one in each language
 fault_sense : (L : Language) (p : Piece) (e : Refusal) → HasFault p e → HasSense L p (Faulty e)
 fault_sense L p e (inl (is, long)) = subst (λ (x : Refusal). HasSense L p (Faulty x)) (sym is) long
-fault_sense L p e (inr (short, cut, inl (is, none))) = subst (λ (x : Refusal). HasSense L p (Faulty x)) (sym is) (short, none)
-fault_sense L p e (inr (short, cut, inr (is, utf8))) = subst (λ (x : Refusal). HasSense L p (Faulty x)) (sym is) (short, utf8, cut)
+fault_sense L p e (inr (short, cut, inl (is, none))) =
+    subst (λ (x : Refusal). HasSense L p (Faulty x)) (sym is) (short, none)
+fault_sense L p e (inr (short, cut, inr (is, utf8))) =
+    subst (λ (x : Refusal). HasSense L p (Faulty x)) (sym is) (short, utf8, cut)
 
 pub replies_refuse : RefusesFaults Replies
 replies_refuse s p e f = inl (Faulty e, fault_sense Runs p e f, refl)
@@ -27,20 +29,32 @@ checks_refuse s p e f = (inl (Faulty e, fault_sense IsStatement p e f, refl), re
 -- ---- pieces
 
 -- a piece that is a finished text
-pub text_answered : (A : Answering) (s : State) (p : Piece) (text : List ℕ) (answer : Answer) (after : Standing) → p.text ≡ text → IsTrue p.finished
+pub text_answered : (A : Answering) (s : State) (p : Piece) (text : List ℕ) (answer : Answer) (after : Standing)
+    → p.text ≡ text → IsTrue p.finished
     → Answered A s (finished text) answer after → Answered A s p answer after
-text_answered A s p text answer after e f a = let whole : finished text ≡ p = λ i. record { text = (sym e) i; finished = (sym f) i } in subst (λ q. Answered A s q answer after) whole a
+text_answered A s p text answer after e f a = let whole : finished text ≡ p = λ i. record {
+  text = (sym e) i;
+  finished = (sym f) i;
+} in subst (λ q. Answered A s q answer after) whole a
 
 -- a piece that is too long
-pub long_answered : (A : Answering) → RefusesFaults A → (s : State) (p : Piece) (after : Standing) → after s → 1_048_576 < length p.text
+pub long_answered : (A : Answering) → RefusesFaults A → (s : State) (p : Piece) (after : Standing) → after s
+    → 1_048_576 < length p.text
     → Answered A s p (Replied (Refused (refusal_of StatementTooLong))) after
-long_answered A law s p after st long = record { state = s; answers = law s p (refusal_of StatementTooLong) (inl (refl, long)); stands = st }
+long_answered A law s p after st long = record {
+  state = s;
+  answers = law s p (refusal_of StatementTooLong) (inl (refl, long));
+  stands = st;
+}
 
 -- a piece that no `;` ends
-pub cut_answered : (A : Answering) → RefusesFaults A → (s : State) (p : Piece) (text : List ℕ) (after : Standing) (e : Refusal) → after s → p.text ≡ text → IsFalse p.finished
+pub cut_answered : (A : Answering) → RefusesFaults A
+    → (s : State) (p : Piece) (text : List ℕ) (after : Standing) (e : Refusal) → after s → p.text ≡ text
+    → IsFalse p.finished
     → length text ≤ 1_048_576 → IsCutFault text e → Answered A s p (Replied (Refused e)) after
 cut_answered A law s p text after e st is cut short fault = record {
   state = s;
-  answers = law s p e (inr (subst (λ t. length t ≤ 1_048_576) (sym is) short, cut, subst (λ t. IsCutFault t e) (sym is) fault));
+  answers = law s p e (inr
+      (subst (λ t. length t ≤ 1_048_576) (sym is) short, cut, subst (λ t. IsCutFault t e) (sym is) fault));
   stands = st;
 }

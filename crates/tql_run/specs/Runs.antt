@@ -118,7 +118,8 @@ answered false script = filter (λ (p : Piece). p.finished) (statements script)
 
 -- ---- what a run did
 
--- In each case the listener is told of the statements that are refused among those answered, of no others, and of each by its
+-- In each case the listener is told of the statements that are refused among those answered, of no others, and of
+-- each by its
 -- number and its line.
 
 -- the whole script was read and each of its statements answered, no device failed, and the sink is flushed
@@ -193,7 +194,8 @@ pub record NothingRun (A : Answering) (s : State) (after : Standing) (sink : Sin
 
 -- how a run went by its result: the manner of its answers, the state that the responder stood for, and what it
 -- stands for after it
-abbrev pub Runs : Answering → State → Standing → SourceChange → SinkChange → HearingChange → Result Summary Fault → Type 0
+abbrev pub Runs : Answering → State → Standing → SourceChange → SinkChange → HearingChange → Result Summary Fault
+    → Type 0
 Runs A s after source sink hearing (Ok summary) = RunsWhole A s after source sink hearing summary
 Runs A s after source sink hearing (Err Read) = StopsReading A s after source sink hearing
 Runs A s after source sink hearing (Err Write) = StopsWriting A s after source sink hearing

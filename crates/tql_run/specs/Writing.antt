@@ -25,11 +25,12 @@ abbrev pub placed_in : Stream → List Placed
 placed_in stream = placed_from stream.passed stream.left
 
 -- the next statement was taken and answered
-pub record AnswersFirst (A : Answering) (old new : Stream) (answer : code.Answer) (before after : Standing) : Type 0 where
-  pub piece : Piece
-  pub given : GivesFirst old new piece
-  pub answers : (s : State) → before s → Answered A s piece (answer_of answer) after
-  pub printable : IsPrintableAnswer (answer_of answer)
+pub record AnswersFirst (A : Answering) (old new : Stream) (answer : code.Answer) (before after : Standing) : Type 0
+  where
+    pub piece : Piece
+    pub given : GivesFirst old new piece
+    pub answers : (s : State) → before s → Answered A s piece (answer_of answer) after
+    pub printable : IsPrintableAnswer (answer_of answer)
 
 -- the next statement, or none; where none is left nothing changes
 abbrev pub AnswersNext : Answering → Option code.Answer → (old new : Stream) → (before after : Standing) → Type 0
@@ -38,7 +39,8 @@ AnswersNext A (Some answer) old new before after = AnswersFirst A old new answer
 
 -- the statements up to here were answered, and what they were answered written
 pub record WroteSoFar (A : Answering) (s : State) (before now : Stream) (after : Standing) (summary : Summary)
-    (held_old held_new : Option (List ℕ)) (writes_before writes_now : ℕ) (heard_old heard_new : Option (List Heard)) : Type 0 where
+    (held_old held_new : Option (List ℕ)) (writes_before writes_now : ℕ) (heard_old heard_new : Option (List Heard))
+    : Type 0 where
   pub done : List Piece
   pub parts : asked before ≡ done ++ asked now
   pub places : List Placed
@@ -55,7 +57,8 @@ pub record WroteSoFar (A : Answering) (s : State) (before now : Stream) (after :
 
 -- every statement was answered, and every answer written
 pub record WroteAll (A : Answering) (s : State) (stream : Stream) (after : Standing) (summary : Summary)
-    (held_old held_new : Option (List ℕ)) (writes_before writes_now : ℕ) (heard_old heard_new : Option (List Heard)) : Type 0 where
+    (held_old held_new : Option (List ℕ)) (writes_before writes_now : ℕ) (heard_old heard_new : Option (List Heard))
+    : Type 0 where
   pub answers : List Answer
   pub state : State
   pub ran : RunBy A s (asked stream) answers state
@@ -67,7 +70,8 @@ pub record WroteAll (A : Answering) (s : State) (stream : Stream) (after : Stand
 
 -- the sink failed, at an answer, or after the last
 pub record SinkFailed (A : Answering) (s : State) (stream : Stream) (after : Standing)
-    (held_old held_new : Option (List ℕ)) (writes_before writes_now : ℕ) (heard_old heard_new : Option (List Heard)) : Type 0 where
+    (held_old held_new : Option (List ℕ)) (writes_before writes_now : ℕ) (heard_old heard_new : Option (List Heard))
+    : Type 0 where
   pub done : List Piece
   pub rest : List Piece
   pub parts : asked stream ≡ done ++ rest
@@ -83,6 +87,8 @@ pub record SinkFailed (A : Answering) (s : State) (stream : Stream) (after : Sta
 
 -- by the result
 abbrev pub WritesAnswers : {E : Type 0} → Answering → Result Summary E → State → Stream → Standing
-    → (held_old held_new : Option (List ℕ)) → (writes_before writes_now : ℕ) → (heard_old heard_new : Option (List Heard)) → Type 0
-WritesAnswers A (Ok summary) s stream after old new before now was is = WroteAll A s stream after summary old new before now was is
+    → (held_old held_new : Option (List ℕ)) → (writes_before writes_now : ℕ)
+    → (heard_old heard_new : Option (List Heard)) → Type 0
+WritesAnswers A (Ok summary) s stream after old new before now was is =
+    WroteAll A s stream after summary old new before now was is
 WritesAnswers A (Err e) s stream after old new before now was is = SinkFailed A s stream after old new before now was is

@@ -1,11 +1,13 @@
 -- What stays among the terms of a statement.
-use Rattle.std.proofs.Common.{◌≡◌, ℕ, ◌<◌, ◌≤◌, refl, sym, ap, ◌∙◌, arith, List, [], ◌∷◌, ◌++◌, length, map, All, Result, Ok, Err, IfOk, option_map}
+use Rattle.std.proofs.Common.{◌≡◌, ℕ, ◌<◌, ◌≤◌, refl, sym, ap, ◌∙◌, arith, List, [], ◌∷◌, ◌++◌, length, map, All}
+use Rattle.std.proofs.Common.{Result, Ok, Err, IfOk, option_map}
 use Rattle.std.specs.declared.alloc.AllocError.{AllocError}
 use Rattle.tql_spec.specs.Expression.{Expr, Cond}
 use Rattle.tql_spec.specs.Names as names
 use Rattle.tql_value.specs.Views.{plain_kind}
 use Rattle.tql_expr.specs.Trees.{Term, OfExpr, OfCond, expr_of, cond_of, term_in}
-use Rattle.tql_expr.specs.Meaning.{trees, size, expr, cond, HasExpr, HasCond, Stays, Adds, AddsExpr, AddsCond, BuildsExpr, BuildsCond}
+use Rattle.tql_expr.specs.Meaning.{trees, size, expr, cond, HasExpr, HasCond, Stays, Adds, AddsExpr, AddsCond}
+use Rattle.tql_expr.specs.Meaning.{BuildsExpr, BuildsCond}
 use Rattle.tql_expr.specs.declared.terms.Terms.{Terms}
 use Rattle.tql_expr.specs.declared.terms.ExprId.{ExprId}
 use Rattle.tql_expr.specs.declared.terms.CondId.{CondId}
@@ -18,11 +20,17 @@ stays_here t = record { grows = omega arith; same = λ k h. refl }
 
 -- what stays twice stays
 pub stays_along : {t u v : Terms} → Stays t u → Stays u v → Stays t v
-stays_along {t} {u} {v} s r = record { grows = omega (arith, s.grows, r.grows); same = λ k h. r.same k (omega (arith, s.grows, h)) ∙ s.same k h }
+stays_along {t} {u} {v} s r = record {
+  grows = omega (arith, s.grows, r.grows);
+  same = λ k h. r.same k (omega (arith, s.grows, h)) ∙ s.same k h;
+}
 
 -- all stays where the trees are the same
 pub stays_same : {t u : Terms} → trees u ≡ trees t → Stays t u
-stays_same {t} {u} is = let equal : size u ≡ size t = ap length is in record { grows = omega (arith, equal); same = λ k h. ap (λ l. term_in l k) is }
+stays_same {t} {u} is = let equal : size u ≡ size t = ap length is in record {
+  grows = omega (arith, equal);
+  same = λ k h. ap (λ l. term_in l k) is;
+}
 
 -- an expression that is there stays there
 pub expr_there : {t u : Terms} → Stays t u → (x : ExprId) → HasExpr t x → HasExpr u x

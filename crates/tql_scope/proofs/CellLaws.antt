@@ -13,7 +13,9 @@ use Rattle.tql_scope.proofs.Gathering.{bound, unless_asked}
 
 -- no aggregate may stand in it
 pub cell_bound : (s : List Known) (e : tree.Sum) (old mid now : Option Refusal) (a : Typed) (b : Bool)
-    → b ≡ in_sum e → Gathers (expr s e) old mid a → Gathers (refuse_if b FormNotAllowedHere) mid now tt → Gathers (cell s (tree.ValueCell e)) old now a
+    → b ≡ in_sum e → Gathers (expr s e) old mid a → Gathers (refuse_if b FormNotAllowedHere) mid now tt
+    → Gathers (cell s (tree.ValueCell e)) old now a
 cell_bound s e old mid now a b written g h =
     let asked = written ∙ sym (sum_as_written s e) ∙ ap (λ (t : Typed). has_aggregate t.expr) (sym g.value) in
-    bound (expr s e) (λ t. unless (has_aggregate t.expr) FormNotAllowedHere t) old mid now a a g (unless_asked b (has_aggregate a.expr) FormNotAllowedHere a mid now asked h)
+    bound (expr s e) (λ t. unless (has_aggregate t.expr) FormNotAllowedHere t) old mid now a a g
+    (unless_asked b (has_aggregate a.expr) FormNotAllowedHere a mid now asked h)

@@ -25,19 +25,22 @@ use Rattle.tql_scope.specs.Chains.{step_of, chain_of, HoldsChain}
 use Rattle.tql_scope.proofs.Arena.{expr_there, expr_kept}
 
 -- one more operation
-pub chain_last : (e : Expr) (xs : List (datum.Operation × Expr)) (x : datum.Operation × Expr) → chain e (xs ++ x ∷ []) ≡ Binary x.0 (chain e xs) x.1
+pub chain_last : (e : Expr) (xs : List (datum.Operation × Expr)) (x : datum.Operation × Expr)
+    → chain e (xs ++ x ∷ []) ≡ Binary x.0 (chain e xs) x.1
 chain_last e [] x = refl
 chain_last e (y ∷ ys) x = chain_last (Binary y.0 e y.1) ys x
 
 -- the operands stay
-rest_kept : {t u : Terms} → Stays t u → (xs : List (Operation × ExprId)) → All (λ x. HasExpr t x.1) xs → map (step_of u) xs ≡ map (step_of t) xs
+rest_kept : {t u : Terms} → Stays t u → (xs : List (Operation × ExprId)) → All (λ x. HasExpr t x.1) xs
+    → map (step_of u) xs ≡ map (step_of t) xs
 rest_kept {t} {u} s [] h = refl
 rest_kept {t} {u} s (x ∷ xs) h =
     let here = expr_kept s x.1 (All-head (λ (y : Operation × ExprId). HasExpr t y.1) x xs h) in
     let later = rest_kept s xs (All-tail (λ (y : Operation × ExprId). HasExpr t y.1) x xs h) in
     λ i. (plain_operation x.0, here i) ∷ later i
 
-rest_there : {t u : Terms} → Stays t u → (xs : List (Operation × ExprId)) → All (λ x. HasExpr t x.1) xs → All (λ x. HasExpr u x.1) xs
+rest_there : {t u : Terms} → Stays t u → (xs : List (Operation × ExprId)) → All (λ x. HasExpr t x.1) xs
+    → All (λ x. HasExpr u x.1) xs
 rest_there {t} {u} s [] h = All-nil (λ (y : Operation × ExprId). HasExpr u y.1)
 rest_there {t} {u} s (x ∷ xs) h =
     All-cons (λ (y : Operation × ExprId). HasExpr u y.1) x xs
@@ -60,24 +63,30 @@ pub record IsLonger (c d : Chain) (op : Operation) (right : Typed) : Type 0 wher
   pub kind : d.kind ≡ Some Int
 
 longer_expr : (t : Terms) (c d : Chain) (op : Operation) (right : Typed) → IsLonger c d op right
-    → chain (expr t d.first) (map (step_of t) d.rest.items) ≡ Binary (plain_operation op) (chain (expr t c.first) (map (step_of t) c.rest.items)) (expr t right.expr)
+    → chain (expr t d.first) (map (step_of t) d.rest.items) ≡ Binary (plain_operation op)
+    (chain (expr t c.first) (map (step_of t) c.rest.items)) (expr t right.expr)
 longer_expr t c d op right is =
     (λ i. chain (expr t (is.first i)) (map (step_of t) (is.rest i)))
     ∙ ap (chain (expr t c.first)) (map-append (step_of t) c.rest.items ((op, right.expr) ∷ []))
     ∙ chain_last (expr t c.first) (map (step_of t) c.rest.items) (plain_operation op, expr t right.expr)
 
-pub longer_bound : (t : Terms) (c d : Chain) (op : Operation) (right : Typed) (old new : Option Refusal) (b : Bool) → IsLonger c d op right
-    → b ≡ (is_other_kind datum.Ints (option_map plain_kind c.kind) || is_other_kind datum.Ints (option_map plain_kind right.kind)) → Gathers (refuse_if b TypesDoNotFit) old new tt
+pub longer_bound : (t : Terms) (c d : Chain) (op : Operation) (right : Typed) (old new : Option Refusal) (b : Bool)
+    → IsLonger c d op right
+    → b ≡ (is_other_kind datum.Ints (option_map plain_kind c.kind) || is_other_kind datum.Ints
+    (option_map plain_kind right.kind)) → Gathers (refuse_if b TypesDoNotFit) old new tt
     → Gathers (arithmetic (plain_operation op) (chain_of t c) (typed_of t right)) old new (chain_of t d)
 longer_bound t c d op right old new b is asked g =
-    let misfit = is_other_kind datum.Ints (option_map plain_kind c.kind) || is_other_kind datum.Ints (option_map plain_kind right.kind) in
+    let misfit = is_other_kind datum.Ints (option_map plain_kind c.kind) || is_other_kind datum.Ints
+    (option_map plain_kind right.kind) in
     record {
       value = (λ i. record { expr = longer_expr t c d op right is i; kind = option_map plain_kind (is.kind i) });
       least = (unless_asked b misfit TypesDoNotFit (chain_of t d) old new asked g).least;
     }
 
-pub longer_there : (t : Terms) (c d : Chain) (op : Operation) (right : Typed) → IsLonger c d op right → HoldsChain t c → HasExpr t right.expr → HoldsChain t d
+pub longer_there : (t : Terms) (c d : Chain) (op : Operation) (right : Typed) → IsLonger c d op right
+    → HoldsChain t c → HasExpr t right.expr → HoldsChain t d
 longer_there t c d op right is h r = record {
   first = subst (HasExpr t) (sym is.first) h.first;
-  rest = subst (λ (xs : List (Operation × ExprId)). All (λ x. HasExpr t x.1) xs) (sym is.rest) (All-push (λ (x : Operation × ExprId). HasExpr t x.1) c.rest.items (op, right.expr) h.rest r);
+  rest = subst (λ (xs : List (Operation × ExprId)). All (λ x. HasExpr t x.1) xs) (sym is.rest)
+      (All-push (λ (x : Operation × ExprId). HasExpr t x.1) c.rest.items (op, right.expr) h.rest r);
 }

@@ -17,7 +17,10 @@ step_of t x = (plain_operation x.0, expr t x.1)
 
 -- the operations from left to right, with their kind
 abbrev pub chain_of : Terms → Chain → names.Typed
-chain_of t c = record { expr = chain (expr t c.first) (map (step_of t) c.rest.items); kind = option_map plain_kind c.kind }
+chain_of t c = record {
+  expr = chain (expr t c.first) (map (step_of t) c.rest.items);
+  kind = option_map plain_kind c.kind;
+}
 
 -- the operands are there
 pub record HoldsChain (t : Terms) (c : Chain) : Type 0 where

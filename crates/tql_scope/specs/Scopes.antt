@@ -15,7 +15,12 @@ text_of t = t.now
 
 -- a reference, with the application periods of its table
 abbrev pub known_of : Known → names.Known
-known_of k = record { name = k.name.now; table = k.table.now; applications = listed k.table.now.application; offset = k.offset }
+known_of k = record {
+  name = k.name.now;
+  table = k.table.now;
+  applications = listed k.table.now.application;
+  offset = k.offset;
+}
 
 -- a scope
 abbrev pub scope_of : List Known → List names.Known

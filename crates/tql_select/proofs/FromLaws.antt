@@ -33,40 +33,55 @@ use Rattle.tql_select.specs.declared.sources.Source as code
 -- ---- a reference
 
 -- where all tables are narrow, so is the one at a place
-pub narrow_at : (defs : List TableDef) (t : ℕ) → All (λ (d : TableDef). length d.columns ≤ 64) defs → length (table_at defs t).columns ≤ 64
+pub narrow_at : (defs : List TableDef) (t : ℕ) → All (λ (d : TableDef). length d.columns ≤ 64) defs
+    → length (table_at defs t).columns ≤ 64
 narrow_at [] t h = omega arith
 narrow_at (d ∷ ds) zero h = All-head (λ (d : TableDef). length d.columns ≤ 64) d ds h
 narrow_at (d ∷ ds) (suc t) h = narrow_at ds t (All-tail (λ (d : TableDef). length d.columns ≤ 64) d ds h)
 
 -- a reference, from its table and its versions
-pub source_bound : (defs : List TableDef) (r : RefTree) (offset : ℕ) (old a new : Option Refusal) (t : ℕ) (d : TableDef) (w : When) (n : ℕ) (k : names.Known)
+pub source_bound : (defs : List TableDef) (r : RefTree) (offset : ℕ) (old a new : Option Refusal) (t : ℕ)
+    (d : TableDef) (w : When) (n : ℕ) (k : names.Known)
     → Gathers (table_number defs r.table) old a t → d ≡ table_at defs t → Gathers (when d r.span) a new w
-    → n ≡ length d.columns → k ≡ record { name = known_as r r.alias; table = d; applications = listed d.application; offset = offset }
+    → n ≡ length d.columns
+    → k ≡ record { name = known_as r r.alias; table = d; applications = listed d.application; offset = offset }
     → Gathers (binding.source defs offset r) old new (source_by (record { table = t; when = w; width = n }) k)
 source_bound defs r offset old a new t d w n k table there versions width known =
-    let known_at : TableDef → names.Known = λ d. record { name = known_as r r.alias; table = d; applications = listed d.application; offset = offset } in
+    let known_at : TableDef
+    → names.Known = λ d. record {
+      name = known_as r r.alias;
+      table = d;
+      applications = listed d.application;
+      offset = offset;
+    } in
     let ref_at : TableDef → ℕ → When → Ref = λ d t w. record { table = t; when = w; width = length d.columns } in
     let last : TableDef → ℕ → When → Checked Source = λ d t w. sound (source_by (ref_at d t w) (known_at d)) in
     let found : TableDef → ℕ → Checked Source = λ d t. when d r.span >>= last d t in
     let s : Source = source_by (ref_at d t w) (known_at d) in
-    let is_source : s ≡ source_by (record { table = t; when = w; width = n }) k = sym (λ i. source_by (record { table = t; when = w; width = width i }) (known i)) in
-    let behind : Gathers (found d t) a new s = bound (when d r.span) (last d t) a new new w s versions (sound_here s new) in
+    let is_source : s ≡ source_by (record { table = t; when = w; width = n }) k =
+    sym (λ i. source_by (record { table = t; when = w; width = width i }) (known i)) in
+    let behind : Gathers (found d t) a new s =
+    bound (when d r.span) (last d t) a new new w s versions (sound_here s new) in
     subst (λ (x : Source). Gathers (binding.source defs offset r) old new x) is_source
-    (bound (table_number defs r.table) (λ t. found (table_at defs t) t) old a new t s table (subst (λ (e : TableDef). Gathers (found e t) a new s) there behind))
+    (bound (table_number defs r.table) (λ t. found (table_at defs t) t) old a new t s table
+    (subst (λ (e : TableDef). Gathers (found e t) a new s) there behind))
 
 -- ---- a join
 
 -- a join, from its parts
 join_parts : (defs : List TableDef) (so : Joined) (j : JoinTree)
     → binding.join defs so j
-    ≡ (binding.source defs so.width (reference_in j) >>= λ s. on_in (so.scope ++ s.known ∷ []) j >>= λ on. sound (add_join so s (join_by (kind_in j) s.ref on)))
+    ≡ (binding.source defs so.width (reference_in j) >>= λ s. on_in (so.scope ++ s.known ∷ []) j >>= λ on. sound
+    (add_join so s (join_by (kind_in j) s.ref on)))
 join_parts defs so (InnerJoin r c) = refl
 join_parts defs so (LeftJoin r c) = refl
 join_parts defs so (CrossJoin r) = refl
 
 -- it is bound where they are
-join_bound : (defs : List TableDef) (so : Joined) (j : JoinTree) (old mid new : Option Refusal) (s : Source) (on : List Cond)
-    → Gathers (binding.source defs so.width (reference_in j)) old mid s → Gathers (on_in (so.scope ++ s.known ∷ []) j) mid new on
+join_bound : (defs : List TableDef) (so : Joined) (j : JoinTree) (old mid new : Option Refusal) (s : Source)
+    (on : List Cond)
+    → Gathers (binding.source defs so.width (reference_in j)) old mid s
+    → Gathers (on_in (so.scope ++ s.known ∷ []) j) mid new on
     → Gathers (binding.join defs so j) old new (add_join so s (join_by (kind_in j) s.ref on))
 join_bound defs so j old mid new s on source conjuncts =
     let last : Source → List Cond → Checked Joined = λ s on. sound (add_join so s (join_by (kind_in j) s.ref on)) in
@@ -81,7 +96,8 @@ abbrev pub HasOn : Terms → Join → Type 0
 HasOn t j = All (HasCond t) j.on.items
 
 -- joins stay what they are
-pub joins_kept : {t u : Terms} → Stays t u → (js : List Join) → All (HasOn t) js → map (join_of u) js ≡ map (join_of t) js
+pub joins_kept : {t u : Terms} → Stays t u → (js : List Join) → All (HasOn t) js
+    → map (join_of u) js ≡ map (join_of t) js
 joins_kept {t} {u} s [] h = refl
 joins_kept {t} {u} s (j ∷ js) h =
     let here = conds_kept s j.on.items (All-head (HasOn t) j js h) in
@@ -91,7 +107,8 @@ joins_kept {t} {u} s (j ∷ js) h =
 pub joins_there : {t u : Terms} → Stays t u → (js : List Join) → All (HasOn t) js → All (HasOn u) js
 joins_there {t} {u} s [] h = All-nil (HasOn u)
 joins_there {t} {u} s (j ∷ js) h =
-    All-cons (HasOn u) j js (conds_there s j.on.items (All-head (HasOn t) j js h)) (joins_there s js (All-tail (HasOn t) j js h))
+    All-cons (HasOn u) j js (conds_there s j.on.items (All-head (HasOn t) j js h))
+    (joins_there s js (All-tail (HasOn t) j js h))
 
 -- columns that stand within a width stand within a greater one
 abbrev pub Within : ℕ → Known → Type 0
@@ -104,35 +121,49 @@ within_more m n more (k ∷ ks) h =
     All-cons (Within n) k ks (omega (arith, here, more)) (within_more m n more ks (All-tail (Within m) k ks h))
 
 -- one more join is behind the others
-pub join_added : (defs : List TableDef) (j : JoinTree) (old mid new : Option Refusal) (t u : Terms) (l m : Linked) (s : code.Source) (x : Join)
+pub join_added : (defs : List TableDef) (j : JoinTree) (old mid new : Option Refusal) (t u : Terms) (l m : Linked)
+    (s : code.Source) (x : Join)
     → Gathers (binding.source defs l.width (reference_in j)) old mid (source_of s)
     → Gathers (on_in (scope_of (l.scope.items ++ s.known ∷ [])) j) mid new (map (cond u) x.on.items)
     → s.known.offset + length s.known.table.now.columns ≡ l.width + s.reference.width → s.reference.width ≤ 64
     → Stays t u → All (HasCond u) x.on.items → HasJoins t l → IsPlaced l
     → x.kind ≡ kind_in j → x.reference ≡ s.reference
-    → m.chain.first ≡ l.chain.first → m.chain.joins.items ≡ l.chain.joins.items ++ x ∷ [] → m.scope.items ≡ l.scope.items ++ s.known ∷ [] → m.width ≡ l.width + s.reference.width
+    → m.chain.first ≡ l.chain.first → m.chain.joins.items ≡ l.chain.joins.items ++ x ∷ []
+    → m.scope.items ≡ l.scope.items ++ s.known ∷ [] → m.width ≡ l.width + s.reference.width
     → AddsJoin defs j old new t u l m
-join_added defs j old mid new t u l m s x source on stands narrow stays there held placed kind reference first joins scope width =
+join_added defs j old mid new t u l m s x source on stands narrow stays there held placed kind reference first joins
+    scope width =
     let so = joined_of t l in
     let known : names.Known = known_of s.known in
     let conds : List Cond = map (cond u) x.on.items in
     let made : query.Join = join_by (kind_in j) (reference_of s.reference) conds in
-    let scopes : scope_of m.scope.items ≡ scope_of l.scope.items ++ known ∷ [] = ap scope_of scope ∙ map-append known_of l.scope.items (s.known ∷ []) in
+    let scopes : scope_of m.scope.items ≡ scope_of l.scope.items ++ known ∷ [] = ap scope_of scope
+    ∙ map-append known_of l.scope.items (s.known ∷ []) in
     let is_made : join_of u x ≡ made = λ i. join_by (kind i) (reference_of (reference i)) conds in
     let all_joins : map (join_of u) m.chain.joins.items ≡ map (join_of t) l.chain.joins.items ++ made ∷ [] =
     ap (map (join_of u)) joins ∙ map-append (join_of u) l.chain.joins.items (x ∷ [])
     ∙ (λ i. joins_kept stays l.chain.joins.items held i ++ is_made i ∷ []) in
-    let is : add_join so (source_of s) made ≡ joined_of u m = λ i. record { joins = sym all_joins i; scope = sym scopes i; width = sym width i } in
-    let conjuncts = subst (λ (ks : List names.Known). Gathers (on_in ks j) mid new conds) (map-append known_of l.scope.items (s.known ∷ [])) on in
+    let is : add_join so (source_of s) made ≡ joined_of u m = λ i. record {
+      joins = sym all_joins i;
+      scope = sym scopes i;
+      width = sym width i;
+    } in
+    let conjuncts = subst (λ (ks : List names.Known). Gathers (on_in ks j) mid new conds)
+    (map-append known_of l.scope.items (s.known ∷ [])) on in
     let wider : l.width ≤ m.width = omega (arith, width) in
     let here : Within m.width s.known = omega (arith, width, stands) in
-    let count : length m.scope.items ≡ suc (length l.scope.items) = ap length scope ∙ length-append l.scope.items (s.known ∷ []) ∙ omega arith in
+    let count : length m.scope.items ≡ suc (length l.scope.items) = ap length scope
+    ∙ length-append l.scope.items (s.known ∷ []) ∙ omega arith in
     record {
-      bound = subst (λ (y : Joined). Gathers (binding.join defs so j) old new y) is (join_bound defs so j old mid new (source_of s) conds source conjuncts);
+      bound = subst (λ (y : Joined). Gathers (binding.join defs so j) old new y) is
+          (join_bound defs so j old mid new (source_of s) conds source conjuncts);
       first = first;
-      held = subst (All (HasOn u)) (sym joins) (All-push (HasOn u) l.chain.joins.items x (joins_there stays l.chain.joins.items held) there);
+      held = subst (All (HasOn u)) (sym joins)
+          (All-push (HasOn u) l.chain.joins.items x (joins_there stays l.chain.joins.items held) there);
       placed = record {
-        within = subst (All (Within m.width)) (sym scope) (All-push (Within m.width) l.scope.items s.known (within_more l.width m.width wider l.scope.items placed.within) here);
+        within = subst (All (Within m.width)) (sym scope)
+            (All-push (Within m.width) l.scope.items s.known
+            (within_more l.width m.width wider l.scope.items placed.within) here);
         narrow = omega (arith, width, narrow, placed.narrow, count);
       };
       counted = count;
@@ -141,12 +172,14 @@ join_added defs j old mid new t u l m s x source on stands narrow stays there he
 -- ---- a chain
 
 -- one reference alone stands within its width
-pub begun_placed : (l : Linked) (s : code.Source) → l.scope.items ≡ s.known ∷ [] → s.known.offset + length s.known.table.now.columns ≡ 0 + s.reference.width
+pub begun_placed : (l : Linked) (s : code.Source) → l.scope.items ≡ s.known ∷ []
+    → s.known.offset + length s.known.table.now.columns ≡ 0 + s.reference.width
     → l.width ≡ s.reference.width → s.reference.width ≤ 64 → IsPlaced l
 begun_placed l s scope stands width narrow =
     let count : length l.scope.items ≡ 1 = ap length scope in
     let here : Within l.width s.known = omega (arith, width, stands) in
     record {
-      within = subst (All (Within l.width)) (sym scope) (All-cons (Within l.width) s.known [] here (All-nil (Within l.width)));
+      within = subst (All (Within l.width)) (sym scope)
+          (All-cons (Within l.width) s.known [] here (All-nil (Within l.width)));
       narrow = omega (arith, width, narrow, count);
     }

@@ -17,7 +17,8 @@ missing (Some x) b e = sym (ap not e)
 
 -- AS OF
 pub as_of_bound : (d : TableDef) (t : MomentTree) (old mid new : Option Refusal) (m : ℤ)
-    → Gathers (refuse_if (is_none d.system) FormNotAllowedHere) old mid tt → Gathers (moment t) mid new m → Gathers (when d (AsOfTree t)) old new (AsOf m)
+    → Gathers (refuse_if (is_none d.system) FormNotAllowedHere) old mid tt → Gathers (moment t) mid new m
+    → Gathers (when d (AsOfTree t)) old new (AsOf m)
 as_of_bound d t old mid new m refused point =
     let last : ℤ → Checked When = λ m. sound (AsOf m) in
     bound (refuse_if (is_none d.system) FormNotAllowedHere) (λ u. moment t >>= last) old mid new tt (AsOf m) refused
@@ -32,9 +33,11 @@ ranged d which a b = do
   sound (which f g)
 
 pub range_bound : (d : TableDef) (which : ℤ → ℤ → When) (a b : MomentTree) (old mid m new : Option Refusal) (f g : ℤ)
-    → Gathers (refuse_if (is_none d.system) FormNotAllowedHere) old mid tt → Gathers (moment a) mid m f → Gathers (moment b) m new g → Gathers (ranged d which a b) old new (which f g)
+    → Gathers (refuse_if (is_none d.system) FormNotAllowedHere) old mid tt → Gathers (moment a) mid m f
+    → Gathers (moment b) m new g → Gathers (ranged d which a b) old new (which f g)
 range_bound d which a b old mid m new f g refused from to =
     let last : ℤ → ℤ → Checked When = λ f g. sound (which f g) in
     let rest : ℤ → Checked When = λ f. moment b >>= last f in
     bound (refuse_if (is_none d.system) FormNotAllowedHere) (λ u. moment a >>= rest) old mid new tt (which f g) refused
-    (bound (moment a) rest mid m new f (which f g) from (bound (moment b) (last f) m new new g (which f g) to (sound_here (which f g) new)))
+    (bound (moment a) rest mid m new f (which f g) from
+    (bound (moment b) (last f) m new new g (which f g) to (sound_here (which f g) new)))

@@ -31,11 +31,17 @@ pub record WholeLeads (ls : List Linked) (ks : List Known) (n : ℕ) (left : Lis
   pub leads : (t : Terms) → scope_of ks ++ whole_scope n (map (linked_of t) left) ≡ whole_scope 0 (map (linked_of t) ls)
 
 -- no chain so far
-pub whole_begun : (ls : List Linked) (ks : List Known) → ks ≡ [] → All IsPlaced ls → widths ls ≤ 512 → WholeLeads ls ks 0 ls
-whole_begun ls ks empty placed fits = record { placed = placed; fits = omega (arith, fits); leads = λ t. ap (λ l. scope_of l ++ whole_scope 0 (map (linked_of t) ls)) empty }
+pub whole_begun : (ls : List Linked) (ks : List Known) → ks ≡ [] → All IsPlaced ls → widths ls ≤ 512
+    → WholeLeads ls ks 0 ls
+whole_begun ls ks empty placed fits = record {
+  placed = placed;
+  fits = omega (arith, fits);
+  leads = λ t. ap (λ l. scope_of l ++ whole_scope 0 (map (linked_of t) ls)) empty;
+}
 
 -- the references of the next chain have numbers
-pub next_fits : (ls : List Linked) (ks : List Known) (n : ℕ) (xs : List Linked) (i : ℕ) (l : Linked) → i < length xs → l ≡ get_or xs i l → WholeLeads ls ks n (drop i xs) → All (Fits n) l.scope.items
+pub next_fits : (ls : List Linked) (ks : List Known) (n : ℕ) (xs : List Linked) (i : ℕ) (l : Linked) → i < length xs
+    → l ≡ get_or xs i l → WholeLeads ls ks n (drop i xs) → All (Fits n) l.scope.items
 next_fits ls ks n xs i l within is so =
     let left = drop (i + 1) xs in
     let here = subst (WholeLeads ls ks n) (at_index xs i l within is) so in
@@ -43,8 +49,10 @@ next_fits ls ks n xs i l within is so =
     fits_all n l.width few l.scope.items (All-head IsPlaced l left here.placed).within
 
 -- one more chain
-pub whole_next : (ls : List Linked) (ks ms : List Known) (n : ℕ) (xs : List Linked) (i : ℕ) (l : Linked) → i < length xs → l ≡ get_or xs i l → WholeLeads ls ks n (drop i xs)
-    → scope_of ms ≡ scope_of ks ++ map (moved n) (scope_of l.scope.items) → WholeLeads ls ms (n + l.width) (drop (i + 1) xs)
+pub whole_next : (ls : List Linked) (ks ms : List Known) (n : ℕ) (xs : List Linked) (i : ℕ) (l : Linked)
+    → i < length xs → l ≡ get_or xs i l → WholeLeads ls ks n (drop i xs)
+    → scope_of ms ≡ scope_of ks ++ map (moved n) (scope_of l.scope.items)
+    → WholeLeads ls ms (n + l.width) (drop (i + 1) xs)
 whole_next ls ks ms n xs i l within is so added =
     let left = drop (i + 1) xs in
     let here = subst (WholeLeads ls ks n) (at_index xs i l within is) so in
@@ -53,11 +61,13 @@ whole_next ls ks ms n xs i l within is so added =
       fits = omega (arith, here.fits, sum_by-cons (λ (l : Linked). l.width) l left);
       leads = λ t.
           let rest = whole_scope (n + l.width) (map (linked_of t) left) in
-          ap (λ (s : List names.Known). s ++ rest) added ∙ append_assoc (scope_of ks) (map (moved n) (scope_of l.scope.items)) rest ∙ here.leads t;
+          ap (λ (s : List names.Known). s ++ rest) added
+          ∙ append_assoc (scope_of ks) (map (moved n) (scope_of l.scope.items)) rest ∙ here.leads t;
     }
 
 -- no chain is left
-pub whole_done : (ls : List Linked) (ks : List Known) (n : ℕ) (xs : List Linked) (i : ℕ) → length xs ≤ i → WholeLeads ls ks n (drop i xs) → IsWhole ls ks
+pub whole_done : (ls : List Linked) (ks : List Known) (n : ℕ) (xs : List Linked) (i : ℕ) → length xs ≤ i
+    → WholeLeads ls ks n (drop i xs) → IsWhole ls ks
 whole_done ls ks n xs i past so =
     let none = subst (WholeLeads ls ks n) (drop_all i xs past) so in
     λ t. sym (append-nil (scope_of ks)) ∙ none.leads t

@@ -1,5 +1,6 @@
 -- What the chains of FROM give, and the parts of a join.
-use Rattle.std.specs.Prelude.{◌≡◌, suc, ◌+◌, ◌*◌, ◌≤◌, List, ◌∷◌, [], ◌++◌, map, length, All, Option, String, Vec, string_bytes}
+use Rattle.std.specs.Prelude.{◌≡◌, suc, ◌+◌, ◌*◌, ◌≤◌, List, ◌∷◌, [], ◌++◌, map, length, All, Option, String, Vec}
+use Rattle.std.specs.Prelude.{string_bytes}
 use Rattle.tql_spec.specs.Binding as binding
 use Rattle.tql_spec.specs.Binding.{Joined, known_as, plain_conjuncts}
 use Rattle.tql_spec.specs.Definition.{Name, TableDef}
@@ -78,7 +79,8 @@ pub record IsPlaced (l : Linked) : Type 0 where
   pub narrow : l.width ≤ 64 * length l.scope.items
 
 -- a join is bound, and stands behind those that were there
-pub record AddsJoin (defs : List TableDef) (j : JoinTree) (old new : Option Refusal) (t u : Terms) (l m : Linked) : Type 0 where
+pub record AddsJoin (defs : List TableDef) (j : JoinTree) (old new : Option Refusal) (t u : Terms) (l m : Linked) :
+    Type 0 where
   pub bound : Gathers (binding.join defs (joined_of t l) j) old new (joined_of u m)
   pub first : m.chain.first ≡ l.chain.first
   pub held : HasJoins u m
@@ -96,14 +98,16 @@ pub record BeginsChain (defs : List TableDef) (r : RefTree) (old new : Option Re
   pub placed : IsPlaced l
 
 -- a chain is bound: the conjuncts of its ONs are there, and it is no wider than 64 columns for each reference
-pub record BindsChain (defs : List TableDef) (c : ChainTree) (old new : Option Refusal) (t : Terms) (l : Linked) : Type 0 where
+pub record BindsChain (defs : List TableDef) (c : ChainTree) (old new : Option Refusal) (t : Terms) (l : Linked) :
+    Type 0 where
   pub bound : Gathers (binding.chain defs c) old new (linked_of t l)
   pub held : HasJoins t l
   pub placed : IsPlaced l
   pub narrow : l.width ≤ 64 * chain_length c
 
 -- a chain is bound, and stands behind those that were there
-pub record PushesChain (defs : List TableDef) (c : ChainTree) (old new : Option Refusal) (t : Terms) (xs ys : List Linked) : Type 0 where
+pub record PushesChain (defs : List TableDef) (c : ChainTree) (old new : Option Refusal) (t : Terms)
+    (xs ys : List Linked) : Type 0 where
   pub linked : Linked
   pub binds : BindsChain defs c old new t linked
   pub items : ys ≡ xs ++ linked ∷ []

@@ -1,6 +1,7 @@
 -- A query in parts: its clauses over the references in scope, and its order.
 use Rattle.std.specs.Prelude.{ℕ, Bool, List, ◌∷◌, map, All, Option, option_map}
-use Rattle.tql_spec.specs.Binding.{Linked, Selected, chain, group_column, grouping_faults, grouping_of, is_grouped, order_key, plain_filter, whole_scope}
+use Rattle.tql_spec.specs.Binding.{Linked, Selected, chain, group_column, grouping_faults, grouping_of, is_grouped}
+use Rattle.tql_spec.specs.Binding.{order_key, plain_filter, whole_scope}
 use Rattle.tql_spec.specs.Creation.{repeats}
 use Rattle.tql_spec.specs.Definition.{TableDef}
 use Rattle.tql_spec.specs.Expression.{Cond}

@@ -25,7 +25,11 @@ pub record Shown : Type 0 where
 
 -- those of output columns
 abbrev pub shown_by : List Output → Shown
-shown_by os = record { items = map (λ (o : Output). o.typed.expr) os; headings = map (λ (o : Output). o.heading) os; kinds = map (λ (o : Output). o.typed.kind) os }
+shown_by os = record {
+  items = map (λ (o : Output). o.typed.expr) os;
+  headings = map (λ (o : Output). o.heading) os;
+  kinds = map (λ (o : Output). o.typed.kind) os;
+}
 
 -- what is shown so far, and more output columns
 abbrev pub behind : Shown → List Output → Shown
@@ -46,15 +50,21 @@ column_output i c = record { typed = names.typed (Column i) c.kind; heading = c.
 
 -- what the code's output columns stand for, among these terms
 abbrev pub outputs_of : Terms → SelectList → Shown
-outputs_of t x = record { items = map (expr t) x.items.items; headings = map string_bytes x.headings.items; kinds = map (option_map plain_kind) x.kinds.items }
+outputs_of t x = record {
+  items = map (expr t) x.items.items;
+  headings = map string_bytes x.headings.items;
+  kinds = map (option_map plain_kind) x.kinds.items;
+}
 
 -- an item is bound, and stands behind the output columns that were there, with the heading of that position
-pub record PushesItem (scope : List Known) (it : Item) (old new : Option Refusal) (t : Terms) (x y : SelectList) : Type 0 where
+pub record PushesItem (scope : List Known) (it : Item) (old new : Option Refusal) (t : Terms) (x y : SelectList) :
+    Type 0 where
   pub value : Typed
   pub bound : Gathers (names.expr scope it.value) old new (typed_of t value)
   pub held : HasExpr t value.expr
   pub items : y.items.items ≡ x.items.items ++ value.expr ∷ []
-  pub headings : map string_bytes y.headings.items ≡ map string_bytes x.headings.items ++ heading_by it.alias (sole_name it.value) (suc (length x.headings.items)) ∷ []
+  pub headings : map string_bytes y.headings.items ≡ map string_bytes x.headings.items ++ heading_by it.alias
+      (sole_name it.value) (suc (length x.headings.items)) ∷ []
   pub kinds : y.kinds.items ≡ x.kinds.items ++ value.kind ∷ []
 
 -- these output columns stand behind those that were there

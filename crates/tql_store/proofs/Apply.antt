@@ -1,5 +1,6 @@
 -- A change in a transaction, and its undoing.
-use Rattle.std.proofs.Common.{◌≡◌, ℕ, ◌+◌, Bool, true, false, cond, List, [], ◌∷◌, ◌++◌, map, filter, refl, sym, ap, subst, ◌∙◌, arith, inl, inr}
+use Rattle.std.proofs.Common.{◌≡◌, ℕ, ◌+◌, Bool, true, false, cond, List, [], ◌∷◌, ◌++◌, map, filter, refl, sym, ap}
+use Rattle.std.proofs.Common.{subst, ◌∙◌, arith, inl, inr}
 use Rattle.std.specs.Prelude.{◌⊎◌, not, ◌&&◌, ℤ, ◌≤ℤ◌, ◌<ℤ◌, int_le, int_lt, if◌then◌else◌, Option}
 use Rattle.std.specs.Ordering.{int_eq}
 use Rattle.std.specs.List.{sum_by}
@@ -33,13 +34,14 @@ in-map f y (x ∷ xs) (inr h) = let k = in-map f y xs h in (k.0, inr (k.1), k.2)
 
 pub in-filter : {X : Type 0} (p : X → Bool) (x : X) (xs : List X) → In x (filter p xs) → In x xs × (p x ≡ true)
 in-filter p x [] h = absurd h
-in-filter {X} p x (y ∷ ys) h = elim (p y) as (λ b. p y ≡ b → In x (cond b (y ∷ filter p ys) (filter p ys)) → In x (y ∷ ys) × (p x ≡ true)) [
-  | true ↦ λ e k. elim k as (λ x'. In x (y ∷ ys) × (p x ≡ true)) [
-    | inl a ↦ (inl a, ap p a ∙ e)
-    | inr a ↦ let l = in-filter p x ys a in (inr (l.0), l.1)
-  ]
-  | false ↦ λ e k. let l = in-filter p x ys k in (inr (l.0), l.1)
-] refl h
+in-filter {X} p x (y ∷ ys) h = elim (p y) as (λ b. p y ≡ b → In x (cond b (y ∷ filter p ys) (filter p ys))
+    → In x (y ∷ ys) × (p x ≡ true)) [
+      | true ↦ λ e k. elim k as (λ x'. In x (y ∷ ys) × (p x ≡ true)) [
+        | inl a ↦ (inl a, ap p a ∙ e)
+        | inr a ↦ let l = in-filter p x ys a in (inr (l.0), l.1)
+      ]
+      | false ↦ λ e k. let l = in-filter p x ys k in (inr (l.0), l.1)
+    ] refl h
 
 -- ---- what becomes of a row
 
@@ -103,7 +105,8 @@ fate x r within = by_bool (goes x r) leaves stays
             end = e;
             gone = h.1;
             start = let t = x.starts r within in elim (s.1) [ inl a ↦ a | inr a ↦ absurd (omega (arith, ints)) ];
-            after = ap (λ (b : Bool). if b then high else (if goes x r then x.m else x.ends r)) s.0 ∙ ap (λ (b : Bool). if b then x.m else x.ends r) g;
+            after = ap (λ (b : Bool). if b then high else (if goes x r then x.m else x.ends r)) s.0
+                ∙ ap (λ (b : Bool). if b then x.m else x.ends r) g;
           }))
         ]
 
@@ -117,13 +120,16 @@ fate x r within = by_bool (goes x r) leaves stays
       dead = elim (no_more (int_eq r.start x.m)) [ inl a ↦ a ∙ g | inr a ↦ a ];
       after = elim (eq_tells r.start x.m) as (λ y. ends_after x r ≡ x.ends r) [
         | inl s ↦ ap (λ (b : Bool). if b then high else (if goes x r then x.m else x.ends r)) s.0
-            ∙ elim (x.stops r within) [ inl a ↦ absurd (let p = (x.proper r within).0 in let q = s.1 in omega (arith, ints)) | inr a ↦ sym a ]
-        | inr s ↦ ap (λ (b : Bool). if b then high else (if goes x r then x.m else x.ends r)) s.0 ∙ ap (λ (b : Bool). if b then x.m else x.ends r) g
+            ∙ elim (x.stops r within)
+            [ inl a ↦ absurd (let p = (x.proper r within).0 in let q = s.1 in omega (arith, ints)) | inr a ↦ sym a ]
+        | inr s ↦ ap (λ (b : Bool). if b then high else (if goes x r then x.m else x.ends r)) s.0
+            ∙ ap (λ (b : Bool). if b then x.m else x.ends r) g
       ];
     }))
 
 -- a member of the rows after
-pub member : (x : Turn) (added : List (List Datum)) (r : Stamped) → In r (rows_told x added) → (In r x.rows × Closes x r) ⊎ ((In r x.rows × Stays x r) ⊎ ((r.start ≡ x.m) × (ends_after x r ≡ high)))
+pub member : (x : Turn) (added : List (List Datum)) (r : Stamped) → In r (rows_told x added)
+    → (In r x.rows × Closes x r) ⊎ ((In r x.rows × Stays x r) ⊎ ((r.start ≡ x.m) × (ends_after x r ≡ high)))
 member x added r h = elim (in-append r (filter (λ r. not (dead x r)) x.rows) (map (starting x.m) added) h) [
   | inl a ↦
       let k = in-filter (λ r. not (dead x r)) r x.rows a in
@@ -132,11 +138,13 @@ member x added r h = elim (in-append r (filter (λ r. not (dead x r)) x.rows) (m
         | inl f ↦ absurd (let d = f.dead in cc (ap not d))
         | inr f ↦ elim f [ inl g ↦ inl (k.0, g) | inr g ↦ inr (inl (k.0, g)) ]
       ]
-  | inr a ↦ let k = in-map (starting x.m) r added a in inr (inr (ap (λ (s : Stamped). s.start) k.2, new r (ap (λ (s : Stamped). s.start) k.2)))
+  | inr a ↦ let k = in-map (starting x.m) r added a in inr
+      (inr (ap (λ (s : Stamped). s.start) k.2, new r (ap (λ (s : Stamped). s.start) k.2)))
 ]
   where
     new : (r : Stamped) → r.start ≡ x.m → ends_after x r ≡ high
-    new r e = ap (λ (b : Bool). if b then high else (if goes x r then x.m else x.ends r)) ((Decides-int_eq r.start x.m).1 e)
+    new r e = ap (λ (b : Bool). if b then high else (if goes x r then x.m else x.ends r))
+        ((Decides-int_eq r.start x.m).1 e)
 
 -- ---- sums over the rows after
 
@@ -152,11 +160,15 @@ le_true {a} {b} h = elim (le_tells a b) [ inl s ↦ s.0 | inr s ↦ absurd (let 
 pub le_false : {a b : ℤ} → b <ℤ a → int_le a b ≡ false
 le_false {a} {b} h = elim (le_tells a b) [ inl s ↦ absurd (let t = s.1 in omega (arith, ints)) | inr s ↦ s.0 ]
 
-pub sum-told : (x : Turn) (added : List (List Datum)) (w : Stamped → ℕ) → sum_by w (rows_told x added) ≡ sum_by (λ r. cond (not (dead x r)) (w r) 0) x.rows + sum_by (λ c. w (starting x.m c)) added
-sum-told x added w = sum_by-append w (filter (λ r. not (dead x r)) x.rows) (map (starting x.m) added) ∙ plus (sum-filter (λ r. not (dead x r)) w x.rows) (sum-map (starting x.m) w added)
+pub sum-told : (x : Turn) (added : List (List Datum)) (w : Stamped → ℕ)
+    → sum_by w (rows_told x added) ≡ sum_by (λ r. cond (not (dead x r)) (w r) 0) x.rows + sum_by
+    (λ c. w (starting x.m c)) added
+sum-told x added w = sum_by-append w (filter (λ r. not (dead x r)) x.rows) (map (starting x.m) added)
+    ∙ plus (sum-filter (λ r. not (dead x r)) w x.rows) (sum-map (starting x.m) w added)
 
 -- the versions after are the rows after with their ends
-pub replaced-is : (x : Turn) (added : List (List Datum)) → SameBag (replaced x.m x.gone added (completed x.ends x.rows)) (completed (ends_after x) (rows_told x added))
+pub replaced-is : (x : Turn) (added : List (List Datum))
+    → SameBag (replaced x.m x.gone added (completed x.ends x.rows)) (completed (ends_after x) (rows_told x added))
 replaced-is x added = record {
   totals = λ w.
       sum_by-append w (filter alive (map (closed_if x.m x.gone) (completed x.ends x.rows))) (map (fresh x.m) added)
@@ -165,59 +177,91 @@ replaced-is x added = record {
       ∙ sum-map (closed_if x.m x.gone) (λ v. cond (alive v) (w v) 0) (completed x.ends x.rows)
       ∙ sum-map (with_end x.ends) (λ v. cond (alive (closed_if x.m x.gone v)) (w (closed_if x.m x.gone v)) 0) x.rows
       ∙ sum-in _ (λ r. cond (not (dead x r)) (w (with_end (ends_after x) r)) 0) x.rows (one w))
-      (sum-map (fresh x.m) w added ∙ sum-in _ (λ c. w (with_end (ends_after x) (starting x.m c))) added (λ c within. ap (λ (n : ℤ). w (record { row = starting x.m c; end = n }))
-      (sym (ap (λ (b : Bool). if b then high else (if goes x (starting x.m c) then x.m else x.ends (starting x.m c))) ((Decides-int_eq x.m x.m).1 refl)))))
-      ∙ sym (sum-map (with_end (ends_after x)) w (rows_told x added) ∙ sum-told x added (λ r. w (with_end (ends_after x) r)));
+      (sum-map (fresh x.m) w added
+      ∙ sum-in _ (λ c. w (with_end (ends_after x) (starting x.m c))) added
+      (λ c within. ap (λ (n : ℤ). w (record { row = starting x.m c; end = n }))
+      (sym (ap (λ (b : Bool). if b then high else (if goes x (starting x.m c) then x.m else x.ends (starting x.m c)))
+      ((Decides-int_eq x.m x.m).1 refl)))))
+      ∙ sym (sum-map (with_end (ends_after x)) w (rows_told x added)
+      ∙ sum-told x added (λ r. w (with_end (ends_after x) r)));
 }
   where
-    left : (w : Version → ℕ) (r : Stamped) (b c : Bool) → goes x r ≡ b → alive (if b then record { row = r; end = x.m } else with_end x.ends r) ≡ c → cond (alive (closed_if x.m x.gone (with_end x.ends r))) (w (closed_if x.m x.gone (with_end x.ends r))) 0 ≡ cond c (w (if b then record { row = r; end = x.m } else with_end x.ends r)) 0
-    left w r b c p q = ap (λ (g : Bool). cond (alive (if g then record { row = r; end = x.m } else with_end x.ends r)) (w (if g then record { row = r; end = x.m } else with_end x.ends r)) 0) p
+    left : (w : Version → ℕ) (r : Stamped) (b c : Bool) → goes x r ≡ b
+        → alive (if b then record { row = r; end = x.m } else with_end x.ends r) ≡ c
+        → cond (alive (closed_if x.m x.gone (with_end x.ends r))) (w (closed_if x.m x.gone (with_end x.ends r))) 0 ≡
+        cond c (w (if b then record { row = r; end = x.m } else with_end x.ends r)) 0
+    left w r b c p q = ap
+        (λ (g : Bool). cond (alive (if g then record { row = r; end = x.m } else with_end x.ends r))
+        (w (if g then record { row = r; end = x.m } else with_end x.ends r)) 0) p
         ∙ ap (λ (a : Bool). cond a (w (if b then record { row = r; end = x.m } else with_end x.ends r)) 0) q
 
-    right : (w : Version → ℕ) (r : Stamped) (d : Bool) (n : ℤ) → dead x r ≡ d → ends_after x r ≡ n → cond (not (dead x r)) (w (with_end (ends_after x) r)) 0 ≡ cond (not d) (w (record { row = r; end = n })) 0
-    right w r d n p q = ap (λ (b : Bool). cond (not b) (w (with_end (ends_after x) r)) 0) p ∙ ap (λ (k : ℤ). cond (not d) (w (record { row = r; end = k })) 0) q
+    right : (w : Version → ℕ) (r : Stamped) (d : Bool) (n : ℤ) → dead x r ≡ d → ends_after x r ≡ n
+        → cond (not (dead x r)) (w (with_end (ends_after x) r)) 0 ≡ cond (not d) (w (record { row = r; end = n })) 0
+    right w r d n p q = ap (λ (b : Bool). cond (not b) (w (with_end (ends_after x) r)) 0) p
+        ∙ ap (λ (k : ℤ). cond (not d) (w (record { row = r; end = k })) 0) q
 
-    one : (w : Version → ℕ) (r : Stamped) → In r x.rows → cond (alive (closed_if x.m x.gone (with_end x.ends r))) (w (closed_if x.m x.gone (with_end x.ends r))) 0 ≡ cond (not (dead x r)) (w (with_end (ends_after x) r)) 0
+    one : (w : Version → ℕ) (r : Stamped) → In r x.rows
+        → cond (alive (closed_if x.m x.gone (with_end x.ends r))) (w (closed_if x.m x.gone (with_end x.ends r))) 0 ≡
+        cond (not (dead x r)) (w (with_end (ends_after x) r)) 0
     one w r within = elim (fate x r within) [
-      | inl f ↦ left w r true false f.goes (lt_false {a = r.start} {b = x.m} (let s = f.start in omega (arith, ints))) ∙ sym (right w r true (ends_after x r) f.dead refl)
+      | inl f ↦ left w r true false f.goes
+          (lt_false {a = r.start} {b = x.m} (let s = f.start in omega (arith, ints)))
+          ∙ sym (right w r true (ends_after x r) f.dead refl)
       | inr h ↦ elim h [
         | inl f ↦ left w r true true f.goes (lt_true f.start) ∙ sym (right w r false x.m f.dead f.after)
-        | inr f ↦ left w r false true f.goes (lt_true (x.proper r within).0) ∙ sym (right w r false (x.ends r) f.dead f.after)
+        | inr f ↦ left w r false true f.goes (lt_true (x.proper r within).0)
+            ∙ sym (right w r false (x.ends r) f.dead f.after)
       ]
     ]
 
 -- ---- the copies before
 
-pub stand_bits : (ends : Stamped → ℤ) (p : ℤ) (r : Stamped) (n : ℤ) → ends r ≡ n → stands_at ends p r ≡ (int_le r.start p && int_lt p n)
+pub stand_bits : (ends : Stamped → ℤ) (p : ℤ) (r : Stamped) (n : ℤ) → ends r ≡ n
+    → stands_at ends p r ≡ (int_le r.start p && int_lt p n)
 stand_bits ends p r n e = ap (λ (k : ℤ). int_le r.start p && int_lt p k) e
 
 -- before the moment of the change the same rows stand
-pub stand_before : (x : Turn) (added : List (List Datum)) (p : ℤ) → p <ℤ x.m → SameBag (filter (stands_at x.ends p) x.rows) (filter (stands_at (ends_after x) p) (rows_told x added))
+pub stand_before : (x : Turn) (added : List (List Datum)) (p : ℤ) → p <ℤ x.m
+    → SameBag (filter (stands_at x.ends p) x.rows) (filter (stands_at (ends_after x) p) (rows_told x added))
 stand_before x added p before = record {
   totals = λ w.
       sum-filter (stands_at x.ends p) w x.rows
       ∙ sum-in _ (λ r. cond (not (dead x r)) (cond (stands_at (ends_after x) p r) (w r) 0) 0) x.rows (one w)
-      ∙ none (sum-zero (λ c. cond (stands_at (ends_after x) p (starting x.m c)) (w (starting x.m c)) 0) added (λ c within. late w c))
-      ∙ sym (sum-filter (stands_at (ends_after x) p) w (rows_told x added) ∙ sum-told x added (λ r. cond (stands_at (ends_after x) p r) (w r) 0));
+      ∙ none (sum-zero (λ c. cond (stands_at (ends_after x) p (starting x.m c)) (w (starting x.m c)) 0) added
+      (λ c within. late w c))
+      ∙ sym (sum-filter (stands_at (ends_after x) p) w (rows_told x added)
+      ∙ sum-told x added (λ r. cond (stands_at (ends_after x) p r) (w r) 0));
 }
   where
     none : {a b : ℕ} → b ≡ 0 → a ≡ a + b
     none h = omega arith
 
-    late : (w : Stamped → ℕ) (c : List Datum) → cond (stands_at (ends_after x) p (starting x.m c)) (w (starting x.m c)) 0 ≡ 0
-    late w c = ap (λ (b : Bool). cond (b && int_lt p (ends_after x (starting x.m c))) (w (starting x.m c)) 0) (le_false before)
+    late : (w : Stamped → ℕ) (c : List Datum)
+        → cond (stands_at (ends_after x) p (starting x.m c)) (w (starting x.m c)) 0 ≡ 0
+    late w c = ap (λ (b : Bool). cond (b && int_lt p (ends_after x (starting x.m c))) (w (starting x.m c)) 0)
+        (le_false before)
 
-    both_sides : (w : Stamped → ℕ) (r : Stamped) (d s t : Bool) → dead x r ≡ d → stands_at x.ends p r ≡ s → stands_at (ends_after x) p r ≡ t → cond s (w r) 0 ≡ cond (not d) (cond t (w r) 0) 0 → cond (stands_at x.ends p r) (w r) 0 ≡ cond (not (dead x r)) (cond (stands_at (ends_after x) p r) (w r) 0) 0
-    both_sides w r d s t e f g h = ap (λ (b : Bool). cond b (w r) 0) f ∙ h ∙ sym (ap (λ (b : Bool). cond (not b) (cond (stands_at (ends_after x) p r) (w r) 0) 0) e ∙ ap (λ (b : Bool). cond (not d) (cond b (w r) 0) 0) g)
+    both_sides : (w : Stamped → ℕ) (r : Stamped) (d s t : Bool) → dead x r ≡ d → stands_at x.ends p r ≡ s
+        → stands_at (ends_after x) p r ≡ t → cond s (w r) 0 ≡ cond (not d) (cond t (w r) 0) 0
+        → cond (stands_at x.ends p r) (w r) 0 ≡ cond (not (dead x r)) (cond (stands_at (ends_after x) p r) (w r) 0) 0
+    both_sides w r d s t e f g h = ap (λ (b : Bool). cond b (w r) 0) f ∙ h
+        ∙ sym (ap (λ (b : Bool). cond (not b) (cond (stands_at (ends_after x) p r) (w r) 0) 0) e
+        ∙ ap (λ (b : Bool). cond (not d) (cond b (w r) 0) 0) g)
 
-    one : (w : Stamped → ℕ) (r : Stamped) → In r x.rows → cond (stands_at x.ends p r) (w r) 0 ≡ cond (not (dead x r)) (cond (stands_at (ends_after x) p r) (w r) 0) 0
+    one : (w : Stamped → ℕ) (r : Stamped) → In r x.rows
+        → cond (stands_at x.ends p r) (w r) 0 ≡ cond (not (dead x r)) (cond (stands_at (ends_after x) p r) (w r) 0) 0
     one w r within = elim (fate x r within) [
-      | inl f ↦ both_sides w r true false _ f.dead (ap (λ (b : Bool). b && int_lt p (x.ends r)) (le_false {a = r.start} {b = p} (let s = f.start in omega (arith, ints)))) refl refl
+      | inl f ↦ both_sides w r true false _ f.dead
+          (ap (λ (b : Bool). b && int_lt p (x.ends r))
+          (le_false {a = r.start} {b = p} (let s = f.start in omega (arith, ints)))) refl refl
       | inr h ↦ elim h [
         | inl f ↦ both_sides w r false _ _ f.dead
-            (stand_bits x.ends p r high f.end ∙ ap (λ (b : Bool). int_le r.start p && b) (lt_true {a = p} {b = high} (let s = x.below in omega (arith, ints))))
+            (stand_bits x.ends p r high f.end
+            ∙ ap (λ (b : Bool). int_le r.start p && b)
+            (lt_true {a = p} {b = high} (let s = x.below in omega (arith, ints))))
             (stand_bits (ends_after x) p r x.m f.after ∙ ap (λ (b : Bool). int_le r.start p && b) (lt_true before)) refl
-        | inr f ↦ both_sides w r false _ _ f.dead (stand_bits x.ends p r _ refl) (stand_bits (ends_after x) p r (x.ends r) f.after) refl
+        | inr f ↦ both_sides w r false _ _ f.dead (stand_bits x.ends p r _ refl)
+            (stand_bits (ends_after x) p r (x.ends r) f.after) refl
       ]
     ]
 
@@ -226,7 +270,8 @@ pub record Quiet (rows : List Stamped) (ends : Stamped → ℤ) (from until : �
   pub starts : (r : Stamped) → In r rows → Outside from until r.start
   pub stops : (r : Stamped) → In r rows → Outside from until (ends r)
 
-pub quiet_after : (x : Turn) (added : List (List Datum)) (from until : ℤ) → until ≤ℤ x.m → Quiet x.rows x.ends from until → Quiet (rows_told x added) (ends_after x) from until
+pub quiet_after : (x : Turn) (added : List (List Datum)) (from until : ℤ) → until ≤ℤ x.m
+    → Quiet x.rows x.ends from until → Quiet (rows_told x added) (ends_after x) from until
 quiet_after x added from until le q = record { starts = starts; stops = stops }
   where
     starts : (r : Stamped) → In r (rows_told x added) → Outside from until r.start
@@ -244,7 +289,9 @@ quiet_after x added from until le q = record { starts = starts; stops = stops }
       ]
     ]
 
-pub told_before : (horizon : Option ℤ) (x : Turn) (added : List (List Datum)) (until : ℤ) (entries : List TableEntry) → until ≤ℤ x.m → Told horizon x.rows x.ends until entries → Told horizon (rows_told x added) (ends_after x) until entries
+pub told_before : (horizon : Option ℤ) (x : Turn) (added : List (List Datum)) (until : ℤ) (entries : List TableEntry)
+    → until ≤ℤ x.m → Told horizon x.rows x.ends until entries
+    → Told horizon (rows_told x added) (ends_after x) until entries
 told_before horizon x added until [] le (inl past) = inl past
 told_before horizon x added until [] le (inr told) = inr (λ r h. elim (member x added r h) [
   | inl a ↦ told r a.0
@@ -257,8 +304,13 @@ told_before horizon x added until (e ∷ older) le told =
         elim (told.1.0) [
           | inl past ↦ inl past
           | inr f ↦
-              let q : Quiet (rows_told x added) (ends_after x) e.moment until = quiet_after x added e.moment until le (record { starts = f.starts; stops = f.stops }) in
-              inr (record { copy = same-trans f.copy (stand_before x added e.moment (omega (arith, ints))); starts = q.starts; stops = q.stops })
+              let q : Quiet (rows_told x added) (ends_after x) e.moment until =
+              quiet_after x added e.moment until le (record { starts = f.starts; stops = f.stops }) in
+              inr (record {
+                copy = same-trans f.copy (stand_before x added e.moment (omega (arith, ints)));
+                starts = q.starts;
+                stops = q.stops;
+              })
         ],
         told_before horizon x added e.moment older (omega (arith, ints)) told.1.1,
       ),

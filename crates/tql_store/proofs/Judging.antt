@@ -1,6 +1,8 @@
 -- A change that takes away the current versions whose rows pass a test, named as a reading names them.
-use Rattle.std.proofs.Common.{◌≡◌, ◌≤◌, ℕ, zero, suc, ◌+◌, Bool, true, false, cond, List, [], ◌∷◌, map, filter, refl, sym, ap, subst, ◌∙◌, arith}
-use Rattle.std.specs.Prelude.{◌&&◌, ◌||◌, ltb, count_by, nat_eq, slice_index_or, All, IsTrue, Option, Some, None, if◌then◌else◌}
+use Rattle.std.proofs.Common.{◌≡◌, ◌≤◌, ℕ, zero, suc, ◌+◌, Bool, true, false, cond, List, [], ◌∷◌, map, filter, refl}
+use Rattle.std.proofs.Common.{sym, ap, subst, ◌∙◌, arith}
+use Rattle.std.specs.Prelude.{◌&&◌, ◌||◌, ltb, count_by, nat_eq, slice_index_or, All, IsTrue, Option, Some, None}
+use Rattle.std.specs.Prelude.{if◌then◌else◌}
 use Rattle.std.proofs.lemmas.Bool.Decides.{nat_tests}
 use Rattle.std.proofs.lemmas.List.Sums.{sum_by-cons}
 use Rattle.std.proofs.lemmas.List.Elements.{All-filter}
@@ -33,26 +35,41 @@ positive n = grind (arith, nat_tests)
 one_version : (a b : spec.Version) → Some a ≡ Some b → a ≡ b
 one_version a b e = cc
 
-counting : (i : ℕ) (v : Version) (vs : List Version) → count_by (λ (x : Version). nat_eq x.id i) (v ∷ vs) ≡ cond {A = ℕ} (nat_eq v.id i) 1 0 + count_by (λ (x : Version). nat_eq x.id i) vs
+counting : (i : ℕ) (v : Version) (vs : List Version)
+    → count_by (λ (x : Version). nat_eq x.id i) (v ∷ vs) ≡ cond {A = ℕ} (nat_eq v.id i) 1 0 + count_by
+    (λ (x : Version). nat_eq x.id i) vs
 counting i v vs = sum_by-cons (λ (x : Version). cond (nat_eq x.id i) 1 0) v vs
 
 -- a slot's place is listed if it is named at all and its row passes
-listed-ids : (t : ℕ) (gone : Stamped → Bool) (h : Held) (i : ℕ) (s : spec.Version) → named h t i ≡ Some s → (found : List Version) → All (Names h t) found → is_among i (ids_of gone found) ≡ (ltb 0 (count_by (λ (x : Version). nat_eq x.id i) found) && gone s.row)
+listed-ids : (t : ℕ) (gone : Stamped → Bool) (h : Held) (i : ℕ) (s : spec.Version) → named h t i ≡ Some s
+    → (found : List Version) → All (Names h t) found
+    → is_among i (ids_of gone found) ≡ (ltb 0 (count_by (λ (x : Version). nat_eq x.id i) found) && gone s.row)
 listed-ids t gone h i s at [] names = refl
 listed-ids t gone h i s at (v ∷ vs) names =
-    let later : is_among i (ids_of gone vs) ≡ (ltb 0 (count_by (λ (x : Version). nat_eq x.id i) vs) && gone s.row) = listed-ids t gone h i s at vs (λ k d h. names (suc k) d (omega arith)) in
+    let later : is_among i (ids_of gone vs) ≡ (ltb 0 (count_by (λ (x : Version). nat_eq x.id i) vs) && gone s.row) =
+    listed-ids t gone h i s at vs (λ k d h. names (suc k) d (omega arith)) in
     by_bool (nat_eq v.id i) (here later) (past later)
   where
     row_is : nat_eq v.id i ≡ true → gone (version_of v).row ≡ gone s.row
-    row_is e = ap (λ (x : spec.Version). gone x.row) (one_version (version_of v) s (sym (names 0 v (omega arith)) ∙ ap (named h t) (one_number v.id i e) ∙ at))
+    row_is e = ap (λ (x : spec.Version). gone x.row) (one_version (version_of v) s (sym (names 0 v (omega arith))
+        ∙ ap (named h t) (one_number v.id i e) ∙ at))
 
-    here : is_among i (ids_of gone vs) ≡ (ltb 0 (count_by (λ (x : Version). nat_eq x.id i) vs) && gone s.row) → nat_eq v.id i ≡ true → is_among i (ids_of gone (v ∷ vs)) ≡ (ltb 0 (count_by (λ (x : Version). nat_eq x.id i) (v ∷ vs)) && gone s.row)
+    here : is_among i (ids_of gone vs) ≡ (ltb 0 (count_by (λ (x : Version). nat_eq x.id i) vs) && gone s.row)
+        → nat_eq v.id i ≡ true
+        → is_among i (ids_of gone (v ∷ vs)) ≡ (ltb 0 (count_by (λ (x : Version). nat_eq x.id i) (v ∷ vs)) && gone s.row)
     here later e = by_bool (gone (version_of v).row)
-        (λ g. ap (λ (b : Bool). is_among i (map (λ (x : Version). x.id) (cond b (v ∷ filter (λ (x : Version). gone (version_of x).row) vs) (filter (λ (x : Version). gone (version_of x).row) vs)))) g
+        (λ g. ap (λ (b : Bool). is_among i
+        (map (λ (x : Version). x.id)
+        (cond b (v ∷ filter (λ (x : Version). gone (version_of x).row) vs)
+        (filter (λ (x : Version). gone (version_of x).row) vs)))) g
         ∙ ap (λ (b : Bool). b || is_among i (ids_of gone vs)) (turned v.id i true e)
         ∙ sym (named ∙ ap (λ (b : Bool). true && b) (sym (row_is e) ∙ g)))
-        (λ g. ap (λ (b : Bool). is_among i (map (λ (x : Version). x.id) (cond b (v ∷ filter (λ (x : Version). gone (version_of x).row) vs) (filter (λ (x : Version). gone (version_of x).row) vs)))) g
-        ∙ later ∙ ap (λ (b : Bool). ltb 0 (count_by (λ (x : Version). nat_eq x.id i) vs) && b) (sym (row_is e) ∙ g) ∙ never (ltb 0 (count_by (λ (x : Version). nat_eq x.id i) vs))
+        (λ g. ap (λ (b : Bool). is_among i
+        (map (λ (x : Version). x.id)
+        (cond b (v ∷ filter (λ (x : Version). gone (version_of x).row) vs)
+        (filter (λ (x : Version). gone (version_of x).row) vs)))) g
+        ∙ later ∙ ap (λ (b : Bool). ltb 0 (count_by (λ (x : Version). nat_eq x.id i) vs) && b) (sym (row_is e) ∙ g)
+        ∙ never (ltb 0 (count_by (λ (x : Version). nat_eq x.id i) vs))
         ∙ sym (named ∙ ap (λ (b : Bool). true && b) (sym (row_is e) ∙ g)))
       where
         never : (b : Bool) → (b && false) ≡ false
@@ -60,21 +77,31 @@ listed-ids t gone h i s at (v ∷ vs) names =
         never false = refl
 
         named : (ltb 0 (count_by (λ (x : Version). nat_eq x.id i) (v ∷ vs)) && gone s.row) ≡ (true && gone s.row)
-        named = ap (λ (n : ℕ). ltb 0 n && gone s.row) (counting i v vs ∙ ap (λ (b : Bool). cond {A = ℕ} b 1 0 + count_by (λ (x : Version). nat_eq x.id i) vs) e)
+        named = ap (λ (n : ℕ). ltb 0 n && gone s.row) (counting i v vs
+            ∙ ap (λ (b : Bool). cond {A = ℕ} b 1 0 + count_by (λ (x : Version). nat_eq x.id i) vs) e)
             ∙ ap (λ (b : Bool). b && gone s.row) (positive (count_by (λ (x : Version). nat_eq x.id i) vs))
 
-    past : is_among i (ids_of gone vs) ≡ (ltb 0 (count_by (λ (x : Version). nat_eq x.id i) vs) && gone s.row) → nat_eq v.id i ≡ false → is_among i (ids_of gone (v ∷ vs)) ≡ (ltb 0 (count_by (λ (x : Version). nat_eq x.id i) (v ∷ vs)) && gone s.row)
-    past later e = skip (gone (version_of v).row) ∙ later ∙ ap (λ (n : ℕ). ltb 0 n && gone s.row) (sym (counting i v vs ∙ none))
+    past : is_among i (ids_of gone vs) ≡ (ltb 0 (count_by (λ (x : Version). nat_eq x.id i) vs) && gone s.row)
+        → nat_eq v.id i ≡ false
+        → is_among i (ids_of gone (v ∷ vs)) ≡ (ltb 0 (count_by (λ (x : Version). nat_eq x.id i) (v ∷ vs)) && gone s.row)
+    past later e = skip (gone (version_of v).row) ∙ later
+        ∙ ap (λ (n : ℕ). ltb 0 n && gone s.row) (sym (counting i v vs ∙ none))
       where
-        skip : (b : Bool) → is_among i (map (λ (x : Version). x.id) (cond b (v ∷ filter (λ (x : Version). gone (version_of x).row) vs) (filter (λ (x : Version). gone (version_of x).row) vs))) ≡ is_among i (ids_of gone vs)
+        skip : (b : Bool) → is_among i
+            (map (λ (x : Version). x.id)
+            (cond b (v ∷ filter (λ (x : Version). gone (version_of x).row) vs)
+            (filter (λ (x : Version). gone (version_of x).row) vs))) ≡ is_among i (ids_of gone vs)
         skip true = ap (λ (b : Bool). b || is_among i (ids_of gone vs)) (turned v.id i false e)
         skip false = refl
 
-        none : cond {A = ℕ} (nat_eq v.id i) 1 0 + count_by (λ (x : Version). nat_eq x.id i) vs ≡ count_by (λ (x : Version). nat_eq x.id i) vs
-        none = let zero_of : cond {A = ℕ} (nat_eq v.id i) 1 0 ≡ 0 = ap (λ (b : Bool). cond {A = ℕ} b 1 0) e in omega arith
+        none : cond {A = ℕ} (nat_eq v.id i) 1 0 + count_by (λ (x : Version). nat_eq x.id i) vs ≡ count_by
+            (λ (x : Version). nat_eq x.id i) vs
+        none = let zero_of : cond {A = ℕ} (nat_eq v.id i) 1 0 ≡ 0 =
+            ap (λ (b : Bool). cond {A = ℕ} b 1 0) e in omega arith
 
 -- the ids of the current versions whose rows go are judged by these rows
-pub judged : (h : Held) (t : ℕ) (gone : Stamped → Bool) (found : List Version) → All (Names h t) found → NamesOnce h t is_current found → Judged h t gone (ids_of gone found)
+pub judged : (h : Held) (t : ℕ) (gone : Stamped → Bool) (found : List Version) → All (Names h t) found
+    → NamesOnce h t is_current found → Judged h t gone (ids_of gone found)
 judged h t gone found names once = λ i s at.
     listed-ids t gone h i s at found names ∙ ap (λ (n : ℕ). ltb 0 n && gone s.row) (once i s at)
     ∙ regroup (alive s) (is_current s) (gone s.row)
@@ -87,17 +114,20 @@ judged h t gone found names once = λ i s at.
 -- ---- they may be taken away
 
 -- a version that is named and counted is current
-current-found : (h : Held) (t : ℕ) (all found : List Version) → NamesOnce h t is_current all → All (Names h t) found → ((i : ℕ) → count_by (λ (v : Version). nat_eq v.id i) found ≤ count_by (λ (v : Version). nat_eq v.id i) all)
+current-found : (h : Held) (t : ℕ) (all found : List Version) → NamesOnce h t is_current all → All (Names h t) found
+    → ((i : ℕ) → count_by (λ (v : Version). nat_eq v.id i) found ≤ count_by (λ (v : Version). nat_eq v.id i) all)
     → All (λ id. IsTrue (is_removable h t id)) (map (λ (v : Version). v.id) found)
 current-found h t all [] once names fewer = λ k d l. absurd (omega arith)
 current-found h t all (v ∷ vs) once names fewer =
-    first (current-found h t all vs once (λ k d l. names (suc k) d (omega arith)) (λ i. let f = fewer i in omega (arith, counting i v vs)))
+    first (current-found h t all vs once (λ k d l. names (suc k) d (omega arith))
+    (λ i. let f = fewer i in omega (arith, counting i v vs)))
   where
     here : nat_eq v.id v.id ≡ true
     here = grind (arith, nat_tests)
 
     some : 1 ≤ count_by (λ (x : Version). nat_eq x.id v.id) all
-    some = let one : cond {A = ℕ} (nat_eq v.id v.id) 1 0 ≡ 1 = ap (λ (b : Bool). cond {A = ℕ} b 1 0) here in let f = fewer v.id in omega (arith, counting v.id v vs)
+    some = let one : cond {A = ℕ} (nat_eq v.id v.id) 1 0 ≡ 1 = ap (λ (b : Bool). cond {A = ℕ} b 1 0) here in let f =
+        fewer v.id in omega (arith, counting v.id v vs)
 
     told : (b : Bool) → 1 ≤ (if b then 1 else 0) → b ≡ true
     told true h = refl
@@ -105,66 +135,88 @@ current-found h t all (v ∷ vs) once names fewer =
 
     is_one : is_removable h t v.id ≡ true
     is_one = let e : named h t v.id ≡ Some (version_of v) = names 0 v (omega arith) in
-        ap is_open e ∙ told (alive (version_of v) && is_current (version_of v)) (subst (λ (n : ℕ). 1 ≤ n) (once v.id (version_of v) e) some)
+        ap is_open e ∙ told (alive (version_of v) && is_current (version_of v))
+        (subst (λ (n : ℕ). 1 ≤ n) (once v.id (version_of v) e) some)
 
-    first : All (λ id. IsTrue (is_removable h t id)) (map (λ (x : Version). x.id) vs) → All (λ id. IsTrue (is_removable h t id)) (map (λ (x : Version). x.id) (v ∷ vs))
+    first : All (λ id. IsTrue (is_removable h t id)) (map (λ (x : Version). x.id) vs)
+        → All (λ id. IsTrue (is_removable h t id)) (map (λ (x : Version). x.id) (v ∷ vs))
     first rest zero d l = is_one
     first rest (suc k) d l = rest k d (omega arith)
 
 -- an id is counted no more often than by the reading
-fewer-left : (p : Version → Bool) (i : ℕ) (vs : List Version) → count_by (λ (v : Version). nat_eq v.id i) (filter p vs) ≤ count_by (λ (v : Version). nat_eq v.id i) vs
+fewer-left : (p : Version → Bool) (i : ℕ) (vs : List Version)
+    → count_by (λ (v : Version). nat_eq v.id i) (filter p vs) ≤ count_by (λ (v : Version). nat_eq v.id i) vs
 fewer-left p i [] = omega arith
 fewer-left p i (v ∷ vs) = chosen (p v) (fewer-left p i vs)
   where
-    chosen : (b : Bool) → count_by (λ (x : Version). nat_eq x.id i) (filter p vs) ≤ count_by (λ (x : Version). nat_eq x.id i) vs
-        → count_by (λ (x : Version). nat_eq x.id i) (cond b (v ∷ filter p vs) (filter p vs)) ≤ count_by (λ (x : Version). nat_eq x.id i) (v ∷ vs)
+    chosen : (b : Bool) → count_by (λ (x : Version). nat_eq x.id i) (filter p vs) ≤ count_by
+        (λ (x : Version). nat_eq x.id i) vs
+        → count_by (λ (x : Version). nat_eq x.id i) (cond b (v ∷ filter p vs) (filter p vs)) ≤ count_by
+        (λ (x : Version). nat_eq x.id i) (v ∷ vs)
     chosen true h = omega (arith, counting i v vs, counting i v (filter p vs))
     chosen false h = omega (arith, counting i v vs)
 
-names-left : (h : Held) (t : ℕ) (p : Version → Bool) (found : List Version) → All (Names h t) found → All (Names h t) (filter p found)
+names-left : (h : Held) (t : ℕ) (p : Version → Bool) (found : List Version) → All (Names h t) found
+    → All (Names h t) (filter p found)
 names-left h t p found names = All-filter p (Names h t) found names
 
 -- an id that is named is the id of a version
-once-ids : (h : Held) (t : ℕ) (found : List Version) → All (Names h t) found → NamesOnce h t is_current found → (i : ℕ) → count_by (λ (v : Version). nat_eq v.id i) found ≤ 1
+once-ids : (h : Held) (t : ℕ) (found : List Version) → All (Names h t) found → NamesOnce h t is_current found
+    → (i : ℕ) → count_by (λ (v : Version). nat_eq v.id i) found ≤ 1
 once-ids h t found names once i = named_or (named h t i) refl
   where
     at_most : (b : Bool) → (if b then 1 else 0) ≤ 1
     at_most true = omega arith
     at_most false = omega arith
 
-    nobody : (vs : List Version) → All (Names h t) vs → named h t i ≡ None → count_by (λ (v : Version). nat_eq v.id i) vs ≡ 0
+    nobody : (vs : List Version) → All (Names h t) vs → named h t i ≡ None
+        → count_by (λ (v : Version). nat_eq v.id i) vs ≡ 0
     nobody [] names e = refl
     nobody (v ∷ vs) names e =
         let rest = nobody vs (λ k d l. names (suc k) d (omega arith)) e in
         by_bool (nat_eq v.id i)
         (λ same. absurd (let k = sym (names 0 v (omega arith)) ∙ ap (named h t) (one_number v.id i same) ∙ e in cc))
-        (λ other. let none : cond {A = ℕ} (nat_eq v.id i) 1 0 ≡ 0 = ap (λ (b : Bool). cond {A = ℕ} b 1 0) other in omega (arith, counting i v vs))
+        (λ other. let none : cond {A = ℕ} (nat_eq v.id i) 1 0 ≡ 0 = ap (λ (b : Bool). cond {A = ℕ} b 1 0) other in
+        omega (arith, counting i v vs))
 
     named_or : (o : Option spec.Version) → named h t i ≡ o → count_by (λ (v : Version). nat_eq v.id i) found ≤ 1
     named_or None e = let k = nobody found names e in omega arith
     named_or (Some v) e = subst (λ (n : ℕ). n ≤ 1) (sym (once i v e)) (at_most (alive v && is_current v))
 
 -- the ids of some of the current versions
-pub removable : (h : Held) (t : ℕ) (p : Version → Bool) (found : List Version) → All (Names h t) found → NamesOnce h t is_current found → AreRemovable h t (map (λ (v : Version). v.id) (filter p found))
+pub removable : (h : Held) (t : ℕ) (p : Version → Bool) (found : List Version) → All (Names h t) found
+    → NamesOnce h t is_current found → AreRemovable h t (map (λ (v : Version). v.id) (filter p found))
 removable h t p found names once = record {
   current = current-found h t found (filter p found) once (names-left h t p found names) (λ i. fewer-left p i found);
-  once = λ i. let a = fewer-left p i found in let b = once-ids h t found names once i in let e = sum-map (λ (v : Version). v.id) (λ j. cond {A = ℕ} (nat_eq j i) 1 0) (filter p found) in omega arith;
+  once = λ i. let a = fewer-left p i found in let b = once-ids h t found names once i in let e =
+      sum-map (λ (v : Version). v.id) (λ j. cond {A = ℕ} (nat_eq j i) 1 0) (filter p found) in omega arith;
 }
 
 -- the ids of all current versions
-pub all_removable : (h : Held) (t : ℕ) (found : List Version) → All (Names h t) found → NamesOnce h t is_current found → AreRemovable h t (map (λ (v : Version). v.id) found)
+pub all_removable : (h : Held) (t : ℕ) (found : List Version) → All (Names h t) found
+    → NamesOnce h t is_current found → AreRemovable h t (map (λ (v : Version). v.id) found)
 all_removable h t found names once = record {
   current = current-found h t found found once names (λ i. omega arith);
-  once = λ i. let b = once-ids h t found names once i in let e = sum-map (λ (v : Version). v.id) (λ j. cond {A = ℕ} (nat_eq j i) 1 0) found in omega arith;
+  once = λ i. let b = once-ids h t found names once i in let e =
+      sum-map (λ (v : Version). v.id) (λ j. cond {A = ℕ} (nat_eq j i) 1 0) found in omega arith;
 }
 
 -- no ids
 pub none-removable : (h : Held) (t : ℕ) (removed : List ℕ) → removed ≡ [] → AreRemovable h t removed
-none-removable h t removed e = subst (AreRemovable h t) (sym e) (record { current = λ k d l. absurd (omega arith); once = λ i. omega arith })
+none-removable h t removed e = subst (AreRemovable h t) (sym e) (record {
+  current = λ k d l. absurd (omega arith);
+  once = λ i. omega arith;
+})
 
 -- ids stay good where they name what they named
-pub still-removable : (old new : Held) (t : ℕ) (removed : List ℕ) → ((id : ℕ) → named new t id ≡ named old t id) → AreRemovable old t removed → AreRemovable new t removed
-still-removable old new t removed same r = record { current = λ k d l. ap is_open (same (slice_index_or removed k d)) ∙ r.current k d l; once = r.once }
+pub still-removable : (old new : Held) (t : ℕ) (removed : List ℕ) → ((id : ℕ) → named new t id ≡ named old t id)
+    → AreRemovable old t removed → AreRemovable new t removed
+still-removable old new t removed same r = record {
+  current = λ k d l. ap is_open (same (slice_index_or removed k d))
+      ∙ r.current k d l;
+  once = r.once;
+}
 
-pub still-judged : (old new : Held) (t : ℕ) (gone : Stamped → Bool) (removed : List ℕ) → ((id : ℕ) → named new t id ≡ named old t id) → Judged old t gone removed → Judged new t gone removed
+pub still-judged : (old new : Held) (t : ℕ) (gone : Stamped → Bool) (removed : List ℕ)
+    → ((id : ℕ) → named new t id ≡ named old t id) → Judged old t gone removed → Judged new t gone removed
 still-judged old new t gone removed same j = λ id v e. j id v (sym (same id) ∙ e)

@@ -1,5 +1,6 @@
 -- The tables of a store by their numbers: one is put or changed, and the others stay.
-use Rattle.std.proofs.Common.{◌≡◌, ◌≢◌, ℕ, zero, suc, ◌+◌, ◌<◌, ◌≤◌, Bool, true, false, List, [], ◌∷◌, ◌++◌, map, length, refl, sym, ap, subst, ◌∙◌, arith, inl, inr}
+use Rattle.std.proofs.Common.{◌≡◌, ◌≢◌, ℕ, zero, suc, ◌+◌, ◌<◌, ◌≤◌, Bool, true, false, List, [], ◌∷◌, ◌++◌, map}
+use Rattle.std.proofs.Common.{length, refl, sym, ap, subst, ◌∙◌, arith, inl, inr}
 use Rattle.std.specs.Prelude.{ℤ, nat_eq, slice_index_or, slice_set, Contains, Option, Some, None, if◌then◌else◌, ◌⊎◌}
 use Rattle.std.proofs.lemmas.Bool.Decides.{nat_tests}
 use Rattle.std.proofs.lemmas.List.{get_or_default}
@@ -27,7 +28,8 @@ put-here [] n x l = absurd (omega (arith, l))
 put-here (t ∷ ts) zero x l = refl
 put-here (t ∷ ts) (suc n) x l = put-here ts n x (omega (arith, l))
 
-pub put-other : (ts : List Held) (n t : ℕ) (x : Held) → nat_eq t n ≡ false → table_at (slice_set ts n x) t ≡ table_at ts t
+pub put-other : (ts : List Held) (n t : ℕ) (x : Held) → nat_eq t n ≡ false
+    → table_at (slice_set ts n x) t ≡ table_at ts t
 put-other [] n t x e = refl
 put-other (s ∷ ts) zero zero x e = absurd (grind (arith, nat_tests))
 put-other (s ∷ ts) zero (suc t) x e = refl
@@ -39,7 +41,8 @@ put-length [] n x = refl
 put-length (t ∷ ts) zero x = refl
 put-length (t ∷ ts) (suc n) x = ap suc (put-length ts n x)
 
-pub put-versions : (ts : List Held) (n : ℕ) (x : Held) → versions x ≡ versions (table_at ts n) → map versions (slice_set ts n x) ≡ map versions ts
+pub put-versions : (ts : List Held) (n : ℕ) (x : Held) → versions x ≡ versions (table_at ts n)
+    → map versions (slice_set ts n x) ≡ map versions ts
 put-versions [] n x e = refl
 put-versions (t ∷ ts) zero x e = ap (λ v. v ∷ map versions ts) e
 put-versions (t ∷ ts) (suc n) x e = ap (λ vs. versions t ∷ vs) (put-versions ts n x e)
@@ -57,7 +60,8 @@ within_places [] t e = absurd (let f : false ≡ true = e in cc)
 within_places (p ∷ ps) zero e = omega arith
 within_places (p ∷ ps) (suc t) e = let l = within_places ps t e in omega (arith, l)
 
-pub taken-within : (ps : List Place) (ts : List Held) (t : ℕ) → length ts ≡ length ps → is_taken (place_of ps t) ≡ true → t < length ts
+pub taken-within : (ps : List Place) (ts : List Held) (t : ℕ) → length ts ≡ length ps
+    → is_taken (place_of ps t) ≡ true → t < length ts
 taken-within ps ts t even e = let l = within_places ps t e in omega (arith, l, even)
 
 pub kept_taken : (p : Place) → is_kept p ≡ true → is_taken p ≡ true
@@ -96,7 +100,8 @@ AreApart touched = (j k : ℕ) → j < k → k < length touched → touch_at tou
 pub record Noted (n : ℕ) (old new : List ℕ) : Type 0 where
   pub has : IsTouched new n
   pub fewer : (t : ℕ) → IsUntouched new t → IsUntouched old t
-  pub within : (b : ℕ) → ((k : ℕ) → k < length old → touch_at old k < b) → n < b → (k : ℕ) → k < length new → touch_at new k < b
+  pub within : (b : ℕ) → ((k : ℕ) → k < length old → touch_at old k < b) → n < b → (k : ℕ) → k < length new
+      → touch_at new k < b
   pub apart : AreApart old → AreApart new
 
 length-more : (xs : List ℕ) (n : ℕ) → length (xs ++ n ∷ []) ≡ suc (length xs)
@@ -128,7 +133,11 @@ noted_same n xs (k, l, e) = record {
 
 noted_more : (n : ℕ) (xs : List ℕ) → (Contains xs n → ⊥) → Noted n xs (xs ++ n ∷ [])
 noted_more n xs none = record {
-  has = record { place = length xs; within = let e = length-more xs n in omega (arith, e); is = at-end xs n (length xs) refl };
+  has = record {
+    place = length xs;
+    within = let e = length-more xs n in omega (arith, e);
+    is = at-end xs n (length xs) refl;
+  };
   fewer = λ t u k l e. u k (let m = length-more xs n in omega (arith, m, l)) (at-front xs n k l ∙ e);
   within = λ b h less k l. elim (front_or k l) [
     | inl s ↦ subst (λ (i : ℕ). i < b) (sym (at-front xs n k s)) (h k s)
@@ -136,7 +145,12 @@ noted_more n xs none = record {
   ];
   apart = λ h j k o l. elim (front_or k l) [
     | inl s ↦ λ same. h j k o s (sym (at-front xs n j (omega (arith, o, s))) ∙ same ∙ at-front xs n k s)
-    | inr e ↦ λ same. none (j, omega (arith, o, e), at_default xs j n (omega (arith, o, e)) ∙ sym (at-front xs n j (omega (arith, o, e))) ∙ same ∙ at-end xs n k e)
+    | inr e ↦ λ same. none (
+      j,
+      omega (arith, o, e),
+      at_default xs j n (omega (arith, o, e))
+          ∙ sym (at-front xs n j (omega (arith, o, e))) ∙ same ∙ at-end xs n k e,
+    )
   ];
 }
   where
@@ -146,12 +160,14 @@ noted_more n xs none = record {
     front_or : (k : ℕ) → k < length (xs ++ n ∷ []) → (k < length xs) ⊎ (k ≡ length xs)
     front_or k l = let m = length-more xs n in by_bool (nat_eq k (length xs))
         (λ e. inr (one_number k (length xs) e))
-        (λ e. inl (let d = two_numbers k (length xs) e in let r : k ≤ length xs = omega (arith, m, l) in strict k (length xs) r d))
+        (λ e. inl (let d = two_numbers k (length xs) e in let r : k ≤ length xs = omega (arith, m, l) in strict k
+        (length xs) r d))
 
 pub noted : (n : ℕ) (old new : List ℕ) → IsNoted n old new → Noted n old new
 noted n old new (inl s) = subst (λ (xs : List ℕ). Noted n old xs) (sym s.0) (noted_same n old s.1)
 noted n old new (inr s) = subst (λ (xs : List ℕ). Noted n old xs) (sym s.0) (noted_more n old s.1)
 
 -- an element that was read is the table of its number
-pub element-at : (ts : List Held) (i n : ℕ) (x : Held) → x ≡ slice_index_or ts i x → i ≡ n → n < length ts → x ≡ table_at ts n
+pub element-at : (ts : List Held) (i n : ℕ) (x : Held) → x ≡ slice_index_or ts i x → i ≡ n → n < length ts
+    → x ≡ table_at ts n
 element-at ts i n x e q l = e ∙ ap (λ (j : ℕ). slice_index_or ts j x) q ∙ get_or_default ts n x (empty false) l

@@ -1,5 +1,6 @@
 -- How many tables there are, and where none is.
-use Rattle.std.proofs.Common.{◌≡◌, ◌<◌, ◌≤◌, ℕ, zero, suc, ◌+◌, Bool, true, false, cond, List, [], ◌∷◌, length, refl, sym, ap, ◌∙◌, arith}
+use Rattle.std.proofs.Common.{◌≡◌, ◌<◌, ◌≤◌, ℕ, zero, suc, ◌+◌, Bool, true, false, cond, List, [], ◌∷◌, length, refl}
+use Rattle.std.proofs.Common.{sym, ap, ◌∙◌, arith}
 use Rattle.std.specs.Prelude.{count_by, nat_eq, if◌then◌else◌}
 use Rattle.std.proofs.lemmas.Bool.Decides.{nat_tests}
 use Rattle.std.proofs.lemmas.List.Sums.{sum_by-cons}
@@ -29,7 +30,8 @@ rest-place (p ∷ ps) u = refl
 -- ---- numbers at which tables stand
 
 -- a number below which tables stand is no greater than their count
-pub stand-below : (ps : List Place) (i : ℕ) → ((k : ℕ) → k < i → is_taken (place_of ps k) ≡ true) → i ≤ length ps → i ≤ count_by is_taken ps
+pub stand-below : (ps : List Place) (i : ℕ) → ((k : ℕ) → k < i → is_taken (place_of ps k) ≡ true) → i ≤ length ps
+    → i ≤ count_by is_taken ps
 stand-below ps zero h within = omega arith
 stand-below [] (suc i) h within = absurd (omega arith)
 stand-below (p ∷ ps) (suc i) h within =
@@ -51,11 +53,13 @@ none-count (p ∷ ps) h =
     let later : count_by is_taken ps ≡ 0 = none-count ps (λ u. h (suc u)) in
     omega (arith, sum_by-cons (λ x. cond (is_taken x) 1 0) p ps)
 
-same-count : (ps qs : List Place) → ((u : ℕ) → place_of ps u ≡ place_of qs u) → count_by is_taken ps ≡ count_by is_taken qs
+same-count : (ps qs : List Place) → ((u : ℕ) → place_of ps u ≡ place_of qs u)
+    → count_by is_taken ps ≡ count_by is_taken qs
 same-count [] qs h = sym (none-count qs (λ u. sym (h u)))
 same-count (p ∷ ps) qs h =
     let first : one p ≡ one (place_of qs 0) = ap one (h 0) in
-    let later : count_by is_taken ps ≡ count_by is_taken (rest qs) = same-count ps (rest qs) (λ u. h (suc u) ∙ sym (rest-place qs u)) in
+    let later : count_by is_taken ps ≡ count_by is_taken (rest qs) = same-count ps (rest qs) (λ u. h (suc u)
+    ∙ sym (rest-place qs u)) in
     omega (arith, count-split (p ∷ ps), count-split qs)
 
 no_suc : (i : ℕ) → nat_eq 0 (suc i) ≡ false
@@ -67,17 +71,23 @@ no_zero i = grind (arith, nat_tests)
 both_suc : (i j : ℕ) → nat_eq (suc i) (suc j) ≡ nat_eq i j
 both_suc i j = grind (arith, nat_tests)
 
-takes-count : (t : ℕ) (p : Place) (old new : List Place) → ((u : ℕ) → place_of new u ≡ (if nat_eq u t then p else place_of old u)) → count_by is_taken new + one (place_of old t) ≡ count_by is_taken old + one p
+takes-count : (t : ℕ) (p : Place) (old new : List Place)
+    → ((u : ℕ) → place_of new u ≡ (if nat_eq u t then p else place_of old u))
+    → count_by is_taken new + one (place_of old t) ≡ count_by is_taken old + one p
 takes-count zero p old new h =
     let first : one (place_of new 0) ≡ one p = ap one (h 0) in
     let later : count_by is_taken (rest new) ≡ count_by is_taken (rest old) =
-    same-count (rest new) (rest old) (λ u. rest-place new u ∙ h (suc u) ∙ ap (λ (b : Bool). if b then p else place_of old (suc u)) (no_zero u) ∙ sym (rest-place old u)) in
+    same-count (rest new) (rest old) (λ u. rest-place new u ∙ h (suc u)
+    ∙ ap (λ (b : Bool). if b then p else place_of old (suc u)) (no_zero u) ∙ sym (rest-place old u)) in
     omega (arith, count-split new, count-split old)
 takes-count (suc t) p old new h =
-    let first : one (place_of new 0) ≡ one (place_of old 0) = ap one (h 0 ∙ ap (λ (b : Bool). if b then p else place_of old 0) (no_suc t)) in
+    let first : one (place_of new 0) ≡ one (place_of old 0) = ap one (h 0
+    ∙ ap (λ (b : Bool). if b then p else place_of old 0) (no_suc t)) in
     let at : one (place_of (rest old) t) ≡ one (place_of old (suc t)) = ap one (rest-place old t) in
     let later : count_by is_taken (rest new) + one (place_of (rest old) t) ≡ count_by is_taken (rest old) + one p =
-    takes-count t p (rest old) (rest new) (λ u. rest-place new u ∙ h (suc u) ∙ ap (λ (b : Bool). if b then p else place_of old (suc u)) (both_suc u t) ∙ ap (λ (q : Place). if nat_eq u t then p else q) (sym (rest-place old u))) in
+    takes-count t p (rest old) (rest new) (λ u. rest-place new u ∙ h (suc u)
+    ∙ ap (λ (b : Bool). if b then p else place_of old (suc u)) (both_suc u t)
+    ∙ ap (λ (q : Place). if nat_eq u t then p else q) (sym (rest-place old u))) in
     omega (arith, count-split new, count-split old)
 
 one_for : (b : Bool) → one (place_for b) ≡ 1
@@ -85,19 +95,23 @@ one_for true = refl
 one_for false = refl
 
 -- a table more
-pub adds : (versioned : Bool) (t : ℕ) (old new : Held) → place_of old.tables t ≡ Free → Takes t (place_for versioned) old.tables new.tables → new.working ≡ old.working → new.last ≡ old.last → ((u : ℕ) → live new u ≡ live old u)
+pub adds : (versioned : Bool) (t : ℕ) (old new : Held) → place_of old.tables t ≡ Free
+    → Takes t (place_for versioned) old.tables new.tables → new.working ≡ old.working → new.last ≡ old.last
+    → ((u : ℕ) → live new u ≡ live old u)
     → AddsTable versioned t old new
 adds versioned t old new free takes working last versions = record {
   free = free;
   takes = takes;
-  count = let counts = takes-count t (place_for versioned) old.tables new.tables takes.places in let gone : one (place_of old.tables t) ≡ 0 = ap one free in let come = one_for versioned in omega arith;
+  count = let counts = takes-count t (place_for versioned) old.tables new.tables takes.places in let gone : one
+      (place_of old.tables t) ≡ 0 = ap one free in let come = one_for versioned in omega arith;
   working = working;
   last = last;
   versions = versions;
 }
 
 -- a table less
-pub drops : (t : ℕ) (old new : List Place) → is_taken (place_of old t) ≡ true → Takes t Free old new → count_by is_taken new + 1 ≡ count_by is_taken old
+pub drops : (t : ℕ) (old new : List Place) → is_taken (place_of old t) ≡ true → Takes t Free old new
+    → count_by is_taken new + 1 ≡ count_by is_taken old
 drops t old new there takes =
     let counts = takes-count t Free old new takes.places in
     let gone : one (place_of old t) ≡ 1 = ap (λ (b : Bool). cond {A = ℕ} b 1 0) there in

@@ -1,6 +1,8 @@
 -- The versions that a change of a table takes away, named by the store's ids.
-use Rattle.std.proofs.Common.{◌≡◌, ◌≢◌, ℕ, zero, suc, ◌+◌, ◌<◌, ◌≤◌, Bool, true, false, cond, List, [], ◌∷◌, ◌++◌, map, filter, length, refl, sym, ap, subst, ◌∙◌, arith, inl, inr}
-use Rattle.std.specs.Prelude.{ℤ, ◌<ℤ◌, ◌&&◌, ◌||◌, All, Contains, IsTrue, count_by, int_lt, nat_eq, nat_lt, slice_get, slice_index_or, Option, Some, None, if◌then◌else◌, ◌⊎◌}
+use Rattle.std.proofs.Common.{◌≡◌, ◌≢◌, ℕ, zero, suc, ◌+◌, ◌<◌, ◌≤◌, Bool, true, false, cond, List, [], ◌∷◌, ◌++◌}
+use Rattle.std.proofs.Common.{map, filter, length, refl, sym, ap, subst, ◌∙◌, arith, inl, inr}
+use Rattle.std.specs.Prelude.{ℤ, ◌<ℤ◌, ◌&&◌, ◌||◌, All, Contains, IsTrue, count_by, int_lt, nat_eq, nat_lt, slice_get}
+use Rattle.std.specs.Prelude.{slice_index_or, Option, Some, None, if◌then◌else◌, ◌⊎◌}
 use Rattle.std.specs.Ordering.{int_eq}
 use Rattle.std.specs.List.{sum_by}
 use Rattle.std.proofs.lemmas.Bool.Decides.{Decides-int_eq, nat_tests}
@@ -29,7 +31,8 @@ at vs k = slice_index_or vs k nothing
 among-at : (k : ℕ) (is : List ℕ) (j : ℕ) → j < length is → slice_index_or is j k ≡ k → is_among k is ≡ true
 among-at k [] j l e = absurd (omega (arith, l))
 among-at k (i ∷ is) zero l e = ap (λ (b : Bool). b || is_among k is) (ap (nat_eq k) e ∙ self_number k)
-among-at k (i ∷ is) (suc j) l e = ap (λ (b : Bool). nat_eq k i || b) (among-at k is j (omega (arith, l)) e) ∙ always (nat_eq k i)
+among-at k (i ∷ is) (suc j) l e = ap (λ (b : Bool). nat_eq k i || b) (among-at k is j (omega (arith, l)) e)
+    ∙ always (nat_eq k i)
   where
     always : (b : Bool) → (b || true) ≡ true
     always true = refl
@@ -56,7 +59,10 @@ pub record OpenAt (vs : List Version) (i : ℕ) : Type 0 where
 open-at : (vs : List Version) (i : ℕ) → IsTrue (is_open (slice_get vs i)) → OpenAt vs i
 open-at [] i e = absurd (let f : false ≡ true = e in cc)
 open-at (v ∷ vs) zero e = record { within = omega arith; is = e }
-open-at (v ∷ vs) (suc i) e = let r = open-at vs i e in record { within = let l = r.within in omega (arith, l); is = r.is }
+open-at (v ∷ vs) (suc i) e = let r = open-at vs i e in record {
+  within = let l = r.within in omega (arith, l);
+  is = r.is;
+}
 
 in-at : (vs : List Version) (i : ℕ) → i < length vs → In (at vs i) vs
 in-at [] i l = absurd (omega (arith, l))
@@ -64,7 +70,8 @@ in-at (v ∷ vs) zero l = inl refl
 in-at (v ∷ vs) (suc i) l = inr (in-at vs i (omega (arith, l)))
 
 -- one that is not closed stands before those that are
-before-closed : (cs ds : List Version) (i : ℕ) → i < length (cs ++ ds) → ((v : Version) → In v ds → is_current v ≡ false) → is_current (at (cs ++ ds) i) ≡ true → i < length cs
+before-closed : (cs ds : List Version) (i : ℕ) → i < length (cs ++ ds)
+    → ((v : Version) → In v ds → is_current v ≡ false) → is_current (at (cs ++ ds) i) ≡ true → i < length cs
 before-closed [] ds i l h e = absurd (let f = sym e ∙ h (at ds i) (in-at ds i l) in cc)
 before-closed (c ∷ cs) ds zero l h e = omega arith
 before-closed (c ∷ cs) ds (suc i) l h e = let r = before-closed cs ds i (omega (arith, l)) h e in omega (arith, r)
@@ -84,11 +91,14 @@ both_of true b e = (refl, e)
 both_of false b e = absurd (let f : false ≡ true = e in cc)
 
 closed-past : (m : ℤ) (h : rows.Held) → InTurn m h → (v : Version) → In v h.closed → is_current v ≡ false
-closed-past m h t v i = let p = t.past v i in let b = t.below in let l : v.end <ℤ high = omega (arith, ints, p.1, b) in eq_false l
+closed-past m h t v i = let p = t.past v i in let b = t.below in let l : v.end <ℤ high =
+    omega (arith, ints, p.1, b) in eq_false l
 
 -- ---- they may be taken away
 
-pub removable-rows : (m : ℤ) (h : rows.Held) (removed : List ℕ) → InTurn m h → All (λ id. IsTrue (is_open (slice_get (versions h) id))) removed → ((id : ℕ) → count_by (λ j. nat_eq j id) removed ≤ 1) → rows.AreRemovable h removed
+pub removable-rows : (m : ℤ) (h : rows.Held) (removed : List ℕ) → InTurn m h
+    → All (λ id. IsTrue (is_open (slice_get (versions h) id))) removed
+    → ((id : ℕ) → count_by (λ j. nat_eq j id) removed ≤ 1) → rows.AreRemovable h removed
 removable-rows m h removed t all once = record {
   within = λ k d l. let o = open-at (versions h) (slice_index_or removed k d) (all k d l) in
       before-closed h.current h.closed (slice_index_or removed k d) o.within (closed-past m h t) (both_of _ _ o.is).1;
@@ -97,12 +107,15 @@ removable-rows m h removed t all once = record {
 }
 
 -- a version of the table is alive if it is current
-alive-current : (m : ℤ) (h : rows.Held) → InTurn m h → (k : ℕ) → k < length h.current → is_current (at h.current k) ≡ true → alive (at h.current k) ≡ true
+alive-current : (m : ℤ) (h : rows.Held) → InTurn m h → (k : ℕ) → k < length h.current
+    → is_current (at h.current k) ≡ true → alive (at h.current k) ≡ true
 alive-current m h t k l e =
     let ends = (Decides-int_eq (at h.current k).end high).0 e in let below = t.below in
     by_bool (nat_lt k h.base)
-    (λ s. let b = t.began k (told k h.base s) in let l : (at h.current k).row.start <ℤ (at h.current k).end = omega (arith, ints, ends, b, below) in lt_true l)
-    (λ s. let b = t.begin k (not_told k h.base s) l in let l : (at h.current k).row.start <ℤ (at h.current k).end = omega (arith, ints, ends, b, below) in lt_true l)
+    (λ s. let b = t.began k (told k h.base s) in let l : (at h.current k).row.start <ℤ (at h.current k).end = omega
+    (arith, ints, ends, b, below) in lt_true l)
+    (λ s. let b = t.begin k (not_told k h.base s) l in let l : (at h.current k).row.start <ℤ (at h.current k).end =
+    omega (arith, ints, ends, b, below) in lt_true l)
   where
     told : (i n : ℕ) → nat_lt i n ≡ true → i < n
     told i n e = grind (arith, nat_tests)
@@ -111,16 +124,20 @@ alive-current m h t k l e =
     not_told i n e = grind (arith, nat_tests)
 
 -- what the store judges, its table does
-pub judged-rows : (m : ℤ) (h : rows.Held) (gone : Stamped → Bool) (removed : List ℕ) → InTurn m h → ((id : ℕ) (v : Version) → slice_get (versions h) id ≡ Some v → is_among id removed ≡ (alive v && (is_current v && gone v.row))) → IsJudged gone removed h
+pub judged-rows : (m : ℤ) (h : rows.Held) (gone : Stamped → Bool) (removed : List ℕ) → InTurn m h
+    → ((id : ℕ) (v : Version) → slice_get (versions h) id ≡ Some v
+    → is_among id removed ≡ (alive v && (is_current v && gone v.row))) → IsJudged gone removed h
 judged-rows m h gone removed t j k l =
     let told = j k (at h.current k) (get-front h.current h.closed k l) in (
       (λ c. (both_of _ _ (sym told ∙ listed-among k removed c)).1),
       (λ none. none_gone (sym told ∙ away-among k removed none)),
     )
   where
-    none_gone : (alive (at h.current k) && (is_current (at h.current k) && gone (at h.current k).row)) ≡ false → (is_current (at h.current k) && gone (at h.current k).row) ≡ false
+    none_gone : (alive (at h.current k) && (is_current (at h.current k) && gone (at h.current k).row)) ≡ false
+        → (is_current (at h.current k) && gone (at h.current k).row) ≡ false
     none_gone e = by_bool (is_current (at h.current k))
-        (λ c. sym (ap (λ (b : Bool). b && (is_current (at h.current k) && gone (at h.current k).row)) (alive-current m h t k l c)) ∙ e)
+        (λ c. sym (ap (λ (b : Bool). b && (is_current (at h.current k) && gone (at h.current k).row))
+        (alive-current m h t k l c)) ∙ e)
         (λ c. ap (λ (b : Bool). b && gone (at h.current k).row) c)
 
 -- ---- how many versions are current
@@ -135,9 +152,12 @@ count-filter : (vs : List Version) → length (filter is_current vs) ≡ sum_by 
 count-filter [] = refl
 count-filter (v ∷ vs) = chosen (is_current v) refl (count-filter vs)
   where
-    chosen : (b : Bool) → is_current v ≡ b → length (filter is_current vs) ≡ sum_by shows vs → length (cond b (v ∷ filter is_current vs) (filter is_current vs)) ≡ sum_by shows (v ∷ vs)
-    chosen true e r = let one : shows v ≡ 1 = ap (λ (b : Bool). cond {A = ℕ} b 1 0) e in omega (arith, r, one, sum_by-cons shows v vs)
-    chosen false e r = let none : shows v ≡ 0 = ap (λ (b : Bool). cond {A = ℕ} b 1 0) e in omega (arith, r, none, sum_by-cons shows v vs)
+    chosen : (b : Bool) → is_current v ≡ b → length (filter is_current vs) ≡ sum_by shows vs
+        → length (cond b (v ∷ filter is_current vs) (filter is_current vs)) ≡ sum_by shows (v ∷ vs)
+    chosen true e r = let one : shows v ≡ 1 =
+        ap (λ (b : Bool). cond {A = ℕ} b 1 0) e in omega (arith, r, one, sum_by-cons shows v vs)
+    chosen false e r = let none : shows v ≡ 0 =
+        ap (λ (b : Bool). cond {A = ℕ} b 1 0) e in omega (arith, r, none, sum_by-cons shows v vs)
 
 length-close_at : (m : ℤ) (i : ℕ) (vs : List Version) → length (close_at m i vs) ≡ length vs
 length-close_at m i [] = refl
@@ -151,19 +171,27 @@ at-closed m zero (suc j) (v ∷ vs) d = refl
 at-closed m (suc i) zero (v ∷ vs) d = refl
 at-closed m (suc i) (suc j) (v ∷ vs) d = at-closed m i j vs (λ e. d (ap suc e))
 
-close-one : (m : ℤ) (i : ℕ) (vs : List Version) → m <ℤ high → i < length vs → opens (at vs i) ≡ 1 → sum_by opens (close_at m i vs) + 1 ≡ sum_by opens vs
+close-one : (m : ℤ) (i : ℕ) (vs : List Version) → m <ℤ high → i < length vs → opens (at vs i) ≡ 1
+    → sum_by opens (close_at m i vs) + 1 ≡ sum_by opens vs
 close-one m i [] below l e = absurd (omega (arith, l))
-close-one m zero (v ∷ vs) below l e = let n = none in omega (arith, e, n, sum_by-cons opens v vs, sum_by-cons opens (ended m v) vs)
+close-one m zero (v ∷ vs) below l e = let n =
+    none in omega (arith, e, n, sum_by-cons opens v vs, sum_by-cons opens (ended m v) vs)
   where
     never : (b : Bool) → cond {A = ℕ} b 0 0 ≡ 0
     never true = refl
     never false = refl
 
     none : opens (ended m v) ≡ 0
-    none = ap (λ (b : Bool). cond {A = ℕ} (alive (ended m v)) (cond {A = ℕ} b 1 0) 0) (eq_false {a = m} {b = high} below) ∙ never (alive (ended m v))
-close-one m (suc i) (v ∷ vs) below l e = let r = close-one m i vs below (omega (arith, l)) e in omega (arith, r, sum_by-cons opens v vs, sum_by-cons opens v (close_at m i vs))
+    none = ap (λ (b : Bool). cond {A = ℕ} (alive (ended m v)) (cond {A = ℕ} b 1 0) 0)
+        (eq_false {a = m} {b = high} below) ∙ never (alive (ended m v))
+close-one m (suc i) (v ∷ vs) below l e = let r =
+    close-one m i vs below (omega (arith, l)) e in omega
+    (arith, r, sum_by-cons opens v vs, sum_by-cons opens v (close_at m i vs))
 
-count-closing : (m : ℤ) (removed : List ℕ) (vs : List Version) → m <ℤ high → ((k d : ℕ) → k < length removed → (slice_index_or removed k d < length vs) × (opens (at vs (slice_index_or removed k d)) ≡ 1)) → ((id : ℕ) → count_by (λ j. nat_eq j id) removed ≤ 1)
+count-closing : (m : ℤ) (removed : List ℕ) (vs : List Version) → m <ℤ high
+    → ((k d : ℕ) → k < length removed
+    → (slice_index_or removed k d < length vs) × (opens (at vs (slice_index_or removed k d)) ≡ 1))
+    → ((id : ℕ) → count_by (λ j. nat_eq j id) removed ≤ 1)
     → sum_by opens (closing m removed vs) + length removed ≡ sum_by opens vs
 count-closing m [] vs below h once = omega arith
 count-closing m (i ∷ is) vs below h once =
@@ -172,19 +200,24 @@ count-closing m (i ∷ is) vs below h once =
     let one = close-one m i vs below first.0 first.1 in
     omega (arith, rest, one)
   where
-    after : (k d : ℕ) → k < length is → (slice_index_or is k d < length (close_at m i vs)) × (opens (at (close_at m i vs) (slice_index_or is k d)) ≡ 1)
+    after : (k d : ℕ) → k < length is
+        → (slice_index_or is k d < length (close_at m i vs)) ×
+        (opens (at (close_at m i vs) (slice_index_or is k d)) ≡ 1)
     after k d l =
         let s = h (suc k) d (omega (arith, l)) in (
           (let e = length-close_at m i vs in let p = s.0 in omega (arith, e, p)),
           ap opens (at-closed m i (slice_index_or is k d) vs (once-first i is (once i) k d l)) ∙ s.1,
         )
 
-count-fresh : {R : Type 0} (m : ℤ) (cells : R → List Datum) (rs : List R) → sum_by shows (map (λ r. fresh m (cells r)) rs) ≡ length rs
+count-fresh : {R : Type 0} (m : ℤ) (cells : R → List Datum) (rs : List R)
+    → sum_by shows (map (λ r. fresh m (cells r)) rs) ≡ length rs
 count-fresh m cells [] = refl
-count-fresh m cells (r ∷ rs) = let k = count-fresh m cells rs in let one : shows (fresh m (cells r)) ≡ 1 = refl in omega (arith, k, one, sum_by-cons shows (fresh m (cells r)) (map (λ x. fresh m (cells x)) rs))
+count-fresh m cells (r ∷ rs) = let k = count-fresh m cells rs in let one : shows (fresh m (cells r)) ≡ 1 =
+    refl in omega (arith, k, one, sum_by-cons shows (fresh m (cells r)) (map (λ x. fresh m (cells x)) rs))
 
 -- what goes and what comes make the difference
-pub counted-rows : {R : Type 0} (m : ℤ) (cells : R → List Datum) (rs : List R) (removed : List ℕ) (h n : rows.Held) → InTurn m h → rows.AreRemovable h removed
+pub counted-rows : {R : Type 0} (m : ℤ) (cells : R → List Datum) (rs : List R) (removed : List ℕ) (h n : rows.Held)
+    → InTurn m h → rows.AreRemovable h removed
     → SameBag (live n) (filter alive (closing m removed h.current ++ h.closed) ++ map (λ r. fresh m (cells r)) rs)
     → length (filter is_current (live n)) + length removed ≡ length (filter is_current (live h)) + length rs
 counted-rows m cells rs removed h n t r bag =
@@ -205,7 +238,8 @@ counted-rows m cells rs removed h n t r bag =
     one : (v : Version) → alive v ≡ true → is_current v ≡ true → opens v ≡ 1
     one v a c = rw (a, c) refl
 
-    each : (k d : ℕ) → k < length removed → (slice_index_or removed k d < length h.current) × (opens (at h.current (slice_index_or removed k d)) ≡ 1)
+    each : (k d : ℕ) → k < length removed
+        → (slice_index_or removed k d < length h.current) × (opens (at h.current (slice_index_or removed k d)) ≡ 1)
     each k d l =
         let w = r.within k d l in
         let o = both_of _ _ (r.current k d l) in

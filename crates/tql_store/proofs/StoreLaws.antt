@@ -1,6 +1,9 @@
--- A store stands for the copies through beginnings, changes, commits and rollbacks, and its readings find what they have.
-use Rattle.std.proofs.Common.{◌≡◌, ℕ, Bool, true, false, filter, List, [], ◌∷◌, arith, inl, inr, refl, sym, ap, subst, ◌∙◌}
-use Rattle.std.specs.Prelude.{ℤ, pos, ◌+ℤ◌, ◌<ℤ◌, ◌&&◌, cond, int_lt, int_le, nat_eq, slice_index_or, if◌then◌else◌, Option, Some, None}
+-- A store stands for the copies through beginnings, changes, commits and rollbacks, and its readings find what they
+-- have.
+use Rattle.std.proofs.Common.{◌≡◌, ℕ, Bool, true, false, filter, List, [], ◌∷◌, arith, inl, inr, refl, sym, ap, subst}
+use Rattle.std.proofs.Common.{◌∙◌}
+use Rattle.std.specs.Prelude.{ℤ, pos, ◌+ℤ◌, ◌<ℤ◌, ◌&&◌, cond, int_lt, int_le, nat_eq, slice_index_or, if◌then◌else◌}
+use Rattle.std.specs.Prelude.{Option, Some, None}
 use Rattle.std.proofs.lemmas.Bool.Decides.{nat_tests}
 use Rattle.std.proofs.lemmas.Int.{ints}
 use Rattle.tql_spec.proofs.Bags.{same-refl, same-sym, same-trans}
@@ -12,13 +15,16 @@ use Rattle.tql_spec.specs.Definition.{Stamped, Version}
 use Rattle.tql_spec.specs.History.{TableEntry, meets}
 use Rattle.tql_store.proofs.Apply.{lt_true, lt_false}
 use Rattle.tql_store.proofs.Begin.{new-stands, as_of-stands, from_to-stands, current-stands}
-use Rattle.tql_store.proofs.Laws.{commit-law, brief-commit-law, rollback-law, begin-law, apply-law, same-stands, same-undone}
+use Rattle.tql_store.proofs.Laws.{commit-law, brief-commit-law, rollback-law, begin-law, apply-law, same-stands}
+use Rattle.tql_store.proofs.Laws.{same-undone}
 use Rattle.tql_rows.specs.Readings.{asked}
 use Rattle.tql_rows.specs.Changes.{alive, undone, pruned, replaced}
 use Rattle.tql_store.specs.Changes.{InTransaction, last_rows, rows_after}
 use Rattle.tql_store.specs.Held.{Held, is_versioned, live}
 use Rattle.tql_store.specs.Places.{place_of, is_kept, is_brief}
-use Rattle.tql_store.specs.Represents.{Copies, Working, horizon_of, StandsWith, Represents, CommitAppends, RollbackRestores, BeginCopies, ChangeReplaces, ReplacesVersions, with_rows, seen_by, AnswersAsOf, AnswersFromTo, AnswersNow}
+use Rattle.tql_store.specs.Represents.{Copies, Working, horizon_of, StandsWith, Represents, CommitAppends}
+use Rattle.tql_store.specs.Represents.{RollbackRestores, BeginCopies, ChangeReplaces, ReplacesVersions, with_rows}
+use Rattle.tql_store.specs.Represents.{seen_by, AnswersAsOf, AnswersFromTo, AnswersNow}
 use Rattle.tql_rows.specs.Changes.{Under, holds, is_current}
 use Rattle.tql_store.specs.Stands.{Within, StandsFor}
 use Rattle.tql_store.specs.declared.tables.Place.{Place}
@@ -31,11 +37,13 @@ same-list {X} {xs} {ys} e = subst (SameBag xs) e (same-refl xs)
 -- ---- horizons
 
 -- the horizon of a table that keeps its history, and of a number at which none stands
-pub no_horizon : (places : List Place) (last : Option ℤ) (t : ℕ) → is_brief (place_of places t) ≡ false → horizon_of places last t ≡ None
+pub no_horizon : (places : List Place) (last : Option ℤ) (t : ℕ) → is_brief (place_of places t) ≡ false
+    → horizon_of places last t ≡ None
 no_horizon places last t e = ap (λ (b : Bool). if b then last else None) e
 
 -- of one that keeps its last copy alone
-pub last_horizon : (places : List Place) (last : Option ℤ) (t : ℕ) → is_brief (place_of places t) ≡ true → horizon_of places last t ≡ last
+pub last_horizon : (places : List Place) (last : Option ℤ) (t : ℕ) → is_brief (place_of places t) ≡ true
+    → horizon_of places last t ≡ last
 last_horizon places last t e = ap (λ (b : Bool). if b then last else None) e
 
 kept_not_brief : (p : Place) → is_kept p ≡ true → is_brief p ≡ false
@@ -45,106 +53,172 @@ kept_not_brief Unversioned e = cc
 
 -- every moment is within what is kept of a versioned table
 pub versioned-within : (h : Held) (t : ℕ) (m : ℤ) → is_versioned h t ≡ true → Within (horizon_of h.tables h.last t) m
-versioned-within h t m e = subst (λ (g : Option ℤ). Within g m) (sym (no_horizon h.tables h.last t (kept_not_brief (place_of h.tables t) e))) tt
+versioned-within h t m e =
+    subst (λ (g : Option ℤ). Within g m) (sym (no_horizon h.tables h.last t (kept_not_brief (place_of h.tables t) e)))
+    tt
 
 -- ---- transactions
 
 -- what is known of a store in a transaction
-in_turn : (old : Held) (copies : Copies) (working : Working) (m : ℤ) → old.working ≡ Some m → Represents old copies working → (t : ℕ) → InTransaction (horizon_of old.tables old.last t) (live old t) (record { moment = m; rows = working t }) (copies t)
-in_turn old copies working m e r t = subst (λ (o : Option ℤ). StandsWith (horizon_of old.tables old.last t) o (live old t) (copies t) (working t)) e (r.stands t)
+in_turn : (old : Held) (copies : Copies) (working : Working) (m : ℤ) → old.working ≡ Some m
+    → Represents old copies working → (t : ℕ)
+    → InTransaction (horizon_of old.tables old.last t) (live old t) (record { moment = m; rows = working t }) (copies t)
+in_turn old copies working m e r t =
+    subst (λ (o : Option ℤ). StandsWith (horizon_of old.tables old.last t) o (live old t) (copies t) (working t)) e
+    (r.stands t)
 
 -- what is known of a store without one
-pub at_rest : (old : Held) (copies : Copies) (working : Working) → old.working ≡ None → Represents old copies working → (t : ℕ) → StandsFor (horizon_of old.tables old.last t) (live old t) (copies t)
-at_rest old copies working e r t = subst (λ (o : Option ℤ). StandsWith (horizon_of old.tables old.last t) o (live old t) (copies t) (working t)) e (r.stands t)
+pub at_rest : (old : Held) (copies : Copies) (working : Working) → old.working ≡ None → Represents old copies working
+    → (t : ℕ) → StandsFor (horizon_of old.tables old.last t) (live old t) (copies t)
+at_rest old copies working e r t =
+    subst (λ (o : Option ℤ). StandsWith (horizon_of old.tables old.last t) o (live old t) (copies t) (working t)) e
+    (r.stands t)
 
 -- a store stands for copies by its parts
-pub of_parts : (versions : List Version) (entries : List TableEntry) (rows : List Stamped) {places : List Place} {last o : Option ℤ} (h : Held) → h.tables ≡ places → h.last ≡ last → h.working ≡ o → (t : ℕ)
-    → StandsWith (horizon_of places last t) o versions entries rows → StandsWith (horizon_of h.tables h.last t) h.working versions entries rows
+pub of_parts : (versions : List Version) (entries : List TableEntry) (rows : List Stamped) {places : List Place}
+    {last o : Option ℤ} (h : Held) → h.tables ≡ places → h.last ≡ last → h.working ≡ o → (t : ℕ)
+    → StandsWith (horizon_of places last t) o versions entries rows
+    → StandsWith (horizon_of h.tables h.last t) h.working versions entries rows
 of_parts versions entries rows {places} {last} {o} h tables dates opened t s =
     subst (λ (ps : List Place). StandsWith (horizon_of ps h.last t) h.working versions entries rows) (sym tables)
     (subst (λ (l : Option ℤ). StandsWith (horizon_of places l t) h.working versions entries rows) (sym dates)
     (subst (λ (w : Option ℤ). StandsWith (horizon_of places last t) w versions entries rows) (sym opened) s))
 
 pub commit-appends : (old new : Held) → new.tables ≡ old.tables → new.working ≡ None → new.last ≡ old.working
-    → ((t : ℕ) (m : ℤ) → old.working ≡ Some m → SameBag (live new t) (if is_brief (place_of old.tables t) then pruned m (live old t) else live old t)) → CommitAppends old new
+    → ((t : ℕ) (m : ℤ) → old.working ≡ Some m
+    → SameBag (live new t) (if is_brief (place_of old.tables t) then pruned m (live old t) else live old t))
+    → CommitAppends old new
 commit-appends old new tables closed last versions = λ copies working m is r. record {
   dated = λ t. sym (last ∙ is);
   stands = λ t. of_parts _ _ _ new tables (last ∙ is) closed t
       (by_bool (is_brief (place_of old.tables t))
-      (λ brief. subst (λ (g : Option ℤ). StandsFor g (live new t) (record { moment = m; rows = working t } ∷ copies t)) (sym (last_horizon old.tables (Some m) t brief))
-      (brief-commit-law _ (live old t) _ (record { moment = m; rows = working t }) (copies t) (in_turn old copies working m is r t) (chosen t m is true brief)))
-      (λ kept. subst (λ (g : Option ℤ). StandsFor g (live new t) (record { moment = m; rows = working t } ∷ copies t)) (no_horizon old.tables old.last t kept ∙ sym (no_horizon old.tables (Some m) t kept))
-      (commit-law _ (live old t) _ (record { moment = m; rows = working t }) (copies t) (in_turn old copies working m is r t) (chosen t m is false kept))));
+      (λ brief. subst (λ (g : Option ℤ). StandsFor g (live new t) (record {
+        moment = m;
+        rows = working t;
+      } ∷ copies t)) (sym (last_horizon old.tables (Some m) t brief))
+      (brief-commit-law _ (live old t) _ (record {
+        moment = m;
+        rows = working t;
+      }) (copies t) (in_turn old copies working m is r t) (chosen t m is true brief)))
+      (λ kept. subst (λ (g : Option ℤ). StandsFor g (live new t) (record {
+        moment = m;
+        rows = working t;
+      } ∷ copies t)) (no_horizon old.tables old.last t kept
+      ∙ sym (no_horizon old.tables (Some m) t kept))
+      (commit-law _ (live old t) _ (record {
+        moment = m;
+        rows = working t;
+      }) (copies t) (in_turn old copies working m is r t) (chosen t m is false kept))));
 }
   where
-    chosen : (t : ℕ) (m : ℤ) → old.working ≡ Some m → (b : Bool) → is_brief (place_of old.tables t) ≡ b → SameBag (live new t) (if b then pruned m (live old t) else live old t)
-    chosen t m is b e = subst (λ (c : Bool). SameBag (live new t) (if c then pruned m (live old t) else live old t)) e (versions t m is)
+    chosen : (t : ℕ) (m : ℤ) → old.working ≡ Some m → (b : Bool) → is_brief (place_of old.tables t) ≡ b
+        → SameBag (live new t) (if b then pruned m (live old t) else live old t)
+    chosen t m is b e = subst (λ (c : Bool). SameBag (live new t) (if c then pruned m (live old t) else live old t))
+        e (versions t m is)
 
 pub rollback-restores : (old new : Held) → new.tables ≡ old.tables → new.working ≡ None → new.last ≡ old.last
     → ((t : ℕ) (m : ℤ) → old.working ≡ Some m → SameBag (live new t) (undone m (live old t))) → RollbackRestores old new
 rollback-restores old new tables closed last versions = λ copies working m is r. record {
   dated = λ t. r.dated t ∙ sym last;
-  stands = λ t. of_parts _ _ _ new tables last closed t (rollback-law _ (live old t) (live new t) _ _ (in_turn old copies working m is r t) (versions t m is));
+  stands = λ t. of_parts _ _ _ new tables last closed t
+      (rollback-law _ (live old t) (live new t) _ _ (in_turn old copies working m is r t) (versions t m is));
 }
 
 -- the horizon lies before a moment that is later than the last commit
-horizon_under : (places : List Place) (last : Option ℤ) (t : ℕ) (m : ℤ) → Under last m → Under (horizon_of places last t) m
+horizon_under : (places : List Place) (last : Option ℤ) (t : ℕ) (m : ℤ) → Under last m
+    → Under (horizon_of places last t) m
 horizon_under places last t m later = by_bool (is_brief (place_of places t))
     (λ brief. subst (λ (g : Option ℤ). Under g m) (sym (last_horizon places last t brief)) later)
     (λ kept. subst (λ (g : Option ℤ). Under g m) (sym (no_horizon places last t kept)) tt)
 
-pub begin-copies : (m : ℤ) (old new : Held) → old.working ≡ None → Under old.last m → m <ℤ high → new.tables ≡ old.tables → new.working ≡ Some m → new.last ≡ old.last → ((t : ℕ) → live new t ≡ live old t)
+pub begin-copies : (m : ℤ) (old new : Held) → old.working ≡ None → Under old.last m → m <ℤ high
+    → new.tables ≡ old.tables → new.working ≡ Some m → new.last ≡ old.last → ((t : ℕ) → live new t ≡ live old t)
     → BeginCopies old new
 begin-copies m old new is later below tables opened last versions = λ copies working r. record {
   dated = λ t. r.dated t ∙ sym last;
   stands = λ t. of_parts _ _ _ new tables last opened t
-      (subst (λ (vs : List Version). InTransaction (horizon_of old.tables old.last t) vs (record { moment = m; rows = last_rows (copies t) }) (copies t)) (sym (versions t))
-      (begin-law _ (live old t) (copies t) m (at_rest old copies working is r t) (horizon_under old.tables old.last t m later)
+      (subst (λ (vs : List Version). InTransaction (horizon_of old.tables old.last t) vs (record {
+        moment = m;
+        rows = last_rows (copies t);
+      }) (copies t)) (sym (versions t))
+      (begin-law _ (live old t) (copies t) m (at_rest old copies working is r t)
+      (horizon_under old.tables old.last t m later)
       (subst (λ (o : Option ℤ). Under o m) (sym (r.dated t)) later) below));
 }
 
 -- ---- readings
 
 -- the versions stand for the copies that questions see
-stands_seen : (horizon o : Option ℤ) (versions : List Version) (copies : Copies) (working : Working) (t : ℕ) → StandsWith horizon o versions (copies t) (working t) → StandsFor horizon versions (seen_by o copies working t)
+stands_seen : (horizon o : Option ℤ) (versions : List Version) (copies : Copies) (working : Working) (t : ℕ)
+    → StandsWith horizon o versions (copies t) (working t) → StandsFor horizon versions (seen_by o copies working t)
 stands_seen horizon None versions copies working t s = s
 stands_seen horizon (Some m) versions copies working t s = s.now
 
-stands_now : (h : Held) (copies : Copies) (working : Working) (t : ℕ) → Represents h copies working → StandsFor (horizon_of h.tables h.last t) (live h t) (seen_by h.working copies working t)
+stands_now : (h : Held) (copies : Copies) (working : Working) (t : ℕ) → Represents h copies working
+    → StandsFor (horizon_of h.tables h.last t) (live h t) (seen_by h.working copies working t)
 stands_now h copies working t r = stands_seen _ h.working (live h t) copies working t (r.stands t)
 
-pub answers-as_of : (h : Held) (t : ℕ) (m : ℤ) (found : List Version) → is_versioned h t ≡ true → SameBag found (filter (holds m) (live h t)) → AnswersAsOf h t m found
-answers-as_of h t m found kept e = λ copies working r. same-trans e (same-sym (as_of-stands _ _ _ m (stands_now h copies working t r) (versioned-within h t m kept)))
+pub answers-as_of : (h : Held) (t : ℕ) (m : ℤ) (found : List Version) → is_versioned h t ≡ true
+    → SameBag found (filter (holds m) (live h t)) → AnswersAsOf h t m found
+answers-as_of h t m found kept e =
+    λ copies working r. same-trans e
+    (same-sym (as_of-stands _ _ _ m (stands_now h copies working t r) (versioned-within h t m kept)))
 
-pub answers-from_to : (h : Held) (t : ℕ) (a b : ℤ) (found : List Version) → is_versioned h t ≡ true → SameBag found (filter (λ v. meets a b v.row.start v.end) (live h t)) → AnswersFromTo h t a b found
-answers-from_to h t a b found kept e = λ copies working r. same-trans e (same-sym (from_to-stands _ _ _ a b (stands_now h copies working t r) (versioned-within h t a kept)))
+pub answers-from_to : (h : Held) (t : ℕ) (a b : ℤ) (found : List Version) → is_versioned h t ≡ true
+    → SameBag found (filter (λ v. meets a b v.row.start v.end) (live h t)) → AnswersFromTo h t a b found
+answers-from_to h t a b found kept e =
+    λ copies working r. same-trans e
+    (same-sym (from_to-stands _ _ _ a b (stands_now h copies working t r) (versioned-within h t a kept)))
 
-pub answers-now : (h : Held) (t : ℕ) (found : List Version) → SameBag found (filter is_current (live h t)) → AnswersNow h t found
-answers-now h t found e = λ copies working r. same-trans e (same-sym (current-stands _ _ _ (stands_now h copies working t r)))
+pub answers-now : (h : Held) (t : ℕ) (found : List Version) → SameBag found (filter is_current (live h t))
+    → AnswersNow h t found
+answers-now h t found e =
+    λ copies working r. same-trans e (same-sym (current-stands _ _ _ (stands_now h copies working t r)))
 
 -- ---- changes
 
-pub change-replaces : (t : ℕ) (removed : List ℕ) (added : List (List Datum)) (old new : Held) → ReplacesVersions t removed added old new → ChangeReplaces t removed added old new
+pub change-replaces : (t : ℕ) (removed : List ℕ) (added : List (List Datum)) (old new : Held)
+    → ReplacesVersions t removed added old new → ChangeReplaces t removed added old new
 change-replaces t removed added old new e = λ copies working m gone is j r. record {
   dated = λ u. r.dated u ∙ sym e.last;
   stands = λ u. let turn = in_turn old copies working m is r in
       of_parts _ _ _ new e.tables e.last (e.working ∙ is) u
       (by_bool (nat_eq u t)
       (λ same. at_table copies working m gone (e.versions m gone is j) turn u (decided u t same))
-      (λ other. subst (λ (b : Bool). InTransaction (horizon_of old.tables old.last u) (live new u) (record { moment = m; rows = if b then rows_after m gone added (working t) else working u }) (copies u)) (sym other)
+      (λ other. subst (λ (b : Bool). InTransaction (horizon_of old.tables old.last u) (live new u)
+      (record { moment = m; rows = if b then rows_after m gone added (working t) else working u }) (copies u))
+      (sym other)
       (same-turn (e.others u other) (turn u))));
 }
   where
     decided : (u t : ℕ) → nat_eq u t ≡ true → t ≡ u
     decided u t e = grind (arith, nat_tests)
 
-    same-turn : {horizon : Option ℤ} {versions others : List Version} {working : TableEntry} {older : List TableEntry} → SameBag others versions → InTransaction horizon versions working older → InTransaction horizon others working older
-    same-turn {horizon} {versions} {others} {working} {older} h t = record { since = t.since; below = t.below; now = same-stands h t.now; before = same-stands (same-undone working.moment h) t.before }
+    same-turn : {horizon : Option ℤ} {versions others : List Version} {working : TableEntry}
+        {older : List TableEntry} → SameBag others versions → InTransaction horizon versions working older
+        → InTransaction horizon others working older
+    same-turn {horizon} {versions} {others} {working} {older} h t = record {
+      since = t.since;
+      below = t.below;
+      now = same-stands h t.now;
+      before = same-stands (same-undone working.moment h) t.before;
+    }
 
-    at_table : (copies : Copies) (working : Working) (m : ℤ) (gone : Stamped → Bool) → SameBag (live new t) (replaced m gone added (live old t))
-        → ((u : ℕ) → InTransaction (horizon_of old.tables old.last u) (live old u) (record { moment = m; rows = working u }) (copies u)) → (u : ℕ) → t ≡ u
-        → InTransaction (horizon_of old.tables old.last u) (live new u) (record { moment = m; rows = with_rows t (rows_after m gone added (working t)) working u }) (copies u)
-    at_table copies working m gone bag turn u e = subst (λ (n : ℕ). InTransaction (horizon_of old.tables old.last n) (live new n) (record { moment = m; rows = with_rows t (rows_after m gone added (working t)) working n }) (copies n)) e
+    at_table : (copies : Copies) (working : Working) (m : ℤ) (gone : Stamped → Bool)
+        → SameBag (live new t) (replaced m gone added (live old t))
+        → ((u : ℕ) → InTransaction (horizon_of old.tables old.last u) (live old u) (record {
+          moment = m;
+          rows = working u;
+        }) (copies u)) → (u : ℕ) → t ≡ u
+        → InTransaction (horizon_of old.tables old.last u) (live new u) (record {
+          moment = m;
+          rows = with_rows t (rows_after m gone added (working t)) working u;
+        }) (copies u)
+    at_table copies working m gone bag turn u e =
+        subst (λ (n : ℕ). InTransaction (horizon_of old.tables old.last n) (live new n) (record {
+          moment = m;
+          rows = with_rows t (rows_after m gone added (working t)) working n;
+        }) (copies n)) e
         (let self : nat_eq t t ≡ true = grind (arith, nat_tests) in
         apply-law _ m gone added (live old t) _ (working t) _ (copies t) (turn t) bag
         (same-list (ap (λ (b : Bool). if b then rows_after m gone added (working t) else working t) self)))
@@ -162,16 +236,21 @@ alive-live : (h : Held) (t : ℕ) → filter alive (live h t) ≡ live h t
 alive-live h t = filter-twice alive (slice_index_or h.versions t [])
 
 -- tests that agree on what is alive
-filter-alive : (p q : Version → Bool) → ((v : Version) → alive v ≡ true → p v ≡ q v) → (vs : List Version) → filter p (filter alive vs) ≡ filter q (filter alive vs)
+filter-alive : (p q : Version → Bool) → ((v : Version) → alive v ≡ true → p v ≡ q v) → (vs : List Version)
+    → filter p (filter alive vs) ≡ filter q (filter alive vs)
 filter-alive p q h [] = refl
 filter-alive p q h (v ∷ vs) = by_bool (alive v)
-    (λ e. rw e (ap (λ b. cond b (v ∷ filter p (filter alive vs)) (filter p (filter alive vs))) (h v e) ∙ ap (λ us. cond (q v) (v ∷ us) us) (filter-alive p q h vs)))
+    (λ e. rw e (ap (λ b. cond b (v ∷ filter p (filter alive vs)) (filter p (filter alive vs))) (h v e)
+    ∙ ap (λ us. cond (q v) (v ∷ us) us) (filter-alive p q h vs)))
     (λ e. rw e (filter-alive p q h vs))
 
-filter-live : (p q : Version → Bool) → ((v : Version) → alive v ≡ true → p v ≡ q v) → (h : Held) (t : ℕ) → filter p (live h t) ≡ filter q (live h t)
-filter-live p q same h t = ap (filter p) (sym (alive-live h t)) ∙ filter-alive p q same (live h t) ∙ ap (filter q) (alive-live h t)
+filter-live : (p q : Version → Bool) → ((v : Version) → alive v ≡ true → p v ≡ q v) → (h : Held) (t : ℕ)
+    → filter p (live h t) ≡ filter q (live h t)
+filter-live p q same h t = ap (filter p) (sym (alive-live h t)) ∙ filter-alive p q same (live h t)
+    ∙ ap (filter q) (alive-live h t)
 
-as_meets : (a b : ℤ) (v : Version) → alive v ≡ true → (int_lt a b && (int_lt v.row.start b && int_lt a v.end)) ≡ meets a b v.row.start v.end
+as_meets : (a b : ℤ) (v : Version) → alive v ≡ true
+    → (int_lt a b && (int_lt v.row.start b && int_lt a v.end)) ≡ meets a b v.row.start v.end
 as_meets a b v e = rw e (shift (int_lt a b) _)
   where
     shift : (c d : Bool) → (c && d) ≡ ((c && true) && d)
@@ -184,20 +263,28 @@ below_next x b = elim (le_tells x b) as (λ y. int_le x b ≡ int_lt x (b +ℤ p
   | inr s ↦ s.0 ∙ sym (lt_false {a = x} {b = b +ℤ pos 1} (let t = s.1 in omega (arith, ints)))
 ]
 
-pub answers-range : (h : Held) (t : ℕ) (a b : ℤ) (found : List Version) → is_versioned h t ≡ true → SameBag found (filter (asked (FromTo a b)) (live h t)) → AnswersFromTo h t a b found
-answers-range h t a b found kept e = answers-from_to h t a b found kept (same-trans e (same-list (filter-live (asked (FromTo a b)) (λ v. meets a b v.row.start v.end) (as_meets a b) h t)))
+pub answers-range : (h : Held) (t : ℕ) (a b : ℤ) (found : List Version) → is_versioned h t ≡ true
+    → SameBag found (filter (asked (FromTo a b)) (live h t)) → AnswersFromTo h t a b found
+answers-range h t a b found kept e =
+    answers-from_to h t a b found kept
+    (same-trans e (same-list (filter-live (asked (FromTo a b)) (λ v. meets a b v.row.start v.end) (as_meets a b) h t)))
 
-pub answers-between : (h : Held) (t : ℕ) (a b : ℤ) (found : List Version) → is_versioned h t ≡ true → SameBag found (filter (asked (Between a b)) (live h t)) → AnswersFromTo h t a (b +ℤ pos 1) found
+pub answers-between : (h : Held) (t : ℕ) (a b : ℤ) (found : List Version) → is_versioned h t ≡ true
+    → SameBag found (filter (asked (Between a b)) (live h t)) → AnswersFromTo h t a (b +ℤ pos 1) found
 answers-between h t a b found kept e = answers-from_to h t a (b +ℤ pos 1) found kept
     (same-trans e (same-list (filter-live (asked (Between a b)) (λ v. meets a (b +ℤ pos 1) v.row.start v.end)
-    (λ v l. ap (λ c. c && (int_le v.row.start b && int_lt a v.end)) (below_next a b) ∙ ap (λ c. int_lt a (b +ℤ pos 1) && (c && int_lt a v.end)) (below_next v.row.start b) ∙ as_meets a (b +ℤ pos 1) v l) h t)))
+    (λ v l. ap (λ c. c && (int_le v.row.start b && int_lt a v.end)) (below_next a b)
+    ∙ ap (λ c. int_lt a (b +ℤ pos 1) && (c && int_lt a v.end)) (below_next v.row.start b)
+    ∙ as_meets a (b +ℤ pos 1) v l) h t)))
 
 -- ---- a new store
 
-pub new-represents : (new : Held) → new.working ≡ None → new.last ≡ None → ((t : ℕ) → live new t ≡ []) → Represents new (λ t. []) (λ t. [])
+pub new-represents : (new : Held) → new.working ≡ None → new.last ≡ None → ((t : ℕ) → live new t ≡ [])
+    → Represents new (λ t. []) (λ t. [])
 new-represents new closed last versions = record {
   dated = λ t. sym last;
-  stands = λ t. subst (λ (o : Option ℤ). StandsWith (horizon_of new.tables new.last t) o (live new t) [] []) (sym closed)
+  stands = λ t. subst (λ (o : Option ℤ). StandsWith (horizon_of new.tables new.last t) o (live new t) [] [])
+      (sym closed)
       (subst (λ (g : Option ℤ). StandsFor g (live new t) []) (sym (none t))
       (subst (λ (vs : List Version). StandsFor None vs []) (sym (versions t)) new-stands));
 }

@@ -1,6 +1,8 @@
 -- What a store shows of its tables, and that it stays orderly through new tables, dropped ones and changes.
-use Rattle.std.proofs.Common.{◌≡◌, ℕ, suc, ◌+◌, ◌<◌, ◌≤◌, Bool, true, false, cond, List, [], ◌∷◌, ◌++◌, map, filter, length, refl, sym, ap, subst, ◌∙◌, arith, inl, inr}
-use Rattle.std.specs.Prelude.{ℤ, ◌<ℤ◌, All, IsTrue, IsSome, count_by, nat_eq, slice_get, slice_index_or, Option, Some, None, if◌then◌else◌, ◌⊎◌}
+use Rattle.std.proofs.Common.{◌≡◌, ℕ, suc, ◌+◌, ◌<◌, ◌≤◌, Bool, true, false, cond, List, [], ◌∷◌, ◌++◌, map, filter}
+use Rattle.std.proofs.Common.{length, refl, sym, ap, subst, ◌∙◌, arith, inl, inr}
+use Rattle.std.specs.Prelude.{ℤ, ◌<ℤ◌, All, IsTrue, IsSome, count_by, nat_eq, slice_get, slice_index_or, Option, Some}
+use Rattle.std.specs.Prelude.{None, if◌then◌else◌, ◌⊎◌}
 use Rattle.std.specs.Ordering.{int_eq}
 use Rattle.std.proofs.lemmas.Int.{ints}
 use Rattle.tql_spec.proofs.Bags.{same-refl}
@@ -20,7 +22,8 @@ use Rattle.tql_store.proofs.Numbers.{one_number, self_number, put-here, put-othe
 use Rattle.tql_store.proofs.Turning.{before, empty-rest, by_number, each-committed, each-undone, commit-bag}
 use Rattle.tql_store.proofs.Removing.{judged-rows, removable-rows, counted-rows}
 use Rattle.tql_store.specs.Held.{Held, AreRemovable, has_table, is_open, live, moment_or_high, named}
-use Rattle.tql_store.specs.Orderly.{empty, table_at, touch_at, IsUntouched, IsPut, AreAtRest, AreInTurn, AreReady, IsOrderly, IsCommitted, IsUndone, HaveEnded, HasTurned}
+use Rattle.tql_store.specs.Orderly.{empty, table_at, touch_at, IsUntouched, IsPut, AreAtRest, AreInTurn, AreReady}
+use Rattle.tql_store.specs.Orderly.{IsOrderly, IsCommitted, IsUndone, HaveEnded, HasTurned}
 use Rattle.tql_store.specs.Places.{place_of, place_for, is_taken, is_kept, is_brief}
 use Rattle.tql_store.specs.Represents.{Judged, ReplacesVersions, Takes}
 use Rattle.tql_store.specs.declared.tables.Place.{Place}
@@ -32,22 +35,35 @@ same-list {X} {xs} {ys} e = subst (SameBag xs) e (same-refl xs)
 -- ---- what a store shows
 
 abbrev pub shown : List Place → List rows.Held → Option ℤ → Option ℤ → Held
-shown places tables working last = record { tables = places; versions = map versions tables; working = working; last = last }
+shown places tables working last = record {
+  tables = places;
+  versions = map versions tables;
+  working = working;
+  last = last;
+}
 
 -- as the code tells it
-pub shows : (places : List Place) (tables : List rows.Held) (working last : Option ℤ) (h : Held) → shown places tables working last ≡ h → shown places tables working last ≡ h
+pub shows : (places : List Place) (tables : List rows.Held) (working last : Option ℤ) (h : Held)
+    → shown places tables working last ≡ h → shown places tables working last ≡ h
 shows places tables working last h e = e
 
-pub versions-of : {places : List Place} {working last : Option ℤ} (tables : List rows.Held) (h : Held) (t : ℕ) (x : rows.Held) → shown places tables working last ≡ h → x ≡ table_at tables t → slice_index_or h.versions t [] ≡ versions x
-versions-of tables h t x is e = ap (λ (k : Held). slice_index_or k.versions t []) (sym is) ∙ versions-at tables t ∙ ap versions (sym e)
+pub versions-of : {places : List Place} {working last : Option ℤ} (tables : List rows.Held) (h : Held) (t : ℕ)
+    (x : rows.Held) → shown places tables working last ≡ h → x ≡ table_at tables t
+    → slice_index_or h.versions t [] ≡ versions x
+versions-of tables h t x is e = ap (λ (k : Held). slice_index_or k.versions t []) (sym is) ∙ versions-at tables t
+    ∙ ap versions (sym e)
 
-pub live-of : {places : List Place} {working last : Option ℤ} (tables : List rows.Held) (h : Held) (t : ℕ) → shown places tables working last ≡ h → live h t ≡ rows.live (table_at tables t)
+pub live-of : {places : List Place} {working last : Option ℤ} (tables : List rows.Held) (h : Held) (t : ℕ)
+    → shown places tables working last ≡ h → live h t ≡ rows.live (table_at tables t)
 live-of tables h t is = ap (filter alive) (versions-of tables h t (table_at tables t) is refl)
 
 -- a table that is there has its number among them
-pub there-within : {places : List Place} {working last : Option ℤ} (tables : List rows.Held) (touched : List ℕ) (h : Held) (t : ℕ) → shown places tables working last ≡ h → IsOrderly places tables touched working last → is_taken (place_of h.tables t) ≡ true
+pub there-within : {places : List Place} {working last : Option ℤ} (tables : List rows.Held) (touched : List ℕ)
+    (h : Held) (t : ℕ) → shown places tables working last ≡ h → IsOrderly places tables touched working last
+    → is_taken (place_of h.tables t) ≡ true
     → t < length tables
-there-within {places} tables touched h t is o there = taken-within places tables t o.even (ap (λ (k : Held). is_taken (place_of k.tables t)) is ∙ there)
+there-within {places} tables touched h t is o there =
+    taken-within places tables t o.even (ap (λ (k : Held). is_taken (place_of k.tables t)) is ∙ there)
 
 -- ---- what its tables' indexes hold
 
@@ -55,19 +71,28 @@ pub record Indexed (h : rows.Held) : Type 0 where
   pub rest : List Entry
   pub is : IsIndexed h rest
 
-pub indexed-at : (places : List Place) (tables : List rows.Held) (touched : List ℕ) (working last : Option ℤ) → IsOrderly places tables touched working last → (t : ℕ) → Indexed (table_at tables t)
+pub indexed-at : (places : List Place) (tables : List rows.Held) (touched : List ℕ) (working last : Option ℤ)
+    → IsOrderly places tables touched working last → (t : ℕ) → Indexed (table_at tables t)
 indexed-at places tables touched None last o t = record { rest = []; is = (o.ready.rest t).indexed }
-indexed-at places tables touched (Some m) last o t = record { rest = noted m (table_at tables t); is = (o.ready.turn t).indexed }
+indexed-at places tables touched (Some m) last o t = record {
+  rest = noted m (table_at tables t);
+  is = (o.ready.turn t).indexed;
+}
 
-pub ended-at : (places : List Place) (tables : List rows.Held) (touched : List ℕ) (working last : Option ℤ) → IsOrderly places tables touched working last → (t : ℕ) → AreEnded (table_at tables t)
-ended-at places tables touched None last o t = λ v i. before last high v.end o.ready.below ((o.ready.rest t).since.ended v i)
-ended-at places tables touched (Some m) last o t = λ v i. let p = (o.ready.turn t).past v i in let b = o.ready.below in omega (arith, ints, p.1, b)
+pub ended-at : (places : List Place) (tables : List rows.Held) (touched : List ℕ) (working last : Option ℤ)
+    → IsOrderly places tables touched working last → (t : ℕ) → AreEnded (table_at tables t)
+ended-at places tables touched None last o t =
+    λ v i. before last high v.end o.ready.below ((o.ready.rest t).since.ended v i)
+ended-at places tables touched (Some m) last o t = λ v i. let p = (o.ready.turn t).past v i in let b =
+    o.ready.below in omega (arith, ints, p.1, b)
 
-none-current : (vs : List Version) → ((v : Version) → In v vs → v.end <ℤ high) → filter is_current (filter alive vs) ≡ []
+none-current : (vs : List Version) → ((v : Version) → In v vs → v.end <ℤ high)
+    → filter is_current (filter alive vs) ≡ []
 none-current [] h = refl
 none-current (v ∷ vs) h = chosen (alive v) (none-current vs (λ w i. h w (inr i)))
   where
-    chosen : (b : Bool) → filter is_current (filter alive vs) ≡ [] → filter is_current (cond b (v ∷ filter alive vs) (filter alive vs)) ≡ []
+    chosen : (b : Bool) → filter is_current (filter alive vs) ≡ []
+        → filter is_current (cond b (v ∷ filter alive vs) (filter alive vs)) ≡ []
     chosen true e = rw (eq_false {a = v.end} {b = high} (h v (inl refl))) e
     chosen false e = e
 
@@ -75,7 +100,8 @@ filter-append : (p : Version → Bool) (xs ys : List Version) → filter p (xs +
 filter-append p [] ys = refl
 filter-append p (x ∷ xs) ys = chosen (p x) (filter-append p xs ys)
   where
-    chosen : (b : Bool) → filter p (xs ++ ys) ≡ filter p xs ++ filter p ys → cond b (x ∷ filter p (xs ++ ys)) (filter p (xs ++ ys)) ≡ cond b (x ∷ filter p xs) (filter p xs) ++ filter p ys
+    chosen : (b : Bool) → filter p (xs ++ ys) ≡ filter p xs ++ filter p ys
+        → cond b (x ∷ filter p (xs ++ ys)) (filter p (xs ++ ys)) ≡ cond b (x ∷ filter p xs) (filter p xs) ++ filter p ys
     chosen true h = ap (λ zs. x ∷ zs) h
     chosen false h = h
 
@@ -84,22 +110,30 @@ append_none [] ws e = e
 append_none (v ∷ vs) ws e = ap (λ us. v ∷ us) (append_none vs ws e)
 
 -- what is current stands among the current versions
-pub current-only : (h : rows.Held) → AreEnded h → filter is_current (filter alive h.current) ≡ filter is_current (rows.live h)
-current-only h ended = sym (ap (filter is_current) (filter-append alive h.current h.closed) ∙ filter-append is_current (filter alive h.current) (filter alive h.closed)
+pub current-only : (h : rows.Held) → AreEnded h
+    → filter is_current (filter alive h.current) ≡ filter is_current (rows.live h)
+current-only h ended = sym (ap (filter is_current) (filter-append alive h.current h.closed)
+    ∙ filter-append is_current (filter alive h.current) (filter alive h.closed)
     ∙ append_none _ _ (none-current h.closed ended))
 
 -- ---- tables that come and go
 
-pub put-orderly : (keeps : Bool) (p : Place) (n : ℕ) (places next : List Place) (old new : List rows.Held) (touched : List ℕ) (working last : Option ℤ) (x : rows.Held) → IsOrderly places old touched working last → keeps ≡ is_kept p → Takes n p places next
-    → length new ≡ length next → length old ≤ length new → IsPut n x old new → x ≡ empty keeps → IsOrderly next new touched working last
+pub put-orderly : (keeps : Bool) (p : Place) (n : ℕ) (places next : List Place) (old new : List rows.Held)
+    (touched : List ℕ) (working last : Option ℤ) (x : rows.Held) → IsOrderly places old touched working last
+    → keeps ≡ is_kept p → Takes n p places next
+    → length new ≡ length next → length old ≤ length new → IsPut n x old new → x ≡ empty keeps
+    → IsOrderly next new touched working last
 put-orderly keeps p n places next old new touched working last x o match takes even more put is = record {
   even = even;
   keeps = λ t. by_number (λ (u : ℕ). (table_at new u).keeps ≡ is_kept (place_of next u)) t n
-      (ap (λ (h : rows.Held). h.keeps) here ∙ match ∙ sym (ap is_kept (takes.places n ∙ ap (λ (b : Bool). if b then p else place_of places n) (self_number n))))
-      (λ e. ap (λ (h : rows.Held). h.keeps) (put.others t e) ∙ o.keeps t ∙ sym (ap is_kept (takes.places t ∙ ap (λ (b : Bool). if b then p else place_of places t) e)));
+      (ap (λ (h : rows.Held). h.keeps) here ∙ match
+      ∙ sym (ap is_kept (takes.places n ∙ ap (λ (b : Bool). if b then p else place_of places n) (self_number n))))
+      (λ e. ap (λ (h : rows.Held). h.keeps) (put.others t e) ∙ o.keeps t
+      ∙ sym (ap is_kept (takes.places t ∙ ap (λ (b : Bool). if b then p else place_of places t) e)));
   gone = λ t. by_number (λ (u : ℕ). place_of next u ≡ Free → rows.live (table_at new u) ≡ []) t n
       (λ f. ap rows.live here)
-      (λ e f. ap rows.live (put.others t e) ∙ o.gone t (sym (takes.places t ∙ ap (λ (b : Bool). if b then p else place_of places t) e) ∙ f));
+      (λ e f. ap rows.live (put.others t e)
+      ∙ o.gone t (sym (takes.places t ∙ ap (λ (b : Bool). if b then p else place_of places t) e) ∙ f));
   ready = ready working o.ready;
 }
   where
@@ -110,30 +144,41 @@ put-orderly keeps p n places next old new touched working last x o match takes e
     ready None r = record {
       none = r.none;
       below = r.below;
-      rest = λ t. by_number (λ (u : ℕ). AtRest last (table_at new u)) t n (subst (AtRest last) (sym here) (empty-rest keeps last)) (λ e. subst (AtRest last) (sym (put.others t e)) (r.rest t));
+      rest = λ t. by_number (λ (u : ℕ). AtRest last (table_at new u)) t n
+          (subst (AtRest last) (sym here) (empty-rest keeps last))
+          (λ e. subst (AtRest last) (sym (put.others t e)) (r.rest t));
     }
     ready (Some m) r = record {
       below = r.below;
       under = r.under;
       turn = λ t. by_number (λ (u : ℕ). InTurn m (table_at new u)) t n
-          (subst (InTurn m) (sym here) (begin-turn last m (empty keeps) (empty-rest keeps last) r.under r.below)) (λ e. subst (InTurn m) (sym (put.others t e)) (r.turn t));
-      since = λ t. by_number (λ (u : ℕ). Since last (table_at new u)) t n (subst (Since last) (sym here) (empty-rest keeps last).since) (λ e. subst (Since last) (sym (put.others t e)) (r.since t));
+          (subst (InTurn m) (sym here) (begin-turn last m (empty keeps) (empty-rest keeps last) r.under r.below))
+          (λ e. subst (InTurn m) (sym (put.others t e)) (r.turn t));
+      since = λ t. by_number (λ (u : ℕ). Since last (table_at new u)) t n
+          (subst (Since last) (sym here) (empty-rest keeps last).since)
+          (λ e. subst (Since last) (sym (put.others t e)) (r.since t));
       rest = λ t. by_number (λ (u : ℕ). IsUntouched touched u → AtRest last (table_at new u)) t n
-          (λ away. subst (AtRest last) (sym here) (empty-rest keeps last)) (λ e away. subst (AtRest last) (sym (put.others t e)) (r.rest t away));
+          (λ away. subst (AtRest last) (sym here) (empty-rest keeps last))
+          (λ e away. subst (AtRest last) (sym (put.others t e)) (r.rest t away));
       within = λ k l. let w = r.within k l in omega (arith, w, more);
       apart = r.apart;
     }
 
 -- of the table that is put no version is there
-pub put-live : (keeps : Bool) (n : ℕ) (old new : List rows.Held) (x : rows.Held) → IsPut n x old new → x ≡ empty keeps → (t : ℕ) → rows.live (table_at new t) ≡ (if nat_eq t n then [] else rows.live (table_at old t))
+pub put-live : (keeps : Bool) (n : ℕ) (old new : List rows.Held) (x : rows.Held) → IsPut n x old new
+    → x ≡ empty keeps → (t : ℕ) → rows.live (table_at new t) ≡ (if nat_eq t n then [] else rows.live (table_at old t))
 put-live keeps n old new x put is t = by_bool (nat_eq t n)
-    (λ e. ap (λ (u : ℕ). rows.live (table_at new u)) (one_number t n e) ∙ ap rows.live (put.here ∙ is) ∙ sym (ap (λ (b : Bool). if b then [] else rows.live (table_at old t)) e))
+    (λ e. ap (λ (u : ℕ). rows.live (table_at new u)) (one_number t n e) ∙ ap rows.live (put.here ∙ is)
+    ∙ sym (ap (λ (b : Bool). if b then [] else rows.live (table_at old t)) e))
     (λ e. ap rows.live (put.others t e) ∙ sym (ap (λ (b : Bool). if b then [] else rows.live (table_at old t)) e))
 
 -- where none was, none is
-pub added-live : (n : ℕ) (old new : List rows.Held) → rows.live (table_at old n) ≡ [] → ((t : ℕ) → rows.live (table_at new t) ≡ (if nat_eq t n then [] else rows.live (table_at old t))) → (t : ℕ) → rows.live (table_at new t) ≡ rows.live (table_at old t)
+pub added-live : (n : ℕ) (old new : List rows.Held) → rows.live (table_at old n) ≡ []
+    → ((t : ℕ) → rows.live (table_at new t) ≡ (if nat_eq t n then [] else rows.live (table_at old t))) → (t : ℕ)
+    → rows.live (table_at new t) ≡ rows.live (table_at old t)
 added-live n old new none h t = h t ∙ by_bool (nat_eq t n)
-    (λ e. ap (λ (b : Bool). if b then [] else rows.live (table_at old t)) e ∙ sym none ∙ ap (λ (u : ℕ). rows.live (table_at old u)) (sym (one_number t n e)))
+    (λ e. ap (λ (b : Bool). if b then [] else rows.live (table_at old t)) e ∙ sym none
+    ∙ ap (λ (u : ℕ). rows.live (table_at old u)) (sym (one_number t n e)))
     (λ e. ap (λ (b : Bool). if b then [] else rows.live (table_at old t)) e)
 
 -- ---- transactions
@@ -142,66 +187,99 @@ pub some-moment : (o : Option ℤ) → IsSome o → o ≡ Some (moment_or_high o
 some-moment None h = absurd (let f = h in cc)
 some-moment (Some m) h = refl
 
-pub in_turn : {places : List Place} {tables : List rows.Held} {touched : List ℕ} {last : Option ℤ} (working : Option ℤ) (m : ℤ) → working ≡ Some m → IsOrderly places tables touched working last → IsOrderly places tables touched (Some m) last
-in_turn {places} {tables} {touched} {last} working m e o = subst (λ (w : Option ℤ). IsOrderly places tables touched w last) e o
+pub in_turn : {places : List Place} {tables : List rows.Held} {touched : List ℕ} {last : Option ℤ}
+    (working : Option ℤ) (m : ℤ) → working ≡ Some m → IsOrderly places tables touched working last
+    → IsOrderly places tables touched (Some m) last
+in_turn {places} {tables} {touched} {last} working m e o =
+    subst (λ (w : Option ℤ). IsOrderly places tables touched w last) e o
 
 one_moment : (o : Option ℤ) (m n : ℤ) → o ≡ Some m → o ≡ Some n → m ≡ n
 one_moment o m n e f = ap moment_or_high (sym e ∙ f)
 
-pub committed-versions : (m : ℤ) (working last : Option ℤ) (places : List Place) (old new : List rows.Held) (touched : List ℕ) (h g : Held) → working ≡ Some m → IsOrderly places old touched working last → HaveEnded (IsCommitted m) (length touched) touched old new
-    → shown places old working last ≡ h → g.versions ≡ map versions new → (t : ℕ) (n : ℤ) → h.working ≡ Some n → SameBag (live g t) (if is_brief (place_of h.tables t) then pruned n (live h t) else live h t)
+pub committed-versions : (m : ℤ) (working last : Option ℤ) (places : List Place) (old new : List rows.Held)
+    (touched : List ℕ) (h g : Held) → working ≡ Some m → IsOrderly places old touched working last
+    → HaveEnded (IsCommitted m) (length touched) touched old new
+    → shown places old working last ≡ h → g.versions ≡ map versions new → (t : ℕ) (n : ℤ) → h.working ≡ Some n
+    → SameBag (live g t) (if is_brief (place_of h.tables t) then pruned n (live h t) else live h t)
 committed-versions m working last places old new touched h g at o e is now t n w =
     let turn = in_turn working m at o in
     let same : m ≡ n = one_moment working m n at (ap (λ (k : Held). k.working) is ∙ w) in
-    subst (λ (k : Held). SameBag (live g t) (if is_brief (place_of k.tables t) then pruned n (live k t) else live k t)) is
-    (subst (λ (x : ℤ). SameBag (live g t) (if is_brief (place_of places t) then pruned x (live (shown places old working last) t) else live (shown places old working last) t)) same
-    (subst (λ vs. SameBag (live g t) (if is_brief (place_of places t) then pruned m vs else vs)) (sym (live-of old (shown places old working last) t refl))
-    (subst (λ vs. SameBag vs (if is_brief (place_of places t) then pruned m (rows.live (table_at old t)) else rows.live (table_at old t)))
-    (sym (ap (λ (vss : List (List Version)). filter alive (slice_index_or vss t [])) now ∙ ap (filter alive) (versions-at new t)))
-    (commit-bag m places t (table_at old t) (table_at new t) (turn.keeps t) (turn.gone t) (each-committed m last old new touched turn.ready e t)))))
+    subst (λ (k : Held). SameBag (live g t)
+    (if is_brief (place_of k.tables t) then pruned n (live k t) else live k t)) is
+    (subst (λ (x : ℤ). SameBag (live g t)
+    (if is_brief (place_of places t) then pruned x (live (shown places old working last) t) else live
+    (shown places old working last) t)) same
+    (subst (λ vs. SameBag (live g t) (if is_brief (place_of places t) then pruned m vs else vs))
+    (sym (live-of old (shown places old working last) t refl))
+    (subst (λ vs. SameBag vs
+    (if is_brief (place_of places t) then pruned m (rows.live (table_at old t)) else rows.live (table_at old t)))
+    (sym (ap (λ (vss : List (List Version)). filter alive (slice_index_or vss t [])) now
+    ∙ ap (filter alive) (versions-at new t)))
+    (commit-bag m places t (table_at old t) (table_at new t) (turn.keeps t) (turn.gone t)
+    (each-committed m last old new touched turn.ready e t)))))
 
-pub undone-versions : (m : ℤ) (working last : Option ℤ) (places : List Place) (old new : List rows.Held) (touched : List ℕ) (h g : Held) → working ≡ Some m → IsOrderly places old touched working last → HaveEnded (IsUndone m) (length touched) touched old new
-    → shown places old working last ≡ h → g.versions ≡ map versions new → (t : ℕ) (n : ℤ) → h.working ≡ Some n → SameBag (live g t) (undone n (live h t))
+pub undone-versions : (m : ℤ) (working last : Option ℤ) (places : List Place) (old new : List rows.Held)
+    (touched : List ℕ) (h g : Held) → working ≡ Some m → IsOrderly places old touched working last
+    → HaveEnded (IsUndone m) (length touched) touched old new
+    → shown places old working last ≡ h → g.versions ≡ map versions new → (t : ℕ) (n : ℤ) → h.working ≡ Some n
+    → SameBag (live g t) (undone n (live h t))
 undone-versions m working last places old new touched h g at o e is now t n w =
     let turn = in_turn working m at o in
     let same : m ≡ n = one_moment working m n at (ap (λ (k : Held). k.working) is ∙ w) in
     subst (λ (x : ℤ). SameBag (live g t) (undone x (live h t))) same
     (subst (λ vs. SameBag (live g t) (undone m vs)) (sym (live-of old h t is))
     (subst (λ vs. SameBag vs (undone m (rows.live (table_at old t))))
-    (sym (ap (λ (vss : List (List Version)). filter alive (slice_index_or vss t [])) now ∙ ap (filter alive) (versions-at new t)))
+    (sym (ap (λ (vss : List (List Version)). filter alive (slice_index_or vss t [])) now
+    ∙ ap (filter alive) (versions-at new t)))
     (each-undone m last old new touched turn.ready e t).versions))
 
 -- ---- changes
 
 -- what the store's contract asks is what its table asks
-pub removable-at : (m : ℤ) (working last : Option ℤ) (places : List Place) (tables : List rows.Held) (touched : List ℕ) (h : Held) (t : ℕ) (removed : List ℕ) → working ≡ Some m → IsOrderly places tables touched working last → shown places tables working last ≡ h
+pub removable-at : (m : ℤ) (working last : Option ℤ) (places : List Place) (tables : List rows.Held)
+    (touched : List ℕ) (h : Held) (t : ℕ) (removed : List ℕ) → working ≡ Some m
+    → IsOrderly places tables touched working last → shown places tables working last ≡ h
     → AreRemovable h t removed → rows.AreRemovable (table_at tables t) removed
 removable-at m working last places tables touched h t removed at o is r =
     let s = subst (λ (k : Held). AreRemovable k t removed) (sym is) r in
-    let s' = subst (λ (vs : List Version). All (λ id. IsTrue (is_open (slice_get vs id))) removed) (versions-at tables t) s.current in
+    let s' = subst (λ (vs : List Version). All (λ id. IsTrue (is_open (slice_get vs id))) removed)
+    (versions-at tables t) s.current in
     removable-rows m (table_at tables t) removed ((in_turn working m at o).ready.turn t) s' s.once
 
-pub replaces-at : {R : Type 0} (cells : R → List Datum) (added : List R) (m : ℤ) (working last : Option ℤ) (places : List Place) (old new : List rows.Held) (touched : List ℕ) (h g : Held) (n : ℕ) (removed : List ℕ) → working ≡ Some m
-    → IsOrderly places old touched working last → shown places old working last ≡ h → shown places new working last ≡ g → AreRemovable h n removed → HasTurned m n old new
-    → SameBag (rows.live (table_at new n)) (filter alive (closing m removed (table_at old n).current ++ (table_at old n).closed) ++ map (λ r. fresh m (cells r)) added)
-    → ((gone : Stamped → Bool) → IsJudged gone removed (table_at old n) → SameBag (rows.live (table_at new n)) (replaced m gone (map cells added) (rows.live (table_at old n))))
+pub replaces-at : {R : Type 0} (cells : R
+    → List Datum) (added : List R) (m : ℤ) (working last : Option ℤ) (places : List Place) (old new : List rows.Held)
+    (touched : List ℕ) (h g : Held) (n : ℕ) (removed : List ℕ) → working ≡ Some m
+    → IsOrderly places old touched working last → shown places old working last ≡ h
+    → shown places new working last ≡ g → AreRemovable h n removed → HasTurned m n old new
+    → SameBag (rows.live (table_at new n))
+    (filter alive (closing m removed (table_at old n).current ++ (table_at old n).closed) ++ map
+    (λ r. fresh m (cells r)) added)
+    → ((gone : Stamped → Bool) → IsJudged gone removed (table_at old n)
+    → SameBag (rows.live (table_at new n)) (replaced m gone (map cells added) (rows.live (table_at old n))))
     → ReplacesVersions n removed (map cells added) h g
-replaces-at {R} cells added m working last places old new touched h g n removed at o is now r turned bag judged = record {
-  tables = ap (λ (k : Held). k.tables) (sym now) ∙ ap (λ (k : Held). k.tables) is;
-  working = ap (λ (k : Held). k.working) (sym now) ∙ ap (λ (k : Held). k.working) is;
-  last = ap (λ (k : Held). k.last) (sym now) ∙ ap (λ (k : Held). k.last) is;
-  others = λ u e. same-list (live-of new g u now ∙ ap rows.live (turned.others u e) ∙ sym (live-of old h u is));
-  versions = λ x gone w j.
-      let same : m ≡ x = one_moment working m x at (ap (λ (k : Held). k.working) is ∙ w) in
-      subst (λ (y : ℤ). SameBag (live g n) (replaced y gone (map cells added) (live h n))) same
-      (subst (λ vs. SameBag vs (replaced m gone (map cells added) (live h n))) (sym (live-of new g n now))
-      (subst (λ vs. SameBag (rows.live (table_at new n)) (replaced m gone (map cells added) vs)) (sym (live-of old h n is))
-      (judged gone (judged-rows m (table_at old n) gone removed turn
-      (λ id v e. j id v (ap (λ (vs : List Version). slice_get vs id) (versions-of old h n (table_at old n) is refl) ∙ e))))));
-  counted = subst (λ vs. length (filter is_current vs) + length removed ≡ length (filter is_current (live h n)) + length (map cells added)) (sym (live-of new g n now))
-      (subst (λ vs. length (filter is_current (rows.live (table_at new n))) + length removed ≡ length (filter is_current vs) + length (map cells added)) (sym (live-of old h n is))
-      (counted-rows m cells added removed (table_at old n) (table_at new n) turn (removable-at m working last places old touched h n removed at o is r) bag ∙ ap (λ (k : ℕ). length (filter is_current (rows.live (table_at old n))) + k) (sym (length-cells added))));
-}
+replaces-at {R} cells added m working last places old new touched h g n removed at o is now r turned bag judged =
+    record {
+      tables = ap (λ (k : Held). k.tables) (sym now) ∙ ap (λ (k : Held). k.tables) is;
+      working = ap (λ (k : Held). k.working) (sym now) ∙ ap (λ (k : Held). k.working) is;
+      last = ap (λ (k : Held). k.last) (sym now) ∙ ap (λ (k : Held). k.last) is;
+      others = λ u e. same-list (live-of new g u now ∙ ap rows.live (turned.others u e) ∙ sym (live-of old h u is));
+      versions = λ x gone w j.
+          let same : m ≡ x = one_moment working m x at (ap (λ (k : Held). k.working) is ∙ w) in
+          subst (λ (y : ℤ). SameBag (live g n) (replaced y gone (map cells added) (live h n))) same
+          (subst (λ vs. SameBag vs (replaced m gone (map cells added) (live h n))) (sym (live-of new g n now))
+          (subst (λ vs. SameBag (rows.live (table_at new n)) (replaced m gone (map cells added) vs))
+          (sym (live-of old h n is))
+          (judged gone (judged-rows m (table_at old n) gone removed turn
+          (λ id v e. j id v (ap (λ (vs : List Version). slice_get vs id) (versions-of old h n (table_at old n) is refl)
+          ∙ e))))));
+      counted = subst (λ vs. length (filter is_current vs) + length removed ≡ length (filter is_current (live h n)) +
+          length (map cells added)) (sym (live-of new g n now))
+          (subst (λ vs. length (filter is_current (rows.live (table_at new n))) + length removed ≡ length
+          (filter is_current vs) + length (map cells added)) (sym (live-of old h n is))
+          (counted-rows m cells added removed (table_at old n) (table_at new n) turn
+          (removable-at m working last places old touched h n removed at o is r) bag
+          ∙ ap (λ (k : ℕ). length (filter is_current (rows.live (table_at old n))) + k) (sym (length-cells added))));
+    }
   where
     turn : InTurn m (table_at old n)
     turn = (in_turn working m at o).ready.turn n
@@ -216,13 +294,22 @@ pub kept_for : (b : Bool) → b ≡ is_kept (place_for b)
 kept_for true = refl
 kept_for false = refl
 
-live-shown : (new : List rows.Held) (g : Held) (t : ℕ) → g.versions ≡ map versions new → live g t ≡ rows.live (table_at new t)
-live-shown new g t now = ap (λ (vss : List (List Version)). filter alive (slice_index_or vss t [])) now ∙ ap (filter alive) (versions-at new t)
+live-shown : (new : List rows.Held) (g : Held) (t : ℕ) → g.versions ≡ map versions new
+    → live g t ≡ rows.live (table_at new t)
+live-shown new g t now = ap (λ (vss : List (List Version)). filter alive (slice_index_or vss t [])) now
+    ∙ ap (filter alive) (versions-at new t)
 
-pub dropped-versions : (n : ℕ) (places : List Place) (working last : Option ℤ) (old new : List rows.Held) (x : rows.Held) (h g : Held) → shown places old working last ≡ h → IsPut n x old new → x ≡ empty false → g.versions ≡ map versions new
+pub dropped-versions : (n : ℕ) (places : List Place) (working last : Option ℤ) (old new : List rows.Held)
+    (x : rows.Held) (h g : Held) → shown places old working last ≡ h → IsPut n x old new → x ≡ empty false
+    → g.versions ≡ map versions new
     → (t : ℕ) → SameBag (live g t) (if nat_eq t n then [] else live h t)
-dropped-versions n places working last old new x h g is put e now t = same-list (live-shown new g t now ∙ put-live false n old new x put e t ∙ ap (λ (vs : List Version). if nat_eq t n then [] else vs) (sym (live-of old h t is)))
+dropped-versions n places working last old new x h g is put e now t = same-list (live-shown new g t now
+    ∙ put-live false n old new x put e t
+    ∙ ap (λ (vs : List Version). if nat_eq t n then [] else vs) (sym (live-of old h t is)))
 
-pub added-versions : (keeps : Bool) (n : ℕ) (places : List Place) (working last : Option ℤ) (old new : List rows.Held) (x : rows.Held) (h g : Held) → shown places old working last ≡ h → rows.live (table_at old n) ≡ [] → IsPut n x old new → x ≡ empty keeps → g.versions ≡ map versions new
+pub added-versions : (keeps : Bool) (n : ℕ) (places : List Place) (working last : Option ℤ)
+    (old new : List rows.Held) (x : rows.Held) (h g : Held) → shown places old working last ≡ h
+    → rows.live (table_at old n) ≡ [] → IsPut n x old new → x ≡ empty keeps → g.versions ≡ map versions new
     → (t : ℕ) → live g t ≡ live h t
-added-versions keeps n places working last old new x h g is none put e now t = live-shown new g t now ∙ added-live n old new none (put-live keeps n old new x put e) t ∙ sym (live-of old h t is)
+added-versions keeps n places working last old new x h g is none put e now t = live-shown new g t now
+    ∙ added-live n old new none (put-live keeps n old new x put e) t ∙ sym (live-of old h t is)

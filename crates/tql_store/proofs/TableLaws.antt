@@ -12,7 +12,8 @@ use Rattle.tql_spec.specs.History.{TableEntry, still}
 use Rattle.tql_store.proofs.Laws.{stands-from, same-stands}
 use Rattle.tql_store.proofs.StoreLaws.{at_rest, no_horizon, of_parts}
 use Rattle.tql_store.specs.Changes.{newest, emptied}
-use Rattle.tql_store.specs.Represents.{Copies, Working, horizon_of, StandsWith, Represents, Takes, AddsTable, AddKeepsCopies, copies_without, DropEmpties}
+use Rattle.tql_store.specs.Represents.{Copies, Working, horizon_of, StandsWith, Represents, Takes, AddsTable}
+use Rattle.tql_store.specs.Represents.{AddKeepsCopies, copies_without, DropEmpties}
 use Rattle.tql_store.specs.Held.{Held, live}
 use Rattle.tql_store.specs.Places.{place_of, place_for, is_brief}
 use Rattle.tql_rows.specs.Changes.{Under}
@@ -26,7 +27,8 @@ decided u t e = grind (arith, nat_tests)
 -- ---- a new table
 
 -- the newest copy lies below where the copies end
-newest-under : (horizon : Option ℤ) (rows : List Stamped) (ends : Stamped → ℤ) (until : ℤ) (entries : List TableEntry) → Told horizon rows ends until entries → Under (newest entries) until
+newest-under : (horizon : Option ℤ) (rows : List Stamped) (ends : Stamped
+    → ℤ) (until : ℤ) (entries : List TableEntry) → Told horizon rows ends until entries → Under (newest entries) until
 newest-under horizon rows ends until [] told = tt
 newest-under horizon rows ends until (e ∷ older) told = told.0
 
@@ -35,32 +37,49 @@ under_more None m n u h = tt
 under_more (Some l) m n u h = omega (arith, ints)
 
 -- what stands for all copies does so from the last commit on
-from_last : (last o : Option ℤ) (versions : List Version) (entries : List TableEntry) (rows : List Stamped) → newest entries ≡ last → StandsWith None o versions entries rows → StandsWith last o versions entries rows
-from_last last None versions entries rows e s = stands-from last versions entries (subst (λ (g : Option ℤ). Under g high) e (newest-under None s.rows s.ends high entries s.told)) s
+from_last : (last o : Option ℤ) (versions : List Version) (entries : List TableEntry) (rows : List Stamped)
+    → newest entries ≡ last → StandsWith None o versions entries rows → StandsWith last o versions entries rows
+from_last last None versions entries rows e s =
+    stands-from last versions entries
+    (subst (λ (g : Option ℤ). Under g high) e (newest-under None s.rows s.ends high entries s.told)) s
 from_last last (Some m) versions entries rows e s =
-    let early : Under last m = subst (λ (g : Option ℤ). Under g m) e (newest-under None s.now.rows s.now.ends m entries s.now.told.1.1) in
+    let early : Under last m =
+    subst (λ (g : Option ℤ). Under g m) e (newest-under None s.now.rows s.now.ends m entries s.now.told.1.1) in
     let top : Under last high = under_more last m high early s.below in
-    record { since = early; below = s.below; now = stands-from last versions _ top s.now; before = stands-from last _ entries top s.before }
+    record {
+      since = early;
+      below = s.below;
+      now = stands-from last versions _ top s.now;
+      before = stands-from last _ entries top s.before;
+    }
 
 -- a table that is versioned or not
-from_either : (b : Bool) (last o : Option ℤ) (versions : List Version) (entries : List TableEntry) (rows : List Stamped) → newest entries ≡ last → StandsWith None o versions entries rows → StandsWith (if b then last else None) o versions entries rows
+from_either : (b : Bool) (last o : Option ℤ) (versions : List Version) (entries : List TableEntry)
+    (rows : List Stamped) → newest entries ≡ last → StandsWith None o versions entries rows
+    → StandsWith (if b then last else None) o versions entries rows
 from_either true last o versions entries rows e s = from_last last o versions entries rows e s
 from_either false last o versions entries rows e s = s
 
-horizon_at : (t : ℕ) (p : Place) (old new : List Place) (last : Option ℤ) (u : ℕ) → Takes t p old new → (b : Bool) → nat_eq u t ≡ b → horizon_of new last u ≡ (if is_brief (if b then p else place_of old u) then last else None)
-horizon_at t p old new last u takes b e = ap (λ (q : Place). if is_brief q then last else None) (takes.places u ∙ ap (λ (c : Bool). if c then p else place_of old u) e)
+horizon_at : (t : ℕ) (p : Place) (old new : List Place) (last : Option ℤ) (u : ℕ) → Takes t p old new → (b : Bool)
+    → nat_eq u t ≡ b → horizon_of new last u ≡ (if is_brief (if b then p else place_of old u) then last else None)
+horizon_at t p old new last u takes b e = ap (λ (q : Place). if is_brief q then last else None) (takes.places u
+    ∙ ap (λ (c : Bool). if c then p else place_of old u) e)
 
 pub add-keeps : (versioned : Bool) (t : ℕ) (old new : Held) → AddsTable versioned t old new → AddKeepsCopies old new
 add-keeps versioned t old new a = λ copies working r. record {
   dated = λ u. r.dated u ∙ sym a.last;
   stands = λ u. of_parts _ _ _ new refl a.last a.working u
-      (subst (λ (vs : List Version). StandsWith (horizon_of new.tables old.last u) old.working vs (copies u) (working u)) (sym (a.versions u))
+      (subst (λ (vs : List Version). StandsWith (horizon_of new.tables old.last u) old.working vs (copies u)
+      (working u)) (sym (a.versions u))
       (by_bool (nat_eq u t)
-      (λ same. subst (λ (g : Option ℤ). StandsWith g old.working (live old u) (copies u) (working u)) (sym (horizon_at t (place_for versioned) old.tables new.tables old.last u a.takes true same))
+      (λ same. subst (λ (g : Option ℤ). StandsWith g old.working (live old u) (copies u) (working u))
+      (sym (horizon_at t (place_for versioned) old.tables new.tables old.last u a.takes true same))
       (from_either (is_brief (place_for versioned)) old.last old.working (live old u) (copies u) (working u) (r.dated u)
       (subst (λ (g : Option ℤ). StandsWith g old.working (live old u) (copies u) (working u))
-      (no_horizon old.tables old.last u (ap is_brief (ap (place_of old.tables) (decided u t same) ∙ a.free))) (r.stands u))))
-      (λ other. subst (λ (g : Option ℤ). StandsWith g old.working (live old u) (copies u) (working u)) (sym (horizon_at t (place_for versioned) old.tables new.tables old.last u a.takes false other)) (r.stands u))));
+      (no_horizon old.tables old.last u (ap is_brief (ap (place_of old.tables) (decided u t same) ∙ a.free)))
+      (r.stands u))))
+      (λ other. subst (λ (g : Option ℤ). StandsWith g old.working (live old u) (copies u) (working u))
+      (sym (horizon_at t (place_for versioned) old.tables new.tables old.last u a.takes false other)) (r.stands u))));
 }
 
 -- ---- a dropped table
@@ -69,7 +88,9 @@ newest-emptied : (entries : List TableEntry) → newest (emptied entries) ≡ ne
 newest-emptied [] = refl
 newest-emptied (e ∷ older) = refl
 
-told-emptied : (horizon : Option ℤ) (rows : List Stamped) (ends : Stamped → ℤ) (until : ℤ) (entries : List TableEntry) → Told horizon rows ends until entries → Told None [] still until (emptied entries)
+told-emptied : (horizon : Option ℤ) (rows : List Stamped) (ends : Stamped
+    → ℤ) (until : ℤ) (entries : List TableEntry) → Told horizon rows ends until entries
+    → Told None [] still until (emptied entries)
 told-emptied horizon rows ends until [] told = inr (λ r m. absurd m)
 told-emptied horizon rows ends until (e ∷ older) told = (
   told.0,
@@ -80,7 +101,8 @@ told-emptied horizon rows ends until (e ∷ older) told = (
 )
 
 -- no version stands for copies without rows
-emptied-stands : (horizon : Option ℤ) (versions : List Version) (entries : List TableEntry) → StandsFor horizon versions entries → StandsFor None [] (emptied entries)
+emptied-stands : (horizon : Option ℤ) (versions : List Version) (entries : List TableEntry)
+    → StandsFor horizon versions entries → StandsFor None [] (emptied entries)
 emptied-stands horizon versions entries s = record {
   rows = [];
   ends = still;
@@ -90,7 +112,8 @@ emptied-stands horizon versions entries s = record {
   told = told-emptied horizon s.rows s.ends high entries s.told;
 }
 
-pub drop-empties : (t : ℕ) (old new : Held) → old.working ≡ None → Takes t Free old.tables new.tables → new.working ≡ old.working → new.last ≡ old.last
+pub drop-empties : (t : ℕ) (old new : Held) → old.working ≡ None → Takes t Free old.tables new.tables
+    → new.working ≡ old.working → new.last ≡ old.last
     → ((u : ℕ) → SameBag (live new u) (if nat_eq u t then [] else live old u)) → DropEmpties t old new
 drop-empties t old new closed takes working_same last versions = λ copies working r. record {
   dated = λ u. dated (nat_eq u t) (copies u) ∙ r.dated u ∙ sym last;
@@ -107,15 +130,26 @@ drop-empties t old new closed takes working_same last versions = λ copies worki
     left : (u : ℕ) (b : Bool) → nat_eq u t ≡ b → SameBag (live new u) (if b then [] else live old u)
     left u b e = subst (λ (c : Bool). SameBag (live new u) (if c then [] else live old u)) e (versions u)
 
-    gone : (copies : Copies) (u : ℕ) → nat_eq u t ≡ true → StandsFor (horizon_of old.tables old.last u) (live old u) (copies u) → StandsFor (horizon_of new.tables old.last u) (live new u) (copies_without t copies u)
-    gone copies u same s = rw (same, horizon_at t Free old.tables new.tables old.last u takes true same) (same-stands (left u true same) (emptied-stands _ (live old u) (copies u) s))
+    gone : (copies : Copies) (u : ℕ) → nat_eq u t ≡ true
+        → StandsFor (horizon_of old.tables old.last u) (live old u) (copies u)
+        → StandsFor (horizon_of new.tables old.last u) (live new u) (copies_without t copies u)
+    gone copies u same s =
+        rw (same, horizon_at t Free old.tables new.tables old.last u takes true same)
+        (same-stands (left u true same) (emptied-stands _ (live old u) (copies u) s))
 
-    stays : (copies : Copies) (u : ℕ) → nat_eq u t ≡ false → StandsFor (horizon_of old.tables old.last u) (live old u) (copies u) → StandsFor (horizon_of new.tables old.last u) (live new u) (copies_without t copies u)
-    stays copies u other s = rw (other, horizon_at t Free old.tables new.tables old.last u takes false other) (same-stands (left u false other) s)
+    stays : (copies : Copies) (u : ℕ) → nat_eq u t ≡ false
+        → StandsFor (horizon_of old.tables old.last u) (live old u) (copies u)
+        → StandsFor (horizon_of new.tables old.last u) (live new u) (copies_without t copies u)
+    stays copies u other s =
+        rw (other, horizon_at t Free old.tables new.tables old.last u takes false other)
+        (same-stands (left u false other) s)
 
 -- ---- copies and working copies that are one
 
-same_first : {horizon : Option ℤ} {versions : List Version} (m : ℤ) (rows others : List Stamped) (older : List TableEntry) → SameBag others rows → StandsFor horizon versions (record { moment = m; rows = rows } ∷ older) → StandsFor horizon versions (record { moment = m; rows = others } ∷ older)
+same_first : {horizon : Option ℤ} {versions : List Version} (m : ℤ) (rows others : List Stamped)
+    (older : List TableEntry) → SameBag others rows
+    → StandsFor horizon versions (record { moment = m; rows = rows } ∷ older)
+    → StandsFor horizon versions (record { moment = m; rows = others } ∷ older)
 same_first m rows others older h s = record {
   rows = s.rows;
   ends = s.ends;
@@ -134,14 +168,23 @@ same_first m rows others older h s = record {
   );
 }
 
-same_with : (horizon o : Option ℤ) (versions : List Version) (entries : List TableEntry) (rows others : List Stamped) → SameBag others rows → StandsWith horizon o versions entries rows → StandsWith horizon o versions entries others
+same_with : (horizon o : Option ℤ) (versions : List Version) (entries : List TableEntry) (rows others : List Stamped)
+    → SameBag others rows → StandsWith horizon o versions entries rows → StandsWith horizon o versions entries others
 same_with horizon None versions entries rows others h s = s
-same_with horizon (Some m) versions entries rows others h s = record { since = s.since; below = s.below; now = same_first m rows others entries h s.now; before = s.before }
+same_with horizon (Some m) versions entries rows others h s = record {
+  since = s.since;
+  below = s.below;
+  now = same_first m rows others entries h s.now;
+  before = s.before;
+}
 
 -- a store stands for copies also where they are given in another way, and for working rows in another order
-pub represents-same : (h : Held) (copies others : Copies) (working changed : Working) → ((t : ℕ) → copies t ≡ others t) → ((t : ℕ) → SameBag (changed t) (working t)) → Represents h copies working → Represents h others changed
+pub represents-same : (h : Held) (copies others : Copies) (working changed : Working)
+    → ((t : ℕ) → copies t ≡ others t) → ((t : ℕ) → SameBag (changed t) (working t)) → Represents h copies working
+    → Represents h others changed
 represents-same h copies others working changed same bags r = record {
   dated = λ t. ap newest (sym (same t)) ∙ r.dated t;
-  stands = λ t. subst (λ (entries : List TableEntry). StandsWith (horizon_of h.tables h.last t) h.working (live h t) entries (changed t)) (same t)
+  stands = λ t. subst (λ (entries : List TableEntry). StandsWith (horizon_of h.tables h.last t) h.working (live h t)
+      entries (changed t)) (same t)
       (same_with _ h.working (live h t) (copies t) (working t) (changed t) (bags t) (r.stands t));
 }

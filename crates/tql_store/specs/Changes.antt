@@ -34,8 +34,10 @@ rows_after m gone added rows = filter (λ r. not (gone r)) rows ++ map (starting
 abbrev pub emptied : List TableEntry → List TableEntry
 emptied entries = map (λ (e : TableEntry). record { moment = e.moment; rows = [] }) entries
 
--- in a transaction of a moment the versions stand for the copies with the working one, and without what it did for those before
-pub record InTransaction (horizon : Option ℤ) (versions : List Version) (working : TableEntry) (older : List TableEntry) : Type 0 where
+-- in a transaction of a moment the versions stand for the copies with the working one, and without what it did for
+-- those before
+pub record InTransaction (horizon : Option ℤ) (versions : List Version) (working : TableEntry)
+    (older : List TableEntry) : Type 0 where
   pub since : Under horizon working.moment
   pub below : working.moment <ℤ high
   pub now : StandsFor horizon versions (working ∷ older)

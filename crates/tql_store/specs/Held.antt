@@ -1,12 +1,14 @@
 -- What a store holds: its tables by their numbers, and the versions of each.
-use Rattle.std.specs.Prelude.{ℕ, ◌≤◌, Bool, false, ◌&&◌, ◌||◌, List, [], ◌∷◌, filter, count_by, nat_eq, slice_get, slice_index_or, All, IsTrue, ℤ, Option, Some, None}
+use Rattle.std.specs.Prelude.{ℕ, ◌≤◌, Bool, false, ◌&&◌, ◌||◌, List, [], ◌∷◌, filter, count_by, nat_eq, slice_get}
+use Rattle.std.specs.Prelude.{slice_index_or, All, IsTrue, ℤ, Option, Some, None}
 use Rattle.tql_spec.specs.Calendar.{high}
 use Rattle.tql_spec.specs.Definition.{Version}
 use Rattle.tql_rows.specs.Changes.{alive, is_current}
 use Rattle.tql_store.specs.Places.{place_of, is_taken, is_kept}
 use Rattle.tql_store.specs.declared.tables.Place.{Place}
 
--- a store: what stands at each table's number; the versions of each, by whose places they are named; the moment of an open transaction; the last commit's
+-- a store: what stands at each table's number; the versions of each, by whose places they are named; the moment of an
+-- open transaction; the last commit's
 pub record Held : Type 0 where
   pub tables : List Place
   pub versions : List (List Version)

@@ -1,5 +1,7 @@
--- What a store keeps true of its tables: each at rest or in the open transaction, and that it touched those that are not at rest.
-use Rattle.std.specs.Prelude.{◌≡◌, ◌≢◌, ◌⊎◌, ℕ, ◌<◌, ◌++◌, Bool, false, List, [], ◌∷◌, length, slice_index_or, Contains, Option, Some, None, ℤ, ◌<ℤ◌, if◌then◌else◌, nat_eq}
+-- What a store keeps true of its tables: each at rest or in the open transaction, and that it touched those that are
+-- not at rest.
+use Rattle.std.specs.Prelude.{◌≡◌, ◌≢◌, ◌⊎◌, ℕ, ◌<◌, ◌++◌, Bool, false, List, [], ◌∷◌, length, slice_index_or}
+use Rattle.std.specs.Prelude.{Contains, Option, Some, None, ℤ, ◌<ℤ◌, if◌then◌else◌, nat_eq}
 use Rattle.tql_spec.specs.Bag.{SameBag}
 use Rattle.tql_spec.specs.Calendar.{high}
 use Rattle.tql_spec.specs.Definition.{Version}
@@ -14,7 +16,16 @@ use Rattle.tql_store.specs.declared.tables.Place.TheVariants.{Free}
 
 -- a table without versions, that keeps its history or does not
 abbrev pub empty : Bool → rows.Held
-empty keeps = record { keeps = keeps; current = []; base = 0; ended = []; dead = []; closed = []; room = 0; entries = [] }
+empty keeps = record {
+  keeps = keeps;
+  current = [];
+  base = 0;
+  ended = [];
+  dead = [];
+  closed = [];
+  room = 0;
+  entries = [];
+}
 
 -- the table of a number; past the end one without versions
 abbrev pub table_at : List rows.Held → ℕ → rows.Held
@@ -50,7 +61,8 @@ abbrev pub AreReady : Option ℤ → Option ℤ → List rows.Held → List ℕ 
 AreReady None last tables touched = AreAtRest last tables touched
 AreReady (Some m) last tables touched = AreInTurn m last tables touched
 
-pub record IsOrderly (places : List Place) (tables : List rows.Held) (touched : List ℕ) (working last : Option ℤ) : Type 0 where
+pub record IsOrderly (places : List Place) (tables : List rows.Held) (touched : List ℕ) (working last : Option ℤ) :
+    Type 0 where
   pub even : length tables ≡ length places
   pub keeps : (t : ℕ) → (table_at tables t).keeps ≡ is_kept (place_of places t)
   pub gone : (t : ℕ) → place_of places t ≡ Free → rows.live (table_at tables t) ≡ []
@@ -69,7 +81,8 @@ pub record IsUndone (m : ℤ) (old new : rows.Held) : Type 0 where
   pub versions : SameBag (rows.live new) (undone m (rows.live old))
 
 -- so many of the tables of these numbers have ended, and no other was looked at
-pub record HaveEnded (Ends : rows.Held → rows.Held → Type 0) (n : ℕ) (touched : List ℕ) (old new : List rows.Held) : Type 0 where
+pub record HaveEnded (Ends : rows.Held → rows.Held
+    → Type 0) (n : ℕ) (touched : List ℕ) (old new : List rows.Held) : Type 0 where
   pub even : length new ≡ length old
   pub ended : (k : ℕ) → k < n → Ends (table_at old (touch_at touched k)) (table_at new (touch_at touched k))
   pub others : (t : ℕ) → ((k : ℕ) → k < n → touch_at touched k ≢ t) → table_at new t ≡ table_at old t

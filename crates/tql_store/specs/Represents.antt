@@ -1,5 +1,6 @@
 -- A store stands for the copies of the machine that copies each table at each commit.
-use Rattle.std.specs.Prelude.{◌≡◌, ℕ, ◌+◌, Bool, false, ◌&&◌, List, ◌∷◌, filter, length, ℤ, nat_eq, Option, Some, None, if◌then◌else◌}
+use Rattle.std.specs.Prelude.{◌≡◌, ℕ, ◌+◌, Bool, false, ◌&&◌, List, ◌∷◌, filter, length, ℤ, nat_eq, Option, Some}
+use Rattle.std.specs.Prelude.{None, if◌then◌else◌}
 use Rattle.tql_spec.specs.Bag.{SameBag}
 use Rattle.tql_spec.specs.Datum.{Datum}
 use Rattle.tql_spec.specs.Definition.{Stamped, Version}
@@ -23,14 +24,18 @@ Copies = ℕ → List TableEntry
 abbrev pub Working : Type 0
 Working = ℕ → List Stamped
 
--- from where on the versions of a table are kept: all of them, or of an unversioned table what stands since the last commit
+-- from where on the versions of a table are kept: all of them, or of an unversioned table what stands since the last
+-- commit
 abbrev pub horizon_of : List Place → Option ℤ → ℕ → Option ℤ
 horizon_of places last t = if is_brief (place_of places t) then last else None
 
 -- with no transaction open the versions of a table stand for its copies; else for these with the working one
 abbrev pub StandsWith : Option ℤ → Option ℤ → List Version → List TableEntry → List Stamped → Type 0
 StandsWith horizon None versions entries rows = StandsFor horizon versions entries
-StandsWith horizon (Some m) versions entries rows = InTransaction horizon versions (record { moment = m; rows = rows }) entries
+StandsWith horizon (Some m) versions entries rows = InTransaction horizon versions (record {
+  moment = m;
+  rows = rows;
+}) entries
 
 -- the store stands for these copies of each table, and, if a transaction is open, this working copy
 pub record Represents (h : Held) (copies : Copies) (working : Working) : Type 0 where
@@ -41,7 +46,8 @@ pub record Represents (h : Held) (copies : Copies) (working : Working) : Type 0 
 
 -- what a beginning does: the working copy is the last one
 abbrev pub BeginCopies : Held → Held → Type 0
-BeginCopies old new = (copies : Copies) (working : Working) → Represents old copies working → Represents new copies (λ t. last_rows (copies t))
+BeginCopies old new = (copies : Copies) (working : Working) → Represents old copies working
+    → Represents new copies (λ t. last_rows (copies t))
 
 -- the copies with a working one
 abbrev pub appended : ℤ → Working → Copies → Copies
@@ -49,17 +55,20 @@ appended m working copies t = record { moment = m; rows = working t } ∷ copies
 
 -- what a commit does to the copies
 abbrev pub CommitAppends : Held → Held → Type 0
-CommitAppends old new = (copies : Copies) (working : Working) (m : ℤ) → old.working ≡ Some m → Represents old copies working → Represents new (appended m working copies) working
+CommitAppends old new = (copies : Copies) (working : Working) (m : ℤ) → old.working ≡ Some m
+    → Represents old copies working → Represents new (appended m working copies) working
 
 -- what a rollback gives back
 abbrev pub RollbackRestores : Held → Held → Type 0
-RollbackRestores old new = (copies : Copies) (working : Working) (m : ℤ) → old.working ≡ Some m → Represents old copies working → Represents new copies working
+RollbackRestores old new = (copies : Copies) (working : Working) (m : ℤ) → old.working ≡ Some m
+    → Represents old copies working → Represents new copies working
 
 -- ---- changes
 
 -- the ids listed are those of the versions that a change of a table takes away: what goes is told by the rows' values
 abbrev pub Judged : Held → ℕ → (Stamped → Bool) → List ℕ → Type 0
-Judged h t gone removed = (id : ℕ) (v : Version) → named h t id ≡ Some v → is_among id removed ≡ (alive v && (is_current v && gone v.row))
+Judged h t gone removed = (id : ℕ) (v : Version) → named h t id ≡ Some v
+    → is_among id removed ≡ (alive v && (is_current v && gone v.row))
 
 -- a change of a table: those of its versions that go are replaced by those that come, and nothing else is touched
 pub record ReplacesVersions (t : ℕ) (removed : List ℕ) (added : List (List Datum)) (old new : Held) : Type 0 where
@@ -67,8 +76,10 @@ pub record ReplacesVersions (t : ℕ) (removed : List ℕ) (added : List (List D
   pub working : new.working ≡ old.working
   pub last : new.last ≡ old.last
   pub others : (u : ℕ) → nat_eq u t ≡ false → SameBag (live new u) (live old u)
-  pub versions : (m : ℤ) (gone : Stamped → Bool) → old.working ≡ Some m → Judged old t gone removed → SameBag (live new t) (replaced m gone added (live old t))
-  pub counted : length (filter is_current (live new t)) + length removed ≡ length (filter is_current (live old t)) + length added
+  pub versions : (m : ℤ) (gone : Stamped → Bool) → old.working ≡ Some m → Judged old t gone removed
+      → SameBag (live new t) (replaced m gone added (live old t))
+  pub counted : length (filter is_current (live new t)) + length removed ≡ length (filter is_current (live old t)) +
+      length added
 
 -- the working copy with other rows of one table
 abbrev pub with_rows : ℕ → List Stamped → Working → Working
@@ -76,7 +87,8 @@ with_rows t rows working u = if nat_eq u t then rows else working u
 
 -- what a change does: of its table the rows that go are replaced by those that come
 abbrev pub ChangeReplaces : ℕ → List ℕ → List (List Datum) → Held → Held → Type 0
-ChangeReplaces t removed added old new = (copies : Copies) (working : Working) (m : ℤ) (gone : Stamped → Bool) → old.working ≡ Some m → Judged old t gone removed → Represents old copies working
+ChangeReplaces t removed added old new = (copies : Copies) (working : Working) (m : ℤ) (gone : Stamped → Bool)
+    → old.working ≡ Some m → Judged old t gone removed → Represents old copies working
     → Represents new copies (with_rows t (rows_after m gone added (working t)) working)
 
 -- ---- tables
@@ -96,7 +108,8 @@ pub record AddsTable (versioned : Bool) (t : ℕ) (old new : Held) : Type 0 wher
 
 -- the same copies: the new table has no row in any, as its number had none
 abbrev pub AddKeepsCopies : Held → Held → Type 0
-AddKeepsCopies old new = (copies : Copies) (working : Working) → Represents old copies working → Represents new copies working
+AddKeepsCopies old new = (copies : Copies) (working : Working) → Represents old copies working
+    → Represents new copies working
 
 -- the copies without the rows of a table
 abbrev pub copies_without : ℕ → Copies → Copies
@@ -104,7 +117,8 @@ copies_without t copies u = if nat_eq u t then emptied (copies u) else copies u
 
 -- what a drop does to the copies
 abbrev pub DropEmpties : ℕ → Held → Held → Type 0
-DropEmpties t old new = (copies : Copies) (working : Working) → Represents old copies working → Represents new (copies_without t copies) working
+DropEmpties t old new = (copies : Copies) (working : Working) → Represents old copies working
+    → Represents new (copies_without t copies) working
 
 -- ---- readings
 
@@ -115,10 +129,13 @@ seen_by (Some m) copies working = appended m working copies
 
 -- what a reading answers: what the definitions find in the copies
 abbrev pub AnswersAsOf : Held → ℕ → ℤ → List Version → Type 0
-AnswersAsOf h t m found = (copies : Copies) (working : Working) → Represents h copies working → SameBag found (as_of m (seen_by h.working copies working t))
+AnswersAsOf h t m found = (copies : Copies) (working : Working) → Represents h copies working
+    → SameBag found (as_of m (seen_by h.working copies working t))
 
 abbrev pub AnswersFromTo : Held → ℕ → ℤ → ℤ → List Version → Type 0
-AnswersFromTo h t a b found = (copies : Copies) (working : Working) → Represents h copies working → SameBag found (from_to a b (seen_by h.working copies working t))
+AnswersFromTo h t a b found = (copies : Copies) (working : Working) → Represents h copies working
+    → SameBag found (from_to a b (seen_by h.working copies working t))
 
 abbrev pub AnswersNow : Held → ℕ → List Version → Type 0
-AnswersNow h t found = (copies : Copies) (working : Working) → Represents h copies working → SameBag found (current (seen_by h.working copies working t))
+AnswersNow h t found = (copies : Copies) (working : Working) → Represents h copies working
+    → SameBag found (current (seen_by h.working copies working t))

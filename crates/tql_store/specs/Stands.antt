@@ -36,7 +36,8 @@ Unborn rows until = (r : Stamped) → In r rows → until ≤ℤ r.start
 -- so it is in each copy, newest first, that stands beyond the horizon; before the first no row begins
 abbrev pub Told : Option ℤ → List Stamped → (Stamped → ℤ) → ℤ → List TableEntry → Type 0
 Told horizon rows ends until [] = Past horizon until ⊎ Unborn rows until
-Told horizon rows ends until (e ∷ older) = (e.moment <ℤ until) × ((Past horizon until ⊎ Fits rows ends e until) × Told horizon rows ends e.moment older)
+Told horizon rows ends until (e ∷ older) =
+    (e.moment <ℤ until) × ((Past horizon until ⊎ Fits rows ends e until) × Told horizon rows ends e.moment older)
 
 -- each row begins before it ends
 abbrev pub Proper : List Stamped → (Stamped → ℤ) → Type 0

@@ -1,5 +1,6 @@
 -- The most parentheses that are open at once.
-use Rattle.std.specs.Prelude.{◌≡◌, refl, ℕ, suc, pred, max, ◌+◌, ◌-◌, ◌<◌, ◌≤◌, List, [], ◌∷◌, map, drop, length, get_or}
+use Rattle.std.specs.Prelude.{◌≡◌, refl, ℕ, suc, pred, max, ◌+◌, ◌-◌, ◌<◌, ◌≤◌, List, [], ◌∷◌, map, drop, length}
+use Rattle.std.specs.Prelude.{get_or}
 use Rattle.std.proofs.Common.{arith, ap, sym, ◌∙◌, add-one}
 use Rattle.std.proofs.Math.Seq.{drop-cons}
 use Rattle.tql_spec.specs.Token.{Token, Word, QuotedName, Number, Quote, Sign, Open, Close, depth, depth_from}
@@ -18,7 +19,8 @@ open_at_once n (Sign Open ∷ ts) = omega arith
 open_at_once n (Sign Close ∷ ts) = omega arith
 open_at_once n (Sign _ ∷ ts) = open_at_once n ts
 
-pub depth_from-cons : (n : ℕ) (t : Token) (ts : List Token) → depth_from n (t ∷ ts) ≡ max n (depth_from (open_behind n t) ts)
+pub depth_from-cons : (n : ℕ) (t : Token) (ts : List Token)
+    → depth_from n (t ∷ ts) ≡ max n (depth_from (open_behind n t) ts)
 depth_from-cons n (Word w) ts = let h = open_at_once n ts in omega arith
 depth_from-cons n (QuotedName w) ts = let h = open_at_once n ts in omega arith
 depth_from-cons n (Number w) ts = let h = open_at_once n ts in omega arith

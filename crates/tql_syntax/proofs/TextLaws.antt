@@ -12,13 +12,15 @@ use Rattle.tql_syntax.specs.Parses.{Spells, SpellsNone}
 use Rattle.tql_syntax.specs.Texts.{SpellsText, ReadsText}
 use Rattle.tql_grammar.proofs.TextLaws.{not_deep}
 
-no_statement : (text : List ℕ) (ts : List Token) → AreTokens ts text → SpellsNone ts → (s : Statement) → IsTextOf IsStatement text s → ⊥
+no_statement : (text : List ℕ) (ts : List Token) → AreTokens ts text → SpellsNone ts → (s : Statement)
+    → IsTextOf IsStatement text s → ⊥
 no_statement text ts are none s (us, tokens, spelled) =
     let same : ts ≡ us = one_list text ts us are tokens.0 in
     none s (subst (λ vs. IsStatement s vs) (sym same) spelled)
 
 -- what the tokens say the text says
-pub spelled_says : (text : List ℕ) (ts : List Token) → AreTokens ts text → (result : Result code.Tree Refusal) → Spells ts result → SpellsText text result
+pub spelled_says : (text : List ℕ) (ts : List Token) → AreTokens ts text → (result : Result code.Tree Refusal)
+    → Spells ts result → SpellsText text result
 spelled_says text ts are (Ok s) p = (ts, (are, p.0), p.1)
 spelled_says text ts are (Err r.NestedTooDeep) p = (ts, are, p)
 spelled_says text ts are (Err r.NotAStatement) p = (not_deep text ts are p.0, no_statement text ts are p.1)
@@ -50,7 +52,8 @@ whole : (text : List ℕ) → length text ≤ 1_048_576 → IsUtf8 text → IsWh
 whole text short utf8 = record { short = short; utf8 = utf8; finished = refl }
 
 -- and where the bytes have no fault, the bytes
-pub text_says : (text : List ℕ) → length text ≤ 1_048_576 → IsUtf8 text → (result : Result code.Tree Refusal) → SpellsText text result → ReadsText text result
+pub text_says : (text : List ℕ) → length text ≤ 1_048_576 → IsUtf8 text → (result : Result code.Tree Refusal)
+    → SpellsText text result → ReadsText text result
 text_says text short utf8 (Ok s) p = (whole text short utf8, p)
 text_says text short utf8 (Err r.NestedTooDeep) p = (whole text short utf8, p)
 text_says text short utf8 (Err r.NotAStatement) p = (whole text short utf8, p.0, p.1)

@@ -5,7 +5,8 @@ use Rattle.tql_spec.specs.Syntax as tree
 use Rattle.tql_spec.specs.Syntax.{is_too_wide}
 use Rattle.tql_spec.specs.Grammar.{IsStatement}
 use Rattle.tql_value.specs.declared.refusal.Refusal.{Refusal}
-use Rattle.tql_value.specs.declared.refusal.Refusal.TheVariants.{NestedTooDeep, NotAStatement, TooManyColumnsOrTables, OutOfMemory}
+use Rattle.tql_value.specs.declared.refusal.Refusal.TheVariants.{NestedTooDeep, NotAStatement, TooManyColumnsOrTables}
+use Rattle.tql_value.specs.declared.refusal.Refusal.TheVariants.{OutOfMemory}
 use Rattle.tql_tree.specs.Trees.{tree_of}
 use Rattle.tql_tree.specs.declared.tree.Tree.{Tree}
 

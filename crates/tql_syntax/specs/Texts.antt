@@ -4,7 +4,8 @@ use Rattle.tql_spec.specs.Syntax as tree
 use Rattle.tql_spec.specs.Grammar.{IsStatement}
 use Rattle.tql_spec.specs.Run.{IsWhole, IsDeep, IsTextOf, finished}
 use Rattle.tql_value.specs.declared.refusal.Refusal.{Refusal}
-use Rattle.tql_value.specs.declared.refusal.Refusal.TheVariants.{StatementTooLong, NotUtf8, NestedTooDeep, NotAStatement, OutOfMemory}
+use Rattle.tql_value.specs.declared.refusal.Refusal.TheVariants.{StatementTooLong, NotUtf8, NestedTooDeep}
+use Rattle.tql_value.specs.declared.refusal.Refusal.TheVariants.{NotAStatement, OutOfMemory}
 use Rattle.tql_tree.specs.Trees.{tree_of}
 use Rattle.tql_tree.specs.declared.tree.Tree.{Tree}
 

@@ -13,8 +13,10 @@ pub one_more_counted : {X : Type 0} (f : X → ℕ) (xs : List X) (d : X) (total
 one_more_counted f xs d total count i r lt h is = omega (arith, sum_by-drop_more f xs i d lt)
 
 -- all are counted
-pub all_counted : {X : Type 0} (f : X → ℕ) (xs : List X) (total count i : ℕ) → length xs ≤ i → total ≡ count + sum_by f (drop i xs) → total ≡ count
-all_counted f xs total count i le h = let none : sum_by f (drop i xs) ≡ 0 = at_drop_all (sum_by f) xs i le in omega arith
+pub all_counted : {X : Type 0} (f : X → ℕ) (xs : List X) (total count i : ℕ) → length xs ≤ i
+    → total ≡ count + sum_by f (drop i xs) → total ≡ count
+all_counted f xs total count i le h = let none : sum_by f (drop i xs) ≡ 0 =
+    at_drop_all (sum_by f) xs i le in omega arith
 
 -- an element counts as one column at most
 pub one_column : (e : Element) → columns_in e ≤ 1
@@ -30,7 +32,8 @@ counted_test g w xs limit first count h =
 
 -- the count is over the limit before all are counted
 pub counted_enough : {X Y : Type 0} (g : X → Y) (w : Y → ℕ) (xs : List X) (limit first count left : ℕ)
-    → first + sum_by (λ x. w (g x)) xs ≡ count + left → limit < count → true ≡ nat_lt limit (first + sum_by w (map g xs))
+    → first + sum_by (λ x. w (g x)) xs ≡ count + left → limit < count
+    → true ≡ nat_lt limit (first + sum_by w (map g xs))
 counted_enough g w xs limit first count left h over =
     let all = sum-map g w xs in
     sym (lt-ltb limit (first + sum_by w (map g xs)) (omega (arith, all)))

@@ -18,7 +18,9 @@ use Rattle.tql_tree.specs.declared.condition.CondIn.{CondIn}
 use Rattle.tql_tree.specs.declared.condition.ConjIn.{ConjIn}
 use Rattle.tql_tree.specs.declared.condition.FactorIn.{FactorIn}
 use Rattle.tql_tree.specs.declared.condition.TestIn.{TestIn}
-use Rattle.tql_tree.specs.declared.condition.TestIn.TheOpen.{TestIn-F, CondIn-F, ConjIn-F, FactorIn-F, Grouped, Compared, Null, Between, In, Related, ContainsPeriod, ContainsPoint}
+use Rattle.tql_tree.specs.declared.condition.TestIn.TheOpen.{TestIn-F, CondIn-F, ConjIn-F, FactorIn-F, Grouped}
+use Rattle.tql_tree.specs.declared.condition.TestIn.TheOpen.{Compared, Null, Between, In, Related, ContainsPeriod}
+use Rattle.tql_tree.specs.declared.condition.TestIn.TheOpen.{ContainsPoint}
 use Rattle.tql_tree.specs.declared.condition.TestIn.TheFolds.{fold-TestIn, fold-CondIn, fold-ConjIn, fold-FactorIn}
 
 abbrev pub comparison_of : Comparison → datum.Comparison
@@ -87,7 +89,8 @@ abbrev pub conj_of : {A : Type 0} → ConjIn A → tree.Conj
 conj_of {A} c = fold-ConjIn A tree.Test tree.Condition tree.Conj tree.Factor test_step cond_step conj_step factor_step c
 
 abbrev pub factor_of : {A : Type 0} → FactorIn A → tree.Factor
-factor_of {A} f = fold-FactorIn A tree.Test tree.Condition tree.Conj tree.Factor test_step cond_step conj_step factor_step f
+factor_of {A} f = fold-FactorIn A tree.Test tree.Condition tree.Conj tree.Factor test_step cond_step conj_step
+    factor_step f
 
 -- the condition and the test in a box
 abbrev pub boxed_cond_of : {A B : Type 0} → Box (CondIn A) B → tree.Condition

@@ -18,8 +18,11 @@ use Rattle.tql_tree.specs.declared.expression.AddedTermIn.{AddedTermIn}
 use Rattle.tql_tree.specs.declared.expression.TermIn.{TermIn}
 use Rattle.tql_tree.specs.declared.expression.SignedIn.{SignedIn}
 use Rattle.tql_tree.specs.declared.expression.PrimaryIn.{PrimaryIn}
-use Rattle.tql_tree.specs.declared.expression.PrimaryIn.TheOpen.{ExprIn-F, AddedTermIn-F, TermIn-F, SignedIn-F, PrimaryIn-F, Number, Text, Date, Timestamp, Column, Enclosed, CountStar, Over}
-use Rattle.tql_tree.specs.declared.expression.PrimaryIn.TheFolds.{fold-ExprIn, fold-AddedTermIn, fold-TermIn, fold-SignedIn, fold-PrimaryIn}
+use Rattle.tql_tree.specs.declared.expression.PrimaryIn.TheOpen.{ExprIn-F, AddedTermIn-F, TermIn-F, SignedIn-F}
+use Rattle.tql_tree.specs.declared.expression.PrimaryIn.TheOpen.{PrimaryIn-F, Number, Text, Date, Timestamp, Column}
+use Rattle.tql_tree.specs.declared.expression.PrimaryIn.TheOpen.{Enclosed, CountStar, Over}
+use Rattle.tql_tree.specs.declared.expression.PrimaryIn.TheFolds.{fold-ExprIn, fold-AddedTermIn, fold-TermIn}
+use Rattle.tql_tree.specs.declared.expression.PrimaryIn.TheFolds.{fold-SignedIn, fold-PrimaryIn}
 
 -- the digits
 abbrev pub digits_of : Bor (List ℕ) → List ℕ
@@ -54,7 +57,8 @@ signed_by sign.Minus p = tree.Negative p
 
 -- ---- one layer, with the trees of its parts in their places
 
-abbrev pub primary_step : {A : Type 0} → PrimaryIn-F A tree.Primary AddedTerm tree.Sum tree.Signed tree.Product → tree.Primary
+abbrev pub primary_step : {A : Type 0} → PrimaryIn-F A tree.Primary AddedTerm tree.Sum tree.Signed tree.Product
+    → tree.Primary
 primary_step (Number ds) = tree.NumberLiteral (digits_of ds)
 primary_step (Text t) = tree.TextLiteral (content_of t)
 primary_step (Date t) = tree.DateLiteral (content_of t)
@@ -64,13 +68,15 @@ primary_step (Enclosed e) = tree.Enclosed e.value
 primary_step CountStar = tree.CountStar
 primary_step (Over f e) = tree.Over (function_of f) e.value
 
-abbrev pub added_step : {A : Type 0} → AddedTermIn-F A tree.Primary AddedTerm tree.Sum tree.Signed tree.Product → AddedTerm
+abbrev pub added_step : {A : Type 0} → AddedTermIn-F A tree.Primary AddedTerm tree.Sum tree.Signed tree.Product
+    → AddedTerm
 added_step t = record { is_minus = t.is_minus; term = t.term }
 
 abbrev pub expr_step : {A : Type 0} → ExprIn-F A tree.Primary AddedTerm tree.Sum tree.Signed tree.Product → tree.Sum
 expr_step e = tree.Terms e.first (terms_of e.more.items)
 
-abbrev pub signed_step : {A : Type 0} → SignedIn-F A tree.Primary AddedTerm tree.Sum tree.Signed tree.Product → tree.Signed
+abbrev pub signed_step : {A : Type 0} → SignedIn-F A tree.Primary AddedTerm tree.Sum tree.Signed tree.Product
+    → tree.Signed
 signed_step s = signed_by s.sign s.primary
 
 abbrev pub term_step : {A : Type 0} → TermIn-F A tree.Primary AddedTerm tree.Sum tree.Signed tree.Product → tree.Product
@@ -79,19 +85,24 @@ term_step t = tree.Factors t.first (factors_of t.more.items)
 -- ---- trees
 
 abbrev pub primary_of : {A : Type 0} → PrimaryIn A → tree.Primary
-primary_of {A} p = fold-PrimaryIn A tree.Primary AddedTerm tree.Sum tree.Signed tree.Product primary_step added_step expr_step signed_step term_step p
+primary_of {A} p = fold-PrimaryIn A tree.Primary AddedTerm tree.Sum tree.Signed tree.Product primary_step added_step
+    expr_step signed_step term_step p
 
 abbrev pub added_of : {A : Type 0} → AddedTermIn A → AddedTerm
-added_of {A} t = fold-AddedTermIn A tree.Primary AddedTerm tree.Sum tree.Signed tree.Product primary_step added_step expr_step signed_step term_step t
+added_of {A} t = fold-AddedTermIn A tree.Primary AddedTerm tree.Sum tree.Signed tree.Product primary_step added_step
+    expr_step signed_step term_step t
 
 abbrev pub expr_of : {A : Type 0} → ExprIn A → tree.Sum
-expr_of {A} e = fold-ExprIn A tree.Primary AddedTerm tree.Sum tree.Signed tree.Product primary_step added_step expr_step signed_step term_step e
+expr_of {A} e = fold-ExprIn A tree.Primary AddedTerm tree.Sum tree.Signed tree.Product primary_step added_step
+    expr_step signed_step term_step e
 
 abbrev pub signed_of : {A : Type 0} → SignedIn A → tree.Signed
-signed_of {A} s = fold-SignedIn A tree.Primary AddedTerm tree.Sum tree.Signed tree.Product primary_step added_step expr_step signed_step term_step s
+signed_of {A} s = fold-SignedIn A tree.Primary AddedTerm tree.Sum tree.Signed tree.Product primary_step added_step
+    expr_step signed_step term_step s
 
 abbrev pub term_of : {A : Type 0} → TermIn A → tree.Product
-term_of {A} t = fold-TermIn A tree.Primary AddedTerm tree.Sum tree.Signed tree.Product primary_step added_step expr_step signed_step term_step t
+term_of {A} t = fold-TermIn A tree.Primary AddedTerm tree.Sum tree.Signed tree.Product primary_step added_step
+    expr_step signed_step term_step t
 
 -- the expression in a box
 abbrev pub boxed_expr_of : {A B : Type 0} → Box (ExprIn A) B → tree.Sum

@@ -68,7 +68,12 @@ generated_of RowStart = tree.RowStart
 generated_of RowEnd = tree.RowEnd
 
 abbrev pub column_of : ColumnTree → tree.ColumnTree
-column_of c = record { name = name_of c.name; type_name = type_of c.type_name; required = c.is_required; generated = option_map generated_of c.generated }
+column_of c = record {
+  name = name_of c.name;
+  type_name = type_of c.type_name;
+  required = c.is_required;
+  generated = option_map generated_of c.generated;
+}
 
 abbrev pub reflist_of : RefList → tree.RefList
 reflist_of r = record { first = name_of r.first; more = names_of r.more; period = option_map name_of r.period }
@@ -228,7 +233,8 @@ portion_of p = record { period = option_map name_of p.period; from = point_of p.
 
 abbrev pub update_of : Update → tree.Statement
 update_of u =
-    tree.UpdateTree (name_of u.table) (option_map portion_of u.portion) (assignment_of u.first) (assignments_of u.more) (filter_of u.filter)
+    tree.UpdateTree (name_of u.table) (option_map portion_of u.portion) (assignment_of u.first)
+    (assignments_of u.more) (filter_of u.filter)
 
 abbrev pub delete_of : Delete → tree.Statement
 delete_of d = tree.DeleteTree (name_of d.table) (option_map portion_of d.portion) (filter_of d.filter)

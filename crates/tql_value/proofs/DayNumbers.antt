@@ -1,9 +1,13 @@
--- The calendar of the definitions: what its years, months and days come to, and that parts and day numbers undo each other.
-use Rattle.std.proofs.Common.{◌≡◌, ℕ, zero, suc, ◌+◌, ◌-◌, ◌*◌, ◌/◌, ◌<◌, ◌≤◌, inl, inr, cond, IsTrue, refl, ap, ◌∙◌, arith, pos, ◌+ℤ◌, ◌-ℤ◌, nat_abs}
+-- The calendar of the definitions: what its years, months and days come to, and that parts and day numbers undo each
+-- other.
+use Rattle.std.proofs.Common.{◌≡◌, ℕ, zero, suc, ◌+◌, ◌-◌, ◌*◌, ◌/◌, ◌<◌, ◌≤◌, inl, inr, cond, IsTrue, refl, ap, ◌∙◌}
+use Rattle.std.proofs.Common.{arith, pos, ◌+ℤ◌, ◌-ℤ◌, nat_abs}
 use Rattle.std.proofs.Math.IntN as IntN
 use Rattle.std.proofs.lemmas.Bool.{cases_lt}
 use Rattle.std.proofs.lemmas.Bool.Decides.{nat_tests}
-use Rattle.tql_spec.specs.Calendar.{is_leap, days_in_month, days_before_year, days_before_month, is_date, days_after_start, year_of, last_begun, month_from, date_after_start, day_count, start_offset, PartsReadBack, PartsAreDates}
+use Rattle.tql_spec.specs.Calendar.{is_leap, days_in_month, days_before_year, days_before_month, is_date}
+use Rattle.tql_spec.specs.Calendar.{days_after_start, year_of, last_begun, month_from, date_after_start, day_count}
+use Rattle.tql_spec.specs.Calendar.{start_offset, PartsReadBack, PartsAreDates}
 
 -- the calendar has this date
 pub record IsCalendarDate (y m d : ℕ) : Type 0 where
@@ -28,7 +32,8 @@ pub date-to_test : (y m d : ℕ) → IsCalendarDate y m d → IsTrue (is_date y 
 date-to_test y m d h = grind (arith, nat_tests)
 
 -- the next year begins after the days of this one
-pub days_before_year-suc : (y : ℕ) → 1 ≤ y → days_before_year (y + 1) ≡ days_before_year y + (365 + cond (is_leap y) 1 0)
+pub days_before_year-suc : (y : ℕ) → 1 ≤ y
+    → days_before_year (y + 1) ≡ days_before_year y + (365 + cond (is_leap y) 1 0)
 days_before_year-suc zero h = absurd (omega arith)
 days_before_year-suc (suc n) h = grind (arith, nat_tests)
 
@@ -61,12 +66,14 @@ year_guess_high n zero h b = absurd (omega arith)
 year_guess_high n (suc k) h b = omega arith
 
 -- of the three years about a guess the one that begins last, not after the day, is the day's year
-last_begun-is : (n g y : ℕ) → 1 ≤ y → days_before_year y ≤ n → n < days_before_year (y + 1) → y ≤ g + 1 → g ≤ y + 1 → last_begun n g ≡ y
+last_begun-is : (n g y : ℕ) → 1 ≤ y → days_before_year y ≤ n → n < days_before_year (y + 1) → y ≤ g + 1 → g ≤ y + 1
+    → last_begun n g ≡ y
 last_begun-is n g y low b e near far =
     elim (cases_lt g y) [
       | inl below ↦ (let is : g + 1 ≡ y = omega arith in grind (arith, nat_tests))
       | inr above ↦ elim (cases_lt y g) [
-        | inl over ↦ (let is : g ≡ y + 1 = omega arith in rw is (grind (arith, nat_tests, days_before_year-suc (y + 1))))
+        | inl over ↦ (let is : g ≡ y + 1 = omega arith in rw is
+            (grind (arith, nat_tests, days_before_year-suc (y + 1))))
         | inr same ↦ (let is : g ≡ y = omega arith in rw is (grind (arith, nat_tests)))
       ]
     ]
@@ -78,7 +85,8 @@ year_of-is n y low b e =
     (let h = year_guess_high n y low e in omega arith)
 
 -- of a year's first n months the one that begins last, not after the k-th day, is that day's month
-pub month_from-is : (y k m n : ℕ) → 1 ≤ m → m ≤ n → days_before_month y (m - 1) ≤ k → k < days_before_month y m → month_from y k n ≡ m
+pub month_from-is : (y k m n : ℕ) → 1 ≤ m → m ≤ n → days_before_month y (m - 1) ≤ k → k < days_before_month y m
+    → month_from y k n ≡ m
 month_from-is y k m zero low high b e = absurd (omega arith)
 month_from-is y k m (suc n) low high b e =
     elim (cases_lt n m) [
@@ -89,14 +97,16 @@ month_from-is y k m (suc n) low high b e =
     ]
 
 -- a date's day lies in its year
-pub days_in_year_bound : (y m d : ℕ) → IsCalendarDate y m d → days_before_month y (m - 1) + (d - 1) < 365 + cond (is_leap y) 1 0
+pub days_in_year_bound : (y m d : ℕ) → IsCalendarDate y m d
+    → days_before_month y (m - 1) + (d - 1) < 365 + cond (is_leap y) 1 0
 days_in_year_bound y m d h =
     let low : 1 ≤ m = h.first_month in
     let end : days_before_month y m ≤ days_before_month y 12 = days_before_month-le y m 12 h.last_month in
     omega (arith, h.first_day, h.last_day, days_before_month-suc y m low, days_before_month-all y)
 
 -- the parts of a date's day number are the date
-pub date_after_start-is : (y m d n : ℕ) → IsCalendarDate y m d → days_after_start y m d ≡ n → date_after_start n ≡ (y, m, d)
+pub date_after_start-is : (y m d n : ℕ) → IsCalendarDate y m d → days_after_start y m d ≡ n
+    → date_after_start n ≡ (y, m, d)
 date_after_start-is y m d n h is =
     let low : 1 ≤ y = h.first_year in
     let bound = days_in_year_bound y m d h in
@@ -108,7 +118,8 @@ date_after_start-is y m d n h is =
     let rest : n - days_before_year y ≡ days_before_month y (m - 1) + (d - 1) = omega arith in
     let more = days_before_month-suc y m first in
     let month : month_from y (n - days_before_year y) 12 ≡ m =
-    month_from-is y (n - days_before_year y) m 12 first h.last_month (omega arith) (omega (arith, h.last_day, h.first_day)) in
+    month_from-is y (n - days_before_year y) m 12 first h.last_month (omega arith)
+    (omega (arith, h.last_day, h.first_day)) in
     let day : n - days_before_year y - days_before_month y (m - 1) + 1 ≡ d = omega (arith, h.first_day) in
     rw (year, month, day) refl
 
@@ -120,7 +131,8 @@ pub record IsYearOf (y n : ℕ) : Type 0 where
   pub begun : days_before_year y ≤ n
   pub ends : n < days_before_year (y + 1)
 
-last_begun-IsYearOf : (n g : ℕ) → 1 ≤ g → (2 ≤ g → days_before_year (g - 1) ≤ n) → n < days_before_year (g + 2) → IsYearOf (last_begun n g) n
+last_begun-IsYearOf : (n g : ℕ) → 1 ≤ g → (2 ≤ g → days_before_year (g - 1) ≤ n) → n < days_before_year (g + 2)
+    → IsYearOf (last_begun n g) n
 last_begun-IsYearOf n g low begun ends =
     elim (cases_lt n (days_before_year (g + 1))) [
       | inl early ↦ elim (cases_lt n (days_before_year g)) [
@@ -179,7 +191,8 @@ year_bound zero n h low b = omega arith
 year_bound (suc k) n h low b = omega arith
 
 -- the parts of a day are a date that lies so many days after the first
-pub date_after_start-date : (n : ℕ) → n < day_count → IsCalendarDate (date_after_start n).0 (date_after_start n).1 (date_after_start n).2
+pub date_after_start-date : (n : ℕ) → n < day_count
+    → IsCalendarDate (date_after_start n).0 (date_after_start n).1 (date_after_start n).2
 date_after_start-date n h =
     let y = year_of n in
     let year : IsYearOf y n = year_of-IsYearOf n in
@@ -197,7 +210,8 @@ date_after_start-date n h =
       last_day = omega (arith, days_before_month-suc y m month.first, month.ends, month.begun);
     }
 
-pub days_after_start-date_after_start : (n : ℕ) → days_after_start (date_after_start n).0 (date_after_start n).1 (date_after_start n).2 ≡ n
+pub days_after_start-date_after_start : (n : ℕ)
+    → days_after_start (date_after_start n).0 (date_after_start n).1 (date_after_start n).2 ≡ n
 days_after_start-date_after_start n =
     let y = year_of n in
     let year : IsYearOf y n = year_of-IsYearOf n in

@@ -1,5 +1,6 @@
 -- The numbers that digits spell.
-use Rattle.std.proofs.Common.{◌≡◌, ℕ, ◌+◌, ◌-◌, ◌*◌, ◌^◌, ◌<◌, ◌≤◌, Bool, true, false, ◌&&◌, List, [], ◌∷◌, ◌++◌, length, take, get_or, length-take, refl, sym, ◌∙◌, arith}
+use Rattle.std.proofs.Common.{◌≡◌, ℕ, ◌+◌, ◌-◌, ◌*◌, ◌^◌, ◌<◌, ◌≤◌, Bool, true, false, ◌&&◌, List, [], ◌∷◌, ◌++◌}
+use Rattle.std.proofs.Common.{length, take, get_or, length-take, refl, sym, ◌∙◌, arith}
 use Rattle.std.proofs.Math.Nat.{mul-le-mul_right, pow-suc, pow-le-pow_right}
 use Rattle.std.proofs.lemmas.Bool.Decides.{nat_tests}
 use Rattle.std.proofs.lemmas.List.{take_more}
@@ -12,7 +13,8 @@ pub number_from-push : (n : ℕ) (bs : List ℕ) (b : ℕ) → number_from n (bs
 number_from-push n [] b = omega arith
 number_from-push n (a ∷ bs) b = number_from-push (10 * n + (a - 48)) bs b
 
-pub number_of-more : (bs : List ℕ) (i : ℕ) → i < length bs → number_of (take (i + 1) bs) ≡ number_of (take i bs) * 10 + (get_or bs i 0 - 48)
+pub number_of-more : (bs : List ℕ) (i : ℕ) → i < length bs
+    → number_of (take (i + 1) bs) ≡ number_of (take i bs) * 10 + (get_or bs i 0 - 48)
 number_of-more bs i h = rw (take_more bs i 0 h) (number_from-push 0 (take i bs) (get_or bs i 0))
 
 both : (a b : Bool) → (a && b) ≡ true → (a ≡ true) × (b ≡ true)
@@ -50,7 +52,8 @@ pub SpellsFront-below : (number i k : ℕ) (bs : List ℕ) → i ≤ k → Spell
 SpellsFront-below number i k bs short h =
     rw h.spelt (number_of-below_power (take i bs) k (rw length-take (omega arith)) h.digits)
 
-pub SpellsFront-more : (number i : ℕ) (bs : List ℕ) → i < length bs → SpellsFront number i bs → is_digit (get_or bs i 0) ≡ true → SpellsFront (number * 10 + (get_or bs i 0 - 48)) (i + 1) bs
+pub SpellsFront-more : (number i : ℕ) (bs : List ℕ) → i < length bs → SpellsFront number i bs
+    → is_digit (get_or bs i 0) ≡ true → SpellsFront (number * 10 + (get_or bs i 0 - 48)) (i + 1) bs
 SpellsFront-more number i bs lt h d = record {
   spelt = rw h.spelt (sym (number_of-more bs i lt));
   digits = list_all_more is_digit bs i 0 lt ∙ rw (h.digits, d) refl;

@@ -1,5 +1,7 @@
 -- The day numbers of `jiff` are those of the definitions.
-use Rattle.std.proofs.Common.{◌≡◌, ℕ, zero, suc, ◌+◌, ◌-◌, ◌<◌, ◌≤◌, refl, sym, ap, ◌∙◌, arith, Bool, true, false, Option, Some, None, is_some, Result, Ok, Err, IsOk, IfOk, ◌↔◌, IfSome, MatchOption, ℤ, pos, neg_ℤ, ◌+ℤ◌, ◌-ℤ◌}
+use Rattle.std.proofs.Common.{◌≡◌, ℕ, zero, suc, ◌+◌, ◌-◌, ◌<◌, ◌≤◌, refl, sym, ap, ◌∙◌, arith, Bool, true, false}
+use Rattle.std.proofs.Common.{Option, Some, None, is_some, Result, Ok, Err, IsOk, IfOk, ◌↔◌, IfSome, MatchOption, ℤ}
+use Rattle.std.proofs.Common.{pos, neg_ℤ, ◌+ℤ◌, ◌-ℤ◌}
 use Rattle.std.specs.Result.{result_ok}
 use Rattle.jiff_core.proofs.CalendarLemmas.{days_from_civil-day_count}
 use Rattle.jiff_core.proofs.DateLemmas.{epoch_day_injective}
@@ -9,9 +11,11 @@ use Rattle.jiff_core.specs.Calendar.{days_of_years, days_of_months, day_count, d
 use Rattle.jiff_core.specs.Date.{epoch_day, IsYmd}
 use Rattle.jiff_core.specs.March.{march_days}
 use Rattle.jiff_core.specs.declared.civil.date.Date.{Date}
-use Rattle.tql_spec.specs.Calendar.{is_date, days_in_month, days_before_year, days_before_month, days_after_start, day_number, date_after_start, start_offset, day_count as day_total}
+use Rattle.tql_spec.specs.Calendar.{is_date, days_in_month, days_before_year, days_before_month, days_after_start}
+use Rattle.tql_spec.specs.Calendar.{day_number, date_after_start, start_offset, day_count as day_total}
 use Rattle.tql_value.specs.JiffDate.{HasParts, IsDateOf}
-use Rattle.tql_value.proofs.DayNumbers.{IsCalendarDate, date-from_test, date-to_test, date_after_start-date, days_after_start-date_after_start}
+use Rattle.tql_value.proofs.DayNumbers.{IsCalendarDate, date-from_test, date-to_test, date_after_start-date}
+use Rattle.tql_value.proofs.DayNumbers.{days_after_start-date_after_start}
 
 months_same : (y m : ℕ) → days_of_months (pos y) m ≡ days_before_month y m
 unfolding days_of_months
@@ -39,7 +43,8 @@ days_same zero m d low first = absurd (omega arith)
 days_same (suc k) m d low first =
     let shift : suc k + 10000 ≡ k + 10001 = omega arith in
     let next : k + 1 ≡ suc k = omega arith in
-    let years : days_of_years (suc k + 10000) ≡ days_before_year (suc k) + 3652791 = rw (shift, ← next) (years_same k) in
+    let years : days_of_years (suc k + 10000) ≡ days_before_year (suc k) + 3652791 =
+    rw (shift, ← next) (years_same k) in
     let months = months_same (suc k) (m - 1) in
     omega arith
 
@@ -54,25 +59,32 @@ jiff_date y m d h = record {
   year = pos y;
   month = m;
   day = d;
-  year_in = (let low = h.first_year in let high = h.last_year in omega (arith, signed_arith), let low = h.first_year in let high = h.last_year in omega (arith, signed_arith));
+  year_in = (
+    let low = h.first_year in let high = h.last_year in omega (arith, signed_arith),
+    let low = h.first_year
+        in let high = h.last_year in omega (arith, signed_arith),
+  );
   month_in = (h.first_month, h.last_month);
   day_in = (h.first_day, h.last_day);
 }
 
 -- the date of a day number has the definitions' parts
-pub epoch_day-HasParts : (date : Date) (y m d : ℕ) → IsCalendarDate y m d → epoch_day date ≡ day_number y m d → HasParts date (y, m, d)
+pub epoch_day-HasParts : (date : Date) (y m d : ℕ) → IsCalendarDate y m d → epoch_day date ≡ day_number y m d
+    → HasParts date (y, m, d)
 unfolding jiff_date
 epoch_day-HasParts date y m d h e =
     let other = jiff_date y m d h in
     let same = epoch_day_injective date other (e ∙ sym (days_from_civil-day_number y m d h.first_year h.first_day)) in
     record { year = same.0; month = same.1; day = same.2; valid = date-to_test y m d h }
 
-pub epoch_day-parts : (date : Date) (n : ℕ) → n < day_total → epoch_day date ≡ pos n -ℤ pos start_offset → HasParts date (date_after_start n)
+pub epoch_day-parts : (date : Date) (n : ℕ) → n < day_total → epoch_day date ≡ pos n -ℤ pos start_offset
+    → HasParts date (date_after_start n)
 epoch_day-parts date n h e =
     let parts = date_after_start n in
     let valid = date_after_start-date n h in
     let back : days_after_start parts.0 parts.1 parts.2 ≡ n = days_after_start-date_after_start n in
-    let same : pos n -ℤ pos start_offset ≡ day_number parts.0 parts.1 parts.2 = ap (λ k. pos k -ℤ pos start_offset) (sym back) in
+    let same : pos n -ℤ pos start_offset ≡ day_number parts.0 parts.1 parts.2 =
+    ap (λ k. pos k -ℤ pos start_offset) (sym back) in
     epoch_day-HasParts date parts.0 parts.1 parts.2 valid (e ∙ same)
 
 -- the first day
@@ -83,13 +95,15 @@ epoch_day-first date ymd =
     rw (ymd.0, m, d) (days_from_civil-day_number 1 1 1 (omega arith) (omega arith))
 
 -- the date so many days after the first one
-pub first_plus-HasParts : (first date : Date) (n : ℕ) → n < day_total → IsYmd (pos 1) (pos 1) (pos 1) first → epoch_day date ≡ epoch_day first +ℤ pos n → HasParts date (date_after_start n)
+pub first_plus-HasParts : (first date : Date) (n : ℕ) → n < day_total → IsYmd (pos 1) (pos 1) (pos 1) first
+    → epoch_day date ≡ epoch_day first +ℤ pos n → HasParts date (date_after_start n)
 first_plus-HasParts first date n h ymd e =
     let start = epoch_day-first first ymd in
     epoch_day-parts date n h (omega (arith, signed_arith))
 
 -- that date is one that the library has
-pub first_plus-IsEpochDay : (first : Date) (n : ℕ) → n < day_total → IsYmd (pos 1) (pos 1) (pos 1) first → IsEpochDay (epoch_day first +ℤ pos n)
+pub first_plus-IsEpochDay : (first : Date) (n : ℕ) → n < day_total → IsYmd (pos 1) (pos 1) (pos 1) first
+    → IsEpochDay (epoch_day first +ℤ pos n)
 first_plus-IsEpochDay first n h ymd =
     let start = epoch_day-first first ymd in
     (omega (arith, signed_arith), omega (arith, signed_arith))
@@ -98,8 +112,11 @@ first_plus-IsEpochDay first n h ymd =
 IsDate-from_date : (y m d : ℕ) → IsCalendarDate y m d → IsDate (pos y) (pos m) (pos d)
 IsDate-from_date y m d h =
     let a = h.first_year in let b = h.last_year in let e = h.first_month in let f = h.last_month in
-    let g = h.first_day in let i = h.last_day in
-    ((omega (arith, signed_arith), omega (arith, signed_arith)), (omega (arith, signed_arith), omega (arith, signed_arith)), (omega (arith, signed_arith), omega (arith, signed_arith)))
+    let g = h.first_day in let i = h.last_day in (
+      (omega (arith, signed_arith), omega (arith, signed_arith)),
+      (omega (arith, signed_arith), omega (arith, signed_arith)),
+      (omega (arith, signed_arith), omega (arith, signed_arith)),
+    )
 
 -- and the reverse, from the year 1 on
 date-from_IsDate : (y m d : ℕ) → 0 < y → IsDate (pos y) (pos m) (pos d) → IsCalendarDate y m d
@@ -119,7 +136,9 @@ no_date true h = absurd (h refl)
 no_date false h = refl
 
 -- `jiff` has a date of these parts exactly where the definitions have it, and with the same number
-pub IsDateOf-from_jiff : (y m d : ℕ) (r : Option Date) → 0 < y → (is_some r ≡ true → IsDate (pos y) (pos m) (pos d)) → (IsDate (pos y) (pos m) (pos d) → is_some r ≡ true) → IfSome r (IsYmd (pos y) (pos m) (pos d)) → MatchOption r (is_date y m d ≡ false) (IsDateOf y m d)
+pub IsDateOf-from_jiff : (y m d : ℕ) (r : Option Date) → 0 < y → (is_some r ≡ true → IsDate (pos y) (pos m) (pos d))
+    → (IsDate (pos y) (pos m) (pos d) → is_some r ≡ true) → IfSome r (IsYmd (pos y) (pos m) (pos d))
+    → MatchOption r (is_date y m d ≡ false) (IsDateOf y m d)
 IsDateOf-from_jiff y m d None low has hasnt is =
     no_date (is_date y m d) (λ valid. let some = hasnt (IsDate-from_date y m d (date-from_test y m d valid)) in cc)
 IsDateOf-from_jiff y m d (Some date) low has hasnt is =
@@ -132,7 +151,9 @@ IsDateOf-from_jiff y m d (Some date) low has hasnt is =
     }
 
 -- the same, of what the constructor gives
-pub IsDateOf-from_result : {E : Type 0} (y m d : ℕ) (year month day : ℤ) (r : Result Date E) (o : Option Date) → 0 < y → year ≡ pos y → month ≡ pos m → day ≡ pos d → o ≡ result_ok r → IsOk r ↔ IsDate year month day → IfOk r (IsYmd year month day) → MatchOption o (is_date y m d ≡ false) (IsDateOf y m d)
+pub IsDateOf-from_result : {E : Type 0} (y m d : ℕ) (year month day : ℤ) (r : Result Date E) (o : Option Date)
+    → 0 < y → year ≡ pos y → month ≡ pos m → day ≡ pos d → o ≡ result_ok r → IsOk r ↔ IsDate year month day
+    → IfOk r (IsYmd year month day) → MatchOption o (is_date y m d ≡ false) (IsDateOf y m d)
 IsDateOf-from_result y m d year month day (Ok date) o low ey em ed eo has is =
     let valid = rw (ey, em, ed) at has in
     rw eo (IsDateOf-from_jiff y m d (Some date) low (λ some. valid.0 refl) (λ there. refl) (rw (ey, em, ed) at is))

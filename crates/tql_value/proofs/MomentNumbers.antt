@@ -1,5 +1,6 @@
 -- A moment is its days and its microseconds.
-use Rattle.std.proofs.Common.{◌≡◌, ℕ, ◌+◌, ◌*◌, ◌/◌, ◌%◌, ◌<◌, ap, ◌∙◌, arith, ℤ, pos, negsuc, refl, ◌≤ℤ◌, ◌+ℤ◌, ◌-ℤ◌, nat_abs}
+use Rattle.std.proofs.Common.{◌≡◌, ℕ, ◌+◌, ◌*◌, ◌/◌, ◌%◌, ◌<◌, ap, ◌∙◌, arith, ℤ, pos, negsuc, refl, ◌≤ℤ◌, ◌+ℤ◌, ◌-ℤ◌}
+use Rattle.std.proofs.Common.{nat_abs}
 use Rattle.std.proofs.Math.IntN as IntN
 use Rattle.jiff_core.proofs.SignedLemmas.{signed_arith}
 use Rattle.tql_spec.specs.Calendar.{day_count, day_length, start_offset, moment_number}
@@ -7,7 +8,8 @@ use Rattle.tql_value.specs.Points.{MomentsReadBack}
 use Rattle.tql_value.proofs.DayNumbers.{date_after_start-date, days_after_start-date_after_start, date-to_test}
 
 number_of_parts : (n : ℕ) → moment_number (n / day_length) (n % day_length) ≡ pos n -ℤ pos (start_offset * day_length)
-number_of_parts n = let whole : n / day_length * day_length + n % day_length ≡ n = omega arith in ap (λ k. pos k -ℤ pos (start_offset * day_length)) whole
+number_of_parts n = let whole : n / day_length * day_length + n % day_length ≡ n =
+    omega arith in ap (λ k. pos k -ℤ pos (start_offset * day_length)) whole
 
 nat_abs-nonnegative : (z : ℤ) → pos 0 ≤ℤ z → pos (nat_abs z) ≡ z
 nat_abs-nonnegative (pos n) h = refl

@@ -1,6 +1,8 @@
 -- The order of values is total on each kind, with null first.
-use Rattle.std.proofs.Common.{◌≡◌, ◌⊎◌, inl, inr, ℕ, ◌<◌, ℤ, ◌<ℤ◌, true, false, IsTrue, List, [], ◌∷◌, Option, Some, None, refl, sym, ap, ◌∙◌, Ordering}
-use Rattle.std.proofs.lemmas.Cmp.{int_cmp_total, nat_list_cmp_total, int_ranked, ranked, by_ranked, tied_itself, upto as upto_is}
+use Rattle.std.proofs.Common.{◌≡◌, ◌⊎◌, inl, inr, ℕ, ◌<◌, ℤ, ◌<ℤ◌, true, false, IsTrue, List, [], ◌∷◌, Option, Some}
+use Rattle.std.proofs.Common.{None, refl, sym, ap, ◌∙◌, Ordering}
+use Rattle.std.proofs.lemmas.Cmp.{int_cmp_total, nat_list_cmp_total, int_ranked, ranked, by_ranked, tied_itself}
+use Rattle.std.proofs.lemmas.Cmp.{upto as upto_is}
 use Rattle.std.specs.Cmp.{IsTotalOrder}
 use Rattle.std.specs.Cmp.Lexicographic.{slice_cmp}
 use Rattle.std.specs.Ordering.{is_le, is_gt, is_eq, nat_cmp, int_cmp, ordering_reverse, ordering_then}
@@ -13,13 +15,15 @@ use Rattle.tql_value.proofs.TextLemmas.{chars-order}
 
 int_level : (x y : ℤ) → int_cmp x y ≡ Equal → x ≡ y
 int_level x y e =
-    by_ranked (x <ℤ y) (x ≡ y) (y <ℤ x) (int_cmp x y) (int_ranked x y (int_cmp x y) refl) (λ o h. cc) (λ o h. h) (λ o h. cc)
+    by_ranked (x <ℤ y) (x ≡ y) (y <ℤ x) (int_cmp x y) (int_ranked x y (int_cmp x y) refl) (λ o h. cc) (λ o h. h)
+    (λ o h. cc)
 
 nat_level : (x y : ℕ) → nat_cmp x y ≡ Equal → x ≡ y
 nat_level x y e =
     by_ranked (x < y) (x ≡ y) (y < x) (nat_cmp x y) (ranked x y (nat_cmp x y) refl) (λ o h. cc) (λ o h. h) (λ o h. cc)
 
-texts_level_at : (o : Ordering) (x y : ℕ) (xs ys : List ℕ) → nat_cmp x y ≡ o → ordering_then o (slice_cmp nat_cmp xs ys) ≡ Equal → (slice_cmp nat_cmp xs ys ≡ Equal → xs ≡ ys) → x ∷ xs ≡ y ∷ ys
+texts_level_at : (o : Ordering) (x y : ℕ) (xs ys : List ℕ) → nat_cmp x y ≡ o
+    → ordering_then o (slice_cmp nat_cmp xs ys) ≡ Equal → (slice_cmp nat_cmp xs ys ≡ Equal → xs ≡ ys) → x ∷ xs ≡ y ∷ ys
 texts_level_at Less x y xs ys h e rest = cc
 texts_level_at Equal x y xs ys h e rest = let same = nat_level x y h in let more = rest e in cc
 texts_level_at Greater x y xs ys h e rest = cc
@@ -82,7 +86,8 @@ module _ {K : Type 0} {C : K → K → Ordering} {f : K → Datum} (e : Embeds C
   itself None = refl
   itself (Some x) = e.both x x ∙ tied_itself e.ordered x
 
-  through : (a b c : Option K) → is_le (order (pick f a) (pick f b)) ≡ true → is_le (order (pick f b) (pick f c)) ≡ true → is_le (order (pick f a) (pick f c)) ≡ true
+  through : (a b c : Option K) → is_le (order (pick f a) (pick f b)) ≡ true
+      → is_le (order (pick f b) (pick f c)) ≡ true → is_le (order (pick f a) (pick f c)) ≡ true
   through None b None h k = refl
   through None b (Some z) h k = ap is_le (e.before z)
   through (Some x) None c h k = let no = ap is_le (e.after x) in cc
@@ -97,7 +102,8 @@ module _ {K : Type 0} {C : K → K → Ordering} {f : K → Datum} (e : Embeds C
 
 -- ---- each kind
 
-ordered_kind : {K : Type 0} {C : K → K → Ordering} {f : K → Datum} (k : Kind) → Embeds C f → ((d : Datum) → IsTrue (is_of k d) → (o : Option K) × (d ≡ pick f o)) → IsTotallyOrdered k
+ordered_kind : {K : Type 0} {C : K → K → Ordering} {f : K → Datum} (k : Kind) → Embeds C f
+    → ((d : Datum) → IsTrue (is_of k d) → (o : Option K) × (d ≡ pick f o)) → IsTotallyOrdered k
 ordered_kind {K} {C} {f} k e shown = record {
   reflexive = λ a u. let s = shown a u in rw s.1 (ap is_le (itself e s.0));
   antisymmetric = λ a b u v h l.
@@ -114,8 +120,11 @@ ordered_kind {K} {C} {f} k e shown = record {
       let either = is_le-total (order (pick f s.0) (pick f t.0)) in
       rw (s.1, t.1) (elim either [ inl h ↦ inl h | inr h ↦ inr (ap is_le (opposite e t.0 s.0) ∙ h) ]);
   level = λ a b u v.
-      let s = shown a u in let t = shown b v in
-      (λ h. s.1 ∙ ap (pick f) (level_same e s.0 t.0 (rw (s.1, t.1) at h)) ∙ sym t.1, λ same. rw (← same, s.1) (itself e s.0));
+      let s = shown a u in let t = shown b v in (
+        λ h. s.1 ∙ ap (pick f) (level_same e s.0 t.0 (rw (s.1, t.1) at h))
+            ∙ sym t.1,
+        λ same. rw (← same, s.1) (itself e s.0),
+      );
   opposite = λ a b u v. let s = shown a u in let t = shown b v in rw (s.1, t.1) (opposite e s.0 t.0);
   null_first = λ a u. let s = shown a u in rw s.1 (null_at_most e s.0);
 }
@@ -149,10 +158,34 @@ shown_text (Day d) u = cc
 shown_text (Moment m) u = cc
 
 pub kinds_are_ordered : KindsAreOrdered
-kinds_are_ordered Ints = ordered_kind Ints (record { ordered = int_cmp_total; level = int_level; both = λ x y. refl; before = λ y. refl; after = λ x. refl }) shown_int
-kinds_are_ordered Texts = ordered_kind Texts (record { ordered = nat_list_cmp_total; level = texts_level; both = λ x y. refl; before = λ y. refl; after = λ x. refl }) shown_text
-kinds_are_ordered Days = ordered_kind Days (record { ordered = int_cmp_total; level = int_level; both = λ x y. refl; before = λ y. refl; after = λ x. refl }) shown_day
-kinds_are_ordered Moments = ordered_kind Moments (record { ordered = int_cmp_total; level = int_level; both = λ x y. refl; before = λ y. refl; after = λ x. refl }) shown_moment
+kinds_are_ordered Ints = ordered_kind Ints (record {
+  ordered = int_cmp_total;
+  level = int_level;
+  both = λ x y. refl;
+  before = λ y. refl;
+  after = λ x. refl;
+}) shown_int
+kinds_are_ordered Texts = ordered_kind Texts (record {
+  ordered = nat_list_cmp_total;
+  level = texts_level;
+  both = λ x y. refl;
+  before = λ y. refl;
+  after = λ x. refl;
+}) shown_text
+kinds_are_ordered Days = ordered_kind Days (record {
+  ordered = int_cmp_total;
+  level = int_level;
+  both = λ x y. refl;
+  before = λ y. refl;
+  after = λ x. refl;
+}) shown_day
+kinds_are_ordered Moments = ordered_kind Moments (record {
+  ordered = int_cmp_total;
+  level = int_level;
+  both = λ x y. refl;
+  before = λ y. refl;
+  after = λ x. refl;
+}) shown_moment
 
 pub texts_lie_by_characters : TextsLieByCharacters
 texts_lie_by_characters a b u v = chars-order a b u v

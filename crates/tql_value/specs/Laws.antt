@@ -18,8 +18,10 @@ at_most a b = is_le (order a b)
 -- the values of a kind, and null, are totally ordered, null first, and only equal values lie level
 pub record IsTotallyOrdered (k : Kind) : Type 0 where
   pub reflexive : (a : Datum) → IsTrue (is_of k a) → IsTrue (at_most a a)
-  pub antisymmetric : (a b : Datum) → IsTrue (is_of k a) → IsTrue (is_of k b) → IsTrue (at_most a b) → IsTrue (at_most b a) → a ≡ b
-  pub transitive : (a b c : Datum) → IsTrue (is_of k a) → IsTrue (is_of k b) → IsTrue (is_of k c) → IsTrue (at_most a b) → IsTrue (at_most b c) → IsTrue (at_most a c)
+  pub antisymmetric : (a b : Datum) → IsTrue (is_of k a) → IsTrue (is_of k b) → IsTrue (at_most a b)
+      → IsTrue (at_most b a) → a ≡ b
+  pub transitive : (a b c : Datum) → IsTrue (is_of k a) → IsTrue (is_of k b) → IsTrue (is_of k c)
+      → IsTrue (at_most a b) → IsTrue (at_most b c) → IsTrue (at_most a c)
   pub total : (a b : Datum) → IsTrue (is_of k a) → IsTrue (is_of k b) → IsTrue (at_most a b) ⊎ IsTrue (at_most b a)
   pub level : (a b : Datum) → IsTrue (is_of k a) → IsTrue (is_of k b) → (order a b ≡ Equal) ↔ (a ≡ b)
   pub opposite : (a b : Datum) → IsTrue (is_of k a) → IsTrue (is_of k b) → order a b ≡ ordering_reverse (order b a)
@@ -31,7 +33,8 @@ KindsAreOrdered = (k : Kind) → IsTotallyOrdered k
 
 -- the order of the bytes of two texts is that of their characters, by their codes
 abbrev pub TextsLieByCharacters : Type 0
-TextsLieByCharacters = (a b : List ℕ) → IsUtf8 a → IsUtf8 b → order (Text a) (Text b) ≡ slice_cmp nat_cmp (chars a) (chars b)
+TextsLieByCharacters = (a b : List ℕ) → IsUtf8 a → IsUtf8 b
+    → order (Text a) (Text b) ≡ slice_cmp nat_cmp (chars a) (chars b)
 
 -- the test of equality holds of equal values alone, of null and null too
 abbrev pub SameIsEqual : Type 0

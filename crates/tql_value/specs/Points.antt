@@ -1,7 +1,8 @@
 -- The range of the points of time.
 use Rattle.std.specs.Prelude.{◌≡◌, ℤ, pos, neg_ℤ, ◌≤ℤ◌, IsTrue, All, List}
 use Rattle.tql_spec.specs.Datum.{Datum, Null, Int, Text, Day, Moment, Row}
-use Rattle.tql_spec.specs.Calendar.{first_moment, high, start_offset, is_date, days_after_start, moment_day, moment_micros, moment_number}
+use Rattle.tql_spec.specs.Calendar.{first_moment, high, start_offset, is_date, days_after_start, moment_day}
+use Rattle.tql_spec.specs.Calendar.{moment_micros, moment_number}
 
 -- a day from 0001-01-01 to 9999-12-31
 abbrev pub IsDay : ℤ → Type 0
@@ -25,4 +26,6 @@ ArePrintable rows = All (All IsPrintable) rows
 
 -- each moment's parts are a date and a time that lie at that moment
 abbrev pub MomentsReadBack : Type 0
-MomentsReadBack = (m : ℤ) → IsMoment m → IsTrue (is_date (moment_day m).0 (moment_day m).1 (moment_day m).2) × (moment_number (days_after_start (moment_day m).0 (moment_day m).1 (moment_day m).2) (moment_micros m) ≡ m)
+MomentsReadBack = (m : ℤ) → IsMoment m
+    → IsTrue (is_date (moment_day m).0 (moment_day m).1 (moment_day m).2) ×
+    (moment_number (days_after_start (moment_day m).0 (moment_day m).1 (moment_day m).2) (moment_micros m) ≡ m)

@@ -1,6 +1,15 @@
 -- The refusal of the definitions that a code value stands for.
 use Rattle.tql_value.specs.declared.refusal.Refusal as code
-use Rattle.tql_value.specs.declared.refusal.Refusal.TheVariants.{StatementTooLong, NotUtf8, UnfinishedStatement, NestedTooDeep, NotAStatement, TooManyColumnsOrTables, NotInThisTransactionState, MomentNotAllowed, ReadersAreOpen, TableUnknownOrAlreadyThere, NameUnknownAmbiguousOrRepeated, TypesDoNotFit, FormNotAllowedHere, TableIsReferenced, TooManyTablesOrReaders, BeforeTheHorizon, ReaderNotUsable, ValueOutOfRange, PortionNotRising, NullNotAllowed, PeriodNotRising, CheckFailed, DuplicateKey, ReferenceNotMet, OutOfMemory}
+use Rattle.tql_value.specs.declared.refusal.Refusal.TheVariants.{StatementTooLong, NotUtf8, UnfinishedStatement}
+use Rattle.tql_value.specs.declared.refusal.Refusal.TheVariants.{NestedTooDeep, NotAStatement, TooManyColumnsOrTables}
+use Rattle.tql_value.specs.declared.refusal.Refusal.TheVariants.{NotInThisTransactionState, MomentNotAllowed}
+use Rattle.tql_value.specs.declared.refusal.Refusal.TheVariants.{ReadersAreOpen, TableUnknownOrAlreadyThere}
+use Rattle.tql_value.specs.declared.refusal.Refusal.TheVariants.{NameUnknownAmbiguousOrRepeated, TypesDoNotFit}
+use Rattle.tql_value.specs.declared.refusal.Refusal.TheVariants.{FormNotAllowedHere, TableIsReferenced}
+use Rattle.tql_value.specs.declared.refusal.Refusal.TheVariants.{TooManyTablesOrReaders, BeforeTheHorizon}
+use Rattle.tql_value.specs.declared.refusal.Refusal.TheVariants.{ReaderNotUsable, ValueOutOfRange, PortionNotRising}
+use Rattle.tql_value.specs.declared.refusal.Refusal.TheVariants.{NullNotAllowed, PeriodNotRising, CheckFailed}
+use Rattle.tql_value.specs.declared.refusal.Refusal.TheVariants.{DuplicateKey, ReferenceNotMet, OutOfMemory}
 use Rattle.tql_spec.specs.Refusal as spec
 
 -- the refusal of the definitions of the same name

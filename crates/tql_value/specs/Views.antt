@@ -1,6 +1,7 @@
 -- The pure data that the values of the code stand for.
 use Rattle.std.specs.Prelude.{Bool, true, List, map, Vec, Option, Some, None, Result, Ok, Err}
-use Rattle.tql_spec.specs.Datum.{Datum, Row, Null, Int, Text, Day, Moment, Ints, Texts, Days, Moments, Equals, Differs, Below, AtMost, Above, AtLeast, same_kind}
+use Rattle.tql_spec.specs.Datum.{Datum, Row, Null, Int, Text, Day, Moment, Ints, Texts, Days, Moments, Equals}
+use Rattle.tql_spec.specs.Datum.{Differs, Below, AtMost, Above, AtLeast, same_kind}
 use Rattle.tql_spec.specs.Datum as spec
 use Rattle.tql_spec.specs.Truth.{False, Unknown, True}
 use Rattle.tql_spec.specs.Truth as logic

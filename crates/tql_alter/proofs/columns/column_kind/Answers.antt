@@ -9,6 +9,6 @@ use Rattle.tql_alter.proofs.columns.column_kind.Goals as goal
 pub returns-in-Some : goal.returns-in-Some
 returns-in-Some c =
     kind_there Ints c.columns.result.now c.args.number c.in-Some.column.now
-        (first_of (search rules, grind (arith, common_steps))) (first_of (search rules, grind (arith, common_steps)))
+    (first_of (search rules, grind (arith, common_steps))) (first_of (search rules, grind (arith, common_steps)))
     ∙ ap (λ (cs : List Column). slice_index_or (map (λ (k : Column). k.kind) cs) c.args.number Ints)
     c.columns.ensures.columns

@@ -10,5 +10,6 @@ pub returns : goal.returns
 returns c =
     let n = c.args.name.now in
     let columns = c.columns.result.now in
-    position_from_yields_List (is_called n) _ _ _ c.position.ensures.ran (YieldsList-from_slice columns cc) (λ x b q k. search (rules, tests)) ∙ place_of-columns n columns
+    position_from_yields_List (is_called n) _ _ _ c.position.ensures.ran (YieldsList-from_slice columns cc)
+    (λ x b q k. search (rules, tests)) ∙ place_of-columns n columns
     ∙ ap (λ (cs : List Column). number_in n (map (λ (k : Column). k.name) cs)) c.columns.ensures.columns

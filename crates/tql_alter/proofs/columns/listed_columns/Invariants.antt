@@ -7,4 +7,5 @@ use Rattle.tql_alter.proofs.columns.listed_columns.Given as goal
 -- the numbers so far and those of the names that are left
 abbrev pub invariant-loop-name : goal.invariant-loop-name
 invariant-loop-name l =
-    EachLeads (column_number (names_of l.definition)) (map string_bytes l.names) l.fn.faults l.numbers.items (map string_bytes (drop l.name-index l.names)) l.faults
+    EachLeads (column_number (names_of l.definition)) (map string_bytes l.names) l.fn.faults l.numbers.items
+    (map string_bytes (drop l.name-index l.names)) l.faults

@@ -10,8 +10,13 @@ use Rattle.tql_alter.proofs.insert_query.insert_select.Goals as goal
 
 pub returns : goal.returns
 returns c =
-    insert_query_bound (definitions_of c.args.catalog.now) (name_of c.args.table) (map name_of c.args.names.now) (select_of c.args.select.now)
-    c.args.faults.now c.table_number.new.faults c.insert_columns.new.faults c.question.new.faults c.refuse_if.new.self c.in_ok-place.place c.definition_or-definition.result.now c.in_ok-columns.columns.items c.deref.result.now
-    c.in_ok-wanted.wanted.items c.deref-2.result.now (asked_of c.in_ok-question.field-0) c.deref-3.result.now c.cells_misfit.result
-    c.in_ok-place.ensures c.definition_or-definition.ensures c.in_ok-columns.ensures c.deref.ensures.value c.in_ok-wanted.ensures c.in_ok-question.ensures c.deref-2.ensures.value
+    insert_query_bound (definitions_of c.args.catalog.now) (name_of c.args.table) (map name_of c.args.names.now)
+    (select_of c.args.select.now)
+    c.args.faults.now c.table_number.new.faults c.insert_columns.new.faults c.question.new.faults
+    c.refuse_if.new.self c.in_ok-place.place c.definition_or-definition.result.now c.in_ok-columns.columns.items
+    c.deref.result.now
+    c.in_ok-wanted.wanted.items c.deref-2.result.now (asked_of c.in_ok-question.field-0) c.deref-3.result.now
+    c.cells_misfit.result
+    c.in_ok-place.ensures c.definition_or-definition.ensures c.in_ok-columns.ensures c.deref.ensures.value
+    c.in_ok-wanted.ensures c.in_ok-question.ensures c.deref-2.ensures.value
     (ap (map (option_map plain_kind)) c.deref-3.ensures.value) c.cells_misfit.ensures c.refuse_if.ensures

@@ -8,8 +8,8 @@ use Rattle.tql_alter.proofs.portion.named_portion.Goals as goal
 pub returns : goal.returns
 returns c =
     portion_bound c.args.definition.now (portion_of c.args.portion) (option_map plain_kind c.in_ok-kind.kind)
-        c.is_other_point.result c.in_ok-from.from c.in_ok-to.to
+    c.is_other_point.result c.in_ok-from.from c.in_ok-to.to
     c.args.faults.now c.portion_period.new.faults c.refuse_if.new.self c.rising.new.faults
-        (option_map points_of c.rising.result)
+    (option_map points_of c.rising.result)
     c.in_ok-kind.ensures c.is_other_point.ensures c.refuse_if.ensures c.in_ok-from.ensures c.in_ok-to.ensures
-        c.rising.ensures
+    c.rising.ensures

@@ -9,6 +9,6 @@ use Rattle.tql_alter.proofs.portion.points_kind.Goals as goal
 pub returns-in-Some : goal.returns-in-Some
 returns-in-Some c =
     kind_there Days c.columns.result.now c.args.number c.in-Some.column.now
-        (first_of (search rules, grind (arith, common_steps))) (first_of (search rules, grind (arith, common_steps)))
+    (first_of (search rules, grind (arith, common_steps))) (first_of (search rules, grind (arith, common_steps)))
     ∙ ap (λ (cs : List Column). slice_index_or (map (λ (k : Column). k.kind) cs) c.args.number Days)
     c.columns.ensures.columns

@@ -11,4 +11,4 @@ pub returns-in-None : goal.returns-in-None
 returns-in-None c =
     let old = c.args.faults.now in
     subst (λ (o : Option Portion). Gathers (binding.portion c.args.definition.now (option_map portion_of o)) old old
-        None) (sym c.in-None.is) (sound_here None old)
+    None) (sym c.in-None.is) (sound_here None old)

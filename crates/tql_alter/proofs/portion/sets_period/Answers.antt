@@ -13,7 +13,7 @@ returns-then-is_some c =
     let p = c.args.portion in
     let numbers = c.args.numbers.now in
     sets_of_portion d (option_map portion_of p) numbers c.any.result (is_mapped portion_of p ∙ sym c.is_some.ensures
-        ∙ c.if-is_some.true)
+    ∙ c.if-is_some.true)
     (any_from_yields_List (λ i. has_number i (period_columns d.application)) c.any.new.self _ c.any.result
     c.any.ensures.ran (YieldsList-from_slice numbers cc)
     (λ x b q k. search (rules, tests)))

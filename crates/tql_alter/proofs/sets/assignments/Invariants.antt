@@ -9,4 +9,6 @@ use Rattle.tql_alter.proofs.sets.assignments.Given as goal
 -- the assignments so far and those that are left
 abbrev pub invariant-loop-set : goal.invariant-loop-set
 invariant-loop-set l =
-    EachGrows bound.assignment_of HasAssigned (assignment l.definition) (assignment_of l.first ∷ map assignment_of l.more) l.fn.terms l.fn.faults l.terms l.sets.items (map assignment_of (drop l.set-index l.more)) l.faults
+    EachGrows bound.assignment_of HasAssigned (assignment l.definition)
+    (assignment_of l.first ∷ map assignment_of l.more) l.fn.terms l.fn.faults l.terms l.sets.items
+    (map assignment_of (drop l.set-index l.more)) l.faults

@@ -5,4 +5,5 @@ use Rattle.tql_alter.specs.Cells.{kind_of}
 use Rattle.tql_alter.proofs.tuples.cell_kinds.Given as goal
 
 abbrev pub invariant-loop-cell : goal.invariant-loop-cell
-invariant-loop-cell l = map (option_map plain_kind) l.kinds.items ++ map kind_of (drop l.cell-index l.cells) ≡ map kind_of l.cells
+invariant-loop-cell l =
+    map (option_map plain_kind) l.kinds.items ++ map kind_of (drop l.cell-index l.cells) ≡ map kind_of l.cells

@@ -9,4 +9,5 @@ use Rattle.tql_alter.proofs.tuples.cells.Given as goal
 -- the cells so far and those that are left
 abbrev pub invariant-loop-written : goal.invariant-loop-written
 invariant-loop-written l =
-    EachGrows typed_of HasValue (cell []) (cell_of l.tuple.first ∷ cells_of l.tuple.more) l.fn.terms l.fn.faults l.terms l.cells.items (map cell_of (drop l.written-index l.written-items)) l.faults
+    EachGrows typed_of HasValue (cell []) (cell_of l.tuple.first ∷ cells_of l.tuple.more) l.fn.terms l.fn.faults
+    l.terms l.cells.items (map cell_of (drop l.written-index l.written-items)) l.faults

@@ -6,4 +6,6 @@ use Rattle.tql_alter.proofs.tuples.cells_misfit.Given as goal
 
 -- those that are left decide
 abbrev pub invariant-loop-cell : goal.invariant-loop-cell
-invariant-loop-cell l = cells_misfit (map plain_kind l.left) (map (option_map plain_kind) (drop l.cell-index l.cells)) ≡ cells_misfit (map plain_kind l.kinds) (map (option_map plain_kind) l.cells)
+invariant-loop-cell l =
+    cells_misfit (map plain_kind l.left) (map (option_map plain_kind) (drop l.cell-index l.cells)) ≡ cells_misfit
+    (map plain_kind l.kinds) (map (option_map plain_kind) l.cells)

@@ -10,4 +10,5 @@ use Rattle.tql_alter.proofs.tuples.tuples.Given as goal
 -- the tuples so far and those that are left
 abbrev pub invariant-loop-written : goal.invariant-loop-written
 invariant-loop-written l =
-    EachGrows bound.tuple_of HasValues (tuple (map plain_kind l.kinds)) (tuple_of l.first ∷ map tuple_of l.more) l.fn.terms l.fn.faults l.terms l.tuples.items (map tuple_of (drop l.written-index l.more)) l.faults
+    EachGrows bound.tuple_of HasValues (tuple (map plain_kind l.kinds)) (tuple_of l.first ∷ map tuple_of l.more)
+    l.fn.terms l.fn.faults l.terms l.tuples.items (map tuple_of (drop l.written-index l.more)) l.faults

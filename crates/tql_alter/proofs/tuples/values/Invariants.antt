@@ -3,4 +3,5 @@ use Rattle.tql_alter.proofs.tuples.values.Given as goal
 
 -- the expressions so far and those of the cells that are left
 abbrev pub invariant-loop-cell : goal.invariant-loop-cell
-invariant-loop-cell l = l.values.items ++ map (λ cell. cell.expr) (drop l.cell-index l.cells) ≡ map (λ cell. cell.expr) l.cells
+invariant-loop-cell l =
+    l.values.items ++ map (λ cell. cell.expr) (drop l.cell-index l.cells) ≡ map (λ cell. cell.expr) l.cells

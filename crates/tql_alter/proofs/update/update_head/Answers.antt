@@ -23,19 +23,19 @@ returns-clause-bound c =
     let is = c.in_ok-numbers.numbers.items in
     let bounds = map (bound.assignment_of c.assignments.new.terms) c.in_ok-sets.sets.items in
     let columns = subst (λ (xs : List Assignment). Gathers
-        (binding.assigned_columns d (map (λ (s : SetTree). s.column) (first ∷ map assignment_of xs)))
-        c.portion.new.faults c.set_columns.new.faults is)
+    (binding.assigned_columns d (map (λ (s : SetTree). s.column) (first ∷ map assignment_of xs)))
+    c.portion.new.faults c.set_columns.new.faults is)
     c.deref.ensures.value c.in_ok-numbers.ensures in
     let asked = c.sets_period.ensures
-        ∙ ap (λ (numbers : List ℕ). binding.sets_period d p numbers) c.deref-2.ensures.value in
+    ∙ ap (λ (numbers : List ℕ). binding.sets_period d p numbers) c.deref-2.ensures.value in
     let own = subst (λ (b : Bool). Gathers (refuse_if b FormNotAllowedHere) c.set_columns.new.faults
-        c.refuse_if.new.self tt) asked c.refuse_if.ensures in
+    c.refuse_if.new.self tt) asked c.refuse_if.ensures in
     let assigned = subst
-        (λ (xs : List Assignment). Gathers (check_each (binding.assignment d) (first ∷ map assignment_of xs))
-        c.refuse_if.new.self c.assignments.new.faults bounds)
+    (λ (xs : List Assignment). Gathers (check_each (binding.assignment d) (first ∷ map assignment_of xs))
+    c.refuse_if.new.self c.assignments.new.faults bounds)
     c.deref-3.ensures.value c.in_ok-sets.ensures.bound in
     head_bound (definitions_of c.args.catalog.now) (name_of update.table) p (first ∷ assignments_of update.more)
     c.args.faults.now c.table_number.new.faults c.portion.new.faults c.set_columns.new.faults c.refuse_if.new.self
-        c.assignments.new.faults
+    c.assignments.new.faults
     c.in_ok-table.table d (option_map points_of c.in_ok-portion.portion) is bounds
     c.in_ok-table.ensures c.definition_or-definition.ensures c.in_ok-portion.ensures columns own assigned

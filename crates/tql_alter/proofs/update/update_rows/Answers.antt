@@ -29,13 +29,13 @@ returns c =
     let h = c.in_ok-table.field-0 in
     let conds : List Cond = map (cond c.plain_filter.new.terms) c.in_ok-conjuncts.conjuncts.items in
     let scoped = subst (λ (k : List Known). Gathers (binding.plain_filter k filter) c.update_head.new.faults
-        c.plain_filter.new.faults conds)
+    c.plain_filter.new.faults conds)
     (c.own_reference.ensures ∙ ap binding.own_scope c.definition_or.ensures) c.in_ok-conjuncts.ensures.bound in
     let made = update_bound defs (name_of u.table) p sets filter c.args.faults.now c.update_head.new.faults
-        c.plain_filter.new.faults (heads.head_of c.update_head.new.terms h) conds
+    c.plain_filter.new.faults (heads.head_of c.update_head.new.terms h) conds
     c.in_ok-table.ensures.bound scoped in
     subst (λ (as' : List change.Assignment). Gathers (binding.update defs (name_of u.table) p sets filter)
-        c.args.faults.now c.plain_filter.new.faults
-        (Alter (Modify h.table (option_map points_of h.portion) (change.Set as') conds)))
+    c.args.faults.now c.plain_filter.new.faults
+    (Alter (Modify h.table (option_map points_of h.portion) (change.Set as') conds)))
     (sym (all_same bound.assignment_of HasAssigned assignment_is_kept c.plain_filter.ensures.stays h.sets.items
     c.in_ok-table.ensures.held)) made

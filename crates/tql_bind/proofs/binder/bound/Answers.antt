@@ -13,22 +13,27 @@ use Rattle.tql_bind.proofs.binder.bound.Goals as goal
 pub returns-in-StartTransaction-clause-bound : goal.returns-in-StartTransaction-clause-bound
 returns-in-StartTransaction-clause-bound c =
     let old = c.args.faults.now in
-    subst (λ (s : Statement). Gathers (bind (definitions_of c.args.tables.now) (statement_of s)) old old machine.Start) (sym c.in-StartTransaction.is) (sound_here machine.Start old)
+    subst (λ (s : Statement). Gathers (bind (definitions_of c.args.tables.now) (statement_of s)) old old
+    machine.Start) (sym c.in-StartTransaction.is) (sound_here machine.Start old)
 
 pub returns-in-Commit-clause-bound : goal.returns-in-Commit-clause-bound
 returns-in-Commit-clause-bound c =
     let old = c.args.faults.now in
-    subst (λ (s : Statement). Gathers (bind (definitions_of c.args.tables.now) (statement_of s)) old old machine.Commit) (sym c.in-Commit.is) (sound_here machine.Commit old)
+    subst (λ (s : Statement). Gathers (bind (definitions_of c.args.tables.now) (statement_of s)) old old
+    machine.Commit) (sym c.in-Commit.is) (sound_here machine.Commit old)
 
 pub returns-in-Rollback-clause-bound : goal.returns-in-Rollback-clause-bound
 returns-in-Rollback-clause-bound c =
     let old = c.args.faults.now in
-    subst (λ (s : Statement). Gathers (bind (definitions_of c.args.tables.now) (statement_of s)) old old machine.Rollback) (sym c.in-Rollback.is) (sound_here machine.Rollback old)
+    subst (λ (s : Statement). Gathers (bind (definitions_of c.args.tables.now) (statement_of s)) old old
+    machine.Rollback) (sym c.in-Rollback.is) (sound_here machine.Rollback old)
 
 pub returns-in_ok-question-in-Query-clause-bound : goal.returns-in_ok-question-in-Query-clause-bound
 returns-in_ok-question-in-Query-clause-bound c =
     let defs = definitions_of c.args.tables.now in
     let x = machine.Ask (question_of c.in_ok-question-in-Query.question) in
     let inside : c.deref-in-Query.result.now ≡ c.in-Query.tree.value = cc (c.deref-in-Query.ensures) in
-    subst (λ (s : Statement). Gathers (bind defs (statement_of s)) c.args.faults.now c.ask.new.faults x) (sym c.in-Query.is)
-    (subst (λ (q : Query). Gathers (bind defs (query_of q)) c.args.faults.now c.ask.new.faults x) inside c.in_ok-question-in-Query.ensures)
+    subst (λ (s : Statement). Gathers (bind defs (statement_of s)) c.args.faults.now c.ask.new.faults x)
+    (sym c.in-Query.is)
+    (subst (λ (q : Query). Gathers (bind defs (query_of q)) c.args.faults.now c.ask.new.faults x) inside
+    c.in_ok-question-in-Query.ensures)

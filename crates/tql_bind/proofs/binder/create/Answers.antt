@@ -18,8 +18,11 @@ returns-in-Ok-clause-sound c =
     let made = creation.create defs n elements tree.is_versioned in
     let none : first made.faults ≡ None = ap first (sym (append-nil made.faults)) ∙ c.in-Ok.ensures.0 in
     record {
-      free = ap (λ (d : TableDef). place_of d.name defs) (sym (same_table made.value c.in-Ok.definition c.in-Ok.ensures.1)) ∙ free_law defs n elements tree.is_versioned none;
+      free = ap (λ (d : TableDef). place_of d.name defs)
+          (sym (same_table made.value c.in-Ok.definition c.in-Ok.ensures.1))
+          ∙ free_law defs n elements tree.is_versioned none;
       room = room_law defs n elements tree.is_versioned none;
-      narrow = subst (λ (d : TableDef). length d.columns ≤ 64) (same_table made.value c.in-Ok.definition c.in-Ok.ensures.1)
+      narrow = subst (λ (d : TableDef). length d.columns ≤ 64)
+          (same_table made.value c.in-Ok.definition c.in-Ok.ensures.1)
           (narrow_law defs n (element_of tree.first) (elements_of tree.more) tree.is_versioned c.requires.narrow);
     }

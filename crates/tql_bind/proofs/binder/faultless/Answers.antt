@@ -21,7 +21,7 @@ returns-in-Some-clause-binds c =
 pub returns-in-None-clause-binds : goal.returns-in-None-clause-binds
 returns-in-None-clause-binds c =
     clean bound_of (bind (definitions_of c.args.tables.now) (statement_of c.args.statement.now)) c.none-faults.result
-        c.bound.new.faults c.in_ok-bound.bound
+    c.bound.new.faults c.in_ok-bound.bound
     c.none-faults.ensures (sym c.least.ensures ∙ ap (option_map refusal_of) c.in-None.is) c.in_ok-bound.ensures.bound
 
 pub returns-in-None-clause-sound : goal.returns-in-None-clause-sound
@@ -30,5 +30,5 @@ returns-in-None-clause-sound c =
     let s = statement_of c.args.statement.now in
     let b : Binds bound_of (bind defs s) (Ok c.in_ok-bound.bound) =
     clean bound_of (bind defs s) c.none-faults.result c.bound.new.faults c.in_ok-bound.bound c.none-faults.ensures
-        (sym c.least.ensures ∙ ap (option_map refusal_of) c.in-None.is) c.in_ok-bound.ensures.bound in
+    (sym c.least.ensures ∙ ap (option_map refusal_of) c.in-None.is) c.in_ok-bound.ensures.bound in
     sound_where_clean defs s c.in_ok-bound.bound c.requires.other b.0 b.1 c.in_ok-bound.ensures.within

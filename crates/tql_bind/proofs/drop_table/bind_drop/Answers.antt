@@ -9,5 +9,7 @@ pub returns : goal.returns
 returns c =
     let defs = definitions_of c.args.tables.now in
     let named = c.deref.ensures ∙ c.in_ok-name.ensures in
-    drop_bound defs (name_of c.args.name) c.args.faults.now c.table_number.new.faults c.refuse_if.new.self c.in_ok-place.place c.is_referenced.result
-    c.in_ok-place.ensures (c.is_referenced.ensures ∙ ap (λ (n : List ℕ). is_referenced n defs) named) c.refuse_if.ensures
+    drop_bound defs (name_of c.args.name) c.args.faults.now c.table_number.new.faults c.refuse_if.new.self
+    c.in_ok-place.place c.is_referenced.result
+    c.in_ok-place.ensures (c.is_referenced.ensures
+    ∙ ap (λ (n : List ℕ). is_referenced n defs) named) c.refuse_if.ensures

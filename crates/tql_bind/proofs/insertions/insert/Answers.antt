@@ -22,11 +22,11 @@ returns-in_ok-insertion-in-Select-clause-bound c =
     let x = Alter (query_insertion_of c.in_ok-insertion-in-Select.insertion) in
     let inside : c.deref-in-Select-2.result.now ≡ c.in-Select.select.value = cc (c.deref-in-Select-2.ensures) in
     let at_names = subst
-        (λ (ns : List Name). Gathers
-        (binding.insert_select defs n (map name_of ns) (select_of c.deref-in-Select-2.result.now)) old new x)
-        c.deref-in-Select.ensures.value c.in_ok-insertion-in-Select.ensures in
+    (λ (ns : List Name). Gathers
+    (binding.insert_select defs n (map name_of ns) (select_of c.deref-in-Select-2.result.now)) old new x)
+    c.deref-in-Select.ensures.value c.in_ok-insertion-in-Select.ensures in
     let at_select = subst
-        (λ (s : Select). Gathers (binding.insert_select defs n (names_of i.columns) (select_of s)) old new x) inside
-        at_names in
+    (λ (s : Select). Gathers (binding.insert_select defs n (names_of i.columns) (select_of s)) old new x) inside
+    at_names in
     subst (λ (rows : Rows). Gathers (bind defs (insert_by n (names_of i.columns) rows)) old new x)
-        (sym c.in-Select.is) at_select
+    (sym c.in-Select.is) at_select

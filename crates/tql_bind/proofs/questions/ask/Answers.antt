@@ -20,6 +20,11 @@ returns c =
     let q = asked_of c.in_ok-question.field-0 in
     let x = Ask (question_of c.in_ok-question.field-0.question) in
     let inside : c.deref.result.now ≡ c.args.query.now.select.value = cc (c.deref.ensures) in
-    let at_select = subst (λ (s : Select). Gathers (select defs (select_of s) (map order_of c.deref-2.result.now)) old new q) inside c.in_ok-question.ensures in
-    let at_keys = subst (λ (ks : List OrderKey). Gathers (select defs (boxed_select_of c.args.query.now.select) (map order_of ks)) old new q) c.deref-2.ensures.value at_select in
-    bound (select defs (boxed_select_of c.args.query.now.select) (orders_of c.args.query.now.ordering)) (λ q. sound (Ask q.query)) old new new q x at_keys (sound_here x new)
+    let at_select = subst
+    (λ (s : Select). Gathers (select defs (select_of s) (map order_of c.deref-2.result.now)) old new q) inside
+    c.in_ok-question.ensures in
+    let at_keys = subst (λ (ks : List OrderKey). Gathers
+    (select defs (boxed_select_of c.args.query.now.select) (map order_of ks)) old new q) c.deref-2.ensures.value
+    at_select in
+    bound (select defs (boxed_select_of c.args.query.now.select) (orders_of c.args.query.now.ordering))
+    (λ q. sound (Ask q.query)) old new new q x at_keys (sound_here x new)

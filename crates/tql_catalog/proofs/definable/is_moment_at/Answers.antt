@@ -3,4 +3,6 @@ use Rattle.tql_catalog.proofs.ColumnNames.{moment_there}
 use Rattle.tql_catalog.proofs.definable.is_moment_at.Goals as goal
 
 pub returns-then-number-columns : goal.returns-then-number-columns
-returns-then-number-columns c = c.is_moment.ensures ∙ moment_there c.args.columns.now c.args.number c.index-columns-number.result c.if-number-columns.true c.index-columns-number.is
+returns-then-number-columns c = c.is_moment.ensures
+    ∙ moment_there c.args.columns.now c.args.number c.index-columns-number.result c.if-number-columns.true
+    c.index-columns-number.is

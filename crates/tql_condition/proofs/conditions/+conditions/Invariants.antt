@@ -41,7 +41,11 @@ abbrev pub decreases-condition_or_expr_over : goal.decreases-condition_or_expr_o
 decreases-condition_or_expr_over l = 12 * l.depth + 11
 
 abbrev pub invariant-factors-loop-turn : goal.invariant-factors-loop-turn
-invariant-factors-loop-turn l = more (next_test (expr_at l.depth) (mixed_at l.depth)) [] l.fn.tokens ≡ repeated (next_test (expr_at l.depth) (mixed_at l.depth)) (l._turn-end - l._turn) (map factor_of l.found.items) l.tokens
+invariant-factors-loop-turn l =
+    more (next_test (expr_at l.depth) (mixed_at l.depth)) [] l.fn.tokens ≡ repeated
+    (next_test (expr_at l.depth) (mixed_at l.depth)) (l._turn-end - l._turn) (map factor_of l.found.items) l.tokens
 
 abbrev pub invariant-conjs-loop-turn : goal.invariant-conjs-loop-turn
-invariant-conjs-loop-turn l = more (next_conj (expr_at l.depth) (mixed_at l.depth)) [] l.fn.tokens ≡ repeated (next_conj (expr_at l.depth) (mixed_at l.depth)) (l._turn-end - l._turn) (map conj_of l.found.items) l.tokens
+invariant-conjs-loop-turn l =
+    more (next_conj (expr_at l.depth) (mixed_at l.depth)) [] l.fn.tokens ≡ repeated
+    (next_conj (expr_at l.depth) (mixed_at l.depth)) (l._turn-end - l._turn) (map conj_of l.found.items) l.tokens

@@ -7,4 +7,5 @@ use Rattle.tql_define.proofs.columns.are_all_generated.Goals as goal
 pub returns : goal.returns
 returns c =
     let columns = c.args.columns.now in
-    all_from_yields_List is_given _ _ _ c.all.ensures.ran (YieldsList-from_slice columns cc) (λ x b q k. search (rules, tests)) ∙ all_given columns
+    all_from_yields_List is_given _ _ _ c.all.ensures.ran (YieldsList-from_slice columns cc)
+    (λ x b q k. search (rules, tests)) ∙ all_given columns

@@ -7,4 +7,5 @@ use Rattle.tql_define.proofs.columns.has_misfit.Goals as goal
 pub returns : goal.returns
 returns c =
     let columns = c.args.columns.now in
-    any_from_yields_List is_misfit _ _ _ c.any.ensures.ran (YieldsList-from_slice columns cc) (λ x b q k. search (rules, tests)) ∙ any_misfit columns
+    any_from_yields_List is_misfit _ _ _ c.any.ensures.ran (YieldsList-from_slice columns cc)
+    (λ x b q k. search (rules, tests)) ∙ any_misfit columns

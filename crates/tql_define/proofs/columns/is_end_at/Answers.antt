@@ -8,7 +8,9 @@ use Rattle.tql_define.proofs.columns.is_end_at.Goals as goal
 pub returns-in-Some : goal.returns-in-Some
 returns-in-Some c =
     c.is_row_end.ensures
-    ∙ generated_at is_row_end c.args.columns.now c.args.number c.in-Some.column.now (first_of (search rules, grind (arith, common_steps))) (first_of (search rules, grind (arith, common_steps)))
+    ∙ generated_at is_row_end c.args.columns.now c.args.number c.in-Some.column.now
+    (first_of (search rules, grind (arith, common_steps))) (first_of (search rules, grind (arith, common_steps)))
 
 pub returns-in-None : goal.returns-in-None
-returns-in-None c = not_generated (λ (t : ColumnTree). is_row_end t.generated) c.args.columns.now c.args.number (first_of (search rules, grind (arith, common_steps)))
+returns-in-None c = not_generated (λ (t : ColumnTree). is_row_end t.generated) c.args.columns.now c.args.number
+    (first_of (search rules, grind (arith, common_steps)))

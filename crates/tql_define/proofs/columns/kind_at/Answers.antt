@@ -6,4 +6,5 @@ use Rattle.tql_define.proofs.columns.kind_at.Goals as goal
 pub returns-in-Some : goal.returns-in-Some
 returns-in-Some c =
     c.kind_of.ensures
-    ∙ kind_there c.args.columns.now c.args.number c.in-Some.column.now (first_of (search rules, grind (arith, common_steps))) (first_of (search rules, grind (arith, common_steps)))
+    ∙ kind_there c.args.columns.now c.args.number c.in-Some.column.now
+    (first_of (search rules, grind (arith, common_steps))) (first_of (search rules, grind (arith, common_steps)))

@@ -8,4 +8,5 @@ pub returns : goal.returns
 returns c =
     let n = c.args.name.now in
     let columns = c.args.columns.now in
-    position_from_yields_List (is_called n) _ _ _ c.position.ensures.ran (YieldsList-from_slice columns cc) (λ x b q k. search (rules, tests)) ∙ number_of_columns n columns
+    position_from_yields_List (is_called n) _ _ _ c.position.ensures.ran (YieldsList-from_slice columns cc)
+    (λ x b q k. search (rules, tests)) ∙ number_of_columns n columns

@@ -9,5 +9,6 @@ pub returns : goal.returns
 returns c =
     let columns = c.args.columns.now in
     count_from_yields_List _ _ c.count.ensures.ran
-    (YieldsList-from_filter _ (has_generated is_row_start) (YieldsList-from_slice columns cc) c.filter.ensures.closure (λ x b q k. search (rules, tests)))
+    (YieldsList-from_filter _ (has_generated is_row_start) (YieldsList-from_slice columns cc)
+    c.filter.ensures.closure (λ x b q k. search (rules, tests)))
     ∙ counted is_row_start 0 columns

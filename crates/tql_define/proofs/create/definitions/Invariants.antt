@@ -6,5 +6,6 @@ use Rattle.tql_define.proofs.create.definitions.Given as goal
 
 abbrev pub invariant-loop-column : goal.invariant-loop-column
 invariant-loop-column l =
-    map catalog.column_of l.definitions.items ++ map (column (implied_in (map application_part l.periods))) (map column_of (drop l.column-index l.columns))
+    map catalog.column_of l.definitions.items ++ map (column (implied_in (map application_part l.periods)))
+    (map column_of (drop l.column-index l.columns))
     ≡ map (column (implied_in (map application_part l.periods))) (map column_of l.columns)

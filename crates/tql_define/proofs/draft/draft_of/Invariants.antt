@@ -6,7 +6,10 @@ use Rattle.tql_define.proofs.draft.draft_of.Given as goal
 
 abbrev pub invariant-loop-element : goal.invariant-loop-element
 invariant-loop-element l = record {
-  columns : columns_in l.draft ++ columns_of (map element_of (drop l.element-index l.element-items)) ≡ columns_of (elements_in l.fn.create);
-  applications : applications_in l.draft ++ application_parts (map element_of (drop l.element-index l.element-items)) ≡ application_parts (elements_in l.fn.create);
-  systems : systems_in l.draft ++ system_parts (map element_of (drop l.element-index l.element-items)) ≡ system_parts (elements_in l.fn.create);
+  columns : columns_in l.draft ++ columns_of (map element_of (drop l.element-index l.element-items)) ≡ columns_of
+      (elements_in l.fn.create);
+  applications : applications_in l.draft ++ application_parts (map element_of (drop l.element-index l.element-items))
+      ≡ application_parts (elements_in l.fn.create);
+  systems : systems_in l.draft ++ system_parts (map element_of (drop l.element-index l.element-items)) ≡ system_parts
+      (elements_in l.fn.create);
 }

@@ -4,4 +4,6 @@ use Rattle.tql_define.specs.NewTables.{application_part, implied_in}
 use Rattle.tql_define.proofs.names.is_implied.Given as goal
 
 abbrev pub invariant-loop-period : goal.invariant-loop-period
-invariant-loop-period l = has_name l.name (implied_in (map application_part (drop l.period-index l.periods))) ≡ has_name l.name (implied_in (map application_part l.periods))
+invariant-loop-period l =
+    has_name l.name (implied_in (map application_part (drop l.period-index l.periods))) ≡ has_name l.name
+    (implied_in (map application_part l.periods))

@@ -6,10 +6,14 @@ use Rattle.tql_define.proofs.periods.application_periods.Goals as goal
 
 pub loop-period-preserved : goal.loop-period-preserved
 loop-period-preserved c =
-    each_item (application_in (map column_of c.args.columns.now)) application_part application_of _ c.args.faults.now c.loop-period.faults c.application_period.new.faults c.args.periods.now c.loop-period.period-index
-    c.period-item.result c.loop-period.applications.items c.push.new.self.items c.in_ok-application_period.field-0 c.loop-period-test.true c.period-item.is c.in_ok-push.ensures.items c.loop-period.invariant c.in_ok-application_period.ensures
+    each_item (application_in (map column_of c.args.columns.now)) application_part application_of _ c.args.faults.now
+    c.loop-period.faults c.application_period.new.faults c.args.periods.now c.loop-period.period-index
+    c.period-item.result c.loop-period.applications.items c.push.new.self.items c.in_ok-application_period.field-0
+    c.loop-period-test.true c.period-item.is c.in_ok-push.ensures.items c.loop-period.invariant
+    c.in_ok-application_period.ensures
 
 pub returns : goal.returns
 returns c =
-    each_done (application_in (map column_of c.args.columns.now)) application_part application_of _ c.args.faults.now c.loop-period.faults c.args.periods.now c.loop-period.period-index c.loop-period.applications.items
+    each_done (application_in (map column_of c.args.columns.now)) application_part application_of _ c.args.faults.now
+    c.loop-period.faults c.args.periods.now c.loop-period.period-index c.loop-period.applications.items
     c.loop-period-test.false c.loop-period.invariant

@@ -7,4 +7,5 @@ use Rattle.tql_define.proofs.periods.application_periods.Given as goal
 -- the periods so far and those that are left
 abbrev pub invariant-loop-period : goal.invariant-loop-period
 invariant-loop-period l =
-    EachLeads (application_in (map column_of l.columns)) (map application_part l.periods) l.fn.faults (map application_of l.applications.items) (map application_part (drop l.period-index l.periods)) l.faults
+    EachLeads (application_in (map column_of l.columns)) (map application_part l.periods) l.fn.faults
+    (map application_of l.applications.items) (map application_part (drop l.period-index l.periods)) l.faults

@@ -7,4 +7,5 @@ use Rattle.tql_define.proofs.periods.system_periods.Given as goal
 -- the periods so far and those that are left
 abbrev pub invariant-loop-period : goal.invariant-loop-period
 invariant-loop-period l =
-    EachLeads (system_in (map column_of l.columns)) (map system_part l.periods) l.fn.faults (map system_of l.systems.items) (map system_part (drop l.period-index l.periods)) l.faults
+    EachLeads (system_in (map column_of l.columns)) (map system_part l.periods) l.fn.faults
+    (map system_of l.systems.items) (map system_part (drop l.period-index l.periods)) l.faults

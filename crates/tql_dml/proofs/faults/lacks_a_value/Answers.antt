@@ -15,5 +15,8 @@ returns c =
     let columns = map column_of c.args.columns.now in
     let stored = c.args.stored.now in
     let row = c.args.row.now in
-    any_from_yields_List (λ (p : ℕ × Value). (slice_index_or columns p.0 no_column).required && is_null (datum_of_value p.1)) c.any.new.self _ c.any.result c.any.ensures.ran
-    (YieldsList-from_zip (YieldsList-from_slice stored cc) (YieldsList-from_slice row cc)) (λ x b q k. search (rules, tests)) ∙ lacking_by_number columns stored row
+    any_from_yields_List
+    (λ (p : ℕ × Value). (slice_index_or columns p.0 no_column).required && is_null (datum_of_value p.1))
+    c.any.new.self _ c.any.result c.any.ensures.ran
+    (YieldsList-from_zip (YieldsList-from_slice stored cc) (YieldsList-from_slice row cc))
+    (λ x b q k. search (rules, tests)) ∙ lacking_by_number columns stored row

@@ -12,13 +12,18 @@ pub insert_rows-requires : goal.insert_rows-requires
 insert_rows-requires c =
     let x = c.args.insertion.now in
     let tuples : List Row = rows_of c.in_ok-tuples.tuples.items in
-    values_print x tuples (ap (λ ts. map_all (map_all (eval [] [])) (map (tuple_of x.terms) ts)) (sym c.deref.ensures.value) ∙ c.in_ok-tuples.ensures)
+    values_print x tuples
+    (ap (λ ts. map_all (map_all (eval [] [])) (map (tuple_of x.terms) ts)) (sym c.deref.ensures.value)
+    ∙ c.in_ok-tuples.ensures)
 
 pub returns-clause-alters : goal.returns-clause-alters
 returns-clause-alters c =
     let d = c.args.table.now.definition in
     let x = c.args.insertion.now in
     let tuples : List Row = rows_of c.in_ok-tuples.tuples.items in
-    let values : tuples_in x ≡ Some tuples = ap (λ ts. map_all (map_all (eval [] [])) (map (tuple_of x.terms) ts)) (sym c.deref.ensures.value) ∙ c.in_ok-tuples.ensures in
+    let values : tuples_in x ≡ Some tuples =
+    ap (λ ts. map_all (map_all (eval [] [])) (map (tuple_of x.terms) ts)) (sym c.deref.ensures.value)
+    ∙ c.in_ok-tuples.ensures in
     of_values d c.args.table.now.id x (tuples_in x) (Some tuples) c.insert_rows.result values
-    (subst (λ js. Alters c.args.table.now.id [] (λ m. (added_rows d js (Some tuples) m).rows) (added_rows d js (Some tuples)) c.insert_rows.result) c.deref-2.ensures.value c.insert_rows.ensures.alters)
+    (subst (λ js. Alters c.args.table.now.id [] (λ m. (added_rows d js (Some tuples) m).rows)
+    (added_rows d js (Some tuples)) c.insert_rows.result) c.deref-2.ensures.value c.insert_rows.ensures.alters)

@@ -9,6 +9,6 @@ pub loop-version-preserved : goal.loop-version-preserved
 loop-version-preserved c =
     let x = c.args.modification.now in
     one_more_version c.args.definition.now (portion_in x) (work_of x.terms x.work) (conds_in x) c.args.found.now
-        c.loop-version.version-index c.version-item.result
+    c.loop-version.version-index c.version-item.result
     (parts_in c.loop-version.changed) (parts_in c.add_version.new.changed) _ (omega arith) c.version-item.is
     c.in_ok-add_version.ensures c.loop-version.invariant

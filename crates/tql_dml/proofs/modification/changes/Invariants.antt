@@ -8,7 +8,7 @@ use Rattle.tql_dml.proofs.modification.changes.Given as goal
 abbrev pub invariant-loop-version : goal.invariant-loop-version
 invariant-loop-version l =
     before (parts_in l.changed)
-        (parts l.definition (portion_in l.modification) (work_of l.modification.terms l.modification.work)
-        (conds_in l.modification) (drop l.version-index l.found))
+    (parts l.definition (portion_in l.modification) (work_of l.modification.terms l.modification.work)
+    (conds_in l.modification) (drop l.version-index l.found))
     ≡ parts l.definition (portion_in l.modification) (work_of l.modification.terms l.modification.work)
-        (conds_in l.modification) l.found
+    (conds_in l.modification) l.found

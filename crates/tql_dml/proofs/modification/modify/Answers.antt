@@ -9,27 +9,27 @@ use Rattle.tql_dml.proofs.modification.modify.Goals as goal
 pub returns-in_err-changed-clause-alters : goal.returns-in_err-changed-clause-alters
 returns-in_err-changed-clause-alters c =
     modify_fails c.args.table.now.definition c.args.table.now.id c.args.found.now c.args.modification.now
-        c.in_err-changed.field-0.0 c.from_residual.result c.from_residual.ensures c.in_err-changed.ensures
+    c.in_err-changed.field-0.0 c.from_residual.result c.from_residual.ensures c.in_err-changed.ensures
 
 pub returns-in-Some-clause-alters : goal.returns-in-Some-clause-alters
 returns-in-Some-clause-alters c =
     let d = c.args.table.now.definition in
     modify_refused d c.args.table.now.id c.args.found.now c.args.modification.now (parts_in c.in_ok-changed.changed)
-        c.in-Some.refusal c.first_fault.ensures.right c.requires c.in_ok-changed.ensures
+    c.in-Some.refusal c.first_fault.ensures.right c.requires c.in_ok-changed.ensures
     (c.in-Some.ensures.fault ∙ ap (λ rs. first (rows_faults d (rows_of rs))) c.deref.ensures.value)
 
 pub returns-in-None-clause-alters : goal.returns-in-None-clause-alters
 returns-in-None-clause-alters c =
     let d = c.args.table.now.definition in
     modify_gives d c.args.table.now.id c.args.found.now c.args.modification.now (parts_in c.in_ok-changed.changed)
-        c.of_table.result c.first_fault.ensures.right c.requires c.in_ok-changed.ensures
+    c.of_table.result c.first_fault.ensures.right c.requires c.in_ok-changed.ensures
     c.of_table.ensures.table c.of_table.ensures.removed (ap rows_of c.of_table.ensures.added) c.of_table.ensures.count
     (c.in-None.ensures.fault ∙ ap (λ rs. first (rows_faults d (rows_of rs))) c.deref.ensures.value)
 
 pub returns-in-None-clause-fits : goal.returns-in-None-clause-fits
 returns-in-None-clause-fits c =
     modify_fits c.args.table.now.definition c.args.found.now c.args.modification.now
-        (parts_in c.in_ok-changed.changed) (rows_of c.of_table.result.added.items)
+    (parts_in c.in_ok-changed.changed) (rows_of c.of_table.result.added.items)
     c.first_fault.ensures.right c.requires c.in_ok-changed.ensures (ap rows_of c.of_table.ensures.added)
     (c.in-None.ensures.fault
     ∙ ap (λ rs. first (rows_faults c.args.table.now.definition (rows_of rs))) c.deref.ensures.value)

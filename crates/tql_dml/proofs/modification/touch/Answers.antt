@@ -16,9 +16,9 @@ returns c =
     let q : Parts = parts_in c.add_left.new.changed in
     let s : Parts = parts_in c.add_made.new.changed in
     let first = ap (λ (ids : List ℕ). with_rows (record { gone = ids; come = p.come })
-        (Some (left_cells d row c.args.cut.before))) (sym c.in_ok-push.ensures.items)
+    (Some (left_cells d row c.args.cut.before))) (sym c.in_ok-push.ensures.items)
     ∙ c.in_ok-add_left.ensures in
     subst (λ (o : Option Parts). Evaluated {A = Unit {0}} (λ u. parts_in c.add_left-2.new.changed) o
-        c.add_left-2.result)
+    c.add_left-2.result)
     (touch_is d (portion_in x) (work_in x) c.args.id row c.args.cut c.requires p q s first c.in_ok-add_made.ensures)
     c.add_left-2.ensures

@@ -12,7 +12,7 @@ returns-in_default c =
     let d = c.args.definition.now in
     let row = shown_by c.args.row.now in
     subst (λ (o : Option Period). IsCut d (option_map points_of o) row
-        (record { before = None; inside = None; after = None })) (sym c.in_default.is) (whole_cut d row)
+    (record { before = None; inside = None; after = None })) (sym c.in_default.is) (whole_cut d row)
 
 pub returns-then-is_some : goal.returns-then-is_some
 returns-then-is_some c =

@@ -9,6 +9,8 @@ is_not false h = absurd cc
 
 pub returns : goal.returns
 returns c = λ t.
-    let same : c.args.columns.now ≡ c.assignable.result.now = (bytes_eq-Decides c.args.columns.now c.assignable.result.now).0 (is_not _ c.if-ne.ensures) in
-    usual_rows c.args.definition.now c.args.columns.now c.args.tuples.now c.assignable.ensures.right (same ∙ c.assignable.ensures.assignable) (sym c.if-not-are_assignable.ensures)
+    let same : c.args.columns.now ≡ c.assignable.result.now =
+    (bytes_eq-Decides c.args.columns.now c.assignable.result.now).0 (is_not _ c.if-ne.ensures) in
+    usual_rows c.args.definition.now c.args.columns.now c.args.tuples.now c.assignable.ensures.right (same
+    ∙ c.assignable.ensures.assignable) (sym c.if-not-are_assignable.ensures)
     (sym c.are_wide.ensures ∙ t)

@@ -9,5 +9,6 @@ use Rattle.tql_dml.proofs.values.tuples_on.Given as goal
 -- the rows so far, before those of the tuples that are left, are those of all
 abbrev pub invariant-loop-tuple : goal.invariant-loop-tuple
 invariant-loop-tuple l =
-    behind (rows_of l.rows.items) (map_all (map_all (eval [] l.row)) (map (tuple_of l.terms) (drop l.tuple-index l.tuples)))
+    behind (rows_of l.rows.items)
+    (map_all (map_all (eval [] l.row)) (map (tuple_of l.terms) (drop l.tuple-index l.tuples)))
     ≡ map_all (map_all (eval [] l.row)) (map (tuple_of l.terms) l.tuples)

@@ -6,7 +6,9 @@ use Rattle.tql_store.proofs.Judging.{still-removable}
 use Rattle.tql_engine.proofs.committing.commit_rows.Goals as goal
 
 pub apply-requires-clause-removable : goal.apply-requires-clause-removable
-apply-requires-clause-removable c = still-removable c.args.store.now _ c.args.delta.table c.args.delta.removed.items (c.begin.ensures.names c.args.delta.table) c.requires.removable
+apply-requires-clause-removable c =
+    still-removable c.args.store.now _ c.args.delta.table c.args.delta.removed.items
+    (c.begin.ensures.names c.args.delta.table) c.requires.removable
 
 pub returns-in-Ok-clause-ok : goal.returns-in-Ok-clause-ok
 returns-in-Ok-clause-ok c = record {

@@ -13,6 +13,7 @@ use Rattle.tql_exec.proofs.sorting.drop_repeats.Goals as goal
 pub returns : goal.returns
 returns c =
     let view : Vec Value _ → Row = λ v. row_of v.items in
-    ap (map view) (dedup_same _ (λ x y. is_eq (by_columns (view x) (view y))) _ (λ x y b f' x' y' k. search rules) c.args.rows.now.items _ c.dedup_by.ensures.filtered)
+    ap (map view) (dedup_same _ (λ x y. is_eq (by_columns (view x) (view y))) _ (λ x y b f' x' y' k. search rules)
+    c.args.rows.now.items _ c.dedup_by.ensures.filtered)
     ∙ dedup-map view (λ x y. is_eq (by_columns x y)) c.args.rows.now.items
     ∙ (λ i. dedup (λ x y. ties_where_one x y i) (rows_of c.args.rows.now.items))

@@ -19,7 +19,8 @@ returns-clause-sorted c =
     let view : Vec Value _ → Row = λ v. row_of v.items in
     let R : Row → Row → Ordering = row_order (map order_of c.args.keys.now) in
     sorted_rows R view c.sort_unstable_by.new.self.items
-    (c.sort_unstable_by.ensures.sorted (λ x y. is_lt (R (view x) (view y))) (ranks_by (row_order_total (map order_of c.args.keys.now)) view)
+    (c.sort_unstable_by.ensures.sorted (λ x y. is_lt (R (view x) (view y)))
+    (ranks_by (row_order_total (map order_of c.args.keys.now)) view)
     (always_returns_same _ _ _ (λ a r f' k. (search rules, search rules))))
 
 pub returns-clause-same : goal.returns-clause-same

@@ -10,4 +10,5 @@ use Rattle.tql_expr.proofs.values.values_on.Given as goal
 abbrev pub invariant-loop-expr : goal.invariant-loop-expr
 invariant-loop-expr g l =
     let value = eval (g.C.Columns.group l.columns) (g.C.Columns.values l.columns) in
-    behind (row_of l.values.items) (map_all value (map (expr l.terms) (drop l.expr-index l.exprs))) ≡ map_all value (map (expr l.terms) l.exprs)
+    behind (row_of l.values.items) (map_all value (map (expr l.terms) (drop l.expr-index l.exprs))) ≡ map_all value
+    (map (expr l.terms) l.exprs)

@@ -6,7 +6,9 @@ use Rattle.tql_filter.proofs.aggregates.+aggregates.Given as goal
 
 -- those that are left decide
 abbrev pub invariant-is_in_condition-loop-part : goal.invariant-is_in_condition-loop-part
-invariant-is_in_condition-loop-part l = in_conjs (conjs_of (map conj_of (drop l.part-index l.part-items))) ≡ in_condition (cond_of l.condition)
+invariant-is_in_condition-loop-part l =
+    in_conjs (conjs_of (map conj_of (drop l.part-index l.part-items))) ≡ in_condition (cond_of l.condition)
 
 abbrev pub invariant-is_in_conj-loop-part : goal.invariant-is_in_conj-loop-part
-invariant-is_in_conj-loop-part l = in_tests (tests_of (map factor_of (drop l.part-index l.part-items))) ≡ in_conj (conj_of l.conj)
+invariant-is_in_conj-loop-part l =
+    in_tests (tests_of (map factor_of (drop l.part-index l.part-items))) ≡ in_conj (conj_of l.conj)

@@ -6,4 +6,5 @@ use Rattle.tql_filter.proofs.aggregates.is_in_any.Given as goal
 
 -- those that are left decide
 abbrev pub invariant-loop-expr : goal.invariant-loop-expr
-invariant-loop-expr l = list_any in_sum (map boxed_expr_of (drop l.expr-index l.exprs)) ≡ list_any in_sum (map boxed_expr_of l.exprs)
+invariant-loop-expr l =
+    list_any in_sum (map boxed_expr_of (drop l.expr-index l.exprs)) ≡ list_any in_sum (map boxed_expr_of l.exprs)

@@ -16,7 +16,11 @@ returns-clause-bound c =
     let s = scope_of c.args.scope.now in
     let right = expr_of c.args.right.now in
     let left = typed_of c.sum.new.terms c.in_ok-left.left in
-    bound_ok (names.expr s (expr_of c.args.left.now)) (λ x. names.compared right s x (bound.Compare (comparison_of c.args.sign))) (cond c.compared.new.terms) _ _ _ _ _
+    bound_ok (names.expr s (expr_of c.args.left.now))
+    (λ x. names.compared right s x (bound.Compare (comparison_of c.args.sign))) (cond c.compared.new.terms) _ _ _
+    _ _
     c.in_ok-left.ensures.bound
-    (subst (λ (op : Comparison). IfOk c.compared.result (λ y. Gathers (names.compared right s left (bound.Compare op)) c.sum.new.faults c.compared.new.faults (cond c.compared.new.terms y))) c.comparison.ensures
+    (subst (λ (op : Comparison). IfOk c.compared.result
+    (λ y. Gathers (names.compared right s left (bound.Compare op)) c.sum.new.faults c.compared.new.faults
+    (cond c.compared.new.terms y))) c.comparison.ensures
     c.compared.ensures.bound)

@@ -5,4 +5,6 @@ use Rattle.tql_filter.proofs.conjuncts.members.Given as goal
 
 -- the members that are bound, and those that are left, are all
 abbrev pub invariant-loop-part : goal.invariant-loop-part
-invariant-loop-part l = ConjLeads (scope_of l.scope) l.conj l.part-items l.fn.terms l.fn.faults l.terms l.all.items (drop l.part-index l.part-items) l.faults
+invariant-loop-part l =
+    ConjLeads (scope_of l.scope) l.conj l.part-items l.fn.terms l.fn.faults l.terms l.all.items
+    (drop l.part-index l.part-items) l.faults

@@ -8,10 +8,13 @@ use Rattle.tql_filter.proofs.conjuncts.one_conjunct.Goals as goal
 
 pub returns-clause-bound : goal.returns-clause-bound
 returns-clause-bound c =
-    one_is (condition (scope_of c.args.scope.now) (cond_of c.args.whole.now)) c.condition.new.terms _ _ c.in_ok-bound.bound c.push.new.self.items
-    (c.in_ok-push.ensures.items ∙ ap (λ (ys : List CondId). ys ++ c.in_ok-bound.bound ∷ []) c.new-all.ensures.items) c.in_ok-bound.ensures.bound
+    one_is (condition (scope_of c.args.scope.now) (cond_of c.args.whole.now)) c.condition.new.terms _ _
+    c.in_ok-bound.bound c.push.new.self.items
+    (c.in_ok-push.ensures.items
+    ∙ ap (λ (ys : List CondId). ys ++ c.in_ok-bound.bound ∷ []) c.new-all.ensures.items) c.in_ok-bound.ensures.bound
 
 pub returns-clause-held : goal.returns-clause-held
 returns-clause-held c =
     one_held c.condition.new.terms c.in_ok-bound.bound c.push.new.self.items
-    (c.in_ok-push.ensures.items ∙ ap (λ (ys : List CondId). ys ++ c.in_ok-bound.bound ∷ []) c.new-all.ensures.items) c.in_ok-bound.ensures.held
+    (c.in_ok-push.ensures.items
+    ∙ ap (λ (ys : List CondId). ys ++ c.in_ok-bound.bound ∷ []) c.new-all.ensures.items) c.in_ok-bound.ensures.held

@@ -5,4 +5,5 @@ use Rattle.tql_filter.proofs.conjuncts.plain_conjuncts.Goals as goal
 
 pub returns-clause-bound : goal.returns-clause-bound
 returns-clause-bound c =
-    plain_is (scope_of c.args.scope.now) (cond_of c.args.condition.now) c.is_in_condition.result _ _ _ _ c.is_in_condition.ensures c.in_ok-all.ensures.bound c.refuse_if.ensures
+    plain_is (scope_of c.args.scope.now) (cond_of c.args.condition.now) c.is_in_condition.result _ _ _ _
+    c.is_in_condition.ensures c.in_ok-all.ensures.bound c.refuse_if.ensures

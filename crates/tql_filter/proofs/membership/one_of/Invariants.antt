@@ -8,5 +8,6 @@ use Rattle.tql_filter.proofs.membership.one_of.Given as goal
 -- the equalities that are bound, and those that are left, are all
 abbrev pub invariant-loop-next : goal.invariant-loop-next
 invariant-loop-next l =
-    CondsLead (equals (scope_of l.scope) (typed_of l.fn.terms l.operand)) (expr_of l.first ∷ map boxed_expr_of l.more) l.fn.terms l.fn.faults l.terms
+    CondsLead (equals (scope_of l.scope) (typed_of l.fn.terms l.operand))
+    (expr_of l.first ∷ map boxed_expr_of l.more) l.fn.terms l.fn.faults l.terms
     (l.before.items ++ l.last ∷ []) (map boxed_expr_of (drop l.next-index l.more)) l.faults

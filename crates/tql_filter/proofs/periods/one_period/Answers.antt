@@ -13,7 +13,8 @@ returns-in-Some-clause-bound c =
     let all = things (scope_of c.args.scope.now) (named_of c.args.named) in
     let x = ends_at c.in-Some.start c.in-Some.end (plain_kind c.in-Some.kind) in
     let found : sole_period all ≡ Some x = sym c.in_ok-found.ensures ∙ ap (option_map period_of) c.in-Some.is in
-    sound_ok (one_period all) x (ends_of c.ends_at.new.terms) _ c.ends_at.result (a_period all x found) c.ends_at.ensures.bound
+    sound_ok (one_period all) x (ends_of c.ends_at.new.terms) _ c.ends_at.result (a_period all x found)
+    c.ends_at.ensures.bound
 
 pub returns-in-None-clause-bound : goal.returns-in-None-clause-bound
 returns-in-None-clause-bound c =

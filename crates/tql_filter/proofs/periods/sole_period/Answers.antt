@@ -5,4 +5,6 @@ use Rattle.tql_filter.specs.Ends.{sole_period}
 use Rattle.tql_filter.proofs.periods.sole_period.Goals as goal
 
 pub returns-in-len1 : goal.returns-in-len1
-returns-in-len1 c = c.as_period.ensures ∙ ap (λ xs. sole_period (things_of xs)) (sym (only c.args.found.now c.thing-item.result c.in-len1.len_at_least c.in-len1.len_below c.thing-item.is))
+returns-in-len1 c = c.as_period.ensures
+    ∙ ap (λ xs. sole_period (things_of xs))
+    (sym (only c.args.found.now c.thing-item.result c.in-len1.len_at_least c.in-len1.len_below c.thing-item.is))

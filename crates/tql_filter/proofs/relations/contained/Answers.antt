@@ -14,7 +14,8 @@ returns-in-None-clause-bound c =
     let x = ends_of c.args.terms.now c.args.period in
     let e = expr_of c.args.right.now in
     let v = c.contained_point.new.terms in
-    subst (λ (o : Option tree.Named). IfOk c.contained_point.result (λ y. Gathers (contained s x e o) c.args.faults.now c.contained_point.new.faults (cond v y)))
+    subst (λ (o : Option tree.Named). IfOk c.contained_point.result
+    (λ y. Gathers (contained s x e o) c.args.faults.now c.contained_point.new.faults (cond v y)))
     (ap (option_map named_of) (sym c.in-None.is) ∙ c.sole_name.ensures) c.contained_point.ensures.bound
 
 pub returns-in-Some-clause-bound : goal.returns-in-Some-clause-bound
@@ -23,5 +24,6 @@ returns-in-Some-clause-bound c =
     let x = ends_of c.args.terms.now c.args.period in
     let e = expr_of c.args.right.now in
     let v = c.contained_named.new.terms in
-    subst (λ (o : Option tree.Named). IfOk c.contained_named.result (λ y. Gathers (contained s x e o) c.args.faults.now c.contained_named.new.faults (cond v y)))
+    subst (λ (o : Option tree.Named). IfOk c.contained_named.result
+    (λ y. Gathers (contained s x e o) c.args.faults.now c.contained_named.new.faults (cond v y)))
     (ap (option_map named_of) (sym c.in-Some.is) ∙ c.sole_name.ensures) c.contained_named.ensures.bound

@@ -18,7 +18,8 @@ returns-in-Some-clause-bound c =
     let y = ends_at c.in-Some.start c.in-Some.end (plain_kind c.in-Some.kind) in
     let v = c.contained_period.new.terms in
     let found : sole_period all ≡ Some y = sym c.in_ok-found.ensures ∙ ap (option_map period_of) c.in-Some.is in
-    subst (λ (d : Checked Cond). IfOk c.contained_period.result (λ z. Gathers d c.args.faults.now c.contained_period.new.faults (cond v z)))
+    subst (λ (d : Checked Cond). IfOk c.contained_period.result
+    (λ z. Gathers d c.args.faults.now c.contained_period.new.faults (cond v z)))
     (sym (named_period_is s x (expr_of c.args.right.now) all y found)) c.contained_period.ensures.bound
 
 pub returns-in-None-clause-bound : goal.returns-in-None-clause-bound
@@ -29,5 +30,6 @@ returns-in-None-clause-bound c =
     let all = things s (named_of c.args.named) in
     let v = c.contained_point.new.terms in
     let found : sole_period all ≡ None = sym c.in_ok-found.ensures ∙ ap (option_map period_of) c.in-None.is in
-    subst (λ (d : Checked Cond). IfOk c.contained_point.result (λ z. Gathers d c.args.faults.now c.contained_point.new.faults (cond v z)))
+    subst (λ (d : Checked Cond). IfOk c.contained_point.result
+    (λ z. Gathers d c.args.faults.now c.contained_point.new.faults (cond v z)))
     (sym (named_point_is s x e all found)) c.contained_point.ensures.bound

@@ -16,7 +16,10 @@ pub returns-clause-bound : goal.returns-clause-bound
 returns-clause-bound c =
     let u = c.ends_at.new.terms in
     let v = c.related.new.terms in
-    subst (λ (x : names.Ends). IfOk c.related.result (λ y. Gathers (related Includes x (names.ends_at c.args.start c.args.end (plain_kind c.args.kind))) c.args.faults.now c.related.new.faults (cond v y)))
+    subst (λ (x : names.Ends). IfOk c.related.result
+    (λ y. Gathers (related Includes x (names.ends_at c.args.start c.args.end (plain_kind c.args.kind)))
+    c.args.faults.now c.related.new.faults (cond v y)))
     (ends_kept c.in_ok-right.ensures.stays c.args.period c.requires)
-    (subst (λ (y : names.Ends). IfOk c.related.result (λ z. Gathers (related Includes (ends_of u c.args.period) y) c.args.faults.now c.related.new.faults (cond v z)))
+    (subst (λ (y : names.Ends). IfOk c.related.result
+    (λ z. Gathers (related Includes (ends_of u c.args.period) y) c.args.faults.now c.related.new.faults (cond v z)))
     c.in_ok-right.ensures.bound c.related.ensures.bound)

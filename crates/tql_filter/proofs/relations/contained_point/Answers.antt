@@ -13,6 +13,8 @@ push_contains_point-requires-clause-to c = expr_there c.in_ok-point.ensures.stay
 
 pub returns-clause-bound : goal.returns-clause-bound
 returns-clause-bound c =
-    added_ok c.sum.new.terms c.push_contains_point.new.self c.push_contains_point.result _ _ _ _ c.push_contains_point.ensures
-    (contained_point_is (scope_of c.args.scope.now) (expr_of c.args.point.now) c.args.terms.now c.sum.new.terms c.args.period c.in_ok-point.point _ _ _ c.differ.result
+    added_ok c.sum.new.terms c.push_contains_point.new.self c.push_contains_point.result _ _ _ _
+    c.push_contains_point.ensures
+    (contained_point_is (scope_of c.args.scope.now) (expr_of c.args.point.now) c.args.terms.now c.sum.new.terms
+    c.args.period c.in_ok-point.point _ _ _ c.differ.result
     c.in_ok-point.ensures.stays c.requires c.in_ok-point.ensures.bound c.differ.ensures c.refuse_if.ensures)

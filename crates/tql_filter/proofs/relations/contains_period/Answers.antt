@@ -12,6 +12,8 @@ related-requires-clause-left c = ends_there c.in_ok-right.ensures.stays c.in_ok-
 pub returns-clause-bound : goal.returns-clause-bound
 returns-clause-bound c =
     let s = scope_of c.args.scope.now in
-    two_ends_ok (operand s (operand_of c.args.left.now)) (marked s (marked_of c.args.right.now)) Includes c.operand.new.terms c.marked.new.terms c.in_ok-left.left c.in_ok-right.right
+    two_ends_ok (operand s (operand_of c.args.left.now)) (marked s (marked_of c.args.right.now)) Includes
+    c.operand.new.terms c.marked.new.terms c.in_ok-left.left c.in_ok-right.right
     (cond c.related.new.terms) _ _ _ _ c.related.result
-    c.in_ok-right.ensures.stays c.in_ok-left.ensures.held c.in_ok-left.ensures.bound c.in_ok-right.ensures.bound c.related.ensures.bound
+    c.in_ok-right.ensures.stays c.in_ok-left.ensures.held c.in_ok-left.ensures.bound c.in_ok-right.ensures.bound
+    c.related.ensures.bound

@@ -10,5 +10,6 @@ pub returns-clause-bound : goal.returns-clause-bound
 returns-clause-bound c =
     let s = scope_of c.args.scope.now in
     let e = expr_of c.args.right.now in
-    bound_ok (operand s (operand_of c.args.left.now)) (λ a. contained s a e (sole_name e)) (cond c.contained.new.terms) _ _ _ _ _
+    bound_ok (operand s (operand_of c.args.left.now)) (λ a. contained s a e (sole_name e))
+    (cond c.contained.new.terms) _ _ _ _ _
     c.in_ok-left.ensures.bound c.contained.ensures.bound

@@ -20,7 +20,10 @@ returns-clause-bound c =
     let v = c.related.new.terms in
     let left = c.in_ok-left.left in
     let right = c.in_ok-right.right in
-    two_ends_ok (operand s (operand_of c.args.left.now)) (operand s (operand_of c.args.right.now)) (relation_of c.args.which) t u left right (cond v) _ _ _ _ c.related.result
+    two_ends_ok (operand s (operand_of c.args.left.now)) (operand s (operand_of c.args.right.now))
+    (relation_of c.args.which) t u left right (cond v) _ _ _ _ c.related.result
     c.in_ok-right.ensures.stays c.in_ok-left.ensures.held c.in_ok-left.ensures.bound c.in_ok-right.ensures.bound
-    (subst (λ (which : Relation). IfOk c.related.result (λ y. Gathers (related which (ends_of u left) (ends_of u right)) c.operand-2.new.faults c.related.new.faults (cond v y))) c.relation.ensures
+    (subst (λ (which : Relation). IfOk c.related.result
+    (λ y. Gathers (related which (ends_of u left) (ends_of u right)) c.operand-2.new.faults c.related.new.faults
+    (cond v y))) c.relation.ensures
     c.related.ensures.bound)

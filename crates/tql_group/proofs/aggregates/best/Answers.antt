@@ -17,6 +17,10 @@ loop-row-preserved g c =
     let next = datum_of_view c.better-found.result in
     let better = is_better c.args.greatest in
     more_present g.C.Columns.values (expr c.args.terms.now c.args.x)
-    (λ vs. Some (best better (if not (is_null so_far) then so_far ∷ vs else vs))) (λ vs. Some (best better (if not (is_null next) then next ∷ vs else vs)))
-    c.args.rows.now c.loop-row.row-index c.row-item.result value (of_present (λ vs. Some (best better vs)) (expr c.args.terms.now c.args.x) (map g.C.Columns.values c.args.rows.now)) c.loop-row-test.true c.row-item.is c.in_ok-value_alone.ensures
-    (λ vs. rw c.better-found.ensures (ap {B = Option Datum} Some (one_better c.args.greatest so_far value vs))) c.loop-row.invariant
+    (λ vs. Some (best better (if not (is_null so_far) then so_far ∷ vs else vs)))
+    (λ vs. Some (best better (if not (is_null next) then next ∷ vs else vs)))
+    c.args.rows.now c.loop-row.row-index c.row-item.result value
+    (of_present (λ vs. Some (best better vs)) (expr c.args.terms.now c.args.x)
+    (map g.C.Columns.values c.args.rows.now)) c.loop-row-test.true c.row-item.is c.in_ok-value_alone.ensures
+    (λ vs. rw c.better-found.ensures (ap {B = Option Datum} Some (one_better c.args.greatest so_far value vs)))
+    c.loop-row.invariant

@@ -12,5 +12,7 @@ abbrev pub invariant-loop-row : goal.invariant-loop-row
 invariant-loop-row g l =
     let values = g.C.Columns.values in
     let better = is_better l.greatest in
-    of_present (λ vs. Some (best better (if not (is_null (datum_of_view l.found)) then datum_of_view l.found ∷ vs else vs))) (expr l.terms l.x) (map values (drop l.row-index l.rows))
+    of_present (λ vs. Some
+    (best better (if not (is_null (datum_of_view l.found)) then datum_of_view l.found ∷ vs else vs)))
+    (expr l.terms l.x) (map values (drop l.row-index l.rows))
     ≡ of_present (λ vs. Some (best better vs)) (expr l.terms l.x) (map values l.rows)

@@ -12,4 +12,5 @@ returns-in-Over g c = λ row.
     let rows = map g.C.Columns.values c.args.rows.now in
     let fits = c.in-Ok.ensures in
     let few : length rows < 2 ^ 63 = omega (arith, ints, fits.0, length-map c.args.rows.now g.C.Columns.values) in
-    rw c.in-Over.is (over_few (plain_function c.in-Over.function) (expr c.args.terms.now c.in-Over.x) rows row _ few c.over_values.ensures)
+    rw c.in-Over.is (over_few (plain_function c.in-Over.function) (expr c.args.terms.now c.in-Over.x) rows row _ few
+    c.over_values.ensures)

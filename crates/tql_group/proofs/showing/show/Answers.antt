@@ -18,6 +18,9 @@ returns c =
     let sorted = c.sort_by_columns.new.rows in
     let named = rw c.in-Some.is at c.requires.grouped in
     let some = not_empty columns c.if-is_empty.ensures in
-    let shown_runs = subst (λ ss. Evaluated (λ v. rows_of v.items) (shown conds exprs ss) c.show_runs.result) (scopes_by columns sorted some) c.show_runs.ensures in
-    rw c.in-Some.is (gives_bag (λ v. rows_of v.items) (shown conds exprs (scopes (Some columns) sorted)) (shown conds exprs (scopes (Some columns) rows)) c.show_runs.result
-    (c.groups_keep_no_order.ensures (Some columns) conds exprs sorted rows named c.sort_by_columns.ensures.same) shown_runs)
+    let shown_runs = subst (λ ss. Evaluated (λ v. rows_of v.items) (shown conds exprs ss) c.show_runs.result)
+    (scopes_by columns sorted some) c.show_runs.ensures in
+    rw c.in-Some.is (gives_bag (λ v. rows_of v.items) (shown conds exprs (scopes (Some columns) sorted))
+    (shown conds exprs (scopes (Some columns) rows)) c.show_runs.result
+    (c.groups_keep_no_order.ensures (Some columns) conds exprs sorted rows named c.sort_by_columns.ensures.same)
+    shown_runs)

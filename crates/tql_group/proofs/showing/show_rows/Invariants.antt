@@ -11,4 +11,5 @@ abbrev pub invariant-loop-row : goal.invariant-loop-row
 invariant-loop-row l =
     let conds = map (cond l.terms) l.having in
     let exprs = map (expr l.terms) l.items in
-    behind (rows_of l.made.items) (shown conds exprs (map alone (drop l.row-index l.rows))) ≡ shown conds exprs (map alone l.rows)
+    behind (rows_of l.made.items) (shown conds exprs (map alone (drop l.row-index l.rows))) ≡ shown conds exprs
+    (map alone l.rows)

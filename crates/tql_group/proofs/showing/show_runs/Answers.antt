@@ -19,13 +19,16 @@ returns-in_err-add_group c =
     let rows = c.args.rows.now in
     let start = c.loop-start.start in
     let run = take c.run_length.result (take (length rows - start) (drop start rows)) in
-    let next = next_group columns rows start c.run_length.result c.loop-start-test.true c.requires.sorted c.run_length.ensures in
+    let next = next_group columns rows start c.run_length.result c.loop-start-test.true c.requires.sorted
+    c.run_length.ensures in
     let done = rows_of c.loop-start.made.items in
     let all = shown conds exprs (map of_group (groups_by columns rows)) in
-    let left : map of_group (groups_by columns (drop start rows)) ≡ of_group run ∷ map of_group (groups_by columns (drop (start + length run) rows)) = ap (map of_group) next in
+    let left : map of_group (groups_by columns (drop start rows)) ≡ of_group run ∷ map of_group
+    (groups_by columns (drop (start + length run) rows)) = ap (map of_group) next in
     let fails : Fails all c.in_err-add_group.field-0.0 =
     fails_with (behind done (shown conds exprs (of_group run ∷ []))) all _
-    (one_not_shown conds exprs (of_group run) (map of_group (groups_by columns (drop (start + length run) rows))) (map of_group (groups_by columns (drop start rows))) done all left c.loop-start.invariant.0)
+    (one_not_shown conds exprs (of_group run) (map of_group (groups_by columns (drop (start + length run) rows)))
+    (map of_group (groups_by columns (drop start rows))) done all left c.loop-start.invariant.0)
     c.in_err-add_group.ensures in
     search rules
 
@@ -37,11 +40,14 @@ loop-start-preserved c =
     let rows = c.args.rows.now in
     let start = c.loop-start.start in
     let run = take c.run_length.result (take (length rows - start) (drop start rows)) in
-    let next = next_group columns rows start c.run_length.result c.loop-start-test.true c.requires.sorted c.run_length.ensures in
+    let next = next_group columns rows start c.run_length.result c.loop-start-test.true c.requires.sorted
+    c.run_length.ensures in
     let done = rows_of c.loop-start.made.items in
     let all = shown conds exprs (map of_group (groups_by columns rows)) in
-    let left : map of_group (groups_by columns (drop start rows)) ≡ of_group run ∷ map of_group (groups_by columns (drop (start + length run) rows)) = ap (map of_group) next in (
-      one_more_shown conds exprs (of_group run) (map of_group (groups_by columns (drop (start + length run) rows))) (map of_group (groups_by columns (drop start rows)))
+    let left : map of_group (groups_by columns (drop start rows)) ≡ of_group run ∷ map of_group
+    (groups_by columns (drop (start + length run) rows)) = ap (map of_group) next in (
+      one_more_shown conds exprs (of_group run) (map of_group (groups_by columns (drop (start + length run) rows)))
+          (map of_group (groups_by columns (drop start rows)))
           done (rows_of c.add_group.new.made.items) all left c.in_ok-add_group.ensures c.loop-start.invariant.0,
       next_within_rows columns rows start c.run_length.result c.loop-start-test.true,
     )

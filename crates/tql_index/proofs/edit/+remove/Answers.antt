@@ -14,7 +14,8 @@ returns-in-Less-clause-entries g t c =
     let x : Entry = record { period = points_of c.args.period; id = c.args.id } in
     let top = entry_of c.in-Some.field-0.top.value in
     let o : Less ≡ entry_cmp x top = rw (c.in-Less.is, c.deref.ensures) at c.compare.ensures in
-    left_less c.remove-tree.result.found x top _ _ _ _ _ p.entries c.balance.ensures.entries (less_is x top o) p.around c.remove-tree.ensures.entries
+    left_less c.remove-tree.result.found x top _ _ _ _ _ p.entries c.balance.ensures.entries (less_is x top o)
+    p.around c.remove-tree.ensures.entries
 
 pub returns-in-Equal-clause-entries : goal.returns-in-Equal-clause-entries
 returns-in-Equal-clause-entries g t c =
@@ -30,4 +31,5 @@ returns-in-Greater-clause-entries g t c =
     let x : Entry = record { period = points_of c.args.period; id = c.args.id } in
     let top = entry_of c.in-Some.field-0.top.value in
     let o : Greater ≡ entry_cmp x top = rw (c.in-Greater.is, c.deref.ensures) at c.compare.ensures in
-    right_less c.remove-tree-in-Greater.result.found x top _ _ _ _ _ p.entries c.balance-in-Greater.ensures.entries (greater_is x top o) p.around c.remove-tree-in-Greater.ensures.entries
+    right_less c.remove-tree-in-Greater.result.found x top _ _ _ _ _ p.entries c.balance-in-Greater.ensures.entries
+    (greater_is x top o) p.around c.remove-tree-in-Greater.ensures.entries

@@ -16,7 +16,9 @@ returns-then-top-period-clause-ok g t c =
     let p = c.in-Some.ensures.some in
     let x = points_of c.args.period in
     let q = λ (e : Entry). share_a_point e.period x in
-    nothing_here q c.args.period.start c.args.period.end _ _ _ _ _ (passed c.in-Some.top.now.greatest) (passed c.args.period.start) _ _ (in_period x) p.branch p.entries c.if-top-period.true (omega (arith, ints)) (omega (arith, ints))
+    nothing_here q c.args.period.start c.args.period.end _ _ _ _ _ (passed c.in-Some.top.now.greatest)
+    (passed c.args.period.start) _ _ (in_period x) p.branch p.entries c.if-top-period.true (omega (arith, ints))
+    (omega (arith, ints))
 
 pub returns-then-period-top-clause-ok : goal.returns-then-period-top-clause-ok
 returns-then-period-top-clause-ok g t c =
@@ -32,5 +34,6 @@ returns-clause-ok g t c =
     let x = points_of c.args.period in
     let q = λ (e : Entry). share_a_point e.period x in
     on_ok c.overlapping-2.result
-    (λ h. all_parts q c.shares_a_point.result c.in-Some.top.now.left c.in-Some.top.now.right _ _ _ _ _ _ p.entries c.shares_a_point.ensures c.in_ok-overlapping.ensures.ok c.in_ok-push_if.ensures.ok h)
+    (λ h. all_parts q c.shares_a_point.result c.in-Some.top.now.left c.in-Some.top.now.right _ _ _ _ _ _ p.entries
+    c.shares_a_point.ensures c.in_ok-overlapping.ensures.ok c.in_ok-push_if.ensures.ok h)
     c.overlapping-2.ensures.ok

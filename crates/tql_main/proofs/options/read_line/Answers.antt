@@ -18,19 +18,23 @@ is_free = refl
 pub returns-clause-check : goal.returns-clause-check
 returns-clause-check c =
     let has = c.in_ok-matches.ensures.matches (ap is_simple c.in_ok-command.ensures ∙ is_plain) in
-    let told : one_text (found_of c.in_ok-matches.matches) (codes "check") ≡ check_in (map (λ s. string_bytes s) c.args.words.now) =
+    let told : one_text (found_of c.in_ok-matches.matches) (codes "check") ≡ check_in
+    (map (λ s. string_bytes s) c.args.words.now) =
     one_text-rows (found_of c.in_ok-matches.matches) (codes "check")
     ∙ ap (one_of (codes "check")) has.0
-    ∙ ap (λ a. one_of (codes "check") (matches_of a (map (λ s. string_bytes s) c.args.words.now))) c.in_ok-command.ensures in
+    ∙ ap (λ a. one_of (codes "check") (matches_of a (map (λ s. string_bytes s) c.args.words.now)))
+    c.in_ok-command.ensures in
     record { set = λ e. c.get_flag.ensures.value (told ∙ e); clear = λ e. c.get_flag.ensures.other (told ∙ e) }
 
 pub returns-clause-quiet : goal.returns-clause-quiet
 returns-clause-quiet c =
     let has = c.in_ok-matches.ensures.matches (ap is_simple c.in_ok-command.ensures ∙ is_plain) in
-    let told : one_text (found_of c.in_ok-matches.matches) (codes "quiet") ≡ quiet_in (map (λ s. string_bytes s) c.args.words.now) =
+    let told : one_text (found_of c.in_ok-matches.matches) (codes "quiet") ≡ quiet_in
+    (map (λ s. string_bytes s) c.args.words.now) =
     one_text-rows (found_of c.in_ok-matches.matches) (codes "quiet")
     ∙ ap (one_of (codes "quiet")) has.0
-    ∙ ap (λ a. one_of (codes "quiet") (matches_of a (map (λ s. string_bytes s) c.args.words.now))) c.in_ok-command.ensures in
+    ∙ ap (λ a. one_of (codes "quiet") (matches_of a (map (λ s. string_bytes s) c.args.words.now)))
+    c.in_ok-command.ensures in
     record { set = λ e. c.get_flag-2.ensures.value (told ∙ e); clear = λ e. c.get_flag-2.ensures.other (told ∙ e) }
 
 pub returns-clause-word : goal.returns-clause-word
@@ -38,7 +42,8 @@ returns-clause-word c =
     let has = c.in_ok-matches.ensures.matches (ap is_simple c.in_ok-command.ensures ∙ is_plain) in
     c.get_str.ensures ∙ first_value-rows (found_of c.in_ok-matches.matches) (codes "SCRIPT")
     ∙ ap (first_of (codes "SCRIPT")) has.0
-    ∙ ap (λ a. first_of (codes "SCRIPT") (matches_of a (map (λ s. string_bytes s) c.args.words.now))) c.in_ok-command.ensures
+    ∙ ap (λ a. first_of (codes "SCRIPT") (matches_of a (map (λ s. string_bytes s) c.args.words.now)))
+    c.in_ok-command.ensures
 
 pub returns-clause-fails : goal.returns-clause-fails
 returns-clause-fails c =

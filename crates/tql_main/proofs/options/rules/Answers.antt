@@ -11,4 +11,6 @@ returns c =
     ∙ ap₂ with_rule (c.in_ok-arg-2.ensures.shape c.quiet_flag.ensures.here
     ∙ ap₂ with_rule (c.in_ok-arg.ensures.shape c.check_flag.ensures.here
     ∙ ap₂ with_rule (ap app_of_fields c.after_help.ensures ∙ ap app_of_fields c.about.ensures
-    ∙ ap app_of_fields c.version.ensures ∙ ap with_version c.new.ensures.app) c.check_flag.ensures.rule) c.quiet_flag.ensures.rule) c.script_word.ensures.rule
+    ∙ ap app_of_fields c.version.ensures
+    ∙ ap with_version c.new.ensures.app) c.check_flag.ensures.rule) c.quiet_flag.ensures.rule)
+    c.script_word.ensures.rule

@@ -20,12 +20,15 @@ use denote.Triple.Call.{calls_at}
 use denote.Triple.Clauses.{Ended}
 use denote.Triple.Table.{framed}
 use denote.Triple.Walked.{Stays, stay_dropped, walk_of, ends_at, Goes-dropped}
-use types.Kit.{‵, raw, ◌⊛◌, some, later, given, prop, at_ret, Sq, group, ◌$◌, ◌∵◌, !, qed, done, move, keep, use0, use1, use2, split, split3, learn, pick, fsplit, fjoin, await, suffices}
-use types.Run.{enter, addr, stop, fld, lit, un, no_more, and_then, first, branches, skips, exec, returns, returns_within}
+use types.Kit.{‵, raw, ◌⊛◌, some, later, given, prop, at_ret, Sq, group, ◌$◌, ◌∵◌, !, qed, done, move, keep, use0}
+use types.Kit.{use1, use2, split, split3, learn, pick, fsplit, fjoin, await, suffices}
+use types.Run.{enter, addr, stop, fld, lit, un, no_more, and_then, first, branches, skips, exec, returns}
+use types.Run.{returns_within}
 use types.Part.{agg}
 use types.ByLocal.{alloc_all, pass_all, free_all, look_at, get, through, sets, lands_as, env}
 use Rattle.std.proofs.VecSteps.Shapes.{after}
-use Rattle.std.proofs.alloc.Calls.{Al, seen, token, Answer, answer_val, Answer-typed, Answer-Ok, Answer-err, Takes, at_takes, Answered, Takes-goes, Takes-gives, answers}
+use Rattle.std.proofs.alloc.Calls.{Al, seen, token, Answer, answer_val, Answer-typed, Answer-Ok, Answer-err, Takes}
+use Rattle.std.proofs.alloc.Calls.{at_takes, Answered, Takes-goes, Takes-gives, answers}
 use Rattle.tql_memory.proofs.Fields.{at_inner, self, inner_place, left_place, grants_seen, fields_seen}
 use Rattle.tql_memory.proofs.Grants.{Takes_grant, at_grant, grant_goes, grant_gives}
 use Rattle.tql_memory.proofs.take_grant.Met.{met as grants}
@@ -37,7 +40,10 @@ abbrev ended : Al → Ended
 ended Z = f.ended Z.row Z.g Z.d Z.drops
 
 abbrev stayed : (Z : Al) → Stays (ended Z).signature.params (ended Z).kept
-stayed Z = (stay_dropped (self Z) yes, (stay_dropped (plain (λ _. usize)) yes, (stay_dropped (plain (λ _. usize)) yes, tt)))
+stayed Z = (
+  stay_dropped (self Z) yes,
+  (stay_dropped (plain (λ _. usize)) yes, (stay_dropped (plain (λ _. usize)) yes, tt)),
+)
 
 pub allocate_spec : {M : Type 1} → statement M
 allocate_spec 𝓤 𝓛 𝓜 𝓡 wired Y L g d dd met _ =
@@ -48,40 +54,59 @@ allocate_spec 𝓤 𝓛 𝓜 𝓡 wired Y L g d dd met _ =
     proved 𝓛 (ended Z) (stayed Z) c 𝓜 𝓡
     (Goes-dropped 𝓛 2 (self Z) yes (λ κs x w. refl), (number, (number, tt)))
     (f.Key.name (at_inner Z)) here (code.unfolded 𝓤 𝓛.H 𝓜 𝓡 wired (Y, tt) d dd)
-    (λ κs. (shr_vals, (uint_vals w64, (uint_vals w64, tt)))) (λ κs. ((λ r vs s. s.0), (uint_Tells w64, (uint_Tells w64, tt))))
+    (λ κs. (shr_vals, (uint_vals w64, (uint_vals w64, tt))))
+    (λ κs. ((λ r vs s. s.0), (uint_Tells w64, (uint_Tells w64, tt))))
     (λ κs qs bounds a τ are.
     let κ = κs.0 in let q = qs.0 in let r = a.0 in let n = a.1.0 in let al = a.1.1.0 in
     let h = r.now.inner in let p : ℕ × ℕ = inner_place Z r.ref_ptr in let p' : ℕ × ℕ = left_place Z r.ref_ptr in
     let y : W.Ghost = ((κs, qs, bounds, a, (shr_vals r, (vint w64 n ∷ [], (vint w64 al ∷ [], tt)))), τ) in
-    let granted : (b o : ℕ) → Sq 𝓛 (‵ (froom τ b o) ∷ ‵ (token Z h τ (block_ptr b o)) ∷ ‵ (flft κ q) ∷ ‵ (flft κs.1.0 qs.1.0) ∷ []) (prop (W.post y (answer_val true b o))) = λ b o.
-    suffices ! _ (ends_at 𝓛 (ended Z) (stayed Z) c y (answer_val true b o) (Ok (block_ptr b o)) (tt, (tt, (tt, tt))) (tt, (tt, (tt, tt)))) $ fjoin ! $
-    use0 𝓛 (‵ (Answer.own_val (Ok (block_ptr b o)) (answer_val true b o ∷ []))) (Answer-Ok 𝓛 b o) $ nothing ! $ nothing ! $ fjoin ! $ nothing ! $ fjoin ! $ nothing ! $ fjoin ! $
+    let granted : (b o : ℕ)
+    → Sq 𝓛 (‵ (froom τ b o) ∷ ‵ (token Z h τ (block_ptr b o)) ∷ ‵ (flft κ q) ∷ ‵ (flft κs.1.0 qs.1.0) ∷ [])
+    (prop (W.post y (answer_val true b o))) = λ b o.
+    suffices ! _ (ends_at 𝓛 (ended Z) (stayed Z) c y (answer_val true b o) (Ok (block_ptr b o)) (tt, (tt, (tt, tt)))
+    (tt, (tt, (tt, tt)))) $ fjoin ! $
+    use0 𝓛 (‵ (Answer.own_val (Ok (block_ptr b o)) (answer_val true b o ∷ []))) (Answer-Ok 𝓛 b o) $ nothing ! $
+    nothing ! $ fjoin ! $ nothing ! $ fjoin ! $ nothing ! $ fjoin ! $
     nothing ! $ move ! (4 ∷ 5 ∷ 0 ∷ []) $ group ! 3 $ group ! 3 $ done ! in
     let refused : Sq 𝓛 (‵ (flft κ q) ∷ ‵ (flft κs.1.0 qs.1.0) ∷ []) (prop (W.post y (answer_val false 0 0))) =
-    suffices ! _ (ends_at 𝓛 (ended Z) (stayed Z) c y (answer_val false 0 0) (Err (record {})) (tt, (tt, (tt, tt))) (tt, (tt, (tt, tt)))) $ nothing ! $
-    use0 𝓛 (‵ (Answer.own_val (Err (record {})) (answer_val false 0 0 ∷ []))) (Answer-err 𝓛) $ nothing ! $ nothing ! $ fjoin ! $ nothing ! $ fjoin ! $ nothing ! $ fjoin ! $
+    suffices ! _ (ends_at 𝓛 (ended Z) (stayed Z) c y (answer_val false 0 0) (Err (record {})) (tt, (tt, (tt, tt)))
+    (tt, (tt, (tt, tt)))) $ nothing ! $
+    use0 𝓛 (‵ (Answer.own_val (Err (record {})) (answer_val false 0 0 ∷ []))) (Answer-err 𝓛) $ nothing ! $ nothing !
+    $ fjoin ! $ nothing ! $ fjoin ! $ nothing ! $ fjoin ! $
     nothing ! $ move ! (4 ∷ 5 ∷ 0 ∷ []) $ group ! 3 $ group ! 3 $ done ! in
-    qed 𝓛 (((‵ (flft κ q) ⊛ ‵ (flft κs.1.0 qs.1.0) ⊛ ‵ ftrue) ⊛ ‵ (owns (types_at (ended Z).signature.params κs) a y.0.4))
+    qed 𝓛 (((‵ (flft κ q) ⊛ ‵ (flft κs.1.0 qs.1.0) ⊛ ‵ ftrue) ⊛ ‵
+    (owns (types_at (ended Z).signature.params κs) a y.0.4))
     ∷ (raw (fact 𝓤 (κs.1.0 ⊑ Y.lives)) ⊛ raw (fact 𝓤 ((capped (size τ) ≡ n) × (capped (align τ) ≡ al)))) ∷ []) ∵
     move ! (1 ∷ []) $ split ! $ heard ! _ (λ lives. heard ! _ (λ said.
     split ! $ split3 ! $ move ! (3 ∷ []) $ fsplit ! $ fsplit ! $ move ! (1 ∷ []) $
     use1 𝓛 (‵ (seen Z κ p h) ⊛ ‵ (grants_seen κ p')) (fields_seen Z 𝓛 κ r) $ split ! $ keep ! (1 ∷ 4 ∷ 0 ∷ 5 ∷ []) $
     -- [the cell of the grants; the token of its lifetime; the inner allocator; the token of the other lifetime]
-    enter ! _ _ _ _ _ $ alloc_all ! (λ l. pass_all ! refl ((tt, tt), ((tt, record { fits = are.1.0.1 }), ((tt, record { fits = are.1.1.0.1 }), tt))) $
+    enter ! _ _ _ _ _ $ alloc_all !
+    (λ l. pass_all ! refl
+    ((tt, tt), ((tt, record { fits = are.1.0.1 }), ((tt, record { fits = are.1.1.0.1 }), tt))) $
     sets ! (addr ! (through ! refl (fld ! refl (stop !)))) refl (tt, tt) $
     let K = Takes_grant 𝓛 𝓜.mem 𝓡.returns in let k : K.Ghost = at_grant 𝓛 𝓜.mem 𝓡.returns κ q p' in
     use2 𝓛 (raw (K.pre k)) (grant_goes 𝓛 𝓜.mem 𝓡.returns κ q p') $
-    calls_at ! (framed 𝓤 𝓛.H 𝓜 𝓣) K (grants 𝓤 𝓛 𝓜 𝓡 (code.calls-tql_memory::take_grant 𝓡.env wired)) k (and_then ! (get ! refl) (no_more !)) (λ u.
-    use1 𝓛 (later (some (λ (b : Bool). given (u ≡ vbool b) (‵ (flft κ q))))) (grant_gives 𝓛 𝓜.mem 𝓡.returns κ q p' u) $ await ! tt $ pick ! (λ b. learn ! (λ is.
+    calls_at ! (framed 𝓤 𝓛.H 𝓜 𝓣) K (grants 𝓤 𝓛 𝓜 𝓡 (code.calls-tql_memory::take_grant 𝓡.env wired)) k
+    (and_then ! (get ! refl) (no_more !)) (λ u.
+    use1 𝓛 (later (some (λ (b : Bool). given (u ≡ vbool b) (‵ (flft κ q))))) (grant_gives 𝓛 𝓜.mem 𝓡.returns κ q p' u)
+    $ await ! tt $ pick ! (λ b. learn ! (λ is.
     lands_as ! is refl (tt, tt) $ sets ! (un ! (get ! refl) tt) refl (tt, tt) $ first ! $ branches ! (get ! refl)
-    (λ none_left. sets ! (agg ! (no_more !)) refl (tt, tt) $ sets ! (agg ! (and_then ! (lit ! tt) (and_then ! (get ! refl) (no_more !)))) refl (Answer-typed false 0 0) $
+    (λ none_left. sets ! (agg ! (no_more !)) refl (tt, tt) $ sets !
+    (agg ! (and_then ! (lit ! tt) (and_then ! (get ! refl) (no_more !)))) refl (Answer-typed false 0 0) $
     returns_within ! (W.post y) refl (look_at ! 0 refl) $ free_all ! refl $ keep ! (0 ∷ 2 ∷ []) $ refused)
     (λ some_left. skips ! $ exec ! 𝓣.C 𝓣.Λ (env here.locals l) (after 4 here.body) (at_ret _ (W.post y)) $
     sets ! (addr ! (through ! refl (fld ! refl (stop !)))) refl (tt, tt) $ move ! (1 ∷ 0 ∷ []) $
     let G = Takes Z 𝓛 𝓜.mem 𝓡.returns in let z : G.Ghost = at_takes Z 𝓛 𝓜.mem 𝓡.returns κ q p h n al τ in
-    use2 𝓛 (raw (G.pre z)) (Takes-goes Z 𝓛 𝓜.mem 𝓡.returns κ q p h (⊑_trans κ κs.1.0 Y.lives bounds.0 lives) n al τ said.0 said.1 are.1.0.1 are.1.1.0.1) $
-    calls_at ! (framed 𝓤 𝓛.H 𝓜 𝓣) G (met.allocate dd) z (and_then ! (get ! refl) (and_then ! (get ! refl) (and_then ! (get ! refl) (no_more !)))) (λ v.
-    use1 𝓛 (later (raw (Answered Z 𝓛 𝓜.mem 𝓡.returns h τ v) ⊛ ‵ (flft κ q))) (Takes-gives Z 𝓛 𝓜.mem 𝓡.returns κ q p h n al τ v) $ await ! tt $ split ! $
+    use2 𝓛 (raw (G.pre z))
+    (Takes-goes Z 𝓛 𝓜.mem 𝓡.returns κ q p h (⊑_trans κ κs.1.0 Y.lives bounds.0 lives) n al τ said.0 said.1
+    are.1.0.1 are.1.1.0.1) $
+    calls_at ! (framed 𝓤 𝓛.H 𝓜 𝓣) G (met.allocate dd) z
+    (and_then ! (get ! refl) (and_then ! (get ! refl) (and_then ! (get ! refl) (no_more !)))) (λ v.
+    use1 𝓛 (later (raw (Answered Z 𝓛 𝓜.mem 𝓡.returns h τ v) ⊛ ‵ (flft κ q)))
+    (Takes-gives Z 𝓛 𝓜.mem 𝓡.returns κ q p h n al τ v) $ await ! tt $ split ! $
     answers Z ! 𝓜.mem 𝓡.returns h τ v
-    (λ b o found. lands_as ! found refl (Answer-typed true b o) $ returns ! (look_at ! 0 refl) $ free_all ! refl $ granted b o)
-    (λ no_block. lands_as ! no_block refl (Answer-typed false 0 0) $ returns ! (look_at ! 0 refl) $ free_all ! refl $ refused))))))))))
+    (λ b o found. lands_as ! found refl (Answer-typed true b o) $ returns ! (look_at ! 0 refl) $ free_all ! refl $
+    granted b o)
+    (λ no_block. lands_as ! no_block refl (Answer-typed false 0 0) $ returns ! (look_at ! 0 refl) $ free_all ! refl $
+    refused))))))))))

@@ -23,7 +23,8 @@ use denote.Triple.Call.{calls_at}
 use denote.Triple.Clauses.{Ended}
 use denote.Triple.Table.{framed}
 use denote.Triple.Walked.{Stays, stay_dropped, walk_of, ends_at, Goes-dropped}
-use types.Kit.{‵, raw, ◌⊛◌, later, given, prop, group, ◌$◌, ◌∵◌, !, qed, done, move, keep, use1, split, split3, learn, fsplit, fjoin, feq_i, await, regoal, suffices}
+use types.Kit.{‵, raw, ◌⊛◌, later, given, prop, group, ◌$◌, ◌∵◌, !, qed, done, move, keep, use1, split, split3, learn}
+use types.Kit.{fsplit, fjoin, feq_i, await, regoal, suffices}
 use types.Run.{enter, addr, stop, fld, no_more, and_then, of_opd, unit_lit, returns}
 use types.ByLocal.{alloc_all, pass_all, free_all, look_at, get, through, sets, lands_as}
 use Rattle.std.proofs.alloc.Calls.{Al, seen, token, Gives, at_gives, Gives-goes, Gives-Gives}
@@ -36,7 +37,13 @@ abbrev ended : Al → Ended
 ended Z = f.ended Z.row Z.g Z.d Z.drops
 
 abbrev stayed : (Z : Al) → Stays (ended Z).signature.params (ended Z).kept
-stayed Z = (stay_dropped (self Z) yes, (stay_dropped (plain (λ _. RawPtr)) yes, (stay_dropped (plain (λ _. usize)) yes, (stay_dropped (plain (λ _. usize)) yes, tt))))
+stayed Z = (
+  stay_dropped (self Z) yes,
+  (
+    stay_dropped (plain (λ _. RawPtr)) yes,
+    (stay_dropped (plain (λ _. usize)) yes, (stay_dropped (plain (λ _. usize)) yes, tt)),
+  ),
+)
 
 pub deallocate_spec : {M : Type 1} → statement M
 deallocate_spec 𝓤 𝓛 𝓜 𝓡 wired Y L g d dd met _ =
@@ -44,30 +51,57 @@ deallocate_spec 𝓤 𝓛 𝓜 𝓡 wired Y L g d dd met _ =
     let c = f.clauses Y g d dd 𝓛 𝓜.mem 𝓡.returns in let W = walk_of 𝓛 (ended Z) (stayed Z) c in
     let 𝓣 = tables 𝓤 𝓛.H 𝓜 𝓡 𝓡.env in let here = inst_fn (at_inner Z) code.function in
     let number = Goes-dropped 𝓛 2 (plain (λ _. usize)) yes (λ κs x w. refl) in
-    proved 𝓛 (ended Z) (stayed Z) c 𝓜 𝓡
-    (Goes-dropped 𝓛 2 (self Z) yes (λ κs x w. refl), (Goes-dropped 𝓛 2 (plain (λ _. RawPtr)) yes (λ κs x w. refl), (number, (number, tt))))
+    proved 𝓛 (ended Z) (stayed Z) c 𝓜 𝓡 (
+      Goes-dropped 𝓛 2 (self Z) yes (λ κs x w. refl),
+      (Goes-dropped 𝓛 2 (plain (λ _. RawPtr)) yes (λ κs x w. refl), (number, (number, tt))),
+    )
     (f.Key.name (at_inner Z)) here (code.unfolded 𝓤 𝓛.H 𝓜 𝓡 wired (Y, tt) d dd)
-    (λ κs. (shr_vals, (rawptr_vals, (uint_vals w64, (uint_vals w64, tt))))) (λ κs. ((λ r vs s. s.0), (rawptr_Tells, (uint_Tells w64, (uint_Tells w64, tt)))))
+    (λ κs. (shr_vals, (rawptr_vals, (uint_vals w64, (uint_vals w64, tt)))))
+    (λ κs. ((λ r vs s. s.0), (rawptr_Tells, (uint_Tells w64, (uint_Tells w64, tt)))))
     (λ κs qs bounds a τ are.
     let κ = κs.0 in let q = qs.0 in let r = a.0 in let n = a.1.1.0 in let al = a.1.1.1.0 in
     let h = r.now.inner in let p : ℕ × ℕ = inner_place Z r.ref_ptr in
     let vs : Ptr → List Val = λ x. vptr r.ref_ptr.0 r.ref_ptr.1 ∷ ptr_val x ∷ vint w64 n ∷ vint w64 al ∷ [] in
-    let y : Ptr → W.Ghost = λ x. ((κs, qs, bounds, (r, (x, a.1.1)), (shr_vals r, (rawptr_vals x, (vint w64 n ∷ [], (vint w64 al ∷ [], tt))))), τ) in
-    qed 𝓛 (((‵ (flft κ q) ⊛ ‵ (flft κs.1.0 qs.1.0) ⊛ ‵ ftrue) ⊛ ‵ (owns (types_at (ended Z).signature.params κs) a (y a.1.0).0.4))
-    ∷ (raw (fact 𝓤 (κs.1.0 ⊑ Y.lives)) ⊛ raw (fact 𝓤 ((capped (size τ) ≡ n) × (capped (align τ) ≡ al))) ⊛ ‵ (fsep (room_for τ a.1.0) (token Z h τ a.1.0))) ∷ []) ∵
+    let y : Ptr → W.Ghost =
+    λ x. (
+      (
+        κs,
+        qs,
+        bounds,
+        (r, (x, a.1.1)),
+        (shr_vals r, (rawptr_vals x, (vint w64 n ∷ [], (vint w64 al ∷ [], tt)))),
+      ),
+      τ,
+    ) in
+    qed 𝓛 (((‵ (flft κ q) ⊛ ‵ (flft κs.1.0 qs.1.0) ⊛ ‵ ftrue) ⊛ ‵
+    (owns (types_at (ended Z).signature.params κs) a (y a.1.0).0.4))
+    ∷ (raw (fact 𝓤 (κs.1.0 ⊑ Y.lives)) ⊛ raw (fact 𝓤 ((capped (size τ) ≡ n) × (capped (align τ) ≡ al))) ⊛ ‵
+    (fsep (room_for τ a.1.0) (token Z h τ a.1.0))) ∷ []) ∵
     move ! (1 ∷ []) $ split3 ! $ heard ! _ (λ lives. heard ! _ (λ said. move ! (0 ∷ []) $
-    in_a_block ! a.1.0 (λ x. fsep (room_for τ x) (token Z h τ x)) (fst∗ 𝓤 (never 𝓤) (sem 𝓛 (token Z h τ null_ptr))) (λ b o e.
+    in_a_block ! a.1.0 (λ x. fsep (room_for τ x) (token Z h τ x)) (fst∗ 𝓤 (never 𝓤) (sem 𝓛 (token Z h τ null_ptr)))
+    (λ b o e.
     regoal ! (λ x. prop (WpFn 𝓤 𝓛.H 𝓣.C 𝓣.Λ here (vs x) (W.post (y x)))) e refl $
     let G = Gives Z 𝓛 𝓜.mem 𝓡.returns in let z : G.Ghost = at_gives Z 𝓛 𝓜.mem 𝓡.returns κ q p h b o n al τ in
     fsplit ! $ move ! (2 ∷ []) $ split ! $ split3 ! $ move ! (3 ∷ []) $ fsplit ! $ fsplit ! $ move ! (1 ∷ []) $
-    use1 𝓛 (‵ (seen Z κ p h) ⊛ ‵ (grants_seen κ (left_place Z r.ref_ptr))) (fields_seen Z 𝓛 κ r) $ split ! $ keep ! (7 ∷ 8 ∷ 0 ∷ 4 ∷ 5 ∷ []) $
+    use1 𝓛 (‵ (seen Z κ p h) ⊛ ‵ (grants_seen κ (left_place Z r.ref_ptr))) (fields_seen Z 𝓛 κ r) $ split ! $ keep !
+    (7 ∷ 8 ∷ 0 ∷ 4 ∷ 5 ∷ []) $
     -- [the block; the right to free it; the inner allocator; the tokens of the two lifetimes]
-    enter ! _ _ _ _ _ $ alloc_all ! (λ l. pass_all ! refl ((tt, tt), ((tt, tt), ((tt, record { fits = are.1.1.0.1 }), ((tt, record { fits = are.1.1.1.0.1 }), tt)))) $
+    enter ! _ _ _ _ _ $ alloc_all !
+    (λ l. pass_all ! refl
+    ((tt, tt), ((tt, tt), ((tt, record { fits = are.1.1.0.1 }), ((tt, record { fits = are.1.1.1.0.1 }), tt)))) $
     sets ! (addr ! (through ! refl (fld ! refl (stop !)))) refl (tt, tt) $ group ! 4 $
-    use1 𝓛 (raw (G.pre z)) (Gives-goes Z 𝓛 𝓜.mem 𝓡.returns κ q p h (⊑_trans κ κs.1.0 Y.lives bounds.0 lives) b o n al τ said.0 said.1 are.1.1.0.1 are.1.1.1.0.1) $
-    calls_at ! (framed 𝓤 𝓛.H 𝓜 𝓣) G (met.deallocate dd) z (and_then ! (get ! refl) (and_then ! (get ! refl) (and_then ! (get ! refl) (and_then ! (get ! refl) (no_more !))))) (λ v.
-    use1 𝓛 (later (given (v ≡ vunit) (‵ (flft κ q)))) (Gives-Gives Z 𝓛 𝓜.mem 𝓡.returns κ q p h b o n al τ v) $ await ! tt $ learn ! (λ is_unit.
-    lands_as ! is_unit refl (tt, tt) $ sets ! (of_opd ! (unit_lit !)) refl (tt, tt) $ returns ! (look_at ! 0 refl) $ free_all ! refl $
-    suffices ! _ (ends_at 𝓛 (ended Z) (stayed Z) c (y (block_ptr b o)) vunit tt (tt, (tt, (tt, (tt, tt)))) (tt, (tt, (tt, (tt, tt))))) $
-    nothing ! $ feq_i ! _ (vunit ∷ []) _ refl $ nothing ! $ nothing ! $ fjoin ! $ nothing ! $ fjoin ! $ nothing ! $ fjoin ! $ nothing ! $ fjoin ! $
+    use1 𝓛 (raw (G.pre z))
+    (Gives-goes Z 𝓛 𝓜.mem 𝓡.returns κ q p h (⊑_trans κ κs.1.0 Y.lives bounds.0 lives) b o n al τ said.0 said.1
+    are.1.1.0.1 are.1.1.1.0.1) $
+    calls_at ! (framed 𝓤 𝓛.H 𝓜 𝓣) G (met.deallocate dd) z
+    (and_then ! (get ! refl)
+    (and_then ! (get ! refl) (and_then ! (get ! refl) (and_then ! (get ! refl) (no_more !))))) (λ v.
+    use1 𝓛 (later (given (v ≡ vunit) (‵ (flft κ q)))) (Gives-Gives Z 𝓛 𝓜.mem 𝓡.returns κ q p h b o n al τ v) $ await
+    ! tt $ learn ! (λ is_unit.
+    lands_as ! is_unit refl (tt, tt) $ sets ! (of_opd ! (unit_lit !)) refl (tt, tt) $ returns ! (look_at ! 0 refl) $
+    free_all ! refl $
+    suffices ! _ (ends_at 𝓛 (ended Z) (stayed Z) c (y (block_ptr b o)) vunit tt (tt, (tt, (tt, (tt, tt))))
+    (tt, (tt, (tt, (tt, tt))))) $
+    nothing ! $ feq_i ! _ (vunit ∷ []) _ refl $ nothing ! $ nothing ! $ fjoin ! $ nothing ! $ fjoin ! $ nothing ! $
+    fjoin ! $ nothing ! $ fjoin ! $
     nothing ! $ move ! (4 ∷ 5 ∷ 0 ∷ []) $ group ! 3 $ group ! 3 $ done !)))))))

@@ -15,5 +15,6 @@ pub returns : goal.returns
 returns c = answers c.args.parts.now (points_of c.args.whole) _ _ (omega (arith, ints))
     (elim c.loop-part-test.branch [
       | else-loop-part-test w ↦ swept_all _ _ _ _ c.loop-part.invariant (omega arith) w.loop-part-test.false
-      | then-loop-part-test+then-part-reach w ↦ swept_gap _ _ _ _ w.part-item.result c.loop-part.invariant c.requires w.loop-part-test.true w.part-item.is (out_of_reach _ _ _ w.if-part-reach.true (omega (arith, ints)))
+      | then-loop-part-test+then-part-reach w ↦ swept_gap _ _ _ _ w.part-item.result c.loop-part.invariant c.requires
+          w.loop-part-test.true w.part-item.is (out_of_reach _ _ _ w.if-part-reach.true (omega (arith, ints)))
     ])

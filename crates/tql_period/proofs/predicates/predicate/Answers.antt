@@ -5,7 +5,8 @@ use Rattle.tql_spec.specs.Period.{Relation, predicate, FormulasAreSets}
 use Rattle.tql_period.specs.Relations.{SaysOfPoints}
 use Rattle.tql_period.proofs.predicates.predicate.Goals as goal
 
-by_formulas : (kind : ℤ → Datum) (which : Relation) (x y : Datum × Datum) (answer : Truth) → FormulasAreSets kind → answer ≡ predicate which x y → SaysOfPoints kind which x y answer
+by_formulas : (kind : ℤ → Datum) (which : Relation) (x y : Datum × Datum) (answer : Truth) → FormulasAreSets kind
+    → answer ≡ predicate which x y → SaysOfPoints kind which x y answer
 by_formulas kind which x y answer law e a b p q h k = rw (e, p, q) (law which a b h k)
 
 pub returns-clause-days : goal.returns-clause-days

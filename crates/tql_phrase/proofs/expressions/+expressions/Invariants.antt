@@ -41,7 +41,11 @@ abbrev pub decreases-sum : goal.decreases-sum
 decreases-sum l = 12 * l.depth + 11
 
 abbrev pub invariant-factors-loop-turn : goal.invariant-factors-loop-turn
-invariant-factors-loop-turn l = more (next_factor (expr_at l.depth)) [] l.fn.tokens ≡ repeated (next_factor (expr_at l.depth)) (l._turn-end - l._turn) (map signed_of l.found.items) l.tokens
+invariant-factors-loop-turn l =
+    more (next_factor (expr_at l.depth)) [] l.fn.tokens ≡ repeated (next_factor (expr_at l.depth))
+    (l._turn-end - l._turn) (map signed_of l.found.items) l.tokens
 
 abbrev pub invariant-terms-loop-turn : goal.invariant-terms-loop-turn
-invariant-terms-loop-turn l = more (next_term (expr_at l.depth)) [] l.fn.tokens ≡ repeated (next_term (expr_at l.depth)) (l._turn-end - l._turn) (map added_of l.found.items) l.tokens
+invariant-terms-loop-turn l =
+    more (next_term (expr_at l.depth)) [] l.fn.tokens ≡ repeated (next_term (expr_at l.depth)) (l._turn-end - l._turn)
+    (map added_of l.found.items) l.tokens

@@ -8,6 +8,7 @@ pub returns-in_ok-push_heading-in-Some : goal.returns-in_ok-push_heading-in-Some
 returns-in_ok-push_heading-in-Some g c =
     last _
     (step _ (sent_none _ _ _)
-    (joined_parts heading_text string_bytes 124 _ _ _ _ c.in-Some.ensures.cases.0 (ap heading_text (sym c.as_str.ensures.value)))
+    (joined_parts heading_text string_bytes 124 _ _ _ _ c.in-Some.ensures.cases.0
+    (ap heading_text (sym c.as_str.ensures.value)))
     c.in_ok-push_heading-in-Some.ensures)
     refl c.push_next_headings.ensures

@@ -5,4 +5,8 @@ use Rattle.tql_result.proofs.Pushing.{Sent}
 use Rattle.tql_result.proofs.heading.push_next_headings.Given as goal
 
 abbrev pub invariant-loop-name : goal.invariant-loop-name
-invariant-loop-name g l = Sent (flat_map (λ n. 124 ∷ heading_text (string_bytes n)) l.names) (flat_map (λ n. 124 ∷ heading_text (string_bytes n)) (drop l.name-index l.names)) (g.S.Sink.written l.initial.sink) (g.S.Sink.written l.sink) (g.S.Sink.failures l.initial.sink) (g.S.Sink.failures l.sink)
+invariant-loop-name g l =
+    Sent (flat_map (λ n. 124 ∷ heading_text (string_bytes n)) l.names)
+    (flat_map (λ n. 124 ∷ heading_text (string_bytes n)) (drop l.name-index l.names))
+    (g.S.Sink.written l.initial.sink) (g.S.Sink.written l.sink) (g.S.Sink.failures l.initial.sink)
+    (g.S.Sink.failures l.sink)

@@ -6,4 +6,6 @@ abbrev pub decreases-loop-rest : goal.decreases-loop-rest
 decreases-loop-rest g l = length l.rest
 
 abbrev pub invariant-loop-rest : goal.invariant-loop-rest
-invariant-loop-rest g l = Sent l.bytes l.rest (g.S.Sink.written l.initial.sink) (g.S.Sink.written l.sink) (g.S.Sink.failures l.initial.sink) (g.S.Sink.failures l.sink)
+invariant-loop-rest g l =
+    Sent l.bytes l.rest (g.S.Sink.written l.initial.sink) (g.S.Sink.written l.sink) (g.S.Sink.failures l.initial.sink)
+    (g.S.Sink.failures l.sink)

@@ -3,7 +3,9 @@ use Rattle.tql_result.proofs.Doubling.{doubled_parts, doubled_without}
 use Rattle.tql_result.proofs.quoted.parts_at_quote.Goals as goal
 
 pub returns-in_err-place-clause-parts : goal.returns-in_err-place-clause-parts
-returns-in_err-place-clause-parts c = rw c.from_residual.ensures (doubled_without _ _ (sym c.in_err-place.ensures.place))
+returns-in_err-place-clause-parts c =
+    rw c.from_residual.ensures (doubled_without _ _ (sym c.in_err-place.ensures.place))
 
 pub returns-clause-parts : goal.returns-clause-parts
-returns-clause-parts c = doubled_parts _ _ _ _ _ c.split_at.ensures.front c.split_at.ensures.back (sym c.in_ok-place.ensures.place)
+returns-clause-parts c =
+    doubled_parts _ _ _ _ _ c.split_at.ensures.front c.split_at.ensures.back (sym c.in_ok-place.ensures.place)

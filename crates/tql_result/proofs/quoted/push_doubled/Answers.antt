@@ -3,13 +3,18 @@ use Rattle.tql_result.proofs.Pushing.{step, stop, last}
 use Rattle.tql_result.proofs.quoted.push_doubled.Goals as goal
 
 pub returns-in_err-push_all : goal.returns-in_err-push_all
-returns-in_err-push_all g c = stop _ _ c.from_residual.ensures.0 c.loop-front.invariant c.in-Some.ensures.parts c.in_err-push_all.ensures
+returns-in_err-push_all g c =
+    stop _ _ c.from_residual.ensures.0 c.loop-front.invariant c.in-Some.ensures.parts c.in_err-push_all.ensures
 
 pub returns-in_err-push_all-2 : goal.returns-in_err-push_all-2
-returns-in_err-push_all-2 g c = stop _ _ c.from_residual-in_err-push_all-2.ensures.0 (step _ c.loop-front.invariant c.in-Some.ensures.parts c.in_ok-push_all.ensures) refl c.in_err-push_all-2.ensures
+returns-in_err-push_all-2 g c =
+    stop _ _ c.from_residual-in_err-push_all-2.ensures.0
+    (step _ c.loop-front.invariant c.in-Some.ensures.parts c.in_ok-push_all.ensures) refl c.in_err-push_all-2.ensures
 
 pub loop-front-preserved : goal.loop-front-preserved
-loop-front-preserved g c = step _ (step _ c.loop-front.invariant c.in-Some.ensures.parts c.in_ok-push_all.ensures) refl c.in_ok-push_all-2.ensures
+loop-front-preserved g c =
+    step _ (step _ c.loop-front.invariant c.in-Some.ensures.parts c.in_ok-push_all.ensures) refl
+    c.in_ok-push_all-2.ensures
 
 pub returns : goal.returns
 returns g c = last _ c.loop-front.invariant c.in_default.ensures.parts c.push_all-2.ensures

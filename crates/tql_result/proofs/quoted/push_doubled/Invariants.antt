@@ -7,4 +7,6 @@ abbrev pub decreases-loop-front : goal.decreases-loop-front
 decreases-loop-front g l = length l.rest
 
 abbrev pub invariant-loop-front : goal.invariant-loop-front
-invariant-loop-front g l = Sent (doubled l.quote l.text) (doubled l.quote l.rest) (g.S.Sink.written l.initial.sink) (g.S.Sink.written l.sink) (g.S.Sink.failures l.initial.sink) (g.S.Sink.failures l.sink)
+invariant-loop-front g l =
+    Sent (doubled l.quote l.text) (doubled l.quote l.rest) (g.S.Sink.written l.initial.sink) (g.S.Sink.written l.sink)
+    (g.S.Sink.failures l.initial.sink) (g.S.Sink.failures l.sink)

@@ -9,7 +9,9 @@ use Rattle.tql_result.proofs.table.push_joined.Goals as goal
 
 pub write_cell-requires : goal.write_cell-requires
 write_cell-requires g c =
-    subst IsPrintable (sym c.view.ensures) (All-head (λ v. IsPrintable (datum_of_value v)) _ _ (All-same (λ v. IsPrintable (datum_of_value v)) _ _ (sym c.in-Some.ensures.cases.0) c.requires))
+    subst IsPrintable (sym c.view.ensures)
+    (All-head (λ v. IsPrintable (datum_of_value v)) _ _
+    (All-same (λ v. IsPrintable (datum_of_value v)) _ _ (sym c.in-Some.ensures.cases.0) c.requires))
 
 pub push_next_cells-requires : goal.push_next_cells-requires
 push_next_cells-requires g c = All-rest (λ v. IsPrintable (datum_of_value v)) _ _ _ c.in-Some.ensures.cases.0 c.requires

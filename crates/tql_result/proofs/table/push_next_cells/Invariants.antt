@@ -6,4 +6,7 @@ use Rattle.tql_result.proofs.Pushing.{Sent}
 use Rattle.tql_result.proofs.table.push_next_cells.Given as goal
 
 abbrev pub invariant-loop-cell : goal.invariant-loop-cell
-invariant-loop-cell g l = Sent (flat_map (λ v. 124 ∷ cell_text (datum_of_value v)) l.cells) (flat_map (λ v. 124 ∷ cell_text (datum_of_value v)) (drop l.cell-index l.cells)) (g.S.Sink.written l.initial.sink) (g.S.Sink.written l.sink) (g.S.Sink.failures l.initial.sink) (g.S.Sink.failures l.sink)
+invariant-loop-cell g l =
+    Sent (flat_map (λ v. 124 ∷ cell_text (datum_of_value v)) l.cells)
+    (flat_map (λ v. 124 ∷ cell_text (datum_of_value v)) (drop l.cell-index l.cells)) (g.S.Sink.written l.initial.sink)
+    (g.S.Sink.written l.sink) (g.S.Sink.failures l.initial.sink) (g.S.Sink.failures l.sink)

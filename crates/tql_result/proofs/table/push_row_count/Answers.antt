@@ -9,7 +9,8 @@ returns-in_err-push_all g c = ended _ _ c.from_residual.ensures.0 c.in_err-push_
 pub returns-in_err-push_decimal : goal.returns-in_err-push_decimal
 returns-in_err-push_decimal g c =
     as_text (sym (append_assoc (40 ∷ decimal c.args.count) (codes " rows)") (10 ∷ [])))
-    (joined c.in_ok-push_all.ensures (ended _ _ c.from_residual-in_err-push_decimal.ensures.0 c.in_err-push_decimal.ensures))
+    (joined c.in_ok-push_all.ensures
+    (ended _ _ c.from_residual-in_err-push_decimal.ensures.0 c.in_err-push_decimal.ensures))
 
 pub returns : goal.returns
 returns g c =

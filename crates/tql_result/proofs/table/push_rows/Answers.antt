@@ -8,11 +8,13 @@ use Rattle.tql_result.proofs.table.push_rows.Goals as goal
 pub returns-in_err-push_row : goal.returns-in_err-push_row
 returns-in_err-push_row g c =
     stop _ _ c.from_residual.ensures.0 c.loop-row.invariant
-    (flat_map_next (λ r. row_text (row_of r.items)) _ _ _ _ c.loop-row-test.true c.row-item.is (ap (λ l. row_text (row_of l)) (sym c.as_slice.ensures.value)))
+    (flat_map_next (λ r. row_text (row_of r.items)) _ _ _ _ c.loop-row-test.true c.row-item.is
+    (ap (λ l. row_text (row_of l)) (sym c.as_slice.ensures.value)))
     c.in_err-push_row.ensures
 
 pub loop-row-preserved : goal.loop-row-preserved
 loop-row-preserved g c =
     step _ c.loop-row.invariant
-    (flat_map_next (λ r. row_text (row_of r.items)) _ _ _ _ c.loop-row-test.true c.row-item.is (ap (λ l. row_text (row_of l)) (sym c.as_slice.ensures.value)))
+    (flat_map_next (λ r. row_text (row_of r.items)) _ _ _ _ c.loop-row-test.true c.row-item.is
+    (ap (λ l. row_text (row_of l)) (sym c.as_slice.ensures.value)))
     c.in_ok-push_row.ensures

@@ -6,4 +6,7 @@ use Rattle.tql_result.proofs.Pushing.{Sent}
 use Rattle.tql_result.proofs.table.push_rows.Given as goal
 
 abbrev pub invariant-loop-row : goal.invariant-loop-row
-invariant-loop-row g l = Sent (flat_map (λ r. row_text (row_of r.items)) l.rows) (flat_map (λ r. row_text (row_of r.items)) (drop l.row-index l.rows)) (g.S.Sink.written l.initial.sink) (g.S.Sink.written l.sink) (g.S.Sink.failures l.initial.sink) (g.S.Sink.failures l.sink)
+invariant-loop-row g l =
+    Sent (flat_map (λ r. row_text (row_of r.items)) l.rows)
+    (flat_map (λ r. row_text (row_of r.items)) (drop l.row-index l.rows)) (g.S.Sink.written l.initial.sink)
+    (g.S.Sink.written l.sink) (g.S.Sink.failures l.initial.sink) (g.S.Sink.failures l.sink)

@@ -5,4 +5,5 @@ use Rattle.tql_rows.proofs.readings.answers_in.Given as goal
 
 -- what was found and the answers in the rest are the answers
 abbrev pub invariant-loop-id : goal.invariant-loop-id
-invariant-loop-id l = map answer_of l.found.items ++ answers_from l.id l.when (versions_of (drop l.id l.versions)) ≡ answers_from 0 l.when (versions_of l.versions)
+invariant-loop-id l = map answer_of l.found.items ++ answers_from l.id l.when (versions_of (drop l.id l.versions)) ≡
+    answers_from 0 l.when (versions_of l.versions)

@@ -4,4 +4,5 @@ use Rattle.tql_rows.specs.Readings.{ids_sought}
 use Rattle.tql_rows.proofs.readings.numbers_sought.Goals as goal
 
 pub returns-in-Now : goal.returns-in-Now
-returns-in-Now g c = same-list (c.new.ensures.items ∙ none_now (g.I.IntervalIndex.entries c.args.index.now) ∙ sym (ap (λ when. ids_sought when (g.I.IntervalIndex.entries c.args.index.now)) c.in-Now.is))
+returns-in-Now g c = same-list (c.new.ensures.items ∙ none_now (g.I.IntervalIndex.entries c.args.index.now)
+    ∙ sym (ap (λ when. ids_sought when (g.I.IntervalIndex.entries c.args.index.now)) c.in-Now.is))

@@ -9,7 +9,8 @@ use Rattle.tql_rows.proofs.Sought.{same_ends}
 use Rattle.tql_rows.proofs.readings.numbers_through.Goals as goal
 
 pub returns : goal.returns
-returns g c = subst (λ ns. IfOk c.numbers_between.result (λ ids. SameBag ids.items ns)) (same_ends _ _ _ _ _ (to_z-of_z c.ranges.a) upper) c.numbers_between.ensures
+returns g c = subst (λ ns. IfOk c.numbers_between.result (λ ids. SameBag ids.items ns))
+    (same_ends _ _ _ _ _ (to_z-of_z c.ranges.a) upper) c.numbers_between.ensures
   where
     upper : to_z w64 (of_z w64 (to_z w64 (of_z w64 c.min.result) +ℤ pos 1)) ≡ int_min c.args.b high +ℤ pos 1
     upper = let r = c.ranges.b in search (arith, ints, to_z-of_z, c.min.ensures)

@@ -5,4 +5,6 @@ use Rattle.tql_rows.proofs.readings.push_each.Given as goal
 
 -- what was found and what the rest of the numbers add is what all add
 abbrev pub invariant-loop-number : goal.invariant-loop-number
-invariant-loop-number l = map answer_of l.found.items ++ placed l.base (versions_of l.versions) (drop l.number-index l.numbers) ≡ map answer_of l.initial.found.items ++ placed l.base (versions_of l.versions) l.numbers
+invariant-loop-number l =
+    map answer_of l.found.items ++ placed l.base (versions_of l.versions) (drop l.number-index l.numbers) ≡ map
+    answer_of l.initial.found.items ++ placed l.base (versions_of l.versions) l.numbers

@@ -9,4 +9,6 @@ use Rattle.tql_runnable.proofs.running.are_plain_elements.Goals as goal
 pub returns : goal.returns
 returns c =
     let elements = c.args.elements.now in
-    all_from_yields_List (λ x. is_plain_element (element_of x)) _ _ _ c.all.ensures.ran (YieldsList-from_slice elements cc) (λ x b q k. search (rules, tests)) ∙ sym (list_all-map is_plain_element element_of elements)
+    all_from_yields_List (λ x. is_plain_element (element_of x)) _ _ _ c.all.ensures.ran
+    (YieldsList-from_slice elements cc) (λ x b q k. search (rules, tests))
+    ∙ sym (list_all-map is_plain_element element_of elements)

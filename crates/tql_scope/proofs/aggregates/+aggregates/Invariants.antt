@@ -6,7 +6,9 @@ use Rattle.tql_scope.proofs.aggregates.+aggregates.Given as goal
 
 -- those that are left decide
 abbrev pub invariant-has_aggregate-loop-added : goal.invariant-has_aggregate-loop-added
-invariant-has_aggregate-loop-added l = in_terms (terms_of (map added_of (drop l.added-index l.added-items))) ≡ in_sum (expr_of l.expr)
+invariant-has_aggregate-loop-added l =
+    in_terms (terms_of (map added_of (drop l.added-index l.added-items))) ≡ in_sum (expr_of l.expr)
 
 abbrev pub invariant-is_in_product-loop-factor : goal.invariant-is_in_product-loop-factor
-invariant-is_in_product-loop-factor l = in_factors (factors_of (map signed_of (drop l.factor-index l.factor-items))) ≡ in_product (term_of l.product)
+invariant-is_in_product-loop-factor l =
+    in_factors (factors_of (map signed_of (drop l.factor-index l.factor-items))) ≡ in_product (term_of l.product)

@@ -16,7 +16,8 @@ use Rattle.tql_scope.proofs.cells.cell.Goals as goal
 
 pub returns-in-Null-clause-bound : goal.returns-in-Null-clause-bound
 returns-in-Null-clause-bound c =
-    sound_ok _ _ (typed_of c.null.new.terms) _ _ (ap (λ (x : Cell). binding.cell (scope_of c.args.scope.now) (cell_of x)) c.in-Null.is) c.null.ensures.bound
+    sound_ok _ _ (typed_of c.null.new.terms) _ _
+    (ap (λ (x : Cell). binding.cell (scope_of c.args.scope.now) (cell_of x)) c.in-Null.is) c.null.ensures.bound
 
 pub returns-in_ok-bound-in-Value-clause-bound : goal.returns-in_ok-bound-in-Value-clause-bound
 returns-in_ok-bound-in-Value-clause-bound c =
@@ -26,6 +27,8 @@ returns-in_ok-bound-in-Value-clause-bound c =
     let mid = c.sum.new.faults in
     let a = typed_of c.sum.new.terms c.in_ok-bound-in-Value.bound in
     let written = c.has_aggregate.ensures ∙ ap (λ (x : ExprIn _). in_sum (expr_of x)) c.deref-in-Value.ensures in
-    let bound = subst (λ (x : ExprIn _). Gathers (expr s (expr_of x)) old mid a) c.deref.ensures c.in_ok-bound-in-Value.ensures.bound in
-    subst (λ (x : tree.CellTree). Gathers (binding.cell s x) old c.refuse_if.new.self a) (sym (ap cell_of c.in-Value.is))
+    let bound = subst (λ (x : ExprIn _). Gathers (expr s (expr_of x)) old mid a) c.deref.ensures
+    c.in_ok-bound-in-Value.ensures.bound in
+    subst (λ (x : tree.CellTree). Gathers (binding.cell s x) old c.refuse_if.new.self a)
+    (sym (ap cell_of c.in-Value.is))
     (cell_bound s e old mid c.refuse_if.new.self a c.has_aggregate.result written bound c.refuse_if.ensures)

@@ -14,4 +14,5 @@ returns-in-Some-clause-bound c =
     let x : ℤ = c.in-Some.moment in
     let fits : SFits w64 x = search rules in
     let is = ap read_timestamp (sym (c.deref.ensures ∙ c.in_ok-text.ensures)) ∙ sym c.in-Some.ensures.value in
-    sound_ok _ _ (typed_of c.literal.new.terms) _ _ (literal_at Moments Moment _ x (to_z w64 (of_z w64 x)) is (to_z-of_z fits)) c.literal.ensures.bound
+    sound_ok _ _ (typed_of c.literal.new.terms) _ _
+    (literal_at Moments Moment _ x (to_z w64 (of_z w64 x)) is (to_z-of_z fits)) c.literal.ensures.bound

@@ -6,5 +6,6 @@ use Rattle.tql_scope.proofs.names.things_called.Given as goal
 -- what was found so far and what is among the rest is what is found in all
 abbrev pub invariant-loop-known : goal.invariant-loop-known
 invariant-loop-known l =
-    things_of l.found.items ++ things (scope_of (drop l.known-index l.scope)) (record { qualifier = option_map text_of l.qualifier; name = l.name })
+    things_of l.found.items ++ things (scope_of (drop l.known-index l.scope))
+    (record { qualifier = option_map text_of l.qualifier; name = l.name })
     ≡ things (scope_of l.scope) (record { qualifier = option_map text_of l.qualifier; name = l.name })

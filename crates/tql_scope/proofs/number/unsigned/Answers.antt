@@ -5,4 +5,5 @@ use Rattle.tql_scope.proofs.number.unsigned.Goals as goal
 pub returns-in_err-number : goal.returns-in_err-number
 returns-in_err-number c =
     rw c.from_residual.ensures
-    (out_of_range c.loop-digit.number c.loop-digit.digit-index _ c.args.digits.now (omega arith) c.loop-digit.invariant c.in_err-number.ensures)
+    (out_of_range c.loop-digit.number c.loop-digit.digit-index _ c.args.digits.now (omega arith)
+    c.loop-digit.invariant c.in_err-number.ensures)

@@ -35,15 +35,28 @@ returns-clause-bound c =
     let es : List Expr = map (expr t) items in
     let hs : List Cond = map (cond t) having in
     let filtered = subst (λ (cs : List Cond). Gathers (binding.plain_filter scope s.filter) old a cs)
-    (sym (conds_kept (stays_along c.optional_conjuncts.ensures.stays c.outputs.ensures.stays) filter c.in_ok-filter.ensures.held)) c.in_ok-filter.ensures.bound in
-    let grouped = subst (λ (ns : List Named). Gathers (check_each (binding.group_column scope) (map named_of ns)) a b groups) c.deref.ensures.value c.in_ok-groups.ensures in
-    let judged = subst (λ (cs : List Cond). Gathers (optional_conjuncts scope s.having) b j cs) (sym (conds_kept c.outputs.ensures.stays having c.in_ok-having.ensures.held)) c.in_ok-having.ensures.bound in
+    (sym (conds_kept (stays_along c.optional_conjuncts.ensures.stays c.outputs.ensures.stays) filter
+    c.in_ok-filter.ensures.held)) c.in_ok-filter.ensures.bound in
+    let grouped = subst (λ (ns : List Named). Gathers (check_each (binding.group_column scope) (map named_of ns)) a b
+    groups) c.deref.ensures.value c.in_ok-groups.ensures in
+    let judged = subst (λ (cs : List Cond). Gathers (optional_conjuncts scope s.having) b j cs)
+    (sym (conds_kept c.outputs.ensures.stays having c.in_ok-having.ensures.held)) c.in_ok-having.ensures.bound in
     let is : c.is_grouped-grouped.result ≡ binding.is_grouped s es hs =
-    c.is_grouped-grouped.ensures ∙ (λ i. binding.is_grouped s (map (expr t) (c.deref-2.ensures.value i)) (map (cond t) (c.deref-3.ensures.value i))) in
-    let faulty : c.has_grouping_fault-is_faulty.result ≡ binding.grouping_faults (binding.is_grouped s es hs) groups s es hs =
+    c.is_grouped-grouped.ensures
+    ∙ (λ i. binding.is_grouped s (map (expr t) (c.deref-2.ensures.value i))
+    (map (cond t) (c.deref-3.ensures.value i))) in
+    let faulty : c.has_grouping_fault-is_faulty.result ≡ binding.grouping_faults (binding.is_grouped s es hs) groups
+    s es hs =
     c.has_grouping_fault-is_faulty.ensures
-    ∙ (λ i. binding.grouping_faults (is i) (c.deref-4.ensures.value i) s (map (expr t) (c.deref-5.ensures.value i)) (map (cond t) (c.deref-6.ensures.value i))) in
+    ∙ (λ i. binding.grouping_faults (is i) (c.deref-4.ensures.value i) s (map (expr t) (c.deref-5.ensures.value i))
+    (map (cond t) (c.deref-6.ensures.value i))) in
     let refused = subst (λ (x : Bool). Gathers (refuse_if x FormNotAllowedHere) d new tt) faulty c.refuse_if.ensures in
     let grouping = c.grouping_of.ensures ∙ ap (λ (x : Bool). binding.grouping_of x groups) is in
-    subst (λ (g : Option (List ℕ)). Gathers (clauses scope s) old new (record { filter = map (cond t) filter; grouping = g; having = hs; what = outputs_of t c.in_ok-list.list })) (sym grouping)
-    (clauses_bound scope s old a b j d new (map (cond t) filter) groups hs (outputs_of t c.in_ok-list.list) filtered grouped judged c.in_ok-list.ensures.bound refused)
+    subst (λ (g : Option (List ℕ)). Gathers (clauses scope s) old new (record {
+      filter = map (cond t) filter;
+      grouping = g;
+      having = hs;
+      what = outputs_of t c.in_ok-list.list;
+    })) (sym grouping)
+    (clauses_bound scope s old a b j d new (map (cond t) filter) groups hs (outputs_of t c.in_ok-list.list) filtered
+    grouped judged c.in_ok-list.ensures.bound refused)

@@ -7,4 +7,5 @@ use Rattle.tql_select.proofs.from.bound_chain.Given as goal
 -- the joins so far and those that are left
 abbrev pub invariant-loop-join : goal.invariant-loop-join
 invariant-loop-join l =
-    ChainLeads (definitions_of l.catalog) (chain_of l.written) l.fn.terms l.fn.faults l.terms l.linked (map join_of (drop l.join-index l.join-items)) l.faults l.join-index
+    ChainLeads (definitions_of l.catalog) (chain_of l.written) l.fn.terms l.fn.faults l.terms l.linked
+    (map join_of (drop l.join-index l.join-items)) l.faults l.join-index

@@ -8,5 +8,6 @@ use Rattle.tql_select.proofs.from.chains.Given as goal
 abbrev pub invariant-loop-written : goal.invariant-loop-written
 invariant-loop-written l = record {
   counted : length l.all.items ≡ l.written-index + 1;
-  lead : ChainsLead (definitions_of l.catalog) (chain_of l.first ∷ map chain_of l.more) l.fn.terms l.fn.faults l.terms l.all.items (map chain_of (drop l.written-index l.more)) l.faults;
+  lead : ChainsLead (definitions_of l.catalog) (chain_of l.first ∷ map chain_of l.more) l.fn.terms l.fn.faults
+      l.terms l.all.items (map chain_of (drop l.written-index l.more)) l.faults;
 }

@@ -7,8 +7,14 @@ use Rattle.tql_select.proofs.from.first_linked.Goals as goal
 pub returns : goal.returns
 returns c =
     let s = c.in_ok-source.source in
-    let scope : c.push.new.self.items ≡ s.known ∷ [] = alone c.new-scope.result.items c.push.new.self.items s.known c.new-scope.ensures.items c.in_ok-push.ensures.items in
-    let l : Linked = record { chain = record { first = s.reference; joins = c.new.result }; scope = c.push.new.self; width = s.reference.width } in
+    let scope : c.push.new.self.items ≡ s.known ∷ [] =
+    alone c.new-scope.result.items c.push.new.self.items s.known c.new-scope.ensures.items
+    c.in_ok-push.ensures.items in
+    let l : Linked = record {
+      chain = record { first = s.reference; joins = c.new.result };
+      scope = c.push.new.self;
+      width = s.reference.width;
+    } in
     record {
       bound = record {
         source = s;

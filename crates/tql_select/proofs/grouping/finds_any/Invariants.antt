@@ -6,4 +6,6 @@ use Rattle.tql_select.proofs.grouping.finds_any.Given as goal
 
 -- what is left decides
 abbrev pub invariant-loop-item : goal.invariant-loop-item
-invariant-loop-item l = list_any (sought l.search) (map (expr l.terms) (drop l.item-index l.items)) ≡ list_any (sought l.search) (map (expr l.terms) l.items)
+invariant-loop-item l =
+    list_any (sought l.search) (map (expr l.terms) (drop l.item-index l.items)) ≡ list_any (sought l.search)
+    (map (expr l.terms) l.items)

@@ -8,4 +8,5 @@ use Rattle.tql_select.proofs.grouping.finds_any_in.Given as goal
 -- what is left decides
 abbrev pub invariant-loop-conjunct : goal.invariant-loop-conjunct
 invariant-loop-conjunct l =
-    list_any (has_expr (sought l.search)) (map (cond l.terms) (drop l.conjunct-index l.conjuncts)) ≡ list_any (has_expr (sought l.search)) (map (cond l.terms) l.conjuncts)
+    list_any (has_expr (sought l.search)) (map (cond l.terms) (drop l.conjunct-index l.conjuncts)) ≡ list_any
+    (has_expr (sought l.search)) (map (cond l.terms) l.conjuncts)

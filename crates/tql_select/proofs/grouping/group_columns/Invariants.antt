@@ -7,4 +7,6 @@ use Rattle.tql_select.proofs.grouping.group_columns.Given as goal
 
 -- the columns so far and those that are left
 abbrev pub invariant-loop-index : goal.invariant-loop-index
-invariant-loop-index l = EachLeads (group_column (scope_of l.scope)) (map named_of l.written) l.fn.faults l.numbers.items (map named_of (drop l.index l.written)) l.faults
+invariant-loop-index l =
+    EachLeads (group_column (scope_of l.scope)) (map named_of l.written) l.fn.faults l.numbers.items
+    (map named_of (drop l.index l.written)) l.faults

@@ -23,9 +23,18 @@ returns-clause-adds c =
     let l = c.args.linked.now in
     let u = c.on.new.terms in
     let x : Join = record { kind = c.join_kind.result; reference = s.reference; on = c.in_ok-on.on } in
-    let m : Linked = record { chain = record { first = l.chain.first; joins = c.push-2.new.self }; scope = c.push.new.self; width = l.width + s.reference.width } in
-    let source = subst (λ (r : RefTree). Gathers (binding.source defs l.width r) old mid (source_of s)) c.joined_reference.ensures c.in_ok-source.ensures.bound in
-    let scope : c.deref.result.now ≡ l.scope.items ++ s.known ∷ [] = c.deref.ensures.value ∙ c.in_ok-push.ensures.items in
-    let on = subst (λ (ks : List Known). Gathers (on_in (scope_of ks) j) mid c.on.new.faults (map (cond u) x.on.items)) scope c.in_ok-on.ensures.bound in
-    join_added defs j old mid c.on.new.faults c.args.terms.now u l m s x source on c.in_ok-source.ensures.placed c.in_ok-source.ensures.narrow
-    c.on.ensures.stays c.in_ok-on.ensures.held c.requires.held c.requires.placed c.join_kind.ensures refl refl c.in_ok-push-2.ensures.items c.in_ok-push.ensures.items refl
+    let m : Linked = record {
+      chain = record { first = l.chain.first; joins = c.push-2.new.self };
+      scope = c.push.new.self;
+      width = l.width + s.reference.width;
+    } in
+    let source = subst (λ (r : RefTree). Gathers (binding.source defs l.width r) old mid (source_of s))
+    c.joined_reference.ensures c.in_ok-source.ensures.bound in
+    let scope : c.deref.result.now ≡ l.scope.items ++ s.known ∷ [] = c.deref.ensures.value
+    ∙ c.in_ok-push.ensures.items in
+    let on = subst (λ (ks : List Known). Gathers (on_in (scope_of ks) j) mid c.on.new.faults
+    (map (cond u) x.on.items)) scope c.in_ok-on.ensures.bound in
+    join_added defs j old mid c.on.new.faults c.args.terms.now u l m s x source on c.in_ok-source.ensures.placed
+    c.in_ok-source.ensures.narrow
+    c.on.ensures.stays c.in_ok-on.ensures.held c.requires.held c.requires.placed c.join_kind.ensures refl refl
+    c.in_ok-push-2.ensures.items c.in_ok-push.ensures.items refl

@@ -13,5 +13,6 @@ pub returns-in-Cross-clause-bound : goal.returns-in-Cross-clause-bound
 returns-in-Cross-clause-bound c =
     let now = c.args.faults.now in
     let scope = scope_of c.args.scope.now in
-    subst (λ (xs : List CondId). Gathers (on_in scope (join_of c.args.join.now)) now now (map (cond c.args.terms.now) xs)) (sym c.new.ensures.items)
+    subst (λ (xs : List CondId). Gathers (on_in scope (join_of c.args.join.now)) now now
+    (map (cond c.args.terms.now) xs)) (sym c.new.ensures.items)
     (subst (λ (j : Join). Gathers (on_in scope (join_of j)) now now []) (sym c.in-Cross.is) (sound_here [] now))

@@ -8,4 +8,6 @@ use Rattle.tql_select.proofs.ordering.order_keys.Given as goal
 
 -- the keys so far and those that are left
 abbrev pub invariant-loop-index : goal.invariant-loop-index
-invariant-loop-index l = EachLeads (order_key (map string_bytes l.headings)) (map order_of l.keys) l.fn.faults (map bound.order_of l.bound.items) (map order_of (drop l.index l.keys)) l.faults
+invariant-loop-index l =
+    EachLeads (order_key (map string_bytes l.headings)) (map order_of l.keys) l.fn.faults
+    (map bound.order_of l.bound.items) (map order_of (drop l.index l.keys)) l.faults

@@ -5,4 +5,6 @@ use Rattle.tql_select.proofs.ordering.places_of.Given as goal
 
 -- the places so far and those among the rest are all
 abbrev pub invariant-loop-index : goal.invariant-loop-index
-invariant-loop-index l = l.found.items ++ places_of l.name l.index (map string_bytes (drop l.index l.headings)) ≡ places_of l.name 0 (map string_bytes l.headings)
+invariant-loop-index l =
+    l.found.items ++ places_of l.name l.index (map string_bytes (drop l.index l.headings)) ≡ places_of l.name 0
+    (map string_bytes l.headings)

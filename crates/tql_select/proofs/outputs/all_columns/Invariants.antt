@@ -5,4 +5,6 @@ use Rattle.tql_select.proofs.outputs.all_columns.Given as goal
 
 -- the references so far and those that are left
 abbrev pub invariant-loop-known : goal.invariant-loop-known
-invariant-loop-known l = OutputsLead l.fn.terms l.initial.outputs (columns_of_all (scope_of l.scope)) l.terms l.outputs (columns_of_all (map known_of (drop l.known-index l.scope)))
+invariant-loop-known l =
+    OutputsLead l.fn.terms l.initial.outputs (columns_of_all (scope_of l.scope)) l.terms l.outputs
+    (columns_of_all (map known_of (drop l.known-index l.scope)))

@@ -9,4 +9,5 @@ use Rattle.tql_select.proofs.outputs.outputs.Goals as goal
 pub returns-in-All-clause-bound : goal.returns-in-All-clause-bound
 returns-in-All-clause-bound c =
     let scope = scope_of c.args.scope.now in
-    star_ok scope (shown scope (items_of c.args.items.now)) (outputs_of c.all_columns.new.terms) c.args.faults.now c.all_columns.result (ap (λ (x : Items). shown scope (items_of x)) c.in-All.is) c.all_columns.ensures.bound
+    star_ok scope (shown scope (items_of c.args.items.now)) (outputs_of c.all_columns.new.terms) c.args.faults.now
+    c.all_columns.result (ap (λ (x : Items). shown scope (items_of x)) c.in-All.is) c.all_columns.ensures.bound

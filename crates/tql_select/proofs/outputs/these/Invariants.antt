@@ -9,4 +9,5 @@ use Rattle.tql_select.proofs.outputs.these.Given as goal
 -- the items so far and those that are left
 abbrev pub invariant-loop-item : goal.invariant-loop-item
 invariant-loop-item l =
-    ItemsLead (scope_of l.scope) (shown (scope_of l.scope) (TheseItems (item_of l.first) (map item_of l.more))) l.fn.terms l.fn.faults l.terms l.outputs (map item_of (drop l.item-index l.more)) l.faults
+    ItemsLead (scope_of l.scope) (shown (scope_of l.scope) (TheseItems (item_of l.first) (map item_of l.more)))
+    l.fn.terms l.fn.faults l.terms l.outputs (map item_of (drop l.item-index l.more)) l.faults

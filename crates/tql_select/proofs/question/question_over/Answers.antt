@@ -27,7 +27,8 @@ pub into_question-requires-clause-joined : goal.into_question-requires-clause-jo
 into_question-requires-clause-joined c =
     let u = c.bound_clauses.new.terms in
     let ls = c.in_ok-linked.linked.items in
-    subst (All (λ (x : Chain). All (λ (j : Join). All (HasCond u) j.on.items) x.joins.items)) (sym c.in_ok-chains.ensures)
+    subst (All (λ (x : Chain). All (λ (j : Join). All (HasCond u) j.on.items) x.joins.items))
+    (sym c.in_ok-chains.ensures)
     (alone_there u ls (chains_there c.bound_clauses.ensures.stays ls c.in_ok-linked.ensures.held))
 
 pub returns : goal.returns
@@ -47,14 +48,23 @@ returns c =
     let scope = scope_of c.in_ok-scope.scope.items in
     let cl = clauses_of u c.in_ok-clauses.clauses in
     let order = map bound.order_of c.in_ok-ordering.ordering.items in
-    let from = subst (λ (more : List written.Chain). Gathers (check_each (binding.chain defs) (s.first ∷ map chain_of more)) old a ls) c.deref.ensures.value c.in_ok-linked.ensures.bound in
-    let whole : scope ≡ binding.whole_scope 0 ls = c.in_ok-scope.ensures t ∙ ap (λ (xs : List Linked). binding.whole_scope 0 (map (linked_of t) xs)) c.deref-2.ensures.value in
-    let repeated = c.repeats_names.ensures ∙ ap (λ (ks : List Known). repeats (map (λ (k : names.Known). k.name) (scope_of ks))) c.deref-3.ensures.value in
-    let named = subst (λ (x : Bool). Gathers (refuse_if x NameUnknownAmbiguousOrRepeated) a b tt) repeated c.refuse_if.ensures in
-    let claused = subst (λ (ks : List Known). Gathers (clauses (scope_of ks) s) b d cl) c.deref-4.ensures.value c.in_ok-clauses.ensures.bound in
-    let ordered = subst (λ hs. Gathers (check_each (binding.order_key (map string_bytes hs)) keys) d new order) c.deref-5.ensures.value c.in_ok-ordering.ensures in
-    let alone = alone_kept t u linked c.in_ok-chains.chains.items c.bound_clauses.ensures.stays c.in_ok-linked.ensures.held c.in_ok-chains.ensures in
-    let is : asked_of c.into_question.result ≡ selected_by (map (λ (l : binding.Linked). l.chain) ls) s.distinct cl order =
+    let from = subst (λ (more : List written.Chain). Gathers
+    (check_each (binding.chain defs) (s.first ∷ map chain_of more)) old a ls) c.deref.ensures.value
+    c.in_ok-linked.ensures.bound in
+    let whole : scope ≡ binding.whole_scope 0 ls = c.in_ok-scope.ensures t
+    ∙ ap (λ (xs : List Linked). binding.whole_scope 0 (map (linked_of t) xs)) c.deref-2.ensures.value in
+    let repeated = c.repeats_names.ensures
+    ∙ ap (λ (ks : List Known). repeats (map (λ (k : names.Known). k.name) (scope_of ks))) c.deref-3.ensures.value in
+    let named = subst (λ (x : Bool). Gathers (refuse_if x NameUnknownAmbiguousOrRepeated) a b tt) repeated
+    c.refuse_if.ensures in
+    let claused = subst (λ (ks : List Known). Gathers (clauses (scope_of ks) s) b d cl) c.deref-4.ensures.value
+    c.in_ok-clauses.ensures.bound in
+    let ordered = subst (λ hs. Gathers (check_each (binding.order_key (map string_bytes hs)) keys) d new order)
+    c.deref-5.ensures.value c.in_ok-ordering.ensures in
+    let alone = alone_kept t u linked c.in_ok-chains.chains.items c.bound_clauses.ensures.stays
+    c.in_ok-linked.ensures.held c.in_ok-chains.ensures in
+    let is : asked_of c.into_question.result ≡ selected_by (map (λ (l : binding.Linked). l.chain) ls) s.distinct cl
+    order =
     c.into_question.ensures ∙ ap (λ (cs : List query.Chain). selected_by cs s.distinct cl order) alone in
     subst (λ (x : binding.Selected). Gathers (binding.select defs s keys) old new x) (sym is)
     (select_bound defs s keys old a b d new ls scope cl order from whole named claused ordered)

@@ -3,4 +3,5 @@ use Rattle.tql_select.proofs.question.without_scopes.Given as goal
 
 -- the chains so far and those that are left
 abbrev pub invariant-loop-one : goal.invariant-loop-one
-invariant-loop-one l = l.chains.items ++ map (λ x. x.chain) l.one-iterator.rest.items ≡ map (λ x. x.chain) l.fn.linked.items
+invariant-loop-one l =
+    l.chains.items ++ map (λ x. x.chain) l.one-iterator.rest.items ≡ map (λ x. x.chain) l.fn.linked.items

@@ -8,4 +8,5 @@ use Rattle.tql_select.proofs.reference_names.chain_names.Given as goal
 -- the names so far, and those that are left
 abbrev pub invariant-loop-join : goal.invariant-loop-join
 invariant-loop-join l =
-    map string_bytes l.names.items ++ map (λ (j : Join). name_in (reference_in (join_of j))) (drop l.join-index l.join-items) ≡ names_in (chain_of l.written)
+    map string_bytes l.names.items ++ map (λ (j : Join). name_in (reference_in (join_of j)))
+    (drop l.join-index l.join-items) ≡ names_in (chain_of l.written)

@@ -9,5 +9,7 @@ pub loop-written-init : goal.loop-written-init
 loop-written-init c =
     let all = c.push.new.self.items in
     let names = c.in_ok-chain_names.field-0 in
-    let one : all ≡ names ∷ [] = alone c.new-all.result.items all names c.new-all.ensures.items c.in_ok-push.ensures.items in
-    first_shown (λ n. map string_bytes n.items) names_in chain_of all names (names_in (chain_of c.args.first.now)) c.args.more.now one c.in_ok-chain_names.ensures
+    let one : all ≡ names ∷ [] =
+    alone c.new-all.result.items all names c.new-all.ensures.items c.in_ok-push.ensures.items in
+    first_shown (λ n. map string_bytes n.items) names_in chain_of all names (names_in (chain_of c.args.first.now))
+    c.args.more.now one c.in_ok-chain_names.ensures

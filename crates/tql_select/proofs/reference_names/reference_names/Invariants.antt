@@ -7,4 +7,5 @@ use Rattle.tql_select.proofs.reference_names.reference_names.Given as goal
 -- the names so far, and those that are left
 abbrev pub invariant-loop-written : goal.invariant-loop-written
 invariant-loop-written l =
-    names_of l.all.items ++ map (λ (c : Chain). names_in (chain_of c)) (drop l.written-index l.more) ≡ map names_in (chain_of l.first ∷ map chain_of l.more)
+    names_of l.all.items ++ map (λ (c : Chain). names_in (chain_of c)) (drop l.written-index l.more) ≡ map names_in
+    (chain_of l.first ∷ map chain_of l.more)

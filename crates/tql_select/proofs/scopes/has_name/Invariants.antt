@@ -7,4 +7,5 @@ use Rattle.tql_select.proofs.scopes.has_name.Given as goal
 -- those behind tell what all tell
 abbrev pub invariant-loop-known : goal.invariant-loop-known
 invariant-loop-known l =
-    has_name l.name (map (λ (k : Known). k.name) (scope_of (drop l.known-index l.scope))) ≡ has_name l.name (map (λ (k : Known). k.name) (scope_of l.scope))
+    has_name l.name (map (λ (k : Known). k.name) (scope_of (drop l.known-index l.scope))) ≡ has_name l.name
+    (map (λ (k : Known). k.name) (scope_of l.scope))

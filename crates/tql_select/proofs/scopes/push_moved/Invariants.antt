@@ -6,4 +6,5 @@ use Rattle.tql_select.proofs.scopes.push_moved.Given as goal
 -- the references so far, and those that are left
 abbrev pub invariant-loop-reference : goal.invariant-loop-reference
 invariant-loop-reference l =
-    scope_of l.scope.items ++ map (binding.moved l.before) (scope_of (drop l.reference-index l.known)) ≡ scope_of l.fn.scope.items ++ map (binding.moved l.before) (scope_of l.known)
+    scope_of l.scope.items ++ map (binding.moved l.before) (scope_of (drop l.reference-index l.known)) ≡ scope_of
+    l.fn.scope.items ++ map (binding.moved l.before) (scope_of l.known)

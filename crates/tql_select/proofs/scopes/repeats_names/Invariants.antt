@@ -6,7 +6,9 @@ use Rattle.tql_select.proofs.scopes.repeats_names.Given as goal
 
 -- those behind tell what all tell
 abbrev pub invariant-loop-left : goal.invariant-loop-left
-invariant-loop-left l = repeats (map (λ (k : Known). k.name) (scope_of l.fn.scope)) ≡ repeats (map (λ (k : Known). k.name) (scope_of l.left))
+invariant-loop-left l =
+    repeats (map (λ (k : Known). k.name) (scope_of l.fn.scope)) ≡ repeats
+    (map (λ (k : Known). k.name) (scope_of l.left))
 
 abbrev pub decreases-loop-left : goal.decreases-loop-left
 decreases-loop-left l = length l.left

@@ -5,12 +5,14 @@ use Rattle.tql_store.proofs.tables.free_table.Goals as goal
 
 pub overflow_cast-number : goal.overflow_cast-number
 overflow_cast-number c =
-    let low = stand-below c.args.places.now c.free_number-number.result c.free_number-number.ensures.before c.free_number-number.ensures.within in
+    let low = stand-below c.args.places.now c.free_number-number.result c.free_number-number.ensures.before
+    c.free_number-number.ensures.within in
     first_of (search rules, grind (arith, common_steps))
 
 pub unreachable-requires : goal.unreachable-requires
 unreachable-requires c =
-    let low = stand-below c.args.places.now c.free_number-number.result c.free_number-number.ensures.before c.free_number-number.ensures.within in
+    let low = stand-below c.args.places.now c.free_number-number.result c.free_number-number.ensures.before
+    c.free_number-number.ensures.within in
     let small : c.free_number-number.result < 1000 = omega arith in
     first_of (search rules, grind (arith, common_steps))
 

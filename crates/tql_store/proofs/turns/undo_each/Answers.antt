@@ -8,15 +8,27 @@ use mir.Val.{to_z, of_z}
 
 pub rollback-requires : goal.rollback-requires
 rollback-requires g c =
-    let read = read-here (IsUndone (to_z w64 (of_z w64 c.args.moment))) c.loop-number.number-index c.args.touched.now c.args.rows.now c.loop-number.rows c.index-rows-number.result c.index-rows-number.is c.loop-number.invariant c.loop-number-test.true c.requires.apart c.requires.within in
+    let read = read-here (IsUndone (to_z w64 (of_z w64 c.args.moment))) c.loop-number.number-index c.args.touched.now
+    c.args.rows.now c.loop-number.rows c.index-rows-number.result c.index-rows-number.is c.loop-number.invariant
+    c.loop-number-test.true c.requires.apart c.requires.within in
     subst (λ (h : Held). InTurn (to_z w64 (of_z w64 c.args.moment)) h) c.index-rows-number.is
     (subst (λ (h : Held). InTurn (to_z w64 (of_z w64 c.args.moment)) h) (sym read)
-    (subst (λ (x : ℤ). InTurn x (table_at c.args.rows.now (touch_at c.args.touched.now c.loop-number.number-index))) (sym (to_z-of_z c.ranges.moment)) (c.requires.turn (touch_at c.args.touched.now c.loop-number.number-index))))
+    (subst (λ (x : ℤ). InTurn x (table_at c.args.rows.now (touch_at c.args.touched.now c.loop-number.number-index)))
+    (sym (to_z-of_z c.ranges.moment)) (c.requires.turn (touch_at c.args.touched.now c.loop-number.number-index))))
 
 pub loop-number-preserved : goal.loop-number-preserved
 loop-number-preserved g c =
-    let read = read-here (IsUndone (to_z w64 (of_z w64 c.args.moment))) c.loop-number.number-index c.args.touched.now c.args.rows.now c.loop-number.rows c.index-rows-number.result c.index-rows-number.is c.loop-number.invariant c.loop-number-test.true c.requires.apart c.requires.within in
-    step-ended (IsUndone (to_z w64 (of_z w64 c.args.moment))) c.loop-number.number-index (touch_at c.args.touched.now c.loop-number.number-index) c.args.touched.now c.args.rows.now c.loop-number.rows c.rollback.new.self c.loop-number.invariant c.loop-number-test.true c.requires.apart refl
+    let read = read-here (IsUndone (to_z w64 (of_z w64 c.args.moment))) c.loop-number.number-index c.args.touched.now
+    c.args.rows.now c.loop-number.rows c.index-rows-number.result c.index-rows-number.is c.loop-number.invariant
+    c.loop-number-test.true c.requires.apart c.requires.within in
+    step-ended (IsUndone (to_z w64 (of_z w64 c.args.moment))) c.loop-number.number-index
+    (touch_at c.args.touched.now c.loop-number.number-index) c.args.touched.now c.args.rows.now c.loop-number.rows
+    c.rollback.new.self c.loop-number.invariant c.loop-number-test.true c.requires.apart refl
     (c.requires.within c.loop-number.number-index c.loop-number-test.true)
     (subst (λ (h : Held). IsUndone (to_z w64 (of_z w64 c.args.moment)) h c.rollback.new.self) (read)
-    (subst (λ (h : Held). IsUndone (to_z w64 (of_z w64 c.args.moment)) h c.rollback.new.self) (sym c.index-rows-number.is) (record { rest = c.rollback.ensures.rest; keeps = c.rollback.ensures.keeps; versions = c.rollback.ensures.versions })))
+    (subst (λ (h : Held). IsUndone (to_z w64 (of_z w64 c.args.moment)) h c.rollback.new.self)
+    (sym c.index-rows-number.is) (record {
+      rest = c.rollback.ensures.rest;
+      keeps = c.rollback.ensures.keeps;
+      versions = c.rollback.ensures.versions;
+    })))

@@ -7,7 +7,8 @@ loop-token-preserved c =
     let now = c.loop-token in
     let bound = one_more_open now.count c.open_behind-count.result _ c.open_behind-count.ensures in
     record {
-      counted = one_more_token c.args.tokens.now _ now.token-index now.count now.most c.open_behind-count.result c.max-most.result
+      counted = one_more_token c.args.tokens.now _ now.token-index now.count now.most c.open_behind-count.result
+          c.max-most.result
           (omega arith) now.invariant.counted now.invariant.seen c.open_behind-count.ensures c.max-most.ensures;
       below = omega (arith, bound);
       seen = omega arith;

@@ -13,10 +13,16 @@ returns-in_err-tree c =
 
 pub returns-then-left-gt0 : goal.returns-then-left-gt0
 returns-then-left-gt0 c =
-    let read = rw c.new-cursor.ensures at c.in_ok-tree.ensures in
-    (omega arith, left_over (map token_of c.args.tokens.now) (tree_of c.in_ok-tree.tree) c.statement_tree.new.tokens read (omega arith))
+    let read = rw c.new-cursor.ensures at c.in_ok-tree.ensures in (
+      omega arith,
+      left_over (map token_of c.args.tokens.now) (tree_of c.in_ok-tree.tree) c.statement_tree.new.tokens
+          read (omega arith),
+    )
 
 pub returns : goal.returns
 returns c =
-    let read = rw c.new-cursor.ensures at c.in_ok-tree.ensures in
-    (omega arith, spelled (map token_of c.args.tokens.now) (tree_of c.in_ok-tree.tree) c.statement_tree.new.tokens read (omega arith))
+    let read = rw c.new-cursor.ensures at c.in_ok-tree.ensures in (
+      omega arith,
+      spelled (map token_of c.args.tokens.now) (tree_of c.in_ok-tree.tree) c.statement_tree.new.tokens
+          read (omega arith),
+    )

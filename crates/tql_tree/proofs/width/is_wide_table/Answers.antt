@@ -24,6 +24,7 @@ pub returns : goal.returns
 returns c =
     let first = columns_in (element_of c.args.create.now.first) in
     let all = all_counted (λ e. columns_in (element_of e)) c.deref-element-items.result.now
-    (first + sum_by (λ e. columns_in (element_of e)) c.args.create.now.more.items) c.loop-element.count c.loop-element.element-index
+    (first + sum_by (λ e. columns_in (element_of e)) c.args.create.now.more.items) c.loop-element.count
+    c.loop-element.element-index
     c.loop-element-test.false c.loop-element.invariant.counted in
     counted_test element_of columns_in c.args.create.now.more.items 64 first c.loop-element.count all

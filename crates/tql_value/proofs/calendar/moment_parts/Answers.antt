@@ -7,4 +7,6 @@ use Rattle.tql_value.proofs.calendar.moment_parts.Goals as goal
 pub returns-clause-date : goal.returns-clause-date
 returns-clause-date c =
     let fits : FitsSigned w64 (c.args.moment +ℤ pos 62135596800000000) = omega (arith, signed_arith) in
-    c.parts_after-year.ensures.date ∙ ap (λ z. date_after_start (nat_abs z / 86400000000)) (sum_of_bits c.args.moment (pos 62135596800000000) c.ranges.moment fits)
+    c.parts_after-year.ensures.date
+    ∙ ap (λ z. date_after_start (nat_abs z / 86400000000))
+    (sum_of_bits c.args.moment (pos 62135596800000000) c.ranges.moment fits)

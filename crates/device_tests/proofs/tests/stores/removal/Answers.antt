@@ -6,5 +6,7 @@ use Rattle.device_tests.proofs.tests.stores.removal.Goals as goal
 
 pub returns : goal.returns
 returns g c =
-    subst (λ (ids : List ℕ). AreRemovable c.args.store.now c.args.table ids) (sym (c.in_ok-removed.ensures ∙ ap (map (λ (v : Version). v.id)) c.deref.ensures.value))
-    (all_removable c.args.store.now c.args.table c.in_ok-found.found.items c.in_ok-found.ensures.ids c.in_ok-found.ensures.once)
+    subst (λ (ids : List ℕ). AreRemovable c.args.store.now c.args.table ids) (sym (c.in_ok-removed.ensures
+    ∙ ap (map (λ (v : Version). v.id)) c.deref.ensures.value))
+    (all_removable c.args.store.now c.args.table c.in_ok-found.found.items c.in_ok-found.ensures.ids
+    c.in_ok-found.ensures.once)

@@ -13,13 +13,17 @@ invariant_of-self-2 c =
     let table : Table = record { definition = c.args.definition; id = c.args.id } in
     let untold : c.creation_fault.result ≡ None = search (rules, tests) in
     let none : first (creation_faults (definitions_of c.args.self.now) c.args.definition.name) ≡ None =
-    no_fault_told (definitions_of c.args.self.now) c.args.definition.name c.name.result.now c.creation_fault.result c.name.ensures untold c.creation_fault.ensures in
+    no_fault_told (definitions_of c.args.self.now) c.args.definition.name c.name.result.now c.creation_fault.result
+    c.name.ensures untold c.creation_fault.ensures in
     let there : first (creation_faults (definitions_of (values_of entries)) c.args.definition.name) ≡ None =
-    ap (λ (ts : List Table). first (creation_faults (definitions_of ts) c.args.definition.name)) c.self.view_is ∙ none in
+    ap (λ (ts : List Table). first (creation_faults (definitions_of ts) c.args.definition.name)) c.self.view_is
+    ∙ none in
     let named : string_bytes name ≡ c.args.definition.name = search (rules, tests) in
-    let new = c.in_ok-insert.ensures.entries ∙ put_last c.self.inside.tables name table named c.self.invariant.1 there in (
+    let new = c.in_ok-insert.ensures.entries
+    ∙ put_last c.self.inside.tables name table named c.self.invariant.1 there in (
       subst IsCatalog (sym (ap values_of new ∙ tables_more entries name table))
-          (one_more (values_of entries) c.args.definition c.args.id c.self.invariant.0 there (subst (IsFree c.args.id) (sym c.self.view_is) c.requires)),
+          (one_more (values_of entries) c.args.definition c.args.id c.self.invariant.0 there
+          (subst (IsFree c.args.id) (sym c.self.view_is) c.requires)),
       subst IsByName (sym new) (by_name_more entries name table named c.self.invariant.1),
     )
 
@@ -30,9 +34,12 @@ returns-clause-created c =
     let table : Table = record { definition = c.args.definition; id = c.args.id } in
     let untold : c.creation_fault.result ≡ None = search (rules, tests) in
     let none : first (creation_faults (definitions_of c.args.self.now) c.args.definition.name) ≡ None =
-    no_fault_told (definitions_of c.args.self.now) c.args.definition.name c.name.result.now c.creation_fault.result c.name.ensures untold c.creation_fault.ensures in
+    no_fault_told (definitions_of c.args.self.now) c.args.definition.name c.name.result.now c.creation_fault.result
+    c.name.ensures untold c.creation_fault.ensures in
     let there : first (creation_faults (definitions_of (values_of entries)) c.args.definition.name) ≡ None =
-    ap (λ (ts : List Table). first (creation_faults (definitions_of ts) c.args.definition.name)) c.self.view_is ∙ none in
+    ap (λ (ts : List Table). first (creation_faults (definitions_of ts) c.args.definition.name)) c.self.view_is
+    ∙ none in
     let named : string_bytes name ≡ c.args.definition.name = search (rules, tests) in
-    let new = c.in_ok-insert.ensures.entries ∙ put_last c.self.inside.tables name table named c.self.invariant.1 there in
+    let new = c.in_ok-insert.ensures.entries
+    ∙ put_last c.self.inside.tables name table named c.self.invariant.1 there in
     ap values_of new ∙ tables_more entries name table ∙ ap (λ (ts : List Table). ts ++ table ∷ []) c.self.view_is

@@ -8,4 +8,5 @@ pub returns : goal.returns
 returns c =
     let n = c.args.name.now in
     let tables = c.args.self.now in
-    any_from_yields_List (refers n) _ _ _ c.any.ensures.ran (YieldsList-from_rest tables (c.values.ensures.rest ∙ c.self.view_is)) (λ x b q k. search (rules, tests)) ∙ any_refers n tables
+    any_from_yields_List (refers n) _ _ _ c.any.ensures.ran (YieldsList-from_rest tables (c.values.ensures.rest
+    ∙ c.self.view_is)) (λ x b q k. search (rules, tests)) ∙ any_refers n tables

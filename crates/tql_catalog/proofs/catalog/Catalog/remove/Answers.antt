@@ -11,14 +11,17 @@ invariant_of-self c =
     let entries = c.self.inside.tables.entries in
     let i = c.args.place in
     let left = c.shift_remove_index.ensures.entries in
-    let within : i < length (values_of entries) = subst (λ (ts : List Table). i < length ts) (sym c.self.view_is) c.requires in (
-      subst IsCatalog (sym (ap values_of left ∙ tables_less entries i)) (one_less (values_of entries) i within c.self.invariant.0),
+    let within : i < length (values_of entries) =
+    subst (λ (ts : List Table). i < length ts) (sym c.self.view_is) c.requires in (
+      subst IsCatalog (sym (ap values_of left
+          ∙ tables_less entries i)) (one_less (values_of entries) i within c.self.invariant.0),
       subst IsByName (sym left) (by_name_less entries i c.self.invariant.1),
     )
 
 pub returns-clause-taken : goal.returns-clause-taken
 returns-clause-taken c =
-    ap (λ (ts : List Table). slice_get ts c.args.place) (sym c.self.view_is) ∙ value_at c.self.inside.tables.entries c.args.place c.unwrap-table.result.0 _ (cc)
+    ap (λ (ts : List Table). slice_get ts c.args.place) (sym c.self.view_is)
+    ∙ value_at c.self.inside.tables.entries c.args.place c.unwrap-table.result.0 _ (cc)
 
 pub returns-clause-others : goal.returns-clause-others
 returns-clause-others c =

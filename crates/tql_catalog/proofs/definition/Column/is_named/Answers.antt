@@ -5,4 +5,5 @@ use Rattle.std.proofs.lemmas.Map.Text.{is_eq-slice_cmp}
 use Rattle.tql_catalog.proofs.definition.Column.is_named.Goals as goal
 
 pub returns : goal.returns
-returns c = c.eq.ensures ∙ ap (bytes_eq c.args.name.now) c.as_str.ensures.value ∙ sym (is_eq-slice_cmp c.args.name.now (string_bytes c.args.self.now.name))
+returns c = c.eq.ensures ∙ ap (bytes_eq c.args.name.now) c.as_str.ensures.value
+    ∙ sym (is_eq-slice_cmp c.args.name.now (string_bytes c.args.self.now.name))

@@ -5,4 +5,5 @@ use Rattle.tql_spec.specs.Words.{same_text}
 use Rattle.tql_catalog.proofs.table_def.TableDef.is_referring_to.Goals as goal
 
 pub returns : goal.returns
-returns c = ap (λ (d : TableDef). list_any (λ (f : Reference). same_text c.args._name.now f.parent) d.references) c.self.view_is
+returns c = ap (λ (d : TableDef). list_any (λ (f : Reference). same_text c.args._name.now f.parent) d.references)
+    c.self.view_is

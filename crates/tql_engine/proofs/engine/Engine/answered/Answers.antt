@@ -16,21 +16,30 @@ pub plan-requires : goal.plan-requires
 plan-requires c =
     let x = c.args.question.now in
     let tables = c.self.inside.tables in
-    let placed = subst (λ (h : Held). IsPlacedQuery (definitions_of h.tables) (question_of x)) (sym c.self.view_is) c.requires in
-    record { there = All-weaker (IsThere (definitions_of tables)) (λ r. r.table < length tables) (λ r k. place_law tables r.table k.table) (references_of x) (references_there (definitions_of tables) x placed) }
+    let placed = subst (λ (h : Held). IsPlacedQuery (definitions_of h.tables) (question_of x)) (sym c.self.view_is)
+    c.requires in
+    record {
+      there = All-weaker (IsThere (definitions_of tables)) (λ r. r.table < length tables)
+          (λ r k. place_law tables r.table k.table) (references_of x)
+          (references_there (definitions_of tables) x placed);
+    }
 
 pub run-requires-clause-readable : goal.run-requires-clause-readable
 run-requires-clause-readable c =
     let x = c.args.question.now in
-    let placed = subst (λ (h : Held). IsPlacedQuery (definitions_of h.tables) (question_of x)) (sym c.self.view_is) c.requires in
-    sources_readable _ c.self.invariant.state x c.in_ok-plan.plan c.self.invariant.stands placed c.in_ok-plan.ensures.sources
+    let placed = subst (λ (h : Held). IsPlacedQuery (definitions_of h.tables) (question_of x)) (sym c.self.view_is)
+    c.requires in
+    sources_readable _ c.self.invariant.state x c.in_ok-plan.plan c.self.invariant.stands placed
+    c.in_ok-plan.ensures.sources
 
 pub returns-clause-rows : goal.returns-clause-rows
 returns-clause-rows c s st =
     let x = c.args.question.now in
-    let placed = subst (λ (h : Held). IsPlacedQuery (definitions_of h.tables) (question_of x)) (sym c.self.view_is) c.requires in
+    let placed = subst (λ (h : Held). IsPlacedQuery (definitions_of h.tables) (question_of x)) (sym c.self.view_is)
+    c.requires in
     let back = subst (λ h. StandsFor h s) (sym c.self.view_is) st in
     let means = meaning_is _ s x c.in_ok-plan.plan back placed c.in_ok-plan.ensures.means in
-    let given = c.run.ensures.rows (copies_of c.self.inside.tables s.history) (working_of c.self.inside.tables s.transaction) back.stands in
+    let given = c.run.ensures.rows (copies_of c.self.inside.tables s.history)
+    (working_of c.self.inside.tables s.transaction) back.stands in
     subst (λ o. Evaluated (λ rows. rows_of rows.rows.items) o c.run.result)
     (λ i. ordered (question_of (c.in_ok-plan.ensures.question i)).ordering (means i)) given

@@ -14,11 +14,13 @@ pub returns-clause-answered : goal.returns-clause-answered
 returns-clause-answered c s st =
     let inside = subst (λ h. StandsFor h s) (sym c.self.view_is) st in
     let closed = subst (λ (h : Held). IsNone h.rows.working) (sym c.self.view_is) c.requires.closed in
-    rw (to_z-of_z c.ranges.moment) (clock_set _ s _ inside closed (search rules) c.requires.moment.0 c.requires.moment.1)
+    rw (to_z-of_z c.ranges.moment)
+    (clock_set _ s _ inside closed (search rules) c.requires.moment.0 c.requires.moment.1)
 
 pub invariant_of-self : goal.invariant_of-self
 invariant_of-self c =
     let s : State = c.self.invariant.state in
     let closed = subst (λ (h : Held). IsNone h.rows.working) (sym c.self.view_is) c.requires.closed in
     rw (to_z-of_z c.ranges.moment)
-    (sound_after _ _ c.self.invariant (SetClock c.args.moment) _ tt (clock_set _ s _ c.self.invariant.stands closed (search rules) c.requires.moment.0 c.requires.moment.1))
+    (sound_after _ _ c.self.invariant (SetClock c.args.moment) _ tt
+    (clock_set _ s _ c.self.invariant.stands closed (search rules) c.requires.moment.0 c.requires.moment.1))

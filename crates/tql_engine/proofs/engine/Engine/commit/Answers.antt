@@ -16,7 +16,8 @@ invariant_of-self c =
     let e = open_entry _ s st is_open in
     rw (clock_steps _ s st (dated_below _ s e.0 st e.1))
     (sound_after _ _ c.self.invariant Commit _ tt
-    (commit_does _ s c.commit.new.self st is_open c.commit.ensures.copies (c.commit.ensures.working) (c.commit.ensures.tables)))
+    (commit_does _ s c.commit.new.self st is_open c.commit.ensures.copies (c.commit.ensures.working)
+    (c.commit.ensures.tables)))
 
 pub returns-clause-answered : goal.returns-clause-answered
 returns-clause-answered c s st =
@@ -24,8 +25,10 @@ returns-clause-answered c s st =
     let is_open = sym c.has_transaction.ensures ∙ c.if-not-has_transaction.false in
     let e = open_entry _ s back is_open in
     rw (clock_steps _ s back (dated_below _ s e.0 back e.1))
-    (commit_does _ s c.commit.new.self back is_open c.commit.ensures.copies (c.commit.ensures.working) (c.commit.ensures.tables))
+    (commit_does _ s c.commit.new.self back is_open c.commit.ensures.copies (c.commit.ensures.working)
+    (c.commit.ensures.tables))
 
 pub returns-then-not-has_transaction-clause-answered : goal.returns-then-not-has_transaction-clause-answered
 returns-then-not-has_transaction-clause-answered c s st =
-    commit_refused _ s st (ap (λ (h : Held). is_some h.rows.working) (sym c.self.view_is) ∙ sym c.has_transaction.ensures ∙ c.if-not-has_transaction.true)
+    commit_refused _ s st (ap (λ (h : Held). is_some h.rows.working) (sym c.self.view_is)
+    ∙ sym c.has_transaction.ensures ∙ c.if-not-has_transaction.true)

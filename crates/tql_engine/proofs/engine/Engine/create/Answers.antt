@@ -2,7 +2,8 @@ use Rattle.tql_engine.proofs.Doing.{create_does}
 use Rattle.tql_engine.proofs.engine.Engine.create.Goals as goal
 
 pub returns-in-Ok : goal.returns-in-Ok
-returns-in-Ok c s st = create_does c.args.self.now c.add_table.new.self s c.args.definition st c.requires.closed (c.in-Ok.ensures.ok s st)
+returns-in-Ok c s st =
+    create_does c.args.self.now c.add_table.new.self s c.args.definition st c.requires.closed (c.in-Ok.ensures.ok s st)
 
 pub returns-in-Err : goal.returns-in-Err
 returns-in-Err c s st = rw c.in-Err.ensures.memory (c.in-Err.ensures.err s st)

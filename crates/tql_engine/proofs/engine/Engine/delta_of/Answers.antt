@@ -24,19 +24,19 @@ current-requires c =
     let p : Table = c.table_at-table.result.now in
     let stands = subst (λ h. StandsFor h c.self.invariant.state) c.self.view_is c.self.invariant.stands in
     subst (λ (h : Held). IsTrue (has_table h.rows p.id)) (sym c.self.view_is)
-        (there_law c.args.self.now c.self.invariant.state c.args.modification.now.table p stands
-        c.table_at-table.ensures)
+    (there_law c.args.self.now c.self.invariant.state c.args.modification.now.table p stands
+    c.table_at-table.ensures)
 
 pub modify-requires : goal.modify-requires
 modify-requires c =
     let p : Table = c.table_at-table.result.now in
     let x : Modification = c.args.modification.now in
     let there = subst (λ (h : Held). slice_get h.tables x.table ≡ Some p) (sym c.self.view_is)
-        c.table_at-table.ensures in
+    c.table_at-table.ensures in
     let fit = read_fit _ c.self.invariant.state x.table p c.in_ok-found.found.items c.self.invariant.stands there
-        c.in_ok-found.ensures.copies in
+    c.in_ok-found.ensures.copies in
     subst (λ (vs : List Version). All (λ (v : Version). length v.row.now ≡ stored_width p.definition) vs)
-        (sym c.deref.ensures.value)
+    (sym c.deref.ensures.value)
     (All-weaker (IsVersionOf p.definition) (λ (v : Version). length v.row.now ≡ stored_width p.definition)
     (λ v k. sym (length-map v.row.now datum_of_value) ∙ k.cells.width) c.in_ok-found.found.items fit)
 
@@ -56,6 +56,6 @@ returns c p e =
       fits = c.modify.ensures.fits;
     } in
     subst (λ (t : Table). Makes c.args.self.now.rows t x c.modify.result) (some_is q p (sym c.table_at-table.ensures
-        ∙ e))
+    ∙ e))
     (subst (λ (h : Held). Makes h.rows q x c.modify.result) c.self.view_is
     (makes_of c.self.inside.rows q x c.modify.result made))

@@ -12,7 +12,9 @@ pub drop_table-requires-clause-closed : goal.drop_table-requires-clause-closed
 drop_table-requires-clause-closed c = subst (λ (h : Held). IsNone h.rows.working) (sym c.self.view_is) c.requires.closed
 
 pub drop_table-requires-clause-present : goal.drop_table-requires-clause-present
-drop_table-requires-clause-present c = there_law _ c.self.invariant.state c.args.place c.remove-table.result c.self.invariant.stands c.remove-table.ensures.taken
+drop_table-requires-clause-present c =
+    there_law _ c.self.invariant.state c.args.place c.remove-table.result c.self.invariant.stands
+    c.remove-table.ensures.taken
 
 pub invariant_of-self : goal.invariant_of-self
 invariant_of-self c =
@@ -20,7 +22,8 @@ invariant_of-self c =
     let closed = subst (λ (h : Held). IsNone h.rows.working) (sym c.self.view_is) c.requires.closed in
     sound_after _ _ c.self.invariant (DropTable c.args.place) _ tt
     (drop_does _ _ s c.args.place c.self.invariant.stands closed
-    (drop_law _ s c.args.place c.remove-table.result _ _ c.self.invariant.stands closed c.remove-table.ensures.taken c.remove-table.ensures.others
+    (drop_law _ s c.args.place c.remove-table.result _ _ c.self.invariant.stands closed c.remove-table.ensures.taken
+    c.remove-table.ensures.others
     c.drop_table.ensures.places c.drop_table.ensures.count c.drop_table.ensures.working c.drop_table.ensures.copies))
 
 pub returns : goal.returns
@@ -28,5 +31,6 @@ returns c s st =
     let inside = subst (λ (h : Held). StandsFor h s) (sym c.self.view_is) st in
     let closed = subst (λ (h : Held). IsNone h.rows.working) (sym c.self.view_is) c.requires.closed in
     drop_does _ _ s c.args.place inside closed
-    (drop_law _ s c.args.place c.remove-table.result _ _ inside closed c.remove-table.ensures.taken c.remove-table.ensures.others
+    (drop_law _ s c.args.place c.remove-table.result _ _ inside closed c.remove-table.ensures.taken
+    c.remove-table.ensures.others
     c.drop_table.ensures.places c.drop_table.ensures.count c.drop_table.ensures.working c.drop_table.ensures.copies)

@@ -22,7 +22,7 @@ use Rattle.tql_engine.proofs.engine.Engine.execute.Goals as goal
 pub returns-in-Some-clause-answered : goal.returns-in-Some-clause-answered
 returns-in-Some-clause-answered c s st =
     state_does _ s (statement_of c.args.statement.now) c.in-Some.fault st
-        (ap (option_map refusal_of) (sym c.in-Some.is) ∙ c.state_fault.ensures s st)
+    (ap (option_map refusal_of) (sym c.in-Some.is) ∙ c.state_fault.ensures s st)
 
 pub perform-requires-clause-sound : goal.perform-requires-clause-sound
 perform-requires-clause-sound c =
@@ -35,7 +35,7 @@ perform-requires-clause-typed c =
     let t = statement_of c.args.statement.now in
     let binds = c.in-Ok.ensures.binds in
     let typed : IsTypedBound ds (bound_of c.in-Ok.bound) =
-        subst (IsTypedBound ds) binds.1 (bound_typed ds t (none_first (bind ds t).faults binds.0)) in
+    subst (IsTypedBound ds) binds.1 (bound_typed ds t (none_first (bind ds t).faults binds.0)) in
     subst (λ (h : Held). IsTypedBound (definitions_of h.tables) (bound_of c.in-Ok.bound)) c.self.view_is typed
 
 pub perform-requires-clause-allowed : goal.perform-requires-clause-allowed
@@ -48,7 +48,7 @@ perform-requires-clause-allowed c =
     let none = subst (λ (ds : List TableDef). first (bind ds t).faults ≡ None) (sym same) c.in-Ok.ensures.binds.0 in
     let is = ap (λ (ds : List TableDef). (bind ds t).value) same ∙ c.in-Ok.ensures.binds.1 in
     bound_allowed c.args.self.now s t c.in-Ok.bound back (ap (option_map refusal_of) (sym c.in_default.is)
-        ∙ c.state_fault.ensures s back) none is
+    ∙ c.state_fault.ensures s back) none is
 
 pub returns-in-Ok-clause-answered : goal.returns-in-Ok-clause-answered
 returns-in-Ok-clause-answered c s st =
@@ -71,9 +71,9 @@ returns-in-Err-clause-answered c s st =
     let t = statement_of c.args.statement.now in
     let tables = ap (λ (h : Held). definitions_of h.tables) (sym c.self.view_is) in
     let binds = subst (λ (ds : List TableDef). Binds bound_of (bind ds t) (Err c.in-Err.fault))
-        (sym (st.fits.definitions ∙ tables)) c.in-Err.ensures.binds in
+    (sym (st.fits.definitions ∙ tables)) c.in-Err.ensures.binds in
     refusal_does bound_of c.args.self.now s t c.in-Err.fault st (ap (option_map refusal_of) (sym c.in_default.is)
-        ∙ c.state_fault.ensures s st) binds
+    ∙ c.state_fault.ensures s st) binds
 
 pub bind-requires-clause-plain : goal.bind-requires-clause-plain
 bind-requires-clause-plain c = makes_none (statement_of c.args.statement.now) c.requires.runs

@@ -29,7 +29,8 @@ table_at-requires c = place_law c.args.self.now.tables c.args.insertion.now.tabl
 pub returns-in-Err : goal.returns-in-Err
 returns-in-Err c s st =
     let p : Table = c.table_at.result.now in
-    insert_errs c.args.self.now s p c.args.insertion.now st c.table_at.ensures c.requires.below p.id c.in-Err.refusal c.in-Err.ensures.alters
+    insert_errs c.args.self.now s p c.args.insertion.now st c.table_at.ensures c.requires.below p.id c.in-Err.refusal
+    c.in-Err.ensures.alters
 
 pub change_rows-requires-clause-later : goal.change_rows-requires-clause-later
 change_rows-requires-clause-later c = clock_under _ c.self.invariant.state c.self.invariant.stands
@@ -37,11 +38,14 @@ change_rows-requires-clause-later c = clock_under _ c.self.invariant.state c.sel
 pub change_rows-requires-clause-present : goal.change_rows-requires-clause-present
 change_rows-requires-clause-present c =
     let p : Table = c.table_at.result.now in
-    let there = subst (λ (h : Held). slice_get h.tables c.args.insertion.now.table ≡ Some p) (sym c.self.view_is) c.table_at.ensures in
-    subst (λ t. IsTrue (has_table c.self.inside.rows t)) (sym c.in-Ok.ensures.alters.table) (there_law _ c.self.invariant.state c.args.insertion.now.table p c.self.invariant.stands there)
+    let there = subst (λ (h : Held). slice_get h.tables c.args.insertion.now.table ≡ Some p) (sym c.self.view_is)
+    c.table_at.ensures in
+    subst (λ t. IsTrue (has_table c.self.inside.rows t)) (sym c.in-Ok.ensures.alters.table)
+    (there_law _ c.self.invariant.state c.args.insertion.now.table p c.self.invariant.stands there)
 
 pub change_rows-requires-clause-removable : goal.change_rows-requires-clause-removable
-change_rows-requires-clause-removable c = none-removable c.self.inside.rows c.in-Ok.delta.table c.in-Ok.delta.removed.items c.in-Ok.ensures.alters.removed
+change_rows-requires-clause-removable c =
+    none-removable c.self.inside.rows c.in-Ok.delta.table c.in-Ok.delta.removed.items c.in-Ok.ensures.alters.removed
 
 pub invariant_of-self : goal.invariant_of-self
 invariant_of-self c =
@@ -58,19 +62,24 @@ invariant_of-self c =
     let fit = recursion_from_All (IsRowOf p.definition) rows c.in-Ok.ensures.fits in
     let old = c.self.inside.rows in
     let new = c.change_rows.new.store in
-    let clocked = subst (λ m. ChangesRows old.working m after c.in-Ok.delta.table removed rows old new) (clock_reads _ s st) c.in-Ok-change_rows.ensures.ok in
-    let done = subst (λ t. ChangesRows old.working c.self.inside.next after t removed rows old new) gives.table clocked in
-    let bound = subst (λ (h : Held). IsTypedChange (definitions_of h.tables) (insertion_of x)) (sym c.self.view_is) c.requires.typed in
+    let clocked = subst (λ m. ChangesRows old.working m after c.in-Ok.delta.table removed rows old new)
+    (clock_reads _ s st) c.in-Ok-change_rows.ensures.ok in
+    let done = subst (λ t. ChangesRows old.working c.self.inside.next after t removed rows old new) gives.table
+    clocked in
+    let bound = subst (λ (h : Held). IsTypedChange (definitions_of h.tables) (insertion_of x)) (sym c.self.view_is)
+    c.requires.typed in
     rw (after_reads _ s after p.id removed rows new st below done)
     (sound_after _ _ c.self.invariant (Alter (insertion_of x)) _ bound
-    (insert_does _ s p x rows removed new after c.in-Ok.delta.count st there below fit gives.removed done gives.added gives.sound gives.count))
+    (insert_does _ s p x rows removed new after c.in-Ok.delta.count st there below fit gives.removed done gives.added
+    gives.sound gives.count))
 
 pub invariant_of-self-in-Err-change_rows : goal.invariant_of-self-in-Err-change_rows
 invariant_of-self-in-Err-change_rows c =
     let s : State = c.self.invariant.state in
     let st = c.self.invariant.stands in
     let old = c.self.inside.rows in
-    let kept = subst (λ m. KeepsRows old.working m old c.change_rows.new.store) (clock_reads _ s st) c.in-Err-change_rows.ensures.err in
+    let kept = subst (λ m. KeepsRows old.working m old c.change_rows.new.store) (clock_reads _ s st)
+    c.in-Err-change_rows.ensures.err in
     record { state = s; stands = kept_law _ s c.change_rows.new.store st kept; typed = c.self.invariant.typed }
 
 pub returns-in-Ok-change_rows : goal.returns-in-Ok-change_rows
@@ -87,14 +96,18 @@ returns-in-Ok-change_rows c s st =
     let fit = recursion_from_All (IsRowOf p.definition) rows c.in-Ok.ensures.fits in
     let old = c.self.inside.rows in
     let new = c.change_rows.new.store in
-    let clocked = subst (λ m. ChangesRows old.working m after c.in-Ok.delta.table removed rows old new) (clock_reads _ s back) c.in-Ok-change_rows.ensures.ok in
-    let done = subst (λ t. ChangesRows old.working c.self.inside.next after t removed rows old new) gives.table clocked in
+    let clocked = subst (λ m. ChangesRows old.working m after c.in-Ok.delta.table removed rows old new)
+    (clock_reads _ s back) c.in-Ok-change_rows.ensures.ok in
+    let done = subst (λ t. ChangesRows old.working c.self.inside.next after t removed rows old new) gives.table
+    clocked in
     rw (after_reads _ s after p.id removed rows new back below done)
-    (insert_does _ s p x rows removed new after c.in-Ok.delta.count back there below fit gives.removed done gives.added gives.sound gives.count)
+    (insert_does _ s p x rows removed new after c.in-Ok.delta.count back there below fit gives.removed done
+    gives.added gives.sound gives.count)
 
 pub returns-in-Err-change_rows : goal.returns-in-Err-change_rows
 returns-in-Err-change_rows c s st =
     let back = subst (λ h. StandsFor h s) (sym c.self.view_is) st in
     let old = c.self.inside.rows in
-    let kept = subst (λ m. KeepsRows old.working m old c.change_rows.new.store) (clock_reads _ s back) c.in-Err-change_rows.ensures.err in
+    let kept = subst (λ m. KeepsRows old.working m old c.change_rows.new.store) (clock_reads _ s back)
+    c.in-Err-change_rows.ensures.err in
     rw c.in-Err-change_rows.ensures.memory (kept_law _ s c.change_rows.new.store back kept)

@@ -28,7 +28,8 @@ pub returns-in-Err : goal.returns-in-Err
 returns-in-Err c s st =
     let x : QueryInsertion = c.args.insertion.now in
     let t = table_there c.args.self.now.tables x.table (place_law c.args.self.now.tables x.table c.requires.within) in
-    query_errs c.inserts_keep_no_order.ensures c.args.self.now s t.0 x st t.1 c.requires.below c.in-Err.refusal (c.in-Err.ensures s t.0 st t.1)
+    query_errs c.inserts_keep_no_order.ensures c.args.self.now s t.0 x st t.1 c.requires.below c.in-Err.refusal
+    (c.in-Err.ensures s t.0 st t.1)
 
 pub change_rows-requires-clause-later : goal.change_rows-requires-clause-later
 change_rows-requires-clause-later c = clock_under _ c.self.invariant.state c.self.invariant.stands
@@ -40,7 +41,8 @@ change_rows-requires-clause-present c =
     let x : QueryInsertion = c.args.insertion.now in
     let t = table_there c.args.self.now.tables x.table (place_law c.args.self.now.tables x.table c.requires.within) in
     let there = subst (λ (h : Held). slice_get h.tables x.table ≡ Some t.0) (sym c.self.view_is) t.1 in
-    let adds : Adds s t.0 x (Ok c.in-Ok.delta) = c.in-Ok.ensures s t.0 (subst (λ h. StandsFor h s) c.self.view_is st) t.1 in
+    let adds : Adds s t.0 x (Ok c.in-Ok.delta) =
+    c.in-Ok.ensures s t.0 (subst (λ h. StandsFor h s) c.self.view_is st) t.1 in
     subst (λ i. IsTrue (has_table c.self.inside.rows i)) (sym adds.0.alters.table) (there_law _ s x.table t.0 st there)
 
 pub change_rows-requires-clause-removable : goal.change_rows-requires-clause-removable
@@ -49,7 +51,8 @@ change_rows-requires-clause-removable c =
     let st = c.self.invariant.stands in
     let x : QueryInsertion = c.args.insertion.now in
     let t = table_there c.args.self.now.tables x.table (place_law c.args.self.now.tables x.table c.requires.within) in
-    let adds : Adds s t.0 x (Ok c.in-Ok.delta) = c.in-Ok.ensures s t.0 (subst (λ h. StandsFor h s) c.self.view_is st) t.1 in
+    let adds : Adds s t.0 x (Ok c.in-Ok.delta) =
+    c.in-Ok.ensures s t.0 (subst (λ h. StandsFor h s) c.self.view_is st) t.1 in
     none-removable c.self.inside.rows c.in-Ok.delta.table c.in-Ok.delta.removed.items adds.0.alters.removed
 
 pub invariant_of-self : goal.invariant_of-self
@@ -69,19 +72,24 @@ invariant_of-self c =
     let fit = recursion_from_All (IsRowOf p.definition) rows adds.1 in
     let old = c.self.inside.rows in
     let new = c.change_rows.new.store in
-    let clocked = subst (λ m. ChangesRows old.working m after c.in-Ok.delta.table removed rows old new) (clock_reads _ s st) c.in-Ok-change_rows.ensures.ok in
-    let done = subst (λ i. ChangesRows old.working c.self.inside.next after i removed rows old new) a.alters.table clocked in
-    let bound = subst (λ (h : Held). IsTypedChange (definitions_of h.tables) (query_insertion_of x)) (sym c.self.view_is) c.requires.typed in
+    let clocked = subst (λ m. ChangesRows old.working m after c.in-Ok.delta.table removed rows old new)
+    (clock_reads _ s st) c.in-Ok-change_rows.ensures.ok in
+    let done = subst (λ i. ChangesRows old.working c.self.inside.next after i removed rows old new) a.alters.table
+    clocked in
+    let bound = subst (λ (h : Held). IsTypedChange (definitions_of h.tables) (query_insertion_of x))
+    (sym c.self.view_is) c.requires.typed in
     rw (after_reads _ s after p.id removed rows new st below done)
     (sound_after _ _ c.self.invariant (Alter (query_insertion_of x)) _ bound
-    (query_inserts c.inserts_keep_no_order.ensures _ s p x st there below a.bag a.rows a.answered a.same rows removed new after c.in-Ok.delta.count fit a.alters.removed done a.alters.added a.alters.sound a.alters.count))
+    (query_inserts c.inserts_keep_no_order.ensures _ s p x st there below a.bag a.rows a.answered a.same rows removed
+    new after c.in-Ok.delta.count fit a.alters.removed done a.alters.added a.alters.sound a.alters.count))
 
 pub invariant_of-self-in-Err-change_rows : goal.invariant_of-self-in-Err-change_rows
 invariant_of-self-in-Err-change_rows c =
     let s : State = c.self.invariant.state in
     let st = c.self.invariant.stands in
     let old = c.self.inside.rows in
-    let kept = subst (λ m. KeepsRows old.working m old c.change_rows.new.store) (clock_reads _ s st) c.in-Err-change_rows.ensures.err in
+    let kept = subst (λ m. KeepsRows old.working m old c.change_rows.new.store) (clock_reads _ s st)
+    c.in-Err-change_rows.ensures.err in
     record { state = s; stands = kept_law _ s c.change_rows.new.store st kept; typed = c.self.invariant.typed }
 
 pub returns-in-Ok-change_rows : goal.returns-in-Ok-change_rows
@@ -100,14 +108,18 @@ returns-in-Ok-change_rows c s st =
     let fit = recursion_from_All (IsRowOf p.definition) rows adds.1 in
     let old = c.self.inside.rows in
     let new = c.change_rows.new.store in
-    let clocked = subst (λ m. ChangesRows old.working m after c.in-Ok.delta.table removed rows old new) (clock_reads _ s back) c.in-Ok-change_rows.ensures.ok in
-    let done = subst (λ i. ChangesRows old.working c.self.inside.next after i removed rows old new) a.alters.table clocked in
+    let clocked = subst (λ m. ChangesRows old.working m after c.in-Ok.delta.table removed rows old new)
+    (clock_reads _ s back) c.in-Ok-change_rows.ensures.ok in
+    let done = subst (λ i. ChangesRows old.working c.self.inside.next after i removed rows old new) a.alters.table
+    clocked in
     rw (after_reads _ s after p.id removed rows new back below done)
-    (query_inserts c.inserts_keep_no_order.ensures _ s p x back there below a.bag a.rows a.answered a.same rows removed new after c.in-Ok.delta.count fit a.alters.removed done a.alters.added a.alters.sound a.alters.count)
+    (query_inserts c.inserts_keep_no_order.ensures _ s p x back there below a.bag a.rows a.answered a.same rows
+    removed new after c.in-Ok.delta.count fit a.alters.removed done a.alters.added a.alters.sound a.alters.count)
 
 pub returns-in-Err-change_rows : goal.returns-in-Err-change_rows
 returns-in-Err-change_rows c s st =
     let back = subst (λ h. StandsFor h s) (sym c.self.view_is) st in
     let old = c.self.inside.rows in
-    let kept = subst (λ m. KeepsRows old.working m old c.change_rows.new.store) (clock_reads _ s back) c.in-Err-change_rows.ensures.err in
+    let kept = subst (λ m. KeepsRows old.working m old c.change_rows.new.store) (clock_reads _ s back)
+    c.in-Err-change_rows.ensures.err in
     rw c.in-Err-change_rows.ensures.memory (kept_law _ s c.change_rows.new.store back kept)

@@ -24,14 +24,17 @@ insert_rows-requires c =
     let s : State = c.self.invariant.state in
     let x = c.args.insertion.now.question in
     let stands = subst (λ h. StandsFor h s) c.self.view_is c.self.invariant.stands in
-    rows_print (question_of x).ordering _ (rows_of c.in-Ok.rows.items) (answer_prints c.args.self.now s x stands c.requires.placed) (c.in-Ok.ensures s stands)
+    rows_print (question_of x).ordering _ (rows_of c.in-Ok.rows.items)
+    (answer_prints c.args.self.now s x stands c.requires.placed) (c.in-Ok.ensures s stands)
 
 pub returns : goal.returns
 returns c s q st there =
     let x : QueryInsertion = c.args.insertion.now in
     let p : Table = c.table_at-table.result.now in
     let rows : List Row = rows_of c.in-Ok.rows.items in
-    let alters = subst (λ js. Alters p.id [] (λ m. (added_rows p.definition js (Some rows) m).rows) (added_rows p.definition js (Some rows)) c.insert_rows.result) c.deref.ensures.value c.insert_rows.ensures.alters in
+    let alters = subst (λ js. Alters p.id [] (λ m. (added_rows p.definition js (Some rows) m).rows)
+    (added_rows p.definition js (Some rows)) c.insert_rows.result) c.deref.ensures.value
+    c.insert_rows.ensures.alters in
     subst (λ (t : Table). Adds s t x c.insert_rows.result) (some_is p q (sym c.table_at-table.ensures ∙ there))
     (adds_of s p x rows c.insert_rows.result (c.in-Ok.ensures s st) alters c.insert_rows.ensures.fits)
 

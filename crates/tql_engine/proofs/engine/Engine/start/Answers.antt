@@ -16,7 +16,8 @@ begin-requires-clause-later c = clock_under _ c.self.invariant.state c.self.inva
 
 pub begin-requires-clause-below : goal.begin-requires-clause-below
 begin-requires-clause-below c =
-    subst (λ m. m <ℤ high) (sym (clock_reads _ c.self.invariant.state c.self.invariant.stands)) (subst (λ (h : Held). h.next <ℤ high) (sym c.self.view_is) c.requires.below)
+    subst (λ m. m <ℤ high) (sym (clock_reads _ c.self.invariant.state c.self.invariant.stands))
+    (subst (λ (h : Held). h.next <ℤ high) (sym c.self.view_is) c.requires.below)
 
 pub invariant_of-self : goal.invariant_of-self
 invariant_of-self c =

@@ -1,4 +1,8 @@
 use Rattle.tql_engine.proofs.engine.EngineResponder.answer.Goals as goal
 
 pub returns-clause-answered : goal.returns-clause-answered
-returns-clause-answered c s st = let a = c.step.ensures.answered s st in record { state = a.state; answers = a.answers; stands = a.stands }
+returns-clause-answered c s st = let a = c.step.ensures.answered s st in record {
+  state = a.state;
+  answers = a.answers;
+  stands = a.stands;
+}

@@ -14,7 +14,8 @@ decreases-finds_at l = 2 * l.at
 abbrev pub invariant-finds-loop-operands : goal.invariant-finds-loop-operands
 invariant-finds-loop-operands l = record {
   before : l.here ≤ l.fn.x.place;
-  decides : sought l.search (expr_of (term_in (trees l.self) l.here)) ≡ sought l.search (expr_of (term_in (trees l.self) l.fn.x.place));
+  decides : sought l.search (expr_of (term_in (trees l.self) l.here)) ≡ sought l.search
+      (expr_of (term_in (trees l.self) l.fn.x.place));
 }
 
 abbrev pub decreases-finds-loop-operands : goal.decreases-finds-loop-operands

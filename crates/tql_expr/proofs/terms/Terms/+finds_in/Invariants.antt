@@ -15,7 +15,8 @@ decreases-finds_in_test l = 2 * l.at
 abbrev pub invariant-finds_in-loop-parts : goal.invariant-finds_in-loop-parts
 invariant-finds_in-loop-parts l = record {
   before : l.here ≤ l.fn.c.place;
-  decides : has_expr (sought l.search) (cond_of (term_in (trees l.self) l.here)) ≡ has_expr (sought l.search) (cond_of (term_in (trees l.self) l.fn.c.place));
+  decides : has_expr (sought l.search) (cond_of (term_in (trees l.self) l.here)) ≡ has_expr (sought l.search)
+      (cond_of (term_in (trees l.self) l.fn.c.place));
 }
 
 abbrev pub decreases-finds_in-loop-parts : goal.decreases-finds_in-loop-parts

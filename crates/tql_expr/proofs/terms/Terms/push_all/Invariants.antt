@@ -7,5 +7,6 @@ abbrev pub invariant-loop-c : goal.invariant-loop-c
 invariant-loop-c l = record {
   stays : Stays l.fn.self l.self;
   within : HasCond l.self l.so_far;
-  is : all_of (cond l.self l.so_far) (map (cond l.fn.self) (drop l.c-index l.rest)) ≡ all_of (cond l.fn.self l.fn.first) (map (cond l.fn.self) l.rest);
+  is : all_of (cond l.self l.so_far) (map (cond l.fn.self) (drop l.c-index l.rest)) ≡ all_of
+      (cond l.fn.self l.fn.first) (map (cond l.fn.self) l.rest);
 }

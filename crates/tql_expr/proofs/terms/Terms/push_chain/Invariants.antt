@@ -8,5 +8,6 @@ abbrev pub invariant-loop-op : goal.invariant-loop-op
 invariant-loop-op l = record {
   stays : Stays l.fn.self l.self;
   within : HasExpr l.self l.so_far;
-  is : chain (expr l.self l.so_far) (map (λ x. (plain_operation x.0, expr l.fn.self x.1)) (drop l.op-index l.rest)) ≡ chain (expr l.fn.self l.fn.first) (map (λ x. (plain_operation x.0, expr l.fn.self x.1)) l.rest);
+  is : chain (expr l.self l.so_far) (map (λ x. (plain_operation x.0, expr l.fn.self x.1)) (drop l.op-index l.rest)) ≡
+      chain (expr l.fn.self l.fn.first) (map (λ x. (plain_operation x.0, expr l.fn.self x.1)) l.rest);
 }

@@ -19,7 +19,8 @@ loop-left-preserved c =
     let next : suc k ≡ c.loop-left.left = omega arith in
     let inside : x.place < size c.args.self.now = c.requires.conds k none here in
     let before = cond c.loop-left.self c.loop-left.so_far in
-    let step : cond c.push_or.new.self c.in_ok-so_far.so_far ≡ Or (cond c.args.self.now x) before = ap cond_of added.is ∙ ap (λ t. Or (cond_of t) before) (kept.stays.same x.place inside) in
+    let step : cond c.push_or.new.self c.in_ok-so_far.so_far ≡ Or (cond c.args.self.now x) before =
+    ap cond_of added.is ∙ ap (λ t. Or (cond_of t) before) (kept.stays.same x.place inside) in
     let f = cond c.args.self.now in
     record {
       left = omega arith;

@@ -8,7 +8,8 @@ invariant-loop-left l = record {
   left : l.left ≤ length l.conds;
   stays : Stays l.fn.self l.self;
   within : HasCond l.self l.so_far;
-  is : one_of (map (cond l.fn.self) (take l.left l.conds)) (cond l.self l.so_far) ≡ one_of (map (cond l.fn.self) l.conds) (cond l.fn.self l.fn.last);
+  is : one_of (map (cond l.fn.self) (take l.left l.conds)) (cond l.self l.so_far) ≡ one_of
+      (map (cond l.fn.self) l.conds) (cond l.fn.self l.fn.last);
 }
 
 abbrev pub decreases-loop-left : goal.decreases-loop-left

@@ -6,8 +6,10 @@ use Rattle.tql_rows.proofs.Sought.{seeks_as_of}
 use Rattle.tql_rows.proofs.rows.Rows.as_of.Given as given
 use Rattle.tql_rows.proofs.rows.Rows.as_of.Goals as goal
 
-reading : (g : given.Over) (c : goal.In_ok-found g) → IsReading (AsOf c.args.t) c.args.self.now c.in_ok-found.found.items
-reading g c = subst (λ t. IsReading (AsOf t) c.args.self.now c.in_ok-found.found.items) (to_z-of_z c.ranges.t) (c.in_ok-found.ensures c.args.self.now (search rules) (search rules) (search rules))
+reading : (g : given.Over) (c : goal.In_ok-found g)
+    → IsReading (AsOf c.args.t) c.args.self.now c.in_ok-found.found.items
+reading g c = subst (λ t. IsReading (AsOf t) c.args.self.now c.in_ok-found.found.items) (to_z-of_z c.ranges.t)
+    (c.in_ok-found.ensures c.args.self.now (search rules) (search rules) (search rules))
 
 pub returns-clause-found : goal.returns-clause-found
 returns-clause-found g c = λ rest i. (reading g c).bag rest i (seeks_as_of c.args.t c.args.self.now rest i)

@@ -6,9 +6,12 @@ use Rattle.tql_rows.proofs.Sought.{seeks_from_to}
 use Rattle.tql_rows.proofs.rows.Rows.from_to.Given as given
 use Rattle.tql_rows.proofs.rows.Rows.from_to.Goals as goal
 
-reading : (g : given.Over) (c : goal.In_ok-found g) → IsReading (FromTo c.args.a c.args.b) c.args.self.now c.in_ok-found.found.items
-reading g c = subst (λ b. IsReading (FromTo c.args.a b) c.args.self.now c.in_ok-found.found.items) (to_z-of_z c.ranges.b)
-    (subst (λ a. IsReading (FromTo a (to_z w64 (of_z w64 c.args.b))) c.args.self.now c.in_ok-found.found.items) (to_z-of_z c.ranges.a) (c.in_ok-found.ensures c.args.self.now (search rules) (search rules) (search rules)))
+reading : (g : given.Over) (c : goal.In_ok-found g)
+    → IsReading (FromTo c.args.a c.args.b) c.args.self.now c.in_ok-found.found.items
+reading g c = subst (λ b. IsReading (FromTo c.args.a b) c.args.self.now c.in_ok-found.found.items)
+    (to_z-of_z c.ranges.b)
+    (subst (λ a. IsReading (FromTo a (to_z w64 (of_z w64 c.args.b))) c.args.self.now c.in_ok-found.found.items)
+    (to_z-of_z c.ranges.a) (c.in_ok-found.ensures c.args.self.now (search rules) (search rules) (search rules)))
 
 pub returns-clause-found : goal.returns-clause-found
 returns-clause-found g c = λ rest i. (reading g c).bag rest i (seeks_from_to c.args.a c.args.b c.args.self.now rest i)

@@ -1,4 +1,5 @@
-use Rattle.std.proofs.Common.{◌≡◌, ℕ, ℤ, List, Bool, Option, None, Some, w64, All, map, filter, length, max, rules, refl, arith, sym, ap, subst, ◌∙◌}
+use Rattle.std.proofs.Common.{◌≡◌, ℕ, ℤ, List, Bool, Option, None, Some, w64, All, map, filter, length, max, rules}
+use Rattle.std.proofs.Common.{refl, arith, sym, ap, subst, ◌∙◌}
 use Rattle.std.specs.Prelude.{◌+◌, ◌≤◌, slice_index_or}
 use Rattle.std.proofs.Math.Facts.{to_z-of_z}
 use Rattle.std.proofs.lemmas.List.{with_items_is}
@@ -23,27 +24,45 @@ use Rattle.tql_store.proofs.store.Store.add_table.Goals as goal
 pub invariant_of-self-2 : goal.invariant_of-self-2
 invariant_of-self-2 g c =
     let number : c.from.result ≡ c.free_table-table.result = (c.from.ensures ∙ c.number.ensures.value) in
-    let free : place_of c.self.inside.places.items c.free_table-table.result ≡ Free = first_of (search rules, grind (arith, common_steps)) in
-    let takes : Takes c.free_table-table.result (place_for c.args.versioned) c.self.inside.places.items c.put_table.new.places.items = first_of (search rules, grind (arith, common_steps)) in
-    let put : IsPut c.free_table-table.result c.new-rows.result c.self.inside.rows.items c.put_rows.new.rows.items = subst (λ (n : ℕ). IsPut n c.new-rows.result c.self.inside.rows.items c.put_rows.new.rows.items) number
-    (subst (λ (ts : List rows.Held). IsPut c.from.result c.new-rows.result ts c.put_rows.new.rows.items) c.reserve.ensures.items c.put_rows.ensures.put) in
-    let more : length c.self.inside.rows.items ≤ length c.put_rows.new.rows.items = subst (λ (ts : List rows.Held). length ts ≤ length c.put_rows.new.rows.items) c.reserve.ensures.items c.put_rows.ensures.grows in
-    let size : length c.put_rows.new.rows.items ≡ max (length c.self.inside.rows.items) (c.free_table-table.result + 1) = c.put_rows.ensures.len ∙ ap (λ (ts : List rows.Held). max (length ts) (c.from.result + 1)) c.reserve.ensures.items ∙ ap (λ (n : ℕ). max (length c.self.inside.rows.items) (n + 1)) number in
-    put-orderly c.args.versioned (place_for c.args.versioned) c.free_table-table.result c.self.inside.places.items c.put_table.new.places.items c.self.inside.rows.items c.put_rows.new.rows.items c.self.inside.touched.items c.self.inside.working c.self.inside.last c.new-rows.result c.self.invariant (kept_for c.args.versioned) takes
-    (size ∙ ap (λ (n : ℕ). max n (c.free_table-table.result + 1)) c.self.invariant.even ∙ sym c.in_ok-put_table.ensures.len) more put c.new-rows.ensures.empty
+    let free : place_of c.self.inside.places.items c.free_table-table.result ≡ Free =
+    first_of (search rules, grind (arith, common_steps)) in
+    let takes : Takes c.free_table-table.result (place_for c.args.versioned) c.self.inside.places.items
+    c.put_table.new.places.items = first_of (search rules, grind (arith, common_steps)) in
+    let put : IsPut c.free_table-table.result c.new-rows.result c.self.inside.rows.items c.put_rows.new.rows.items =
+    subst (λ (n : ℕ). IsPut n c.new-rows.result c.self.inside.rows.items c.put_rows.new.rows.items) number
+    (subst (λ (ts : List rows.Held). IsPut c.from.result c.new-rows.result ts c.put_rows.new.rows.items)
+    c.reserve.ensures.items c.put_rows.ensures.put) in
+    let more : length c.self.inside.rows.items ≤ length c.put_rows.new.rows.items =
+    subst (λ (ts : List rows.Held). length ts ≤ length c.put_rows.new.rows.items) c.reserve.ensures.items
+    c.put_rows.ensures.grows in
+    let size : length c.put_rows.new.rows.items ≡ max (length c.self.inside.rows.items)
+    (c.free_table-table.result + 1) = c.put_rows.ensures.len
+    ∙ ap (λ (ts : List rows.Held). max (length ts) (c.from.result + 1)) c.reserve.ensures.items
+    ∙ ap (λ (n : ℕ). max (length c.self.inside.rows.items) (n + 1)) number in
+    put-orderly c.args.versioned (place_for c.args.versioned) c.free_table-table.result c.self.inside.places.items
+    c.put_table.new.places.items c.self.inside.rows.items c.put_rows.new.rows.items c.self.inside.touched.items
+    c.self.inside.working c.self.inside.last c.new-rows.result c.self.invariant (kept_for c.args.versioned) takes
+    (size ∙ ap (λ (n : ℕ). max n (c.free_table-table.result + 1)) c.self.invariant.even
+    ∙ sym c.in_ok-put_table.ensures.len) more put c.new-rows.ensures.empty
 
 pub returns-clause-ok : goal.returns-clause-ok
 returns-clause-ok g c =
     let number : c.from.result ≡ c.free_table-table.result = (c.from.ensures ∙ c.number.ensures.value) in
-    let free : place_of c.self.inside.places.items c.free_table-table.result ≡ Free = first_of (search rules, grind (arith, common_steps)) in
-    let put : IsPut c.free_table-table.result c.new-rows.result c.self.inside.rows.items c.put_rows.new.rows.items = subst (λ (n : ℕ). IsPut n c.new-rows.result c.self.inside.rows.items c.put_rows.new.rows.items) number
-    (subst (λ (ts : List rows.Held). IsPut c.from.result c.new-rows.result ts c.put_rows.new.rows.items) c.reserve.ensures.items c.put_rows.ensures.put) in
+    let free : place_of c.self.inside.places.items c.free_table-table.result ≡ Free =
+    first_of (search rules, grind (arith, common_steps)) in
+    let put : IsPut c.free_table-table.result c.new-rows.result c.self.inside.rows.items c.put_rows.new.rows.items =
+    subst (λ (n : ℕ). IsPut n c.new-rows.result c.self.inside.rows.items c.put_rows.new.rows.items) number
+    (subst (λ (ts : List rows.Held). IsPut c.from.result c.new-rows.result ts c.put_rows.new.rows.items)
+    c.reserve.ensures.items c.put_rows.ensures.put) in
     adds c.args.versioned c.free_table-table.result c.args.self.now _
     (first_of (search rules, grind (arith, common_steps)))
     (first_of (search rules, grind (arith, common_steps)))
     (first_of (search rules, grind (arith, common_steps)))
     (first_of (search rules, grind (arith, common_steps)))
-    (added-versions c.args.versioned c.free_table-table.result c.self.inside.places.items c.self.inside.working c.self.inside.last c.self.inside.rows.items c.put_rows.new.rows.items c.new-rows.result c.args.self.now (shown c.put_table.new.places.items c.put_rows.new.rows.items c.self.inside.working c.self.inside.last) c.self.view_is (c.self.invariant.gone c.free_table-table.result free) put c.new-rows.ensures.empty refl)
+    (added-versions c.args.versioned c.free_table-table.result c.self.inside.places.items c.self.inside.working
+    c.self.inside.last c.self.inside.rows.items c.put_rows.new.rows.items c.new-rows.result c.args.self.now
+    (shown c.put_table.new.places.items c.put_rows.new.rows.items c.self.inside.working c.self.inside.last)
+    c.self.view_is (c.self.invariant.gone c.free_table-table.result free) put c.new-rows.ensures.empty refl)
 
 pub returns-clause-copies : goal.returns-clause-copies
 returns-clause-copies g c = add-keeps _ _ _ _ (returns-clause-ok g c)

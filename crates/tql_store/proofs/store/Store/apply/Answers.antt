@@ -23,45 +23,97 @@ use Rattle.tql_store.proofs.store.Store.apply.Goals as goal
 pub make-requires-clause-turn : goal.make-requires-clause-turn
 make-requires-clause-turn g c =
     let fits : SFits w64 c.moment-moment.result = search rules in
-    let at = in-moment c.self.inside.working c.args.self.now.working (to_z w64 (of_z w64 c.moment-moment.result)) c.moment-moment.result (ap (λ (h : Held). h.working) c.self.view_is) c.requires.open_now (to_z-of_z fits) c.moment-moment.ensures in
-    subst (λ (ts : List rows.Held). InTurn (to_z w64 (of_z w64 c.moment-moment.result)) (table_at ts c.args.delta.table)) (sym c.deref_mut.ensures.value) ((in_turn c.self.inside.working (to_z w64 (of_z w64 c.moment-moment.result)) at c.self.invariant).ready.turn c.args.delta.table)
+    let at = in-moment c.self.inside.working c.args.self.now.working (to_z w64 (of_z w64 c.moment-moment.result))
+    c.moment-moment.result (ap (λ (h : Held). h.working) c.self.view_is) c.requires.open_now (to_z-of_z fits)
+    c.moment-moment.ensures in
+    subst (λ (ts : List rows.Held). InTurn (to_z w64 (of_z w64 c.moment-moment.result))
+    (table_at ts c.args.delta.table)) (sym c.deref_mut.ensures.value)
+    ((in_turn c.self.inside.working (to_z w64 (of_z w64 c.moment-moment.result)) at c.self.invariant).ready.turn
+    c.args.delta.table)
 
 pub make-requires-clause-removable : goal.make-requires-clause-removable
 make-requires-clause-removable g c =
     let fits : SFits w64 c.moment-moment.result = search rules in
-    let at = in-moment c.self.inside.working c.args.self.now.working (to_z w64 (of_z w64 c.moment-moment.result)) c.moment-moment.result (ap (λ (h : Held). h.working) c.self.view_is) c.requires.open_now (to_z-of_z fits) c.moment-moment.ensures in
-    subst (λ (ts : List rows.Held). AreRemovable (table_at ts c.args.delta.table) c.args.delta.removed.items) (sym c.deref_mut.ensures.value)
-    (removable-at (to_z w64 (of_z w64 c.moment-moment.result)) c.self.inside.working c.self.inside.last c.self.inside.places.items c.self.inside.rows.items c.self.inside.touched.items c.args.self.now c.args.delta.table c.args.delta.removed.items at c.self.invariant c.self.view_is c.requires.removable)
+    let at = in-moment c.self.inside.working c.args.self.now.working (to_z w64 (of_z w64 c.moment-moment.result))
+    c.moment-moment.result (ap (λ (h : Held). h.working) c.self.view_is) c.requires.open_now (to_z-of_z fits)
+    c.moment-moment.ensures in
+    subst (λ (ts : List rows.Held). AreRemovable (table_at ts c.args.delta.table) c.args.delta.removed.items)
+    (sym c.deref_mut.ensures.value)
+    (removable-at (to_z w64 (of_z w64 c.moment-moment.result)) c.self.inside.working c.self.inside.last
+    c.self.inside.places.items c.self.inside.rows.items c.self.inside.touched.items c.args.self.now c.args.delta.table
+    c.args.delta.removed.items at c.self.invariant c.self.view_is c.requires.removable)
 
 pub invariant_of-self : goal.invariant_of-self
 invariant_of-self g c =
     let fits : SFits w64 c.moment-moment.result = search rules in
-    let at = in-moment c.self.inside.working c.args.self.now.working (to_z w64 (of_z w64 c.moment-moment.result)) c.moment-moment.result (ap (λ (h : Held). h.working) c.self.view_is) c.requires.open_now (to_z-of_z fits) c.moment-moment.ensures in
-    refused-store (to_z w64 (of_z w64 c.moment-moment.result)) c.self.inside.working c.self.inside.last c.args.delta.table c.self.inside.places.items c.self.inside.rows.items c.deref_mut.result.now c.make.new.rows _ c.self.inside.touched.items c.make.new.touched.items at c.deref_mut.ensures.value
-    (ap (λ (h : Held). is_taken (place_of h.tables c.args.delta.table)) c.self.view_is ∙ c.requires.present) c.self.invariant c.make.ensures.turned c.in_err-make.ensures.err_touched c.in_err-make.ensures.err_rest (with_items_is c.self.inside.rows c.make.new.rows (c.make.ensures.turned.even ∙ c.deref_mut.ensures.len))
+    let at = in-moment c.self.inside.working c.args.self.now.working (to_z w64 (of_z w64 c.moment-moment.result))
+    c.moment-moment.result (ap (λ (h : Held). h.working) c.self.view_is) c.requires.open_now (to_z-of_z fits)
+    c.moment-moment.ensures in
+    refused-store (to_z w64 (of_z w64 c.moment-moment.result)) c.self.inside.working c.self.inside.last
+    c.args.delta.table c.self.inside.places.items c.self.inside.rows.items c.deref_mut.result.now c.make.new.rows
+    _ c.self.inside.touched.items c.make.new.touched.items at c.deref_mut.ensures.value
+    (ap (λ (h : Held). is_taken (place_of h.tables c.args.delta.table)) c.self.view_is
+    ∙ c.requires.present) c.self.invariant c.make.ensures.turned c.in_err-make.ensures.err_touched
+    c.in_err-make.ensures.err_rest (with_items_is c.self.inside.rows c.make.new.rows (c.make.ensures.turned.even
+    ∙ c.deref_mut.ensures.len))
 
 pub returns-in_err-make-clause-err : goal.returns-in_err-make-clause-err
 returns-in_err-make-clause-err g c =
     on_err c.from_residual.result
-    (ap (λ (ts : List rows.Held). shown c.self.inside.places.items ts c.self.inside.working c.self.inside.last) (with_items_is c.self.inside.rows c.make.new.rows (c.make.ensures.turned.even ∙ c.deref_mut.ensures.len)) ∙ ap (λ vss. record { tables = c.self.inside.places.items; versions = vss; working = c.self.inside.working; last = c.self.inside.last }) (c.in_err-make.ensures.err ∙ ap (λ (ts : List rows.Held). map versions ts) c.deref_mut.ensures.value) ∙ c.self.view_is)
+    (ap (λ (ts : List rows.Held). shown c.self.inside.places.items ts c.self.inside.working c.self.inside.last)
+    (with_items_is c.self.inside.rows c.make.new.rows (c.make.ensures.turned.even ∙ c.deref_mut.ensures.len))
+    ∙ ap (λ vss. record {
+      tables = c.self.inside.places.items;
+      versions = vss;
+      working = c.self.inside.working;
+      last = c.self.inside.last;
+    }) (c.in_err-make.ensures.err
+    ∙ ap (λ (ts : List rows.Held). map versions ts) c.deref_mut.ensures.value) ∙ c.self.view_is)
 
 pub invariant_of-self-2 : goal.invariant_of-self-2
 invariant_of-self-2 g c =
     let fits : SFits w64 c.moment-moment.result = search rules in
-    let at = in-moment c.self.inside.working c.args.self.now.working (to_z w64 (of_z w64 c.moment-moment.result)) c.moment-moment.result (ap (λ (h : Held). h.working) c.self.view_is) c.requires.open_now (to_z-of_z fits) c.moment-moment.ensures in
-    change-store (to_z w64 (of_z w64 c.moment-moment.result)) c.self.inside.working c.self.inside.last c.args.delta.table c.self.inside.places.items c.self.inside.rows.items c.deref_mut.result.now c.make.new.rows _ c.self.inside.touched.items c.make.new.touched.items at c.deref_mut.ensures.value
-    (ap (λ (h : Held). is_taken (place_of h.tables c.args.delta.table)) c.self.view_is ∙ c.requires.present) (taken-within c.self.inside.places.items c.self.inside.rows.items c.args.delta.table c.self.invariant.even (ap (λ (h : Held). is_taken (place_of h.tables c.args.delta.table)) c.self.view_is ∙ c.requires.present)) c.self.invariant c.make.ensures.turned c.in_ok-make.ensures.noted (with_items_is c.self.inside.rows c.make.new.rows (c.make.ensures.turned.even ∙ c.deref_mut.ensures.len))
+    let at = in-moment c.self.inside.working c.args.self.now.working (to_z w64 (of_z w64 c.moment-moment.result))
+    c.moment-moment.result (ap (λ (h : Held). h.working) c.self.view_is) c.requires.open_now (to_z-of_z fits)
+    c.moment-moment.ensures in
+    change-store (to_z w64 (of_z w64 c.moment-moment.result)) c.self.inside.working c.self.inside.last
+    c.args.delta.table c.self.inside.places.items c.self.inside.rows.items c.deref_mut.result.now c.make.new.rows
+    _ c.self.inside.touched.items c.make.new.touched.items at c.deref_mut.ensures.value
+    (ap (λ (h : Held). is_taken (place_of h.tables c.args.delta.table)) c.self.view_is
+    ∙ c.requires.present)
+    (taken-within c.self.inside.places.items c.self.inside.rows.items c.args.delta.table c.self.invariant.even
+    (ap (λ (h : Held). is_taken (place_of h.tables c.args.delta.table)) c.self.view_is
+    ∙ c.requires.present)) c.self.invariant c.make.ensures.turned c.in_ok-make.ensures.noted
+    (with_items_is c.self.inside.rows c.make.new.rows (c.make.ensures.turned.even ∙ c.deref_mut.ensures.len))
 
 pub returns-clause-ok : goal.returns-clause-ok
 returns-clause-ok g c =
     let fits : SFits w64 c.moment-moment.result = search rules in
-    let at = in-moment c.self.inside.working c.args.self.now.working (to_z w64 (of_z w64 c.moment-moment.result)) c.moment-moment.result (ap (λ (h : Held). h.working) c.self.view_is) c.requires.open_now (to_z-of_z fits) c.moment-moment.ensures in
+    let at = in-moment c.self.inside.working c.args.self.now.working (to_z w64 (of_z w64 c.moment-moment.result))
+    c.moment-moment.result (ap (λ (h : Held). h.working) c.self.view_is) c.requires.open_now (to_z-of_z fits)
+    c.moment-moment.ensures in
     let value = c.deref_mut.ensures.value in
-    replaces-at (λ (row : Vec Value _). map datum_of_value row.items) c.args.delta.added.items (to_z w64 (of_z w64 c.moment-moment.result)) c.self.inside.working c.self.inside.last c.self.inside.places.items c.self.inside.rows.items c.make.new.rows c.self.inside.touched.items c.args.self.now _ c.args.delta.table c.args.delta.removed.items at c.self.invariant c.self.view_is
-    (sym (ap (λ (ts : List rows.Held). shown c.self.inside.places.items ts c.self.inside.working c.self.inside.last) (with_items_is c.self.inside.rows c.make.new.rows (c.make.ensures.turned.even ∙ c.deref_mut.ensures.len)))) c.requires.removable
-    (subst (λ (ts : List rows.Held). HasTurned (to_z w64 (of_z w64 c.moment-moment.result)) c.args.delta.table ts c.make.new.rows) value c.make.ensures.turned)
-    (subst (λ (ts : List rows.Held). SameBag (live (table_at c.make.new.rows c.args.delta.table)) (filter alive (closing (to_z w64 (of_z w64 c.moment-moment.result)) c.args.delta.removed.items (table_at ts c.args.delta.table).current ++ (table_at ts c.args.delta.table).closed) ++ map (λ (row : Vec Value _). fresh (to_z w64 (of_z w64 c.moment-moment.result)) (map datum_of_value row.items)) c.args.delta.added.items)) value c.in_ok-make.ensures.versions)
-    (subst (λ (ts : List rows.Held). (gone : Stamped → Bool) → IsJudged gone c.args.delta.removed.items (table_at ts c.args.delta.table) → SameBag (live (table_at c.make.new.rows c.args.delta.table)) (replaced (to_z w64 (of_z w64 c.moment-moment.result)) gone (map (λ (row : Vec Value _). map datum_of_value row.items) c.args.delta.added.items) (live (table_at ts c.args.delta.table)))) value c.in_ok-make.ensures.judged)
+    replaces-at (λ (row : Vec Value _). map datum_of_value row.items) c.args.delta.added.items
+    (to_z w64 (of_z w64 c.moment-moment.result)) c.self.inside.working c.self.inside.last
+    c.self.inside.places.items c.self.inside.rows.items c.make.new.rows c.self.inside.touched.items
+    c.args.self.now _ c.args.delta.table c.args.delta.removed.items at c.self.invariant c.self.view_is
+    (sym (ap (λ (ts : List rows.Held). shown c.self.inside.places.items ts c.self.inside.working c.self.inside.last)
+    (with_items_is c.self.inside.rows c.make.new.rows (c.make.ensures.turned.even ∙ c.deref_mut.ensures.len))))
+    c.requires.removable
+    (subst (λ (ts : List rows.Held). HasTurned (to_z w64 (of_z w64 c.moment-moment.result)) c.args.delta.table ts
+    c.make.new.rows) value c.make.ensures.turned)
+    (subst (λ (ts : List rows.Held). SameBag (live (table_at c.make.new.rows c.args.delta.table))
+    (filter alive (closing (to_z w64 (of_z w64 c.moment-moment.result)) c.args.delta.removed.items
+    (table_at ts c.args.delta.table).current ++ (table_at ts c.args.delta.table).closed) ++ map
+    (λ (row : Vec Value _). fresh (to_z w64 (of_z w64 c.moment-moment.result)) (map datum_of_value row.items))
+    c.args.delta.added.items)) value c.in_ok-make.ensures.versions)
+    (subst (λ (ts : List rows.Held). (gone : Stamped → Bool)
+    → IsJudged gone c.args.delta.removed.items (table_at ts c.args.delta.table)
+    → SameBag (live (table_at c.make.new.rows c.args.delta.table))
+    (replaced (to_z w64 (of_z w64 c.moment-moment.result)) gone
+    (map (λ (row : Vec Value _). map datum_of_value row.items) c.args.delta.added.items)
+    (live (table_at ts c.args.delta.table)))) value c.in_ok-make.ensures.judged)
 
 pub returns-clause-copies : goal.returns-clause-copies
-returns-clause-copies g c = change-replaces c.args.delta.table c.args.delta.removed.items _ c.args.self.now _ (returns-clause-ok g c)
+returns-clause-copies g c =
+    change-replaces c.args.delta.table c.args.delta.removed.items _ c.args.self.now _ (returns-clause-ok g c)

@@ -1,4 +1,5 @@
-use Rattle.std.proofs.Common.{◌≡◌, ℕ, ℤ, List, Bool, Option, None, Some, w64, All, map, filter, length, max, rules, refl, arith, sym, ap, subst, ◌∙◌}
+use Rattle.std.proofs.Common.{◌≡◌, ℕ, ℤ, List, Bool, Option, None, Some, w64, All, map, filter, length, max, rules}
+use Rattle.std.proofs.Common.{refl, arith, sym, ap, subst, ◌∙◌}
 use Rattle.std.specs.Prelude.{◌+◌, slice_index_or}
 use Rattle.std.proofs.Math.Facts.{to_z-of_z}
 use Rattle.std.proofs.lemmas.List.{with_items_is}
@@ -19,9 +20,15 @@ pub invariant_of-self : goal.invariant_of-self
 invariant_of-self g c =
     let none : c.args.self.now.working ≡ None = search rules in
     let closed : c.self.inside.working ≡ None = ap (λ (h : Held). h.working) c.self.view_is ∙ none in
-    subst (λ (x : ℤ). IsOrderly c.self.inside.places.items c.self.inside.rows.items c.self.inside.touched.items (Some x) c.self.inside.last) (sym (to_z-of_z c.ranges.moment))
-    (begin-orderly c.args.moment c.self.inside.last c.self.inside.places.items c.self.inside.rows.items c.self.inside.touched.items (subst (λ (w : Option ℤ). IsOrderly c.self.inside.places.items c.self.inside.rows.items c.self.inside.touched.items w c.self.inside.last) closed c.self.invariant)
+    subst (λ (x : ℤ). IsOrderly c.self.inside.places.items c.self.inside.rows.items c.self.inside.touched.items
+    (Some x) c.self.inside.last) (sym (to_z-of_z c.ranges.moment))
+    (begin-orderly c.args.moment c.self.inside.last c.self.inside.places.items c.self.inside.rows.items
+    c.self.inside.touched.items
+    (subst (λ (w : Option ℤ). IsOrderly c.self.inside.places.items c.self.inside.rows.items
+    c.self.inside.touched.items w c.self.inside.last) closed c.self.invariant)
     (subst (λ (h : Held). Under h.last c.args.moment) (sym c.self.view_is) c.requires.later) c.requires.below)
 
 pub returns-clause-copies : goal.returns-clause-copies
-returns-clause-copies g c = begin-copies _ c.args.self.now _ (search rules) c.requires.later c.requires.below (search rules) (search rules) (search rules) (λ t. search rules)
+returns-clause-copies g c =
+    begin-copies _ c.args.self.now _ (search rules) c.requires.later c.requires.below (search rules) (search rules)
+    (search rules) (λ t. search rules)

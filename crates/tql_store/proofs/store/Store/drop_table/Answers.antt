@@ -1,4 +1,5 @@
-use Rattle.std.proofs.Common.{◌≡◌, false, [], ℕ, ℤ, List, Bool, Option, None, Some, w64, All, map, filter, length, max, rules, refl, arith, sym, ap, subst, ◌∙◌}
+use Rattle.std.proofs.Common.{◌≡◌, false, [], ℕ, ℤ, List, Bool, Option, None, Some, w64, All, map, filter, length}
+use Rattle.std.proofs.Common.{max, rules, refl, arith, sym, ap, subst, ◌∙◌}
 use Rattle.std.specs.Prelude.{◌+◌, slice_index_or}
 use Rattle.std.proofs.Math.Facts.{to_z-of_z}
 use Rattle.std.specs.Vec.{with_items}
@@ -23,14 +24,28 @@ use Rattle.tql_store.proofs.store.Store.drop_table.Goals as goal
 
 pub invariant_of-self : goal.invariant_of-self
 invariant_of-self g c =
-    let takes : Takes c.args.table Free c.self.inside.places.items c.clear_place.new.places = subst (λ (ps : List Place). Takes c.args.table Free ps c.clear_place.new.places) c.deref_mut.ensures.value c.clear_place.ensures.takes in
-    let put : IsPut c.args.table c.new-rows.result c.self.inside.rows.items c.set_rows.new.rows = subst (λ (n : ℕ). IsPut n c.new-rows.result c.self.inside.rows.items c.set_rows.new.rows) (c.from.ensures ∙ c.number.ensures.value)
-    (subst (λ (ts : List rows.Held). IsPut c.from.result c.new-rows.result ts c.set_rows.new.rows) c.deref_mut-2.ensures.value c.set_rows.ensures.put) in
-    let size : length c.set_rows.new.rows ≡ length c.self.inside.rows.items = c.set_rows.ensures.len ∙ ap (λ (ts : List rows.Held). length ts) c.deref_mut-2.ensures.value in
-    let places : length c.clear_place.new.places ≡ length c.self.inside.places.items = c.clear_place.ensures.len ∙ ap (λ (ps : List Place). length ps) c.deref_mut.ensures.value in
-    subst (λ (ps : List Place). IsOrderly ps (with_items c.self.inside.rows c.set_rows.new.rows).items c.self.inside.touched.items c.self.inside.working c.self.inside.last) (sym (with_items_is c.self.inside.places c.clear_place.new.places (c.clear_place.ensures.len ∙ c.deref_mut.ensures.len)))
-    (subst (λ (ts : List rows.Held). IsOrderly c.clear_place.new.places ts c.self.inside.touched.items c.self.inside.working c.self.inside.last) (sym (with_items_is c.self.inside.rows c.set_rows.new.rows (c.set_rows.ensures.len ∙ c.deref_mut-2.ensures.len)))
-    (put-orderly false Free c.args.table c.self.inside.places.items c.clear_place.new.places c.self.inside.rows.items c.set_rows.new.rows c.self.inside.touched.items c.self.inside.working c.self.inside.last c.new-rows.result c.self.invariant refl takes
+    let takes : Takes c.args.table Free c.self.inside.places.items c.clear_place.new.places =
+    subst (λ (ps : List Place). Takes c.args.table Free ps c.clear_place.new.places) c.deref_mut.ensures.value
+    c.clear_place.ensures.takes in
+    let put : IsPut c.args.table c.new-rows.result c.self.inside.rows.items c.set_rows.new.rows =
+    subst (λ (n : ℕ). IsPut n c.new-rows.result c.self.inside.rows.items c.set_rows.new.rows) (c.from.ensures
+    ∙ c.number.ensures.value)
+    (subst (λ (ts : List rows.Held). IsPut c.from.result c.new-rows.result ts c.set_rows.new.rows)
+    c.deref_mut-2.ensures.value c.set_rows.ensures.put) in
+    let size : length c.set_rows.new.rows ≡ length c.self.inside.rows.items = c.set_rows.ensures.len
+    ∙ ap (λ (ts : List rows.Held). length ts) c.deref_mut-2.ensures.value in
+    let places : length c.clear_place.new.places ≡ length c.self.inside.places.items = c.clear_place.ensures.len
+    ∙ ap (λ (ps : List Place). length ps) c.deref_mut.ensures.value in
+    subst (λ (ps : List Place). IsOrderly ps (with_items c.self.inside.rows c.set_rows.new.rows).items
+    c.self.inside.touched.items c.self.inside.working c.self.inside.last)
+    (sym (with_items_is c.self.inside.places c.clear_place.new.places (c.clear_place.ensures.len
+    ∙ c.deref_mut.ensures.len)))
+    (subst (λ (ts : List rows.Held). IsOrderly c.clear_place.new.places ts c.self.inside.touched.items
+    c.self.inside.working c.self.inside.last)
+    (sym (with_items_is c.self.inside.rows c.set_rows.new.rows (c.set_rows.ensures.len ∙ c.deref_mut-2.ensures.len)))
+    (put-orderly false Free c.args.table c.self.inside.places.items c.clear_place.new.places c.self.inside.rows.items
+    c.set_rows.new.rows c.self.inside.touched.items c.self.inside.working c.self.inside.last c.new-rows.result
+    c.self.invariant refl takes
     (size ∙ c.self.invariant.even ∙ sym places) (omega (arith, size)) put c.new-rows.ensures.empty))
 
 pub returns-clause-places : goal.returns-clause-places
@@ -41,9 +56,20 @@ returns-clause-count g c = drops c.args.table _ _ c.requires.present (returns-cl
 
 pub returns-clause-versions : goal.returns-clause-versions
 returns-clause-versions g c =
-    let put : IsPut c.args.table c.new-rows.result c.self.inside.rows.items c.set_rows.new.rows = subst (λ (n : ℕ). IsPut n c.new-rows.result c.self.inside.rows.items c.set_rows.new.rows) (c.from.ensures ∙ c.number.ensures.value)
-    (subst (λ (ts : List rows.Held). IsPut c.from.result c.new-rows.result ts c.set_rows.new.rows) c.deref_mut-2.ensures.value c.set_rows.ensures.put) in
-    dropped-versions c.args.table c.self.inside.places.items c.self.inside.working c.self.inside.last c.self.inside.rows.items c.set_rows.new.rows c.new-rows.result c.args.self.now (shown (with_items c.self.inside.places c.clear_place.new.places).items (with_items c.self.inside.rows c.set_rows.new.rows).items c.self.inside.working c.self.inside.last) c.self.view_is put c.new-rows.ensures.empty (ap (λ (ts : List rows.Held). map rows.versions ts) (with_items_is c.self.inside.rows c.set_rows.new.rows (c.set_rows.ensures.len ∙ c.deref_mut-2.ensures.len)))
+    let put : IsPut c.args.table c.new-rows.result c.self.inside.rows.items c.set_rows.new.rows =
+    subst (λ (n : ℕ). IsPut n c.new-rows.result c.self.inside.rows.items c.set_rows.new.rows) (c.from.ensures
+    ∙ c.number.ensures.value)
+    (subst (λ (ts : List rows.Held). IsPut c.from.result c.new-rows.result ts c.set_rows.new.rows)
+    c.deref_mut-2.ensures.value c.set_rows.ensures.put) in
+    dropped-versions c.args.table c.self.inside.places.items c.self.inside.working c.self.inside.last
+    c.self.inside.rows.items c.set_rows.new.rows c.new-rows.result c.args.self.now
+    (shown (with_items c.self.inside.places c.clear_place.new.places).items
+    (with_items c.self.inside.rows c.set_rows.new.rows).items c.self.inside.working c.self.inside.last)
+    c.self.view_is put c.new-rows.ensures.empty
+    (ap (λ (ts : List rows.Held). map rows.versions ts)
+    (with_items_is c.self.inside.rows c.set_rows.new.rows (c.set_rows.ensures.len ∙ c.deref_mut-2.ensures.len)))
 
 pub returns-clause-copies : goal.returns-clause-copies
-returns-clause-copies g c = drop-empties c.args.table c.args.self.now _ (search rules) (returns-clause-places g c) (search rules) (search rules) (returns-clause-versions g c)
+returns-clause-copies g c =
+    drop-empties c.args.table c.args.self.now _ (search rules) (returns-clause-places g c) (search rules)
+    (search rules) (returns-clause-versions g c)
