@@ -1,13 +1,13 @@
-# make run      runs crates/tql_cases/data/cases/examples/march.sql, or SCRIPT=path, in a minute or two and without a proof (or by ./tql, where it is there and new)
+# make run      runs crates/test_cases/data/cases/examples/march.sql, or SCRIPT=path, in a minute or two and without a proof (or by ./tql, where it is there and new)
 # make build    proves what the program needs, and leaves it as ./tql
 # make test     the gate: every proof and every test, from nothing
 # make edits    tries the edits that the prover must refuse: all, or CRATE=name, or EDIT=name too
 # make lines    tries the program's command lines, in a minute or two and without a proof
 # make bench-index   proves and runs the program that times the two indexes; COUNTS="1000 10000" are its numbers of entries
-# make copies   looks whether the scripts of crates/tql_cases/data/cases/copies are what tools/copies.py writes
+# make copies   looks whether the scripts of crates/test_cases/data/cases/copies are what tools/copies.py writes
 # make cost     what each crate weighs in the gate, and which are over a bound
 .PHONY: run build test edits lines bench-index copies cost
-SCRIPT ?= crates/tql_cases/data/cases/examples/march.sql
+SCRIPT ?= crates/test_cases/data/cases/examples/march.sql
 
 run:
 	@tools/run.sh "$(SCRIPT)"

@@ -1,7 +1,7 @@
 #!/usr/bin/env python3
 """Writes scripts at random, each with what a machine prints for it that copies all of its tables at every commit.
 
-Usage: tools/copies.py          writes the scripts and texts of crates/tql_cases/data/cases/copies
+Usage: tools/copies.py          writes the scripts and texts of crates/test_cases/data/cases/copies
        tools/copies.py --look   says whether they are what it writes; the status is 1 where they are not
 
 The machine shares nothing with the engine: it is told what a statement says, reads no SQL, and writes each reply itself, as
@@ -10,7 +10,7 @@ docs/LANGUAGE.md has it. Moments are microseconds since 2011-01-01 00:00:00, and
 import sys
 from pathlib import Path
 
-FOLDER = Path(__file__).resolve().parent.parent / "crates" / "tql_cases" / "data" / "cases" / "copies"
+FOLDER = Path(__file__).resolve().parent.parent / "crates" / "test_cases" / "data" / "cases" / "copies"
 HEAD = "-- Made at random (tools/copies.py). The text comes from a machine that copies its tables at every commit.\n"
 # How many scripts; the moment at which each begins; and how many statements it has besides its beginning.
 SCRIPTS, BEGIN, LENGTH = 200, 1_000_000, 24

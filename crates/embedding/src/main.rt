@@ -1,14 +1,14 @@
-//! How a program of your own uses the engine: it runs a script and tells which statements were refused, asks what was paid in March as
-//! the books had it on two days, and adds up the rows of each answer.
+//! How a program of your own uses the engine: it runs a script and tells which statements were refused, asks what was
+//! paid in March as the books had it on two days, and adds up the rows of each answer.
 #![tactic(auto)]
 
 use std::io;
-use tql::{Engine, Memory, Notes, Reply, Rows, SliceSource, VecSink, View, memory, run};
+use tql::{Engine, Memory, Notes, Reply, ResultTable, SliceSource, VecSink, View, memory, run};
 
 /// What the office entered, and when; the last line has a slip of the pen.
 const ENTERED: &[u8] = b"
-CREATE TABLE pay (employee INTEGER, cents INTEGER, s TIMESTAMP GENERATED ALWAYS AS ROW START, e TIMESTAMP GENERATED ALWAYS AS ROW END,
-  PERIOD FOR SYSTEM_TIME (s, e)) WITH SYSTEM VERSIONING;
+CREATE TABLE pay (employee INTEGER, cents INTEGER, s TIMESTAMP GENERATED ALWAYS AS ROW START,
+  e TIMESTAMP GENERATED ALWAYS AS ROW END, PERIOD FOR SYSTEM_TIME (s, e)) WITH SYSTEM VERSIONING;
 AT TIMESTAMP '2011-03-28 09:00:00';
 INSERT INTO pay VALUES (1, 300000), (2, 250000);
 AT TIMESTAMP '2011-04-04 09:00:00';
@@ -23,9 +23,9 @@ const QUESTIONS: [&[u8]; 2] = [
 ];
 
 /// The sum of a column of whole numbers, by its number from 0; other values count as nothing.
-fn total(rows: &Rows, column: usize) -> i64 {
+fn total(table: &ResultTable, column: usize) -> i64 {
     let mut total = 0i64;
-    for row in &rows.rows {
+    for row in &table.rows {
         if let Some(View::Int(number)) = row.get(column).map(|value| value.view()) {
             total = total.saturating_add(number);
         }
@@ -36,10 +36,10 @@ fn total(rows: &Rows, column: usize) -> i64 {
 /// Prints how many rows a question finds, and the sum of their cents.
 fn ask(rt: &impl Print, engine: &mut Engine, question: &[u8]) -> io::Result<()> {
     match &engine.step(question) {
-        Reply::Table(rows) => println!(rt;
+        Reply::Table(table) => println!(rt;
             "{} payments, {} cents",
-            rows.rows.len(),
-            total(rows, 1)
+            table.rows.len(),
+            total(table, 1)
         ),
         Reply::Refused(refusal) => println!(rt; "refused: {}", refusal.text()),
         Reply::Done(_, _) => println!(rt; "done"),

@@ -35,4 +35,4 @@ pub use tql_run::silence::Silence;
 pub use tql_run::slice_source::SliceSource;
 pub use tql_run::std_source::StdSource;
 pub use tql_value::refusal::Refusal;
-pub use tql_value::value::{Rows, Value, View};
+pub use tql_value::value::{ResultTable, Value, View};

@@ -7,8 +7,8 @@ use Rattle.tql_spec.specs.Definition.{Name, TableDef}
 use Rattle.tql_spec.specs.Machine.{Bound, DropTable}
 use Rattle.tql_spec.specs.Names.{Checked, refuse_if, unless}
 use Rattle.tql_spec.specs.Syntax.{DropTree}
-use Rattle.tql_scope.specs.Gathered.{Gathers}
-use Rattle.tql_scope.proofs.Gathering.{bound, unless_asked}
+use Rattle.tql_bind_expr.specs.Gathered.{Gathers}
+use Rattle.tql_bind_expr.proofs.Gathering.{bound, unless_asked}
 
 -- DROP TABLE
 pub drop_bound : (defs : List TableDef) (n : Name) (old mid new : Option spec.Refusal) (t : ℕ) (b : Bool)

@@ -3,15 +3,17 @@ use Rattle.std.proofs.Common.{◌≡◌, ◌<◌, subst, ℕ, List, [], length, 
 use Rattle.std.specs.Prelude.{IsTrue, not}
 use Rattle.tql_spec.specs.Binding.{bind, insert_columns, select, table_number}
 use Rattle.tql_spec.specs.Definition.{TableDef, table_at}
-use Rattle.tql_spec.specs.Machine.{Alter, Ask, Bound, Change, CreateTable, DropTable, InsertQuery, SetClock, Start}
+use Rattle.tql_spec.specs.Machine.{ChangeRows, AnswerQuery, Bound, Change, CreateTable, DropTable, InsertQuery}
+use Rattle.tql_spec.specs.Machine.{SetClock, Start}
 use Rattle.tql_spec.specs.Machine.{Commit, Rollback, changed_table}
 use Rattle.tql_spec.specs.Refusal.{first}
 use Rattle.tql_spec.specs.Syntax.{AtTree, CommitTree, CreateTree, DeleteTree, DropTree, InsertSelect, InsertValues}
 use Rattle.tql_spec.specs.Syntax.{QueryTree, RollbackTree, StartTree, Statement, UpdateTree}
-use Rattle.tql_bind.specs.Bounds.{HasMoment, IsSound, bound_of, is_creation}
-use Rattle.tql_bind.specs.Placed.{IsPlacedQuery}
-use Rattle.tql_bind.specs.declared.bound.Bound as bound
-use Rattle.tql_bind.specs.declared.bound.Bound.TheVariants as statement
+use Rattle.tql_bind.specs.Creations.{is_creation}
+use Rattle.tql_bound.specs.Bounds.{HasMoment, IsSound, bound_of}
+use Rattle.tql_bound.specs.Placed.{IsPlacedQuery}
+use Rattle.tql_bound.specs.declared.bound.Bound as bound
+use Rattle.tql_bound.specs.declared.bound.Bound.TheVariants as statement
 use Rattle.tql_bind.proofs.PlacedQueries.{behind_none, front_none, none_present, query_placed, table_there}
 
 -- ---- statements
@@ -25,8 +27,8 @@ AreSourcesPlaced defs _ = Unit {0}
 abbrev pub IsPlaced : List TableDef → Bound → Type 0
 IsPlaced defs (CreateTable d) = Unit {0}
 IsPlaced defs (DropTable t) = t < length defs
-IsPlaced defs (Alter c) = (changed_table c < length defs) × AreSourcesPlaced defs c
-IsPlaced defs (Ask q) = IsPlacedQuery defs q
+IsPlaced defs (ChangeRows c) = (changed_table c < length defs) × AreSourcesPlaced defs c
+IsPlaced defs (AnswerQuery q) = IsPlacedQuery defs q
 IsPlaced defs (SetClock m) = Unit {0}
 IsPlaced defs Start = Unit {0}
 IsPlaced defs Commit = Unit {0}
@@ -74,7 +76,7 @@ sound_by defs s (statement.DropTable t) other is timed there = there
 sound_by defs s (statement.Insert x) other is timed there = there.0
 sound_by defs s (statement.InsertFrom x) other is timed there = there
 sound_by defs s (statement.Modify x) other is timed there = there.0
-sound_by defs s (statement.Ask x) other is timed there = there
+sound_by defs s (statement.AnswerQuery x) other is timed there = there
 sound_by defs s (statement.SetClock m) other is timed there = timed
 sound_by defs s statement.Start other is timed there = tt
 sound_by defs s statement.Commit other is timed there = tt

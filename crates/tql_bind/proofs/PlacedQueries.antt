@@ -3,7 +3,8 @@ use Rattle.std.proofs.Common.{◌≡◌, refl, ap, sym, ◌∙◌, subst, ℕ, s
 use Rattle.std.proofs.Common.{Some, None, Option, length, map, arith}
 use Rattle.std.specs.Prelude.{◌||◌, ◌&&◌, IsTrue, not, if◌then◌else◌, is_none, is_some}
 use Rattle.std.specs.List.{list_any, list_all}
-use Rattle.tql_spec.specs.Binding.{Joined, Linked, Output, Source, add_join, chain, group_column, grouping_faults}
+use Rattle.tql_spec.specs.Binding.{Joined, Linked, Output, BoundReference, add_join, chain, group_column}
+use Rattle.tql_spec.specs.Binding.{grouping_faults}
 use Rattle.tql_spec.specs.Binding.{grouping_of, is_grouped, is_loose, is_star, join, joins, or_no_table, order_key}
 use Rattle.tql_spec.specs.Binding.{outputs, plain_conjuncts, plain_filter, select, source, table_number, when}
 use Rattle.tql_spec.specs.Binding.{whole_scope}
@@ -19,7 +20,7 @@ use Rattle.tql_spec.specs.Syntax.{AsOfTree, BetweenTree, ChainTree, CrossJoin, F
 use Rattle.tql_spec.specs.Syntax.{LeftJoin, NoSpan, OrderTree, RefTree, SelectTree, SpanTree}
 use Rattle.tql_spec.specs.Words.{same_text}
 use Rattle.tql_bound.specs.References.{is_now}
-use Rattle.tql_bind.specs.Placed.{AreChainsPlaced, AreJoinsPlaced, IsPlacedQuery, IsPlacedRef, ref_of}
+use Rattle.tql_bound.specs.Placed.{AreChainsPlaced, AreJoinsPlaced, IsPlacedQuery, IsPlacedRef, ref_of}
 
 -- ---- no fault
 

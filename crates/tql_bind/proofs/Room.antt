@@ -10,7 +10,7 @@ use Rattle.tql_spec.specs.Refusal.{Refusal, TooManyTablesOrReaders, TableUnknown
 use Rattle.tql_spec.specs.Refusal.{NameUnknownAmbiguousOrRepeated, TypesDoNotFit, FormNotAllowedHere, first, fault_if}
 use Rattle.tql_spec.specs.Definition.{Name, TableDef, place_of}
 use Rattle.tql_spec.specs.Machine.{Bound, CreateTable}
-use Rattle.tql_spec.specs.Syntax as syntax
+use Rattle.tql_spec.specs.Syntax as tree
 use Rattle.tql_spec.specs.Syntax.{Element, ColumnTree, columns_in, is_too_wide}
 use Rattle.tql_spec.specs.Creation.{create, whole_faults, repeats, column_names, period_names, has_bad_number}
 use Rattle.tql_spec.specs.Creation.{columns_of, several, application_parts, system_parts, starts, stops}
@@ -103,18 +103,18 @@ same_table d t e = ap (table_in d) e
 
 column_count : (es : List Element) → length (columns_of es) ≡ sum_by columns_in es
 column_count [] = refl
-column_count (syntax.ColumnElement c ∷ es) =
-    omega (arith, column_count es, sum_by-cons columns_in (syntax.ColumnElement c) es)
-column_count (syntax.PeriodElement n s e ∷ es) =
-    omega (arith, column_count es, sum_by-cons columns_in (syntax.PeriodElement n s e) es)
-column_count (syntax.ConstraintElement c ∷ es) =
-    omega (arith, column_count es, sum_by-cons columns_in (syntax.ConstraintElement c) es)
+column_count (tree.ColumnElement c ∷ es) =
+    omega (arith, column_count es, sum_by-cons columns_in (tree.ColumnElement c) es)
+column_count (tree.PeriodElement n s e ∷ es) =
+    omega (arith, column_count es, sum_by-cons columns_in (tree.PeriodElement n s e) es)
+column_count (tree.ConstraintElement c ∷ es) =
+    omega (arith, column_count es, sum_by-cons columns_in (tree.ConstraintElement c) es)
 
 at_most : (n : ℕ) → nat_lt 64 n ≡ false → n ≤ 64
 at_most n e = grind (arith, nat_tests)
 
 pub narrow_law : (defs : List TableDef) (n : Name) (e : Element) (es : List Element) (versioned : Bool)
-    → is_too_wide (syntax.CreateTree n e es versioned) ≡ false
+    → is_too_wide (tree.CreateTree n e es versioned) ≡ false
     → length (create defs n (e ∷ es) versioned).value.columns ≤ 64
 narrow_law defs n e es versioned narrow =
     let few = at_most (columns_in e + sum_by columns_in es) narrow in

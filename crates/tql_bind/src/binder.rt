@@ -4,24 +4,25 @@ ghost use Rattle.tql_spec.specs.Binding.{bind};
 ghost use Rattle.tql_spec.specs.Running.{makes_no_constraint};
 ghost use Rattle.tql_spec.specs.Syntax.{is_too_wide};
 ghost use Rattle.tql_catalog.specs.Tables.{definitions_of};
-ghost use Rattle.tql_tree.specs.Statements.{create_of, statement_of};
-ghost use Rattle.tql_scope.specs.Gathered.{Gathers};
-ghost use Rattle.tql_define.specs.Binds.{Binds};
-ghost use Rattle.tql_bind.specs.Bounds.{HasMoment, IsSound, bound_of, is_creation};
+ghost use Rattle.tql_syntax_tree.specs.Statements.{create_of, statement_of};
+ghost use Rattle.tql_bind_expr.specs.Gathered.{Gathers};
+ghost use Rattle.tql_bind_table.specs.Binds.{Binds};
+ghost use Rattle.tql_bind.specs.Creations.{is_creation};
+ghost use Rattle.tql_bound.specs.Bounds.{HasMoment, IsSound, bound_of};
 
-use crate::bound::Bound;
 use crate::drop_table::bind_drop;
 use crate::insertions::insert;
-use crate::questions::ask;
+use crate::queries::bind_query;
 use std::alloc::AllocError;
-use tql_alter::delete::delete_rows;
-use tql_alter::update::update_rows;
+use tql_bind_change::delete::delete_rows;
+use tql_bind_change::update::update_rows;
+use tql_bind_expr::faults::Faults;
+use tql_bind_expr::moments::moment;
+use tql_bind_table::create::new_table;
+use tql_bound::bound::Bound;
 use tql_catalog::catalog::Catalog;
-use tql_define::create::new_table;
 use tql_memory::Memory;
-use tql_scope::faults::Faults;
-use tql_scope::moments::moment;
-use tql_tree::statement::{CreateTree, Statement};
+use tql_syntax_tree::statement::{CreateTree, Statement};
 use tql_value::refusal::Refusal;
 
 /// CREATE TABLE with its names bound.
@@ -69,8 +70,8 @@ fn bound(
             Ok(Bound::Modify(modification))
         }
         Statement::Query(tree) => {
-            let question = ask(memory, tables, tree, faults)?;
-            Ok(Bound::Ask(question))
+            let query = bind_query(memory, tables, tree, faults)?;
+            Ok(Bound::AnswerQuery(query))
         }
         Statement::StartTransaction => Ok(Bound::Start),
         Statement::Commit => Ok(Bound::Commit),

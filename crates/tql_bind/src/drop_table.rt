@@ -4,16 +4,16 @@ ghost use Rattle.tql_spec.specs.Binding.{bind};
 ghost use Rattle.tql_spec.specs.Machine.{DropTable};
 ghost use Rattle.tql_spec.specs.Syntax.{DropTree};
 ghost use Rattle.tql_catalog.specs.Tables.{definitions_of};
-ghost use Rattle.tql_tree.specs.Expressions.{name_of};
-ghost use Rattle.tql_scope.specs.Gathered.{Gathers};
+ghost use Rattle.tql_syntax_tree.specs.Expressions.{name_of};
+ghost use Rattle.tql_bind_expr.specs.Gathered.{Gathers};
 
 use std::alloc::AllocError;
+use tql_bind_expr::faults::Faults;
+use tql_bind_expr::tables::table_number;
+use tql_bind_expr::texts::meant;
 use tql_catalog::catalog::Catalog;
 use tql_memory::Memory;
-use tql_scope::faults::Faults;
-use tql_scope::tables::table_number;
-use tql_scope::texts::meant;
-use tql_tree::expression::Name;
+use tql_syntax_tree::expression::Name;
 use tql_value::refusal::Refusal;
 
 /// The place of the table that is dropped. Faults: no table has the name; a reference names the table. The only error

@@ -2,19 +2,19 @@
 ghost use Rattle.std.specs.Prelude.{◌≤◌, All, IfOk, IsFalse, length};
 ghost use Rattle.tql_spec.specs.Binding.{bind};
 ghost use Rattle.tql_catalog.specs.Tables.{definitions_of};
-ghost use Rattle.tql_tree.specs.Statements.{insert_of};
-ghost use Rattle.tql_scope.specs.Gathered.{Gathers};
+ghost use Rattle.tql_syntax_tree.specs.Statements.{insert_of};
+ghost use Rattle.tql_bind_expr.specs.Gathered.{Gathers};
 ghost use Rattle.tql_spec.specs.Syntax.{is_too_wide};
-ghost use Rattle.tql_bind.specs.Bounds.{HasMoment, bound_of};
+ghost use Rattle.tql_bound.specs.Bounds.{HasMoment, bound_of};
 
-use crate::bound::Bound;
 use std::alloc::AllocError;
-use tql_alter::insert::insert_values;
-use tql_alter::insert_query::insert_select;
+use tql_bind_change::insert::insert_values;
+use tql_bind_change::insert_query::insert_select;
+use tql_bind_expr::faults::Faults;
+use tql_bound::bound::Bound;
 use tql_catalog::catalog::Catalog;
 use tql_memory::Memory;
-use tql_scope::faults::Faults;
-use tql_tree::statement::{Insert, Rows};
+use tql_syntax_tree::statement::{Insert, RowSource};
 
 /// INSERT with its names bound. Faults: no table has the name; a column of the list is unknown or repeated; a tuple
 /// has another number of cells than columns, or a cell of another kind than its column; a generated column in the
@@ -33,7 +33,7 @@ pub(crate) fn insert(
     ensures within { IfOk result HasMoment }
 {
     match &insert.rows {
-        Rows::Values(first, more) => {
+        RowSource::Values(first, more) => {
             let insertion = insert_values(
                 memory,
                 tables,
@@ -45,7 +45,7 @@ pub(crate) fn insert(
             )?;
             Ok(Bound::Insert(insertion))
         }
-        Rows::Select(select) => {
+        RowSource::Select(select) => {
             let insertion = insert_select(
                 memory,
                 tables,

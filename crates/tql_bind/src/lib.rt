@@ -2,7 +2,6 @@
 #![tactic(auto)]
 
 pub mod binder;
-pub mod bound;
 mod drop_table;
 mod insertions;
-mod questions;
+mod queries;

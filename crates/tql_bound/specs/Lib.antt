@@ -1,4 +1,6 @@
+pub mod Bounds
 pub mod Changes
-pub mod Questions
+pub mod Placed
+pub mod Queries
 pub mod References
 pub mod Works

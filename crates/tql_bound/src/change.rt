@@ -3,7 +3,7 @@ ghost use Rattle.std.specs.Prelude.{All};
 ghost use Rattle.tql_expr.specs.Meaning.{HasExpr, HasCond};
 ghost use Rattle.tql_bound.specs.Works.{sets_of};
 
-use crate::question::Question;
+use crate::query::BoundQuery;
 use tql_expr::terms::{CondId, ExprId, Terms};
 use tql_memory::Memory;
 use tql_period::period::Period;
@@ -38,7 +38,7 @@ impl Drop for Insertion {
 pub struct QueryInsertion {
     pub table: usize,
     pub columns: Vec<usize, Memory>,
-    pub question: Question,
+    pub query: BoundQuery,
 }
 
 /// A column, by its number from 0, and what it is set to.

@@ -1,6 +1,7 @@
 // Statements whose names are bound: what the binder gives, and what is run.
 #![tactic(auto)]
 
+pub mod bound;
 pub mod change;
-pub mod question;
+pub mod query;
 pub mod reference;

@@ -7,7 +7,7 @@ use Rattle.std.proofs.lemmas.Bool.Decides.{nat_tests}
 use Rattle.std.proofs.lemmas.List.{length-map}
 use Rattle.tql_spec.specs.Words.{same_text}
 use Rattle.tql_spec.specs.Datum.{Kind, Ints, Moments, same_kind}
-use Rattle.tql_spec.specs.Definition as spec
+use Rattle.tql_spec.specs.Definition as definition
 use Rattle.tql_spec.specs.Definition.{Name}
 use Rattle.tql_spec.specs.Creation.{has_name, are_ends, application_name}
 use Rattle.tql_value.specs.Views.{plain_kind}
@@ -43,7 +43,8 @@ kind_there columns i c h e = ap (λ (k : Column). plain_kind k.kind) e ∙ kind_
 
 -- there are as many kinds as columns
 pub kind_count : (columns : List Column) → length (kinds_in columns) ≡ length columns
-kind_count columns = length-map (map column_of columns) (λ (c : spec.Column). c.kind) ∙ length-map columns column_of
+kind_count columns = length-map (map column_of columns) (λ (c : definition.Column). c.kind)
+    ∙ length-map columns column_of
 
 there : (i width count : ℕ) → i < count → width ≡ count → nat_lt i width ≡ true
 there i width count h e = grind (arith, nat_tests)
@@ -66,7 +67,7 @@ required_at (x ∷ xs) (suc i) c h = required_at xs i c (omega (arith, h))
 
 -- there are as many of these as columns
 pub required_count : (columns : List Column) → length (required_in columns) ≡ length columns
-required_count columns = length-map (map column_of columns) (λ (c : spec.Column). c.required)
+required_count columns = length-map (map column_of columns) (λ (c : definition.Column). c.required)
     ∙ length-map columns column_of
 
 pub required_there : (columns : List Column) (i : ℕ) (c : Column) → i < length columns

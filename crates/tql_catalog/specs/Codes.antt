@@ -8,7 +8,7 @@ use Rattle.tql_spec.specs.Datum.{Datum, Null, Int, Text, Day, Moment, Kind, Ints
 use Rattle.tql_spec.specs.Datum.{Equals, Differs, Below, AtMost, Above, AtLeast, Operation, Plus, Minus, Times}
 use Rattle.tql_spec.specs.Period.{Relation, Overlaps, Includes, SameAs, Precedes, Succeeds, ImmediatelyPrecedes}
 use Rattle.tql_spec.specs.Period.{ImmediatelySucceeds}
-use Rattle.tql_spec.specs.Expression as e
+use Rattle.tql_spec.specs.Expression as bound
 use Rattle.tql_spec.specs.Expression.{Function, Count, Sum, Min, Max, Expr, Literal, Negate, Binary, CountRows}
 use Rattle.tql_spec.specs.Expression.{Aggregate, Cond, Compare, IsNull, Related, ContainsPoint, Not, And, Or}
 use Rattle.tql_spec.specs.Definition.{Name, Column, Application, System, Key, Reference, TableDef}
@@ -174,14 +174,14 @@ datum_back (Moment m) = ap (λ (i : ℤ). Moment i) (integer_back m)
 abbrev expr_tree : Expr → Gv
 expr_tree CountRows = gnil
 expr_tree (Literal v) = gcons (gnum 0) (datum_tree v)
-expr_tree (e.Column i) = gcons (gnum 1) (gnum i)
+expr_tree (bound.Column i) = gcons (gnum 1) (gnum i)
 expr_tree (Negate a) = gcons (gnum 2) (expr_tree a)
 expr_tree (Aggregate f a) = gcons (gcons gnil (gnum (function_number f))) (expr_tree a)
 expr_tree (Binary op a b) = gcons (gcons (gnum (operation_number op)) (expr_tree a)) (expr_tree b)
 
 abbrev expr_of : Gv → Expr
 expr_of (gcons (gnum zero) g) = Literal (datum_of g)
-expr_of (gcons (gnum (suc zero)) g) = e.Column (num g)
+expr_of (gcons (gnum (suc zero)) g) = bound.Column (num g)
 expr_of (gcons (gnum (suc (suc n))) g) = Negate (expr_of g)
 expr_of (gcons (gcons gnil f) g) = Aggregate (function_at (num f)) (expr_of g)
 expr_of (gcons (gcons (gnum n) a) b) = Binary (operation_at n) (expr_of a) (expr_of b)
@@ -190,7 +190,7 @@ expr_of _ = CountRows
 expr_back : (x : Expr) → expr_of (expr_tree x) ≡ x
 expr_back CountRows = refl
 expr_back (Literal v) = ap (λ (d : Datum). Literal d) (datum_back v)
-expr_back (e.Column i) = refl
+expr_back (bound.Column i) = refl
 expr_back (Negate a) = ap (λ (x : Expr). Negate x) (expr_back a)
 expr_back (Aggregate f a) = λ i. Aggregate (function_back f i) (expr_back a i)
 expr_back (Binary op a b) = λ i. Binary (operation_back op i) (expr_back a i) (expr_back b i)

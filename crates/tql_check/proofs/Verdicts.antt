@@ -9,8 +9,8 @@ use Rattle.tql_value.specs.Refusals.{refusal_of}
 use Rattle.tql_value.specs.declared.refusal.Refusal.{Refusal}
 use Rattle.tql_value.specs.declared.refusal.Refusal.TheVariants as r
 use Rattle.tql_syntax.specs.Texts.{ReadsText}
-use Rattle.tql_tree.specs.Trees.{tree_of}
-use Rattle.tql_tree.specs.declared.tree.Tree.{Tree}
+use Rattle.tql_syntax_tree.specs.Trees.{tree_of}
+use Rattle.tql_syntax_tree.specs.declared.tree.Tree.{Tree}
 
 -- a statement that keeps within the limits
 pub narrow_checks : (s : State) (text : List ℕ) (t : Tree) → ReadsText text (Ok t)

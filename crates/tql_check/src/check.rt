@@ -16,7 +16,7 @@ use tql_run::listener::Listener;
 use tql_run::responder::Responder;
 use tql_run::runner::{Fault, Summary, run};
 use tql_syntax::text::read_text;
-use tql_tree::width::is_too_wide;
+use tql_syntax_tree::width::is_too_wide;
 use tql_value::refusal::Refusal;
 
 /// Checks one finished statement by its text, without its `;`. Any bytes are taken. It is accepted, or refused for

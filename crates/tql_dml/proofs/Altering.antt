@@ -16,7 +16,7 @@ use Rattle.tql_bound.specs.Works.{work_of}
 use Rattle.tql_bound.specs.declared.change.Insertion.{Insertion}
 use Rattle.tql_bound.specs.declared.change.Modification.{Modification}
 use Rattle.tql_store.specs.declared.store.Delta.{Delta}
-use Rattle.tql_rows.specs.declared.version.Version.{Version}
+use Rattle.tql_store_rows.specs.declared.version.Version.{Version}
 use Rattle.tql_value.specs.Points.{IsPrintable}
 use Rattle.tql_value.specs.Refusals.{refusal_of}
 use Rattle.tql_value.specs.declared.refusal.Refusal.{Refusal}

@@ -13,7 +13,7 @@ use Rattle.tql_spec.specs.Binding.{generated_columns}
 use Rattle.tql_catalog.specs.Defined.{IsDefinition, is_end_at, is_application_period}
 use Rattle.tql_catalog.specs.Rows.{has_system}
 use Rattle.tql_catalog.proofs.Definitions.{has_its_system}
-use Rattle.tql_cells.proofs.Inserted.{length_inserted, read_before, read_behind}
+use Rattle.tql_expr.proofs.Inserted.{length_inserted, read_before, read_behind}
 use Rattle.tql_dml.proofs.Kept.{kept, Within, within, two_less}
 
 -- ---- the columns of an application period

@@ -7,7 +7,7 @@ ghost use Rattle.tql_bound.specs.Works.{assignment_of};
 ghost use Rattle.tql_expr.specs.Meaning.{HasExpr};
 ghost use Rattle.tql_value.specs.declared.refusal.Refusal.TheVariants.{OutOfMemory};
 ghost use Rattle.tql_expr.specs.Evaluated.{Evaluated};
-ghost use Rattle.tql_cells.specs.Shown.{shown_by};
+ghost use Rattle.tql_expr.specs.Shown.{shown_by};
 ghost use Rattle.tql_value.specs.Views.{row_of};
 ghost use Rattle.tql_dml.specs.Cutting.{stored_of};
 
@@ -15,8 +15,8 @@ use crate::periods::put_period;
 use crate::spread::{drop_generated, put};
 use tql_bound::change::Assignment;
 use tql_catalog::table_def::TableDef;
-use tql_cells::stored::StoredRow;
 use tql_expr::columns::Columns;
+use tql_expr::stored::StoredRow;
 use tql_expr::terms::Terms;
 use tql_expr::values::value_on;
 use tql_memory::Memory;

@@ -1,6 +1,6 @@
 //! The generated columns of a table's rows.
 ghost use Rattle.std.specs.Prelude.{◌≡◌};
-ghost use Rattle.tql_cells.specs.Generated.{generated};
+ghost use Rattle.tql_expr.specs.Generated.{generated};
 
 use tql_catalog::table_def::TableDef;
 

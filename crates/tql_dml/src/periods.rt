@@ -3,14 +3,14 @@ ghost use Rattle.std.specs.Prelude.{◌≡◌, option_map, slice_get};
 ghost use Rattle.tql_spec.specs.Definition.{cell, period_of, point_like, point_of, with_period};
 ghost use Rattle.tql_spec.specs.Period.{where_rising};
 ghost use Rattle.tql_period.specs.Points.{points_of};
-ghost use Rattle.tql_cells.specs.Shown.{shown_by};
+ghost use Rattle.tql_expr.specs.Shown.{shown_by};
 ghost use Rattle.tql_value.specs.Views.{datum_of_value, datum_of_view, row_of};
 ghost use Rattle.tql_dml.specs.Cutting.{Cuts};
 
 use crate::spread::put;
 use tql_catalog::table_def::TableDef;
-use tql_cells::stored::StoredRow;
 use tql_expr::columns::Columns;
+use tql_expr::stored::StoredRow;
 use tql_period::period::Period;
 use tql_period::pieces::{Pieces, split};
 use tql_value::value::{Value, View};

@@ -1,36 +1,18 @@
 //! The values that a change computes.
 ghost use Rattle.std.specs.Prelude.{[], All, map};
-ghost use Rattle.tql_spec.specs.Expression as tree;
+ghost use Rattle.tql_spec.specs.Expression as bound;
 ghost use Rattle.tql_spec.specs.Words.{map_all};
 ghost use Rattle.tql_bound.specs.Changes.{tuple_of};
 ghost use Rattle.tql_expr.specs.Meaning.{HasExpr};
 ghost use Rattle.tql_value.specs.Views.{rows_of};
 ghost use Rattle.tql_expr.specs.Evaluated.{Evaluated};
 
-use tql_cells::row::Row;
+use tql_expr::row::EmptyRow;
 use tql_expr::terms::{ExprId, Terms};
 use tql_expr::values::values_on;
 use tql_memory::Memory;
 use tql_value::refusal::Refusal;
 use tql_value::value::Value;
-
-/// The values of tuples of expressions on a row.
-fn tuples_on(
-    memory: Memory,
-    terms: &Terms,
-    tuples: &[Vec<ExprId, Memory>],
-    row: &Row,
-) -> Result<Vec<Vec<Value, Memory>, Memory>, Refusal>
-    requires { All (λ tuple. All (HasExpr terms.now) tuple.items) tuples.now }
-    ensures { Evaluated (λ rows. rows_of rows.items)
-        (map_all (map_all (tree.eval [] row.now)) (map (tuple_of terms.now) tuples.now)) result }
-{
-    let mut rows = Vec::with_capacity(memory, tuples.len())?;
-    for tuple in tuples {
-        rows.push(values_on(memory, terms, tuple, row)?)?;
-    }
-    Ok(rows)
-}
 
 /// The values of tuples of expressions in which no column stands.
 pub(crate) fn tuples_of(
@@ -40,8 +22,11 @@ pub(crate) fn tuples_of(
 ) -> Result<Vec<Vec<Value, Memory>, Memory>, Refusal>
     requires { All (λ tuple. All (HasExpr terms.now) tuple.items) tuples.now }
     ensures { Evaluated (λ rows. rows_of rows.items)
-        (map_all (map_all (tree.eval [] [])) (map (tuple_of terms.now) tuples.now)) result }
+        (map_all (map_all (bound.eval [] [])) (map (tuple_of terms.now) tuples.now)) result }
 {
-    let row = Row::new(memory);
-    tuples_on(memory, terms, tuples, &row)
+    let mut rows = Vec::with_capacity(memory, tuples.len())?;
+    for tuple in tuples {
+        rows.push(values_on(memory, terms, tuple, &EmptyRow)?)?;
+    }
+    Ok(rows)
 }

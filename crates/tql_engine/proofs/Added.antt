@@ -11,7 +11,7 @@ use Rattle.tql_spec.specs.History.{Copy}
 use Rattle.tql_spec.specs.Change as change
 use Rattle.tql_spec.specs.Change.{Outcome, Work, Fate, Replaced, after_fates, touched_count, fate, modify, insert}
 use Rattle.tql_spec.specs.Constraint.{each_table, key_holds, keys_hold, reference_to, references_hold}
-use Rattle.tql_spec.specs.Machine.{State, Reply, Done, Change, outcome, altered, changed_table, verb_of}
+use Rattle.tql_spec.specs.Machine.{State, Reply, Done, Change, outcome, changed, changed_table, verb_of}
 use Rattle.tql_spec.specs.Machine.{constraint_faults, unless_refused}
 use Rattle.tql_catalog.specs.Defined.{IsDefinition}
 use Rattle.tql_engine.proofs.ChangeKeeps.{working_now, with_table_rows, begun_at}
@@ -81,7 +81,7 @@ altered_as s c faults o =
 
 pub altered_by : (s : State) (c : Change) (o : Outcome) → AllByRecursion IsDefinition s.definitions
     → outcome s (working_now s).moment (working_now s).copy c ≡ o
-    → altered s c ≡ unless_refused (first o.faults) s (Done (verb_of c) (Some o.count))
+    → changed s c ≡ unless_refused (first o.faults) s (Done (verb_of c) (Some o.count))
     (with_table_rows s (changed_table c) o.rows)
 altered_by s c o a e =
     let copy : Copy = slice_set (working_now s).copy (changed_table c) o.rows in

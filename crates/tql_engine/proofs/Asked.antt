@@ -25,7 +25,7 @@ use Rattle.tql_expr.proofs.Printing.{generated_prints}
 use Rattle.tql_store.specs.Represents.{seen_by}
 use Rattle.tql_value.specs.Points.{IsPrintable, ArePrintable, IsMoment}
 use Rattle.tql_engine.specs.Fitting.{RowsFit, CopyFits, HistoryFits, WorkingFits}
-use Rattle.tql_engine.specs.Stands.{Held, StandsFor, AreSince, IsDated, copies_of, open_moment, working_of}
+use Rattle.tql_engine.specs.Stands.{EngineModel, StandsFor, AreSince, IsDated, copies_of, open_moment, working_of}
 use Rattle.tql_engine.proofs.Standing.{some_is, definition_law, defined_law}
 use Rattle.tql_engine.proofs.Copies.{history_found}
 
@@ -148,7 +148,7 @@ past_fit ps bound (e ∷ es) top since falls f =
     (f.0, ((since.0, under), past_fit ps e.moment es under since.1 falls.1 f.1))
 
 -- an open transaction counts as the last commit
-entries_fit_by : (h : Held) (s : State) (o : Option Entry) → StandsFor h s → s.transaction ≡ o
+entries_fit_by : (h : EngineModel) (s : State) (o : Option Entry) → StandsFor h s → s.transaction ≡ o
     → EntriesFit (definitions_of h.tables) (listed o ++ s.history)
 entries_fit_by h s None f e =
     past_fit (definitions_of h.tables) s.next s.history f.not_after f.since f.falls f.fits.rows
@@ -163,14 +163,14 @@ entries_fit_by h s (Some x) f e =
       ),
     )
 
-entries_fit : (h : Held) (s : State) → StandsFor h s → EntriesFit (definitions_of h.tables) (entries s)
+entries_fit : (h : EngineModel) (s : State) → StandsFor h s → EntriesFit (definitions_of h.tables) (entries s)
 entries_fit h s f = entries_fit_by h s s.transaction f refl
 
 -- the versions that a question finds
 abbrev versions_found : State → ℕ → When → List Version
 versions_found s t when = found when (table_history t (entries s))
 
-versions_fit : (h : Held) (s : State) (t : ℕ) (p : Table) (when : When) → StandsFor h s
+versions_fit : (h : EngineModel) (s : State) (t : ℕ) (p : Table) (when : When) → StandsFor h s
     → slice_get h.tables t ≡ Some p → VersionsFit p.definition (versions_found s t when)
 versions_fit h s t p when f e =
     found_fit p.definition (definitions_of h.tables) t (rows_fit h.tables t p e) when (entries s) (entries_fit h s f)
@@ -180,7 +180,8 @@ abbrev pub rows_when : State → ℕ → When → List Row
 rows_when s t when = versions (table_at s.definitions t) t when (entries s)
 
 -- they are these versions
-rows_are : (h : Held) (s : State) (t : ℕ) (p : Table) (when : When) → StandsFor h s → slice_get h.tables t ≡ Some p
+rows_are : (h : EngineModel) (s : State) (t : ℕ) (p : Table) (when : When) → StandsFor h s
+    → slice_get h.tables t ≡ Some p
     → rows_when s t when ≡ map (full p.definition) (versions_found s t when)
 rows_are h s t p when f e = ap (λ (d : TableDef). map (full d) (versions_found s t when)) (definition_law h s t p f e)
 
@@ -191,13 +192,13 @@ seen_copies tables es None id = refl
 seen_copies tables es (Some e) id = refl
 
 -- the copies of a table that questions see
-pub seen_law : (h : Held) (s : State) (t : ℕ) (p : Table) → StandsFor h s → slice_get h.tables t ≡ Some p
-    → seen_by h.rows.working (copies_of h.tables s.history) (working_of h.tables s.transaction) p.id ≡ table_history
+pub seen_law : (h : EngineModel) (s : State) (t : ℕ) (p : Table) → StandsFor h s → slice_get h.tables t ≡ Some p
+    → seen_by h.store.working (copies_of h.tables s.history) (working_of h.tables s.transaction) p.id ≡ table_history
     t (entries s)
 seen_law h s t p f e =
     ap (λ (w : Option ℤ). seen_by w (copies_of h.tables s.history) (working_of h.tables s.transaction) p.id) f.opened
     ∙ seen_copies h.tables s.history s.transaction p.id
-    ∙ history_found h.rows h.tables t p f.placed e (entries s)
+    ∙ history_found h.store h.tables t p f.placed e (entries s)
 
 -- ---- what can be printed
 
@@ -235,7 +236,7 @@ ordered_prints keys rows h =
     (ordered_all (All IsPrintable) keys rows (recursion_from_All (All IsPrintable) rows h))
 
 -- the rows that a question finds have texts
-pub found_print : (h : Held) (s : State) (t : ℕ) (p : Table) (when : When) → StandsFor h s
+pub found_print : (h : EngineModel) (s : State) (t : ℕ) (p : Table) (when : When) → StandsFor h s
     → slice_get h.tables t ≡ Some p → All (All IsPrintable) (rows_when s t when)
 found_print h s t p when f e =
     subst (All (All IsPrintable)) (sym (rows_are h s t p when f e))

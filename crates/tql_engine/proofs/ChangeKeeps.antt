@@ -11,20 +11,20 @@ use Rattle.tql_spec.specs.Datum.{Row}
 use Rattle.tql_spec.specs.Definition.{Stamped, TableDef}
 use Rattle.tql_spec.specs.History.{Copy, Entry, rows_in}
 use Rattle.tql_spec.specs.Machine.{State, newest_copy, working, with_working}
-use Rattle.tql_store.specs.Held as store
-use Rattle.tql_rows.specs.Changes.{is_current}
-use Rattle.tql_rows.specs.Changes.{alive}
+use Rattle.tql_store.specs.StoreModel as store
+use Rattle.tql_store_rows.specs.Changes.{is_current}
+use Rattle.tql_store_rows.specs.Changes.{alive}
 use Rattle.tql_store.specs.Changes.{last_rows, rows_after}
 use Rattle.tql_store.specs.Represents as represents
 use Rattle.tql_store.specs.Represents.{Copies, Working, Represents, BeginCopies, ChangeReplaces, RollbackRestores}
 use Rattle.tql_store.specs.Represents.{Judged}
-use Rattle.tql_store.specs.declared.tables.Place.{Place}
+use Rattle.tql_store.specs.declared.tables.TableSlot.{TableSlot}
 use Rattle.tql_store.proofs.Judging.{still-judged}
 use Rattle.tql_catalog.specs.Tables.{definitions_of}
 use Rattle.tql_catalog.specs.declared.catalog.Table.{Table}
 use Rattle.tql_catalog.specs.Rows.{IsRowOf}
 use Rattle.tql_engine.specs.Fitting.{RowsFit, CopyFits, HistoryFits}
-use Rattle.tql_engine.specs.Stands.{Held, StandsFor, ArePlaced, rows_of_id, copies_of, working_of}
+use Rattle.tql_engine.specs.Stands.{EngineModel, StandsFor, ArePlaced, rows_of_id, copies_of, working_of}
 use Rattle.tql_engine.specs.Committing.{CommitsRows, Undoes, ReplacesRows, ChangesRows, KeepsRows}
 use Rattle.tql_engine.proofs.Standing.{some_is}
 use Rattle.tql_engine.proofs.Copies.{rows_found, rows_set, rows_empty, fits_length, same_working, any_working}
@@ -123,7 +123,7 @@ replaced_rows m gone added copy t = rows_after m gone added (rows_in copy t)
 abbrev pub replaced_copy : ℤ → (Stamped → Bool) → List Row → Copy → ℕ → Copy
 replaced_copy m gone added copy t = slice_set copy t (replaced_rows m gone added copy t)
 
-module _ (rows : store.Held) (ps : List Table) (placed : ArePlaced rows ps) (t : ℕ) (p : Table)
+module _ (rows : store.StoreModel) (ps : List Table) (placed : ArePlaced rows ps) (t : ℕ) (p : Table)
     (there : slice_get ps t ≡ Some p) where
   replaced_found : (m : ℤ) (gone : Stamped → Bool) (added : List Row) (copy : Copy)
       → CopyFits (definitions_of ps) copy → (id : ℕ)
@@ -136,7 +136,7 @@ module _ (rows : store.Held) (ps : List Table) (placed : ArePlaced rows ps) (t :
       ∙ length-map ps (λ (t : Table). t.definition)) (replaced_rows m gone added copy t) id)
 
   -- what stands for the copy stands for the one after the change
-  pub replaced_stands : (r1 r2 : store.Held) (copies : Copies) (copy : Copy) (m : ℤ) (gone : Stamped
+  pub replaced_stands : (r1 r2 : store.StoreModel) (copies : Copies) (copy : Copy) (m : ℤ) (gone : Stamped
       → Bool) (removed : List ℕ) (added : List Row)
       → CopyFits (definitions_of ps) copy → r1.working ≡ Some m → Judged r1 p.id gone removed
       → ChangeReplaces p.id removed added r1 r2
@@ -161,7 +161,7 @@ module _ (rows : store.Held) (ps : List Table) (placed : ArePlaced rows ps) (t :
 -- ---- what begins
 
 -- the working copy of a transaction that begins is the last one
-pub begun_stands : (tables : List Table) (defs : List TableDef) (es : List Entry) (old new : store.Held)
+pub begun_stands : (tables : List Table) (defs : List TableDef) (es : List Entry) (old new : store.StoreModel)
     → BeginCopies old new
     → Represents old (copies_of tables es) (working_of tables None)
     → Represents new (copies_of tables es) (rows_of_id tables (newest_copy defs es))
@@ -171,24 +171,24 @@ begun_stands tables defs es old new begins r =
 
 -- ---- the tables stay
 
-pub same_count : (old new : store.Held) (n : ℕ) → new.tables ≡ old.tables → store.table_count old ≡ n
+pub same_count : (old new : store.StoreModel) (n : ℕ) → new.tables ≡ old.tables → store.table_count old ≡ n
     → store.table_count new ≡ n
-same_count old new n places e = ap (λ (xs : List Place). store.table_count (record old { tables = xs })) places ∙ e
+same_count old new n places e = ap (λ (xs : List TableSlot). store.table_count (record old { tables = xs })) places ∙ e
 
 -- ---- the laws
 
 -- in a transaction of its own
-module _ (h : Held) (defs : List TableDef) (es : List Entry) (next : ℤ) where
+module _ (h : EngineModel) (defs : List TableDef) (es : List Entry) (next : ℤ) where
   -- the machine, with no transaction open
   abbrev idle : State
   idle = record { definitions = defs; history = es; next = next; transaction = None }
 
-  own_changed : (t : ℕ) (p : Table) (gone : Stamped → Bool) (removed : List ℕ) (added : List Row) (r : store.Held)
+  own_changed : (t : ℕ) (p : Table) (gone : Stamped → Bool) (removed : List ℕ) (added : List Row) (r : store.StoreModel)
       → StandsFor h idle → slice_get h.tables t ≡ Some p → next <ℤ high
-      → AreRowsOf p.definition added → Judged h.rows p.id gone removed → CommitsRows next p.id removed added h.rows r
+      → AreRowsOf p.definition added → Judged h.store p.id gone removed → CommitsRows next p.id removed added h.store r
       → StandsFor (record {
         tables = h.tables;
-        rows = r;
+        store = r;
         next = next +ℤ pos 1;
       }) (with_table_rows idle t (rows_after next gone added (working_rows idle t)))
   own_changed t p gone removed added r f there below ok judged c =
@@ -196,12 +196,12 @@ module _ (h : Held) (defs : List TableDef) (es : List Entry) (next : ℤ) where
       let fits : CopyFits (definitions_of h.tables) copy =
       last_fits (definitions_of h.tables) defs es f.fits.definitions f.fits.rows in
       let opened : Represents c.opened (copies_of h.tables es) (rows_of_id h.tables copy) =
-      begun_stands h.tables defs es h.rows c.opened c.begins f.stands in
+      begun_stands h.tables defs es h.store c.opened c.begins f.stands in
       let judged1 : Judged c.opened p.id gone removed =
-      still-judged h.rows c.opened p.id gone removed (c.same_names p.id) judged in
+      still-judged h.store c.opened p.id gone removed (c.same_names p.id) judged in
       let changed : Represents c.changed (copies_of h.tables es)
       (rows_of_id h.tables (replaced_copy next gone added copy t)) =
-      replaced_stands h.rows h.tables f.placed t p there c.opened c.changed (copies_of h.tables es) copy next gone
+      replaced_stands h.store h.tables f.placed t p there c.opened c.changed (copies_of h.tables es) copy next gone
       removed added fits c.is_open judged1 c.changes opened in
       let from = f.not_before in
       record {
@@ -210,7 +210,7 @@ module _ (h : Held) (defs : List TableDef) (es : List Entry) (next : ℤ) where
           defined = f.fits.defined;
           narrow = f.fits.narrow;
           rows = (
-            replaced_fits h.rows h.tables f.placed t p there next gone added copy from below ok fits,
+            replaced_fits h.store h.tables f.placed t p there next gone added copy from below ok fits,
             f.fits.rows,
           );
           working = tt;
@@ -226,14 +226,15 @@ module _ (h : Held) (defs : List TableDef) (es : List Entry) (next : ℤ) where
             (working_of h.tables None) c.idle
             (c.commits (copies_of h.tables es) (rows_of_id h.tables (replaced_copy next gone added copy t)) next
             c.still_open changed);
-        placed = same_places h.rows r h.tables c.places f.placed;
-        count = same_count h.rows r _ c.places f.count;
+        placed = same_places h.store r h.tables c.places f.placed;
+        count = same_count h.store r _ c.places f.count;
       }
 
-  own_undone : (r : store.Held) → StandsFor h idle → Undoes next h.rows r → StandsFor (record h { rows = r }) idle
+  own_undone : (r : store.StoreModel) → StandsFor h idle → Undoes next h.store r
+      → StandsFor (record h { store = r }) idle
   own_undone r f c =
       let opened : Represents c.opened (copies_of h.tables es) (rows_of_id h.tables (newest_copy defs es)) =
-      begun_stands h.tables defs es h.rows c.opened c.begins f.stands in
+      begun_stands h.tables defs es h.store c.opened c.begins f.stands in
       record {
         fits = f.fits;
         clock = f.clock;
@@ -246,8 +247,8 @@ module _ (h : Held) (defs : List TableDef) (es : List Entry) (next : ℤ) where
         stands = any_working r (copies_of h.tables es) (rows_of_id h.tables (newest_copy defs es))
             (working_of h.tables None) c.idle
             (c.restores (copies_of h.tables es) (rows_of_id h.tables (newest_copy defs es)) next c.is_open opened);
-        placed = same_places h.rows r h.tables c.places f.placed;
-        count = same_count h.rows r _ c.places f.count;
+        placed = same_places h.store r h.tables c.places f.placed;
+        count = same_count h.store r _ c.places f.count;
       }
 
   -- in the open transaction
@@ -255,13 +256,13 @@ module _ (h : Held) (defs : List TableDef) (es : List Entry) (next : ℤ) where
   within e = record { definitions = defs; history = es; next = next; transaction = Some e }
 
   within_changed : (e : Entry) (t : ℕ) (p : Table) (gone : Stamped
-      → Bool) (removed : List ℕ) (added : List Row) (r : store.Held) → StandsFor h (within e)
+      → Bool) (removed : List ℕ) (added : List Row) (r : store.StoreModel) → StandsFor h (within e)
       → slice_get h.tables t ≡ Some p
-      → AreRowsOf p.definition added → Judged h.rows p.id gone removed
-      → ReplacesRows e.moment p.id removed added h.rows r
+      → AreRowsOf p.definition added → Judged h.store p.id gone removed
+      → ReplacesRows e.moment p.id removed added h.store r
       → StandsFor (record {
         tables = h.tables;
-        rows = r;
+        store = r;
         next = next;
       }) (with_table_rows (within e) t (rows_after e.moment gone added (working_rows (within e) t)))
   within_changed e t p gone removed added r f there ok judged c =
@@ -274,7 +275,7 @@ module _ (h : Held) (defs : List TableDef) (es : List Entry) (next : ℤ) where
           defined = f.fits.defined;
           narrow = f.fits.narrow;
           rows = f.fits.rows;
-          working = replaced_fits h.rows h.tables f.placed t p there e.moment gone added e.copy
+          working = replaced_fits h.store h.tables f.placed t p there e.moment gone added e.copy
               (subst (λ m. first_moment ≤ℤ m) (sym same) from) (subst (λ m. m <ℤ high) (sym same) below) ok
               f.fits.working;
         };
@@ -285,70 +286,71 @@ module _ (h : Held) (defs : List TableDef) (es : List Entry) (next : ℤ) where
         since = f.since;
         opened = c.still_open;
         dated = f.dated;
-        stands = replaced_stands h.rows h.tables f.placed t p there h.rows r (copies_of h.tables es) e.copy e.moment
+        stands = replaced_stands h.store h.tables f.placed t p there h.store r (copies_of h.tables es) e.copy e.moment
             gone removed added f.fits.working f.opened judged c.changes f.stands;
-        placed = same_places h.rows r h.tables c.places f.placed;
-        count = same_count h.rows r _ c.places f.count;
+        placed = same_places h.store r h.tables c.places f.placed;
+        count = same_count h.store r _ c.places f.count;
       }
 
   changed_by : (o : Option Entry) (t : ℕ) (p : Table) (gone : Stamped
-      → Bool) (removed : List ℕ) (added : List Row) (r : store.Held) (after : ℤ)
+      → Bool) (removed : List ℕ) (added : List Row) (r : store.StoreModel) (after : ℤ)
       → (let s : State = record { definitions = defs; history = es; next = next; transaction = o } in
-      StandsFor h s → slice_get h.tables t ≡ Some p → (IsNone h.rows.working → next <ℤ high)
-      → AreRowsOf p.definition added → Judged h.rows p.id gone removed
-      → ChangesRows h.rows.working next after p.id removed added h.rows r
+      StandsFor h s → slice_get h.tables t ≡ Some p → (IsNone h.store.working → next <ℤ high)
+      → AreRowsOf p.definition added → Judged h.store p.id gone removed
+      → ChangesRows h.store.working next after p.id removed added h.store r
       → StandsFor (record {
         tables = h.tables;
-        rows = r;
+        store = r;
         next = after;
       }) (with_table_rows s t (rows_after (working_now s).moment gone added (working_rows s t))))
   changed_by None t p gone removed added r after f there below ok judged c =
-      let d = subst (λ w. ChangesRows w next after p.id removed added h.rows r) f.opened c in
+      let d = subst (λ w. ChangesRows w next after p.id removed added h.store r) f.opened c in
       subst (λ n. StandsFor (record {
         tables = h.tables;
-        rows = r;
+        store = r;
         next = n;
       }) (with_table_rows idle t (rows_after next gone added (working_rows idle t)))) (sym d.1)
       (own_changed t p gone removed added r f there (below (subst (λ w. IsNone w) (sym f.opened) refl)) ok judged d.0)
   changed_by (Some e) t p gone removed added r after f there below ok judged c =
-      let d = subst (λ w. ChangesRows w next after p.id removed added h.rows r) f.opened c in
+      let d = subst (λ w. ChangesRows w next after p.id removed added h.store r) f.opened c in
       subst (λ n. StandsFor (record {
         tables = h.tables;
-        rows = r;
+        store = r;
         next = n;
       }) (with_table_rows (within e) t (rows_after e.moment gone added (working_rows (within e) t))))
       (sym d.1)
       (within_changed e t p gone removed added r f there ok judged d.0)
 
-  kept_by : (o : Option Entry) (r : store.Held)
+  kept_by : (o : Option Entry) (r : store.StoreModel)
       → (let s : State = record { definitions = defs; history = es; next = next; transaction = o } in StandsFor h s
-      → KeepsRows h.rows.working next h.rows r → StandsFor (record h { rows = r }) s)
-  kept_by None r f c = own_undone r f (subst (λ w. KeepsRows w next h.rows r) f.opened c)
+      → KeepsRows h.store.working next h.store r → StandsFor (record h { store = r }) s)
+  kept_by None r f c = own_undone r f (subst (λ w. KeepsRows w next h.store r) f.opened c)
   kept_by (Some e) r f c =
-      let same : r ≡ h.rows = subst (λ w. KeepsRows w next h.rows r) f.opened c in
-      subst (λ (x : store.Held). StandsFor (record h { rows = x }) (within e)) (sym same) f
+      let same : r ≡ h.store = subst (λ w. KeepsRows w next h.store r) f.opened c in
+      subst (λ (x : store.StoreModel). StandsFor (record h { store = x }) (within e)) (sym same) f
 
 -- rows replaced, in the open transaction or in one of their own
-pub change_law : (h : Held) (s : State) (t : ℕ) (p : Table) (gone : Stamped
-    → Bool) (removed : List ℕ) (added : List Row) (r : store.Held) (after : ℤ) → StandsFor h s
-    → slice_get h.tables t ≡ Some p → (IsNone h.rows.working → h.next <ℤ high) → AreRowsOf p.definition added
-    → Judged h.rows p.id gone removed
-    → ChangesRows h.rows.working h.next after p.id removed added h.rows r
+pub change_law : (h : EngineModel) (s : State) (t : ℕ) (p : Table) (gone : Stamped
+    → Bool) (removed : List ℕ) (added : List Row) (r : store.StoreModel) (after : ℤ) → StandsFor h s
+    → slice_get h.tables t ≡ Some p → (IsNone h.store.working → h.next <ℤ high) → AreRowsOf p.definition added
+    → Judged h.store p.id gone removed
+    → ChangesRows h.store.working h.next after p.id removed added h.store r
     → StandsFor (record {
       tables = h.tables;
-      rows = r;
+      store = r;
       next = after;
     }) (with_table_rows s t (rows_after (working_now s).moment gone added (working_rows s t)))
 change_law h s t p gone removed added r after f there below ok judged c =
     changed_by h s.definitions s.history s.next s.transaction t p gone removed added r after f there
     (λ none. subst (λ m. m <ℤ high) f.clock (below none)) ok judged
-    (subst (λ m. ChangesRows h.rows.working m after p.id removed added h.rows r) f.clock c)
+    (subst (λ m. ChangesRows h.store.working m after p.id removed added h.store r) f.clock c)
 
 -- a change that was given up
-pub kept_law : (h : Held) (s : State) (r : store.Held) → StandsFor h s → KeepsRows h.rows.working h.next h.rows r
-    → StandsFor (record h { rows = r }) s
+pub kept_law : (h : EngineModel) (s : State) (r : store.StoreModel) → StandsFor h s
+    → KeepsRows h.store.working h.next h.store r
+    → StandsFor (record h { store = r }) s
 kept_law h s r f c = kept_by h s.definitions s.history s.next s.transaction r f
-    (subst (λ m. KeepsRows h.rows.working m h.rows r) f.clock c)
+    (subst (λ m. KeepsRows h.store.working m h.store r) f.clock c)
 
 -- ---- all rows, or none
 
@@ -375,5 +377,5 @@ none_goes false c = refl
 none_goes true false = refl
 none_goes true true = refl
 
-pub none_judged : (h : store.Held) (id : ℕ) → Judged h id (λ (r : Stamped). false) []
+pub none_judged : (h : store.StoreModel) (id : ℕ) → Judged h id (λ (r : Stamped). false) []
 none_judged h id = λ i v e. none_goes (alive v) (is_current v)

@@ -6,10 +6,9 @@ use Rattle.std.proofs.lemmas.Bool.Decides.{nat_tests}
 use Rattle.tql_spec.proofs.Members.{both, by_bool}
 use Rattle.tql_spec.specs.Definition.{Stamped, TableDef}
 use Rattle.tql_spec.specs.History.{Copy, Entry, rows_in, table_history}
-use Rattle.tql_store.specs.Held as store
-use Rattle.tql_store.specs.Places.{place_of, is_taken, is_kept}
+use Rattle.tql_store.specs.TableSlots.{slot_at, is_taken, is_kept}
 use Rattle.tql_store.specs.Represents.{Copies, Working, horizon_of, StandsWith, Represents}
-use Rattle.tql_store.specs.Held.{live}
+use Rattle.tql_store.specs.StoreModel.{StoreModel, live}
 use Rattle.tql_catalog.specs.declared.catalog.Table.{Table}
 use Rattle.tql_engine.specs.Fitting.{CopyFits}
 use Rattle.tql_engine.specs.Stands.{ArePlaced, is_free, rows_of_id, copies_of}
@@ -44,7 +43,7 @@ chosen b x y e = ap (λ (c : Bool). if c then x else y) e
 pub passed : {X : Type 0} (b : Bool) (x y : X) → b ≡ false → (if b then x else y) ≡ y
 passed b x y e = ap (λ (c : Bool). if c then x else y) e
 
-pub rows_found : (h : store.Held) (ps : List Table) (t : ℕ) (p : Table) → ArePlaced h ps → slice_get ps t ≡ Some p
+pub rows_found : (h : StoreModel) (ps : List Table) (t : ℕ) (p : Table) → ArePlaced h ps → slice_get ps t ≡ Some p
     → (copy : Copy) → rows_of_id ps copy p.id ≡ rows_in copy t
 rows_found h [] t p a e copy = cc
 rows_found h (q ∷ ps) zero p a e [] = refl
@@ -56,7 +55,7 @@ rows_found h (q ∷ ps) (suc t) p a e (rows ∷ copy) =
     passed (nat_eq q.id p.id) rows (rows_of_id ps copy p.id) (turned p.id q.id false (apart q.id ps t p a.0 e))
     ∙ rows_found h ps t p a.2 e copy
 
-pub history_found : (h : store.Held) (ps : List Table) (t : ℕ) (p : Table) → ArePlaced h ps → slice_get ps t ≡ Some p
+pub history_found : (h : StoreModel) (ps : List Table) (t : ℕ) (p : Table) → ArePlaced h ps → slice_get ps t ≡ Some p
     → (es : List Entry) → copies_of ps es p.id ≡ table_history t es
 history_found h ps t p a e [] = refl
 history_found h ps t p a e (x ∷ older) = λ i. record {
@@ -66,7 +65,7 @@ history_found h ps t p a e (x ∷ older) = λ i. record {
 
 -- ---- a copy with other rows of one table
 
-pub rows_set : (h : store.Held) (ps : List Table) (t : ℕ) (p : Table) → ArePlaced h ps → slice_get ps t ≡ Some p
+pub rows_set : (h : StoreModel) (ps : List Table) (t : ℕ) (p : Table) → ArePlaced h ps → slice_get ps t ≡ Some p
     → (copy : Copy) → length copy ≡ length ps → (rows : List Stamped) (id : ℕ)
     → rows_of_id ps (slice_set copy t rows) id ≡ (if nat_eq id p.id then rows else rows_of_id ps copy id)
 rows_set h [] t p a e copy k rows id = cc
@@ -125,17 +124,17 @@ fits_length (p ∷ ps) (rows ∷ copy) f = ap suc (fits_length ps copy f.1)
 
 -- ---- what stands for copies stands for the same copies
 
-pub same_copies : (h : store.Held) (copies others : Copies) (working : Working) → ((t : ℕ) → copies t ≡ others t)
+pub same_copies : (h : StoreModel) (copies others : Copies) (working : Working) → ((t : ℕ) → copies t ≡ others t)
     → Represents h copies working → Represents h others working
 same_copies h copies others working e r = subst (λ (c : Copies). Represents h c working) (λ i t. e t i) r
 
 -- and for the same working copy
-pub same_working : (h : store.Held) (copies : Copies) (working others : Working) → ((t : ℕ) → working t ≡ others t)
+pub same_working : (h : StoreModel) (copies : Copies) (working others : Working) → ((t : ℕ) → working t ≡ others t)
     → Represents h copies working → Represents h copies others
 same_working h copies working others e r = subst (λ (w : Working). Represents h copies w) (λ i t. e t i) r
 
 -- with no transaction open there is no working copy
-pub any_working : (h : store.Held) (copies : Copies) (working others : Working) → h.working ≡ None
+pub any_working : (h : StoreModel) (copies : Copies) (working others : Working) → h.working ≡ None
     → Represents h copies working → Represents h copies others
 any_working h copies working others idle r = record {
   dated = r.dated;
@@ -146,14 +145,14 @@ any_working h copies working others idle r = record {
 -- ---- tables at their numbers
 
 -- the numbers and what stands there are the same
-pub same_places : (old new : store.Held) (ps : List Table) → new.tables ≡ old.tables → ArePlaced old ps
+pub same_places : (old new : StoreModel) (ps : List Table) → new.tables ≡ old.tables → ArePlaced old ps
     → ArePlaced new ps
 same_places old new [] e a = tt
 same_places old new (p ∷ ps) e a = (
   a.0,
   record {
-    there = ap (λ places. is_taken (place_of places p.id)) e ∙ a.1.there;
-    versioned = ap (λ places. is_kept (place_of places p.id)) e ∙ a.1.versioned;
+    there = ap (λ places. is_taken (slot_at places p.id)) e ∙ a.1.there;
+    versioned = ap (λ places. is_kept (slot_at places p.id)) e ∙ a.1.versioned;
   },
   same_places old new ps e a.2,
 )

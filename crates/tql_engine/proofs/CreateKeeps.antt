@@ -9,17 +9,17 @@ use Rattle.tql_spec.proofs.Members.{both, by_bool}
 use Rattle.tql_spec.specs.Definition.{TableDef}
 use Rattle.tql_spec.specs.History.{Copy, Entry, FallingFrom}
 use Rattle.tql_spec.specs.Machine.{State, with_table}
-use Rattle.tql_store.specs.Held as store
-use Rattle.tql_store.specs.Held.{has_table, table_count}
-use Rattle.tql_store.specs.Places.{is_kept, is_taken, place_for, place_of}
+use Rattle.tql_store.specs.StoreModel.{StoreModel, has_table, table_count}
+use Rattle.tql_store.specs.TableSlots.{is_kept, is_taken, place_for, slot_at}
 use Rattle.tql_store.specs.Represents.{AddsTable, AddKeepsCopies}
-use Rattle.tql_store.specs.declared.tables.Place.{Place}
-use Rattle.tql_store.specs.declared.tables.Place.TheVariants.{Free}
+use Rattle.tql_store.specs.declared.tables.TableSlot.{TableSlot}
+use Rattle.tql_store.specs.declared.tables.TableSlot.TheVariants.{Free}
 use Rattle.tql_catalog.specs.Tables.{definitions_of}
 use Rattle.tql_catalog.specs.declared.catalog.Table.{Table}
 use Rattle.tql_catalog.specs.Defined.{IsDefinition}
 use Rattle.tql_engine.specs.Fitting.{CopyFits, HistoryFits, WorkingFits, IsNarrow}
-use Rattle.tql_engine.specs.Stands.{Held, StandsFor, ArePlaced, IsKept, AreSince, is_free, copies_of, open_moment}
+use Rattle.tql_engine.specs.Stands.{EngineModel, StandsFor, ArePlaced, IsKept, AreSince, is_free, copies_of}
+use Rattle.tql_engine.specs.Stands.{open_moment}
 use Rattle.tql_engine.specs.Stands.{working_of}
 use Rattle.tql_engine.proofs.Standing.{closed_law}
 use Rattle.tql_engine.proofs.Copies.{turned, rows_more, fits_length, same_copies, any_working}
@@ -86,15 +86,15 @@ kept_for : (b : Bool) → is_kept (place_for b) ≡ b
 kept_for true = refl
 kept_for false = refl
 
-module _ (old new : store.Held) (q : Table) (a : AddsTable (is_some q.definition.system) q.id old new) where
+module _ (old new : StoreModel) (q : Table) (a : AddsTable (is_some q.definition.system) q.id old new) where
   -- what is put there
-  abbrev put : Place
+  abbrev put : TableSlot
   put = place_for (is_some q.definition.system)
 
   -- a table that is there stands at another number
   pub other_number : (p : Table) → IsTrue (has_table old p.id) → nat_eq p.id q.id ≡ false
   other_number p v = by_bool (nat_eq p.id q.id)
-      (λ same. absurd (never (sym (ap is_taken (ap (place_of old.tables) (decided p.id q.id same) ∙ a.free)) ∙ v)))
+      (λ same. absurd (never (sym (ap is_taken (ap (slot_at old.tables) (decided p.id q.id same) ∙ a.free)) ∙ v)))
       (λ other. other)
     where
       decided : (n m : ℕ) → nat_eq n m ≡ true → n ≡ m
@@ -105,14 +105,14 @@ module _ (old new : store.Held) (q : Table) (a : AddsTable (is_some q.definition
 
   still_kept : (p : Table) → IsKept old p → IsKept new p
   still_kept p k =
-      let same : place_of new.tables p.id ≡ place_of old.tables p.id =
-      a.takes.places p.id ∙ ap (λ (b : Bool). if b then put else place_of old.tables p.id) (other_number p k.there) in
+      let same : slot_at new.tables p.id ≡ slot_at old.tables p.id =
+      a.takes.places p.id ∙ ap (λ (b : Bool). if b then put else slot_at old.tables p.id) (other_number p k.there) in
       record { there = ap is_taken same ∙ k.there; versioned = ap is_kept same ∙ k.versioned }
 
   pub new_kept : IsKept new q
   new_kept =
-      let here : place_of new.tables q.id ≡ put =
-      a.takes.places q.id ∙ ap (λ (b : Bool). if b then put else place_of old.tables q.id) (self q.id) in
+      let here : slot_at new.tables q.id ≡ put =
+      a.takes.places q.id ∙ ap (λ (b : Bool). if b then put else slot_at old.tables q.id) (self q.id) in
       record {
         there = ap is_taken here ∙ taken_for (is_some q.definition.system);
         versioned = ap is_kept here ∙ kept_for (is_some q.definition.system);
@@ -132,10 +132,10 @@ module _ (old new : store.Held) (q : Table) (a : AddsTable (is_some q.definition
 
 -- ---- the law
 
-pub create_law : (h : Held) (s : State) (q : Table) (r : store.Held) → StandsFor h s → IsNone h.rows.working
+pub create_law : (h : EngineModel) (s : State) (q : Table) (r : StoreModel) → StandsFor h s → IsNone h.store.working
     → IsDefinition q.definition → IsNarrow q.definition
-    → AddsTable (is_some q.definition.system) q.id h.rows r → AddKeepsCopies h.rows r
-    → StandsFor (record { tables = h.tables ++ q ∷ []; rows = r; next = h.next }) (with_table q.definition s)
+    → AddsTable (is_some q.definition.system) q.id h.store r → AddKeepsCopies h.store r
+    → StandsFor (record { tables = h.tables ++ q ∷ []; store = r; next = h.next }) (with_table q.definition s)
 create_law h s q r f closed right few a keeps =
     let none : s.transaction ≡ None = closed_law h s f closed in
     let idle : r.working ≡ None = a.working ∙ f.opened ∙ ap open_moment none in
@@ -165,6 +165,6 @@ create_law h s q r f closed right few a keeps =
           (any_working r (copies_of h.tables s.history) (working_of h.tables s.transaction)
           (working_of (h.tables ++ q ∷ []) s.transaction) idle
           (keeps (copies_of h.tables s.history) (working_of h.tables s.transaction) f.stands));
-      placed = placed_more h.rows r q a h.tables f.placed;
+      placed = placed_more h.store r q a h.tables f.placed;
       count = a.count ∙ ap (λ (n : ℕ). n + 1) f.count ∙ sym (length-append h.tables (q ∷ []));
     }

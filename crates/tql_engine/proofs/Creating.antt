@@ -9,16 +9,15 @@ use Rattle.tql_spec.specs.Refusal.{TableUnknownOrAlreadyThere, TooManyTablesOrRe
 use Rattle.tql_spec.specs.Definition.{TableDef}
 use Rattle.tql_spec.specs.History.{Copy, Entry}
 use Rattle.tql_spec.specs.Machine.{State, with_table}
-use Rattle.tql_store.specs.Held as store
-use Rattle.tql_store.specs.Held.{has_table, table_count}
-use Rattle.tql_store.specs.Places.{is_kept, is_taken, place_of, place_for}
+use Rattle.tql_store.specs.StoreModel.{StoreModel, has_table, table_count}
+use Rattle.tql_store.specs.TableSlots.{is_kept, is_taken, slot_at, place_for}
 use Rattle.tql_store.specs.Changes.{emptied}
 use Rattle.tql_store.specs.Represents.{Takes, AddsTable, AddKeepsCopies, DropEmpties, copies_without}
-use Rattle.tql_store.specs.declared.tables.Place.TheVariants.{Free}
+use Rattle.tql_store.specs.declared.tables.TableSlot.TheVariants.{Free}
 use Rattle.tql_catalog.specs.Defined.{IsDefinition}
 use Rattle.tql_catalog.specs.Tables.{IsFree, creation_faults}
 use Rattle.tql_catalog.specs.declared.catalog.Table.{Table}
-use Rattle.tql_bind.specs.Bounds.{IsSoundTable}
+use Rattle.tql_bound.specs.Bounds.{IsSoundTable}
 use Rattle.tql_engine.specs.Fitting.{IsNarrow}
 use Rattle.tql_engine.specs.Stands.{StandsFor, ArePlaced, rows_of_id, copies_of, working_of}
 use Rattle.tql_engine.proofs.Copies.{passed, same_copies}
@@ -36,28 +35,28 @@ no_fault defs d k = λ i. first
 -- ---- a table that is made
 
 -- the engine with the new table stands for the state with it
-pub made_law : (s : State) (tables more : List Table) (table : Table) (old new : store.Held) (next : ℤ)
+pub made_law : (s : State) (tables more : List Table) (table : Table) (old new : StoreModel) (next : ℤ)
     (versioned : Bool)
-    → StandsFor (record { tables = tables; rows = old; next = next }) s → IsNone old.working
+    → StandsFor (record { tables = tables; store = old; next = next }) s → IsNone old.working
     → IsDefinition table.definition → IsNarrow table.definition
     → AddsTable versioned table.id old new → AddKeepsCopies old new → versioned ≡ is_some table.definition.system
     → more ≡ tables ++ table ∷ []
-    → StandsFor (record { tables = more; rows = new; next = next }) (with_table table.definition s)
+    → StandsFor (record { tables = more; store = new; next = next }) (with_table table.definition s)
 made_law s tables more table old new next versioned st closed right few adds keeps same e =
     subst (λ (ts : List Table). StandsFor (record {
       tables = ts;
-      rows = new;
+      store = new;
       next = next;
     }) (with_table table.definition s)) (sym e)
     (create_law (record {
       tables = tables;
-      rows = old;
+      store = old;
       next = next;
     }) s table new st closed right few (subst (λ (b : Bool). AddsTable b table.id old new) same adds) keeps)
 
 -- ---- a number that the store has given out
 
-module _ (old mid : store.Held) (q : Table) (a : AddsTable (is_some q.definition.system) q.id old mid) where
+module _ (old mid : StoreModel) (q : Table) (a : AddsTable (is_some q.definition.system) q.id old mid) where
   -- no table has it
   pub free_number : (ps : List Table) → ArePlaced old ps → IsFree q.id ps
   free_number [] k = All-nil _
@@ -103,15 +102,15 @@ without_none ps id f es u = by_bool (nat_eq u id)
     the_same n m e = grind (arith, nat_tests)
 
 -- the new table is dropped from the store
-module _ (old mid new : store.Held) (q : Table) (a : AddsTable (is_some q.definition.system) q.id old mid)
+module _ (old mid new : StoreModel) (q : Table) (a : AddsTable (is_some q.definition.system) q.id old mid)
     (places : Takes q.id Free mid.tables new.tables) (count : table_count new + 1 ≡ table_count mid)
     (working_same : new.working ≡ mid.working) (copies : DropEmpties q.id mid new) where
-  same_place : (p : Table) → IsTrue (has_table old p.id) → place_of new.tables p.id ≡ place_of old.tables p.id
+  same_place : (p : Table) → IsTrue (has_table old p.id) → slot_at new.tables p.id ≡ slot_at old.tables p.id
   same_place p there =
       let other : nat_eq p.id q.id ≡ false = other_number old mid q a p there in
-      places.places p.id ∙ passed (nat_eq p.id q.id) Free (place_of mid.tables p.id) other
+      places.places p.id ∙ passed (nat_eq p.id q.id) Free (slot_at mid.tables p.id) other
       ∙ a.takes.places p.id
-      ∙ passed (nat_eq p.id q.id) (place_for (is_some q.definition.system)) (place_of old.tables p.id) other
+      ∙ passed (nat_eq p.id q.id) (place_for (is_some q.definition.system)) (slot_at old.tables p.id) other
 
   placed_still : (ps : List Table) → ArePlaced old ps → ArePlaced new ps
   placed_still [] k = tt
@@ -129,8 +128,8 @@ module _ (old mid new : store.Held) (q : Table) (a : AddsTable (is_some q.defini
 
   -- the engine stands for the state as it was
   pub given_up_law : (s : State) (tables : List Table) (next : ℤ)
-      → StandsFor (record { tables = tables; rows = old; next = next }) s → AddKeepsCopies old mid
-      → StandsFor (record { tables = tables; rows = new; next = next }) s
+      → StandsFor (record { tables = tables; store = old; next = next }) s → AddKeepsCopies old mid
+      → StandsFor (record { tables = tables; store = new; next = next }) s
   given_up_law s tables next f keeps =
       let working = working_of tables s.transaction in
       record {

@@ -14,7 +14,8 @@ use Rattle.tql_spec.specs.Change.{Outcome, insert}
 use Rattle.tql_spec.specs.Refusal.{Refusal, NotInThisTransactionState, MomentNotAllowed, ValueOutOfRange, first}
 use Rattle.tql_spec.specs.Machine.{State, Reply, Refused, Done, Table, CreatedTable, DroppedTable, ClockSet, Inserted}
 use Rattle.tql_spec.specs.Machine.{Started, Committed, RolledBack, Change, CreateTable, DropTable, SetClock, Start}
-use Rattle.tql_spec.specs.Machine.{Commit, Rollback, Alter, Ask, step, altered, unless_refused, is_not_later}
+use Rattle.tql_spec.specs.Machine.{Commit, Rollback, ChangeRows, AnswerQuery, step, changed, unless_refused}
+use Rattle.tql_spec.specs.Machine.{is_not_later}
 use Rattle.tql_spec.specs.Machine.{is_clock_at_end, with_table, without_table, with_commit, working, asked, bag_of}
 use Rattle.tql_exec.specs.Found.{ordered}
 use Rattle.tql_expr.specs.Evaluated.{Fails}
@@ -25,9 +26,9 @@ use Rattle.tql_catalog.specs.Defined.{IsDefinition}
 use Rattle.tql_bound.specs.Changes.{insertion_of}
 use Rattle.tql_bound.specs.declared.change.Insertion.{Insertion}
 use Rattle.tql_dml.specs.Alters.{tuples_in, inserted}
-use Rattle.tql_store.specs.Held as store
+use Rattle.tql_store.specs.StoreModel.{StoreModel}
 use Rattle.tql_store.specs.Represents.{BeginCopies, CommitAppends, RollbackRestores}
-use Rattle.tql_engine.specs.Stands.{Held, StandsFor, open_moment}
+use Rattle.tql_engine.specs.Stands.{EngineModel, StandsFor, open_moment}
 use Rattle.tql_engine.specs.Committing.{ChangesRows}
 use Rattle.tql_engine.specs.Effects.{Does, Refuses, not_later_than}
 use Rattle.tql_engine.proofs.Faults.{refused, create_step, drop_step, clock_step, start_step, commit_step}
@@ -41,11 +42,11 @@ use Rattle.tql_engine.proofs.TransactionKeeps.{begun_law, ended_law, undone_law}
 
 -- ---- what is done, by an equal step
 
-pub by_step : (h : Held) (reply : Reply) (a b : Reply × State) → a ≡ b → Does h reply b → Does h reply a
+pub by_step : (h : EngineModel) (reply : Reply) (a b : Reply × State) → a ≡ b → Does h reply b → Does h reply a
 by_step h reply a b e d = subst (Does h reply) (sym e) d
 
 -- a refusal
-abbrev pub refuses : (h : Held) (s : State) (e : Refusal) → StandsFor h s → Does h (Refused e) (refused e s)
+abbrev pub refuses : (h : EngineModel) (s : State) (e : Refusal) → StandsFor h s → Does h (Refused e) (refused e s)
 refuses h s e st = record { replies = refl; stands = st }
 
 -- ---- whether a transaction is open
@@ -55,11 +56,12 @@ some_entry : (o : Option Entry) → is_some o ≡ true → (e : Entry) × (o ≡
 some_entry None k = cc
 some_entry (Some e) k = (e, refl)
 
-pub open_entry : (h : Held) (s : State) → StandsFor h s → IsSome h.rows.working → (e : Entry) × (s.transaction ≡ Some e)
+pub open_entry : (h : EngineModel) (s : State) → StandsFor h s → IsSome h.store.working
+    → (e : Entry) × (s.transaction ≡ Some e)
 open_entry h s st k = some_entry s.transaction (open_law h s st ∙ k)
 
 -- none is open in both, or in neither
-pub idle_law : (h : Held) (s : State) → StandsFor h s → is_none s.transaction ≡ is_none h.rows.working
+pub idle_law : (h : EngineModel) (s : State) → StandsFor h s → is_none s.transaction ≡ is_none h.store.working
 idle_law h s st = same_test s.transaction ∙ ap is_none (sym st.opened)
   where
     same_test : (o : Option Entry) → is_none o ≡ is_none (open_moment o)
@@ -73,13 +75,13 @@ none_of (Some x) true e = refl
 none_of (Some x) false e = cc
 
 -- whether a change has no moment
-pub lacks_law : (h : Held) (s : State) → StandsFor h s
-    → (is_none s.transaction && is_clock_at_end s) ≡ (is_none h.rows.working && int_le high h.next)
+pub lacks_law : (h : EngineModel) (s : State) → StandsFor h s
+    → (is_none s.transaction && is_clock_at_end s) ≡ (is_none h.store.working && int_le high h.next)
 lacks_law h s st = λ i. idle_law h s st i && int_le high (sym st.clock i)
 
 -- ---- CREATE
 
-pub create_does : (h new : Held) (s : State) (d : TableDef) → StandsFor h s → is_some h.rows.working ≡ false
+pub create_does : (h new : EngineModel) (s : State) (d : TableDef) → StandsFor h s → is_some h.store.working ≡ false
     → StandsFor new (with_table d s) → Does new (Done CreatedTable None) (step s (CreateTable d))
 create_does h new s d st e made =
     by_step new (Done CreatedTable None) (step s (CreateTable d)) (Done CreatedTable None, with_table d s)
@@ -88,7 +90,7 @@ create_does h new s d st e made =
 
 -- ---- DROP
 
-pub drop_does : (h new : Held) (s : State) (t : ℕ) → StandsFor h s → is_some h.rows.working ≡ false
+pub drop_does : (h new : EngineModel) (s : State) (t : ℕ) → StandsFor h s → is_some h.store.working ≡ false
     → StandsFor new (without_table t s) → Does new (Done DroppedTable None) (step s (DropTable t))
 drop_does h new s t st e left =
     by_step new (Done DroppedTable None) (step s (DropTable t)) (Done DroppedTable None, without_table t s)
@@ -105,8 +107,8 @@ abbrev clock_left : ℤ → State → Reply × State
 clock_left m s = if is_not_later m s.history then refused MomentNotAllowed s else set_to m s
 
 -- with a moment that is not later than the last commit's
-pub clock_refused : (h : Held) (s : State) (m : ℤ) → StandsFor h s → is_some h.rows.working ≡ false
-    → not_later_than m h.rows.last ≡ true → Does h (Refused MomentNotAllowed) (step s (SetClock m))
+pub clock_refused : (h : EngineModel) (s : State) (m : ℤ) → StandsFor h s → is_some h.store.working ≡ false
+    → not_later_than m h.store.last ≡ true → Does h (Refused MomentNotAllowed) (step s (SetClock m))
 clock_refused h s m st c e =
     by_step h (Refused MomentNotAllowed) (step s (SetClock m)) (refused MomentNotAllowed s)
     (clock_step s m ∙ passed (is_some s.transaction) (refused NotInThisTransactionState s) (clock_left m s)
@@ -115,8 +117,8 @@ clock_refused h s m st c e =
     ∙ e)) (refuses h s MomentNotAllowed st)
 
 -- with a later one
-pub clock_set : (h : Held) (s : State) (m : ℤ) → StandsFor h s → IsNone h.rows.working
-    → not_later_than m h.rows.last ≡ false → first_moment ≤ℤ m → m ≤ℤ high
+pub clock_set : (h : EngineModel) (s : State) (m : ℤ) → StandsFor h s → IsNone h.store.working
+    → not_later_than m h.store.last ≡ false → first_moment ≤ℤ m → m ≤ℤ high
     → Does (record h { next = m }) (Done ClockSet None) (step s (SetClock m))
 clock_set h s m st c e low up =
     let later : is_not_later m s.history ≡ false = last_law h s m st ∙ e in
@@ -144,27 +146,28 @@ none_ordered : (keys : List OrderKey) (o : Option (List Row)) → ordered keys o
 none_ordered keys None e = refl
 none_ordered keys (Some bag) e = absurd (cc)
 
-module _ (h : Held) (s : State) (q : Query) (st : StandsFor h s) where
+module _ (h : EngineModel) (s : State) (q : Query) (st : StandsFor h s) where
   -- the rows in order, under the headings
   pub asked_does : (headings : List Name) (rows : List Row) → ordered q.ordering (answer (bag_of s) q) ≡ Some rows
-      → headings ≡ q.headings → Does h (Table headings rows) (step s (Ask q))
+      → headings ≡ q.headings → Does h (Table headings rows) (step s (AnswerQuery q))
   asked_does headings rows is heads =
-      by_step h (Table headings rows) (step s (Ask q)) (Table q.headings rows, s)
+      by_step h (Table headings rows) (step s (AnswerQuery q)) (Table q.headings rows, s)
       (asked_table s q (answer (bag_of s) q) rows is)
       (record { replies = λ i. Table (heads i) rows; stands = st })
 
   -- an evaluation is out of range, or there is no memory
-  pub asked_errs : (e : r.Refusal) → Fails (ordered q.ordering (answer (bag_of s) q)) e → Refuses h s e (step s (Ask q))
+  pub asked_errs : (e : r.Refusal) → Fails (ordered q.ordering (answer (bag_of s) q)) e
+      → Refuses h s e (step s (AnswerQuery q))
   asked_errs variant.OutOfMemory f = st
   asked_errs variant.ValueOutOfRange f =
-      by_step h (Refused ValueOutOfRange) (step s (Ask q)) (refused ValueOutOfRange s)
+      by_step h (Refused ValueOutOfRange) (step s (AnswerQuery q)) (refused ValueOutOfRange s)
       (ap (asked s q) (none_ordered q.ordering (answer (bag_of s) q) f)) (refuses h s ValueOutOfRange st)
   asked_errs _ f = absurd f
 
 -- ---- changes
 
 -- the definition of each table of the state is right
-pub defined_all : (h : Held) (s : State) → StandsFor h s → AllByRecursion IsDefinition s.definitions
+pub defined_all : (h : EngineModel) (s : State) → StandsFor h s → AllByRecursion IsDefinition s.definitions
 defined_all h s st = subst (AllByRecursion IsDefinition) (sym st.fits.definitions) st.fits.defined
 
 -- with one
@@ -172,11 +175,11 @@ no_moment : (w : Option ℤ) (n : ℤ) → (IsNone w → n <ℤ high) → (is_no
 no_moment None n k = let below = k refl in grind (arith, ints, below)
 no_moment (Some m) n k = refl
 
-pub change_step : (h : Held) (s : State) (c : Change) → StandsFor h s → (IsNone h.rows.working → h.next <ℤ high)
-    → step s (Alter c) ≡ altered s c
+pub change_step : (h : EngineModel) (s : State) (c : Change) → StandsFor h s → (IsNone h.store.working → h.next <ℤ high)
+    → step s (ChangeRows c) ≡ changed s c
 change_step h s c st below =
-    alter_step s c ∙ passed (is_none s.transaction && is_clock_at_end s) (refused MomentNotAllowed s) (altered s c)
-    (lacks_law h s st ∙ no_moment h.rows.working h.next below)
+    alter_step s c ∙ passed (is_none s.transaction && is_clock_at_end s) (refused MomentNotAllowed s) (changed s c)
+    (lacks_law h s st ∙ no_moment h.store.working h.next below)
 
 -- ---- INSERT
 
@@ -186,9 +189,9 @@ insert_outcome_of s p x =
     insert p.definition (working_now s).moment (working_rows s x.table) x.columns.items (tuples_in x)
 
 -- what the machine does
-insert_is : (h : Held) (s : State) (p : CatalogTable) (x : Insertion) → StandsFor h s
-    → slice_get h.tables x.table ≡ Some p → (IsNone h.rows.working → h.next <ℤ high)
-    → (let o = insert_outcome_of s p x in step s (Alter (insertion_of x)) ≡ unless_refused (first o.faults) s
+insert_is : (h : EngineModel) (s : State) (p : CatalogTable) (x : Insertion) → StandsFor h s
+    → slice_get h.tables x.table ≡ Some p → (IsNone h.store.working → h.next <ℤ high)
+    → (let o = insert_outcome_of s p x in step s (ChangeRows (insertion_of x)) ≡ unless_refused (first o.faults) s
     (Done Inserted (Some o.count)) (with_table_rows s x.table o.rows))
 insert_is h s p x st e below =
     change_step h s (insertion_of x) st below
@@ -197,14 +200,14 @@ insert_is h s p x st e below =
     (definition_law h s x.table p st e))
 
 -- the first fault of the new rows
-pub insert_refused : (h : Held) (s : State) (p : CatalogTable) (x : Insertion) (f : Refusal) → StandsFor h s
-    → slice_get h.tables x.table ≡ Some p → (IsNone h.rows.working → h.next <ℤ high)
+pub insert_refused : (h : EngineModel) (s : State) (p : CatalogTable) (x : Insertion) (f : Refusal) → StandsFor h s
+    → slice_get h.tables x.table ≡ Some p → (IsNone h.store.working → h.next <ℤ high)
     → ((m : ℤ) → first (inserted p.definition x m).faults ≡ Some f)
-    → Does h (Refused f) (step s (Alter (insertion_of x)))
+    → Does h (Refused f) (step s (ChangeRows (insertion_of x)))
 insert_refused h s p x f st e below k =
     let m : ℤ = (working_now s).moment in
     let o : Outcome = insert_outcome_of s p x in
-    by_step h (Refused f) (step s (Alter (insertion_of x))) (refused f s)
+    by_step h (Refused f) (step s (ChangeRows (insertion_of x))) (refused f s)
     (insert_is h s p x st e below
     ∙ ap (λ q. unless_refused q s (Done Inserted (Some o.count)) (with_table_rows s x.table o.rows))
     (ap first (insert_faults p.definition m (working_rows s x.table) x.columns.items (tuples_in x)) ∙ k m))
@@ -214,27 +217,28 @@ insert_refused h s p x f st e below k =
 abbrev pub with_rows_added : State → ℕ → List Row → State
 with_rows_added s t rows = with_table_rows s t (working_rows s t ++ begun_at (working_now s).moment rows)
 
-pub rows_added : (h : Held) (s : State) (t : ℕ) (p : CatalogTable) (rows : List Row) (removed : List ℕ)
-    (r : store.Held) (after : ℤ) → StandsFor h s → slice_get h.tables t ≡ Some p
-    → (IsNone h.rows.working → h.next <ℤ high) → AreRowsOf p.definition rows → removed ≡ []
-    → ChangesRows h.rows.working h.next after p.id removed rows h.rows r
-    → StandsFor (record { tables = h.tables; rows = r; next = after }) (with_rows_added s t rows)
+pub rows_added : (h : EngineModel) (s : State) (t : ℕ) (p : CatalogTable) (rows : List Row) (removed : List ℕ)
+    (r : StoreModel) (after : ℤ) → StandsFor h s → slice_get h.tables t ≡ Some p
+    → (IsNone h.store.working → h.next <ℤ high) → AreRowsOf p.definition rows → removed ≡ []
+    → ChangesRows h.store.working h.next after p.id removed rows h.store r
+    → StandsFor (record { tables = h.tables; store = r; next = after }) (with_rows_added s t rows)
 rows_added h s t p rows removed r after st e below fit none c =
     subst (λ (xs : List Stamped). StandsFor (record {
       tables = h.tables;
-      rows = r;
+      store = r;
       next = after;
     }) (with_table_rows s t xs)) (only_added (working_now s).moment rows (working_rows s t))
-    (change_law h s t p (λ (x : Stamped). false) [] rows r after st e below fit (none_judged h.rows p.id)
-    (subst (λ is. ChangesRows h.rows.working h.next after p.id is rows h.rows r) none c))
+    (change_law h s t p (λ (x : Stamped). false) [] rows r after st e below fit (none_judged h.store p.id)
+    (subst (λ is. ChangesRows h.store.working h.next after p.id is rows h.store r) none c))
 
 -- what the machine does where there is no fault
-inserted_is : (h : Held) (s : State) (p : CatalogTable) (x : Insertion) (rows : List Row) (count : ℕ) → StandsFor h s
-    → slice_get h.tables x.table ≡ Some p → (IsNone h.rows.working → h.next <ℤ high)
+inserted_is : (h : EngineModel) (s : State) (p : CatalogTable) (x : Insertion) (rows : List Row) (count : ℕ)
+    → StandsFor h s
+    → slice_get h.tables x.table ≡ Some p → (IsNone h.store.working → h.next <ℤ high)
     → ((m : ℤ) → map (λ (r : Stamped). r.cells) (inserted p.definition x m).rows ≡ rows)
     → ((m : ℤ) → first (inserted p.definition x m).faults ≡ None)
     → ((m : ℤ) → count ≡ (inserted p.definition x m).count)
-    → step s (Alter (insertion_of x)) ≡ (Done Inserted (Some count), with_rows_added s x.table rows)
+    → step s (ChangeRows (insertion_of x)) ≡ (Done Inserted (Some count), with_rows_added s x.table rows)
 inserted_is h s p x rows count st e below cells sound n =
     let m : ℤ = (working_now s).moment in
     let made : Outcome = inserted p.definition x m in
@@ -251,25 +255,25 @@ inserted_is h s p x rows count st e below cells sound n =
     ))
 
 -- and the reply
-pub insert_does : (h : Held) (s : State) (p : CatalogTable) (x : Insertion) (rows : List Row) (removed : List ℕ)
-    (r : store.Held) (after : ℤ) (count : ℕ)
-    → StandsFor h s → slice_get h.tables x.table ≡ Some p → (IsNone h.rows.working → h.next <ℤ high)
+pub insert_does : (h : EngineModel) (s : State) (p : CatalogTable) (x : Insertion) (rows : List Row) (removed : List ℕ)
+    (r : StoreModel) (after : ℤ) (count : ℕ)
+    → StandsFor h s → slice_get h.tables x.table ≡ Some p → (IsNone h.store.working → h.next <ℤ high)
     → AreRowsOf p.definition rows → removed ≡ []
-    → ChangesRows h.rows.working h.next after p.id removed rows h.rows r
+    → ChangesRows h.store.working h.next after p.id removed rows h.store r
     → ((m : ℤ) → map (λ (y : Stamped). y.cells) (inserted p.definition x m).rows ≡ rows)
     → ((m : ℤ) → first (inserted p.definition x m).faults ≡ None)
     → ((m : ℤ) → count ≡ (inserted p.definition x m).count)
     → Does (record {
       tables = h.tables;
-      rows = r;
+      store = r;
       next = after;
-    }) (Done Inserted (Some count)) (step s (Alter (insertion_of x)))
+    }) (Done Inserted (Some count)) (step s (ChangeRows (insertion_of x)))
 insert_does h s p x rows removed r after count st e below fit none c cells sound n =
     by_step (record {
       tables = h.tables;
-      rows = r;
+      store = r;
       next = after;
-    }) (Done Inserted (Some count)) (step s (Alter (insertion_of x)))
+    }) (Done Inserted (Some count)) (step s (ChangeRows (insertion_of x)))
     (Done Inserted (Some count), with_rows_added s x.table rows)
     (inserted_is h s p x rows count st e below cells sound n)
     (record { replies = refl; stands = rows_added h s x.table p rows removed r after st e below fit none c })
@@ -294,11 +298,12 @@ start_left s = if is_clock_at_end s then refused MomentNotAllowed s else begun_s
 not_over : (n : ℤ) → n <ℤ high → int_le high n ≡ false
 not_over n below = grind (arith, ints)
 
-pub start_does : (h : Held) (s : State) (r : store.Held) → StandsFor h s → IsNone h.rows.working → h.next <ℤ high
-    → BeginCopies h.rows r → r.working ≡ Some h.next → r.tables ≡ h.rows.tables
-    → Does (record h { rows = r }) (Done Started None) (step s Start)
+pub start_does : (h : EngineModel) (s : State) (r : StoreModel) → StandsFor h s → IsNone h.store.working
+    → h.next <ℤ high
+    → BeginCopies h.store r → r.working ≡ Some h.next → r.tables ≡ h.store.tables
+    → Does (record h { store = r }) (Done Started None) (step s Start)
 start_does h s r st closed below begins is_open places =
-    by_step (record h { rows = r }) (Done Started None) (step s Start) (begun_so s)
+    by_step (record h { store = r }) (Done Started None) (step s Start) (begun_so s)
     (start_step s ∙ passed (is_some s.transaction) (refused NotInThisTransactionState s) (start_left s)
     (open_law h s st ∙ closed)
     ∙ passed (is_clock_at_end s) (refused MomentNotAllowed s) (begun_so s) (ap (int_le high) (sym st.clock)
@@ -306,13 +311,15 @@ start_does h s r st closed below begins is_open places =
     (record { replies = refl; stands = begun_law h s r st (closed_law h s st closed) below begins is_open places })
 
 -- no transaction is open
-closed_none : (h : Held) (s : State) → StandsFor h s → is_some h.rows.working ≡ false → is_none s.transaction ≡ true
+closed_none : (h : EngineModel) (s : State) → StandsFor h s → is_some h.store.working ≡ false
+    → is_none s.transaction ≡ true
 closed_none h s st e = none_of s.transaction false (open_law h s st ∙ e)
 
-open_some : (h : Held) (s : State) → StandsFor h s → is_some h.rows.working ≡ true → is_none s.transaction ≡ false
+open_some : (h : EngineModel) (s : State) → StandsFor h s → is_some h.store.working ≡ true
+    → is_none s.transaction ≡ false
 open_some h s st e = none_of s.transaction true (open_law h s st ∙ e)
 
-pub commit_refused : (h : Held) (s : State) → StandsFor h s → is_some h.rows.working ≡ false
+pub commit_refused : (h : EngineModel) (s : State) → StandsFor h s → is_some h.store.working ≡ false
     → Does h (Refused NotInThisTransactionState) (step s Commit)
 commit_refused h s st e =
     by_step h (Refused NotInThisTransactionState) (step s Commit) (refused NotInThisTransactionState s)
@@ -321,14 +328,14 @@ commit_refused h s st e =
     (refuses h s NotInThisTransactionState st)
 
 -- committed
-pub commit_does : (h : Held) (s : State) (r : store.Held) → StandsFor h s → IsSome h.rows.working
-    → CommitAppends h.rows r → r.working ≡ None → r.tables ≡ h.rows.tables
-    → Does (record { tables = h.tables; rows = r; next = h.next +ℤ pos 1 }) (Done Committed None) (step s Commit)
+pub commit_does : (h : EngineModel) (s : State) (r : StoreModel) → StandsFor h s → IsSome h.store.working
+    → CommitAppends h.store r → r.working ≡ None → r.tables ≡ h.store.tables
+    → Does (record { tables = h.tables; store = r; next = h.next +ℤ pos 1 }) (Done Committed None) (step s Commit)
 commit_does h s r st is_open commits is_idle places =
     let e = open_entry h s st is_open in
     by_step (record {
       tables = h.tables;
-      rows = r;
+      store = r;
       next = h.next +ℤ pos 1;
     }) (Done Committed None) (step s Commit) (Done Committed None, with_commit s (Some e.0))
     (commit_step s ∙ passed (is_none s.transaction) (refused NotInThisTransactionState s)
@@ -336,7 +343,7 @@ commit_does h s r st is_open commits is_idle places =
     ∙ ap {B = Reply × State} (λ o. (Done Committed None, with_commit s o)) e.1)
     (record { replies = refl; stands = ended_law h s e.0 r st e.1 commits is_idle places })
 
-pub rollback_refused : (h : Held) (s : State) → StandsFor h s → is_some h.rows.working ≡ false
+pub rollback_refused : (h : EngineModel) (s : State) → StandsFor h s → is_some h.store.working ≡ false
     → Does h (Refused NotInThisTransactionState) (step s Rollback)
 rollback_refused h s st e =
     by_step h (Refused NotInThisTransactionState) (step s Rollback) (refused NotInThisTransactionState s)
@@ -345,12 +352,12 @@ rollback_refused h s st e =
     (refuses h s NotInThisTransactionState st)
 
 -- undone
-pub rollback_does : (h : Held) (s : State) (r : store.Held) → StandsFor h s → IsSome h.rows.working
-    → RollbackRestores h.rows r → r.working ≡ None → r.tables ≡ h.rows.tables
-    → Does (record h { rows = r }) (Done RolledBack None) (step s Rollback)
+pub rollback_does : (h : EngineModel) (s : State) (r : StoreModel) → StandsFor h s → IsSome h.store.working
+    → RollbackRestores h.store r → r.working ≡ None → r.tables ≡ h.store.tables
+    → Does (record h { store = r }) (Done RolledBack None) (step s Rollback)
 rollback_does h s r st is_open restores is_idle places =
     let e = open_entry h s st is_open in
-    by_step (record h { rows = r }) (Done RolledBack None) (step s Rollback)
+    by_step (record h { store = r }) (Done RolledBack None) (step s Rollback)
     (Done RolledBack None, record s { transaction = None })
     (rollback_step s ∙ passed (is_none s.transaction) (refused NotInThisTransactionState s)
     (Done RolledBack None, record s { transaction = None }) (open_some h s st is_open))

@@ -11,17 +11,16 @@ use Rattle.tql_spec.proofs.Members.{both, by_bool}
 use Rattle.tql_spec.specs.Definition.{TableDef, Stamped}
 use Rattle.tql_spec.specs.History.{Copy, Entry, FallingFrom}
 use Rattle.tql_spec.specs.Machine.{State, without_table}
-use Rattle.tql_store.specs.Held as store
-use Rattle.tql_store.specs.Held.{table_count}
-use Rattle.tql_store.specs.Places.{is_kept, is_taken, place_of}
+use Rattle.tql_store.specs.StoreModel.{StoreModel, table_count}
+use Rattle.tql_store.specs.TableSlots.{is_kept, is_taken, slot_at}
 use Rattle.tql_store.specs.Changes.{emptied}
 use Rattle.tql_store.specs.Represents.{Takes, DropEmpties, copies_without}
-use Rattle.tql_store.specs.declared.tables.Place.TheVariants.{Free}
+use Rattle.tql_store.specs.declared.tables.TableSlot.TheVariants.{Free}
 use Rattle.tql_catalog.specs.Tables.{definitions_of}
 use Rattle.tql_catalog.specs.declared.catalog.Table.{Table}
 use Rattle.tql_catalog.specs.Defined.{IsDefinition}
 use Rattle.tql_engine.specs.Fitting.{CopyFits, HistoryFits, WorkingFits, IsNarrow}
-use Rattle.tql_engine.specs.Stands.{Held, StandsFor, ArePlaced, IsKept, AreSince, is_free, rows_of_id, copies_of}
+use Rattle.tql_engine.specs.Stands.{EngineModel, StandsFor, ArePlaced, IsKept, AreSince, is_free, rows_of_id, copies_of}
 use Rattle.tql_engine.specs.Stands.{open_moment, working_of}
 use Rattle.tql_engine.proofs.Standing.{closed_law, some_is}
 use Rattle.tql_engine.proofs.Copies.{chosen, passed, turned, apart, not_true, fits_length, same_copies, any_working}
@@ -67,7 +66,7 @@ differs : (n m k : ℕ) → nat_eq n m ≡ true → nat_eq k n ≡ false → nat
 differs n m k e f = grind (arith, nat_tests)
 
 -- of a copy without the rows of a table
-rows_less : (h : store.Held) (ps : List Table) (t : ℕ) (p : Table) → ArePlaced h ps → slice_get ps t ≡ Some p
+rows_less : (h : StoreModel) (ps : List Table) (t : ℕ) (p : Table) → ArePlaced h ps → slice_get ps t ≡ Some p
     → (copy : Copy) → length copy ≡ length ps → (id : ℕ)
     → rows_of_id (remove ps t) (remove copy t) id ≡ (if nat_eq id p.id then [] else rows_of_id ps copy id)
 rows_less h [] t p a e copy k id = cc
@@ -121,12 +120,12 @@ within (q ∷ ps) (suc t) p e = let l = within ps t p e in omega (arith, l)
 
 -- ---- a table that the store lets go
 
-module _ (old new : store.Held) (q : Table) (places : Takes q.id Free old.tables new.tables) where
+module _ (old new : StoreModel) (q : Table) (places : Takes q.id Free old.tables new.tables) where
   -- a table at another number is kept
   still_kept : (p : Table) → nat_eq p.id q.id ≡ false → IsKept old p → IsKept new p
   still_kept p other k =
-      let same : place_of new.tables p.id ≡ place_of old.tables p.id =
-      places.places p.id ∙ passed (nat_eq p.id q.id) Free (place_of old.tables p.id) other in
+      let same : slot_at new.tables p.id ≡ slot_at old.tables p.id =
+      places.places p.id ∙ passed (nat_eq p.id q.id) Free (slot_at old.tables p.id) other in
       record { there = ap is_taken same ∙ k.there; versioned = ap is_kept same ∙ k.versioned }
 
   placed_rest : (ps : List Table) → IsTrue (is_free q.id ps) → ArePlaced old ps → ArePlaced new ps
@@ -147,7 +146,7 @@ module _ (old new : store.Held) (q : Table) (places : Takes q.id Free old.tables
   )
 
 -- the copies of the tables that are left
-copies_less : (h : store.Held) (ps : List Table) (t : ℕ) (p : Table) → ArePlaced h ps → slice_get ps t ≡ Some p
+copies_less : (h : StoreModel) (ps : List Table) (t : ℕ) (p : Table) → ArePlaced h ps → slice_get ps t ≡ Some p
     → (es : List Entry) → HistoryFits (definitions_of ps) es → (id : ℕ)
     → copies_without p.id (copies_of ps es) id ≡ copies_of (remove ps t) (entries_less t es) id
 copies_less h ps t p a e es f id = by_bool (nat_eq id p.id)
@@ -175,13 +174,13 @@ copies_less h ps t p a e es f id = by_bool (nat_eq id p.id)
 
 -- ---- the law
 
-pub drop_law : (h : Held) (s : State) (t : ℕ) (p : Table) (tables : List Table) (r : store.Held) → StandsFor h s
-    → IsNone h.rows.working → slice_get h.tables t ≡ Some p
-    → tables ≡ remove h.tables t → Takes p.id Free h.rows.tables r.tables → table_count r + 1 ≡ table_count h.rows
-    → r.working ≡ h.rows.working → DropEmpties p.id h.rows r
-    → StandsFor (record { tables = tables; rows = r; next = h.next }) (without_table t s)
+pub drop_law : (h : EngineModel) (s : State) (t : ℕ) (p : Table) (tables : List Table) (r : StoreModel) → StandsFor h s
+    → IsNone h.store.working → slice_get h.tables t ≡ Some p
+    → tables ≡ remove h.tables t → Takes p.id Free h.store.tables r.tables → table_count r + 1 ≡ table_count h.store
+    → r.working ≡ h.store.working → DropEmpties p.id h.store r
+    → StandsFor (record { tables = tables; store = r; next = h.next }) (without_table t s)
 drop_law h s t p tables r f closed there left places count same_working copies =
-    subst (λ (ts : List Table). StandsFor (record { tables = ts; rows = r; next = h.next }) (without_table t s))
+    subst (λ (ts : List Table). StandsFor (record { tables = ts; store = r; next = h.next }) (without_table t s))
     (sym left)
     (record {
       fits = record {
@@ -203,13 +202,13 @@ drop_law h s t p tables r f closed there left places count same_working copies =
       dated = f.dated;
       stands = same_copies r (copies_without p.id (copies_of h.tables s.history))
           (copies_of (remove h.tables t) (entries_less t s.history)) (working_of (remove h.tables t) s.transaction)
-          (copies_less h.rows h.tables t p f.placed there s.history f.fits.rows)
+          (copies_less h.store h.tables t p f.placed there s.history f.fits.rows)
           (any_working r (copies_without p.id (copies_of h.tables s.history)) (working_of h.tables s.transaction)
           (working_of (remove h.tables t) s.transaction)
           (same_working ∙ f.opened ∙ ap open_moment none)
           (copies (copies_of h.tables s.history) (working_of h.tables s.transaction) f.stands));
-      placed = placed_less h.rows r p places h.tables t f.placed there;
-      count = fewer (table_count r) (table_count h.rows) (length h.tables) (length (remove h.tables t)) count f.count
+      placed = placed_less h.store r p places h.tables t f.placed there;
+      count = fewer (table_count r) (table_count h.store) (length h.tables) (length (remove h.tables t)) count f.count
           (length-remove h.tables t (within h.tables t p there));
     })
   where

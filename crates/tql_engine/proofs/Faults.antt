@@ -5,7 +5,7 @@ use Rattle.tql_spec.specs.Refusal.{Refusal, NotInThisTransactionState, MomentNot
 use Rattle.tql_spec.specs.Definition.{TableDef}
 use Rattle.tql_spec.specs.Machine.{State, Reply, Refused, Done, CreatedTable, DroppedTable, ClockSet, Started}
 use Rattle.tql_spec.specs.Machine.{Committed, RolledBack, Change, CreateTable, DropTable, SetClock, Start, Commit}
-use Rattle.tql_spec.specs.Machine.{Rollback, Alter, step, unless_refused, altered, with_table, without_table}
+use Rattle.tql_spec.specs.Machine.{Rollback, ChangeRows, step, unless_refused, changed, with_table, without_table}
 use Rattle.tql_spec.specs.Machine.{with_commit, working, is_not_later, is_clock_at_end}
 
 -- a refusal, with the state as it was
@@ -67,6 +67,7 @@ rollback_step s = one_fault (is_none s.transaction) NotInThisTransactionState s 
     (record s { transaction = None })
 
 pub alter_step : (s : State) (c : Change)
-    → step s (Alter c) ≡ if is_none s.transaction && is_clock_at_end s then refused MomentNotAllowed s else altered s c
-alter_step s c = one_fault (is_none s.transaction && is_clock_at_end s) MomentNotAllowed s (altered s c).0
-    (altered s c).1
+    → step s (ChangeRows c)
+        ≡ if is_none s.transaction && is_clock_at_end s then refused MomentNotAllowed s else changed s c
+alter_step s c = one_fault (is_none s.transaction && is_clock_at_end s) MomentNotAllowed s (changed s c).0
+    (changed s c).1

@@ -13,26 +13,26 @@ use Rattle.tql_spec.specs.Machine.{State, bag_of, entries}
 use Rattle.tql_spec.specs.Query.{Chain, Cross, Inner, Join, Left, Query, Ref, Scope, answer, chain_rows, if_distinct}
 use Rattle.tql_spec.specs.Query.{joined_with, joins_from, keep, left_join, pairs, product, scopes}
 use Rattle.tql_spec.specs.Words.{◌>>=◌, filter_all, map_all, with_front}
-use Rattle.tql_bind.specs.Placed.{AreChainsPlaced, AreJoinsPlaced, IsPlacedQuery, IsPlacedRef, ref_of}
-use Rattle.tql_bound.specs.Questions.{chain_of, join_by, join_of, question_of, references_in, references_of}
+use Rattle.tql_bound.specs.Placed.{AreChainsPlaced, AreJoinsPlaced, IsPlacedQuery, IsPlacedRef, ref_of}
+use Rattle.tql_bound.specs.Queries.{chain_of, join_by, join_of, bound_query_of, references_in, references_of}
 use Rattle.tql_bound.specs.References.{is_now, reference_of}
-use Rattle.tql_bound.specs.declared.question.Chain as code
-use Rattle.tql_bound.specs.declared.question.Join as joined
-use Rattle.tql_bound.specs.declared.question.JoinKind.{JoinKind}
-use Rattle.tql_bound.specs.declared.question.JoinKind.TheVariants as kind
-use Rattle.tql_bound.specs.declared.question.Question.{Question}
+use Rattle.tql_bound.specs.declared.query.Chain as code
+use Rattle.tql_bound.specs.declared.query.Join as joined
+use Rattle.tql_bound.specs.declared.query.JoinKind.{JoinKind}
+use Rattle.tql_bound.specs.declared.query.JoinKind.TheVariants as kind
+use Rattle.tql_bound.specs.declared.query.BoundQuery.{BoundQuery}
 use Rattle.tql_bound.specs.declared.reference.Reference.{Reference}
 use Rattle.tql_catalog.specs.Tables.{definitions_of}
 use Rattle.tql_catalog.specs.declared.catalog.Table.{Table}
 use Rattle.tql_expr.specs.Meaning.{cond}
 use Rattle.tql_expr.specs.declared.terms.Terms.{Terms}
 use Rattle.tql_plan.specs.Meaning.{Bags, meaning, source_for, sources_of, table_number_at}
-use Rattle.tql_plan.specs.Nodes.{Source}
+use Rattle.tql_plan.specs.Nodes.{Scan}
 use Rattle.tql_plan.specs.declared.plan.Plan.{Plan}
 use Rattle.tql_exec.specs.Found.{IsReadable, bags_in, completed}
-use Rattle.tql_store.specs.Held.{has_table, is_versioned}
+use Rattle.tql_store.specs.StoreModel.{has_table, is_versioned}
 use Rattle.tql_store.specs.Represents.{seen_by}
-use Rattle.tql_engine.specs.Stands.{Held, StandsFor, copies_of, working_of}
+use Rattle.tql_engine.specs.Stands.{EngineModel, StandsFor, copies_of, working_of}
 use Rattle.tql_engine.proofs.Asked.{seen_law}
 use Rattle.tql_engine.proofs.Standing.{there_law, versioned_law}
 
@@ -64,17 +64,17 @@ defined_as (q ∷ ps) (suc t) p e = defined_as ps t p e
 -- ---- the bag of a reference
 
 -- what each source gives in the copies of a state
-abbrev pub bags_of : Held → State → Bags
-bags_of h s = bags_in h.rows (copies_of h.tables s.history) (working_of h.tables s.transaction)
+abbrev pub bags_of : EngineModel → State → Bags
+bags_of h s = bags_in h.store (copies_of h.tables s.history) (working_of h.tables s.transaction)
 
-pub bag_is : (h : Held) (s : State) → StandsFor h s → (r : Ref) → IsPlacedRef (definitions_of h.tables) r
+pub bag_is : (h : EngineModel) (s : State) → StandsFor h s → (r : Ref) → IsPlacedRef (definitions_of h.tables) r
     → bags_of h s (source_for h.tables r) ≡ bag_of s r
 bag_is h s st r placed =
     let t = table_there h.tables r.table placed.table in
     let p : Table = t.0 in
-    let seen : seen_by h.rows.working (copies_of h.tables s.history) (working_of h.tables s.transaction)
+    let seen : seen_by h.store.working (copies_of h.tables s.history) (working_of h.tables s.transaction)
     (table_number_at h.tables r.table) ≡ table_history r.table (entries s) =
-    ap (seen_by h.rows.working (copies_of h.tables s.history) (working_of h.tables s.transaction))
+    ap (seen_by h.store.working (copies_of h.tables s.history) (working_of h.tables s.transaction))
     (number_is h.tables r.table p t.1) ∙ seen_law h s r.table p st t.1 in
     ap (λ (es : List TableEntry). map (completed (table_at (definitions_of h.tables) r.table).system)
     (found r.when es)) seen
@@ -121,15 +121,15 @@ module _ (defs : List TableDef) (bag bag' : Ref → List Row) (same : (r : Ref) 
 -- ---- a plan
 
 -- a plan means what the machine answers
-pub meaning_is : (h : Held) (s : State) (x : Question) (p : Plan) → StandsFor h s
-    → IsPlacedQuery (definitions_of h.tables) (question_of x)
+pub meaning_is : (h : EngineModel) (s : State) (x : BoundQuery) (p : Plan) → StandsFor h s
+    → IsPlacedQuery (definitions_of h.tables) (bound_query_of x)
     → ((bag : Ref → List Row) (bags : Bags) → ((r : Ref) → bags (source_for h.tables r) ≡ bag r)
-    → meaning bags p ≡ answer bag (question_of x))
-    → meaning (bags_of h s) p ≡ answer (bag_of s) (question_of x)
+    → meaning bags p ≡ answer bag (bound_query_of x))
+    → meaning (bags_of h s) p ≡ answer (bag_of s) (bound_query_of x)
 meaning_is h s x p st placed means =
     means (λ r. bags_of h s (source_for h.tables r)) (bags_of h s) (λ r. refl)
     ∙ answer_same (definitions_of h.tables) (λ r. bags_of h s (source_for h.tables r)) (bag_of s) (bag_is h s st)
-    (question_of x) placed.references
+    (bound_query_of x) placed.references
 
 -- ---- what it reads
 
@@ -168,33 +168,33 @@ chains_there defs t (c ∷ cs) h =
     (joins_there defs t c.joins.items h.0.1))
     (chains_there defs t cs h.1))
 
-pub references_there : (defs : List TableDef) (x : Question) → IsPlacedQuery defs (question_of x)
+pub references_there : (defs : List TableDef) (x : BoundQuery) → IsPlacedQuery defs (bound_query_of x)
     → All (IsThere defs) (references_of x)
 references_there defs x placed = chains_there defs x.terms x.chains.items placed.references
 
 -- a source that can be read
-readable : (h : Held) (s : State) → StandsFor h s → (r : Reference) → IsThere (definitions_of h.tables) r
-    → IsReadable h.rows (source_for h.tables (reference_of r))
+readable : (h : EngineModel) (s : State) → StandsFor h s → (r : Reference) → IsThere (definitions_of h.tables) r
+    → IsReadable h.store (source_for h.tables (reference_of r))
 readable h s st r placed =
     let t = table_there h.tables r.table placed.table in
     let p : Table = t.0 in
     let number = number_is h.tables r.table p t.1 in
     record {
-      there = subst (λ n. IsTrue (has_table h.rows n)) (sym number) (there_law h s r.table p st t.1);
-      versioned = subst (λ n. IsTrue (is_now (reference_of r).when || is_versioned h.rows n)) (sym number)
+      there = subst (λ n. IsTrue (has_table h.store n)) (sym number) (there_law h s r.table p st t.1);
+      versioned = subst (λ n. IsTrue (is_now (reference_of r).when || is_versioned h.store n)) (sym number)
           (subst (λ b. IsTrue (is_now (reference_of r).when || b)) (sym (versioned_law h s r.table p st t.1))
           (subst (λ (d : TableDef). IsTrue (is_now (reference_of r).when || is_some d.system))
           (defined_as h.tables r.table p t.1) placed.versioned));
     }
 
 -- those of a plan can be read
-pub sources_readable : (h : Held) (s : State) (x : Question) (p : Plan) → StandsFor h s
-    → IsPlacedQuery (definitions_of h.tables) (question_of x)
+pub sources_readable : (h : EngineModel) (s : State) (x : BoundQuery) (p : Plan) → StandsFor h s
+    → IsPlacedQuery (definitions_of h.tables) (bound_query_of x)
     → sources_of p ≡ map (λ (r : Reference). source_for h.tables (reference_of r)) (references_of x)
-    → All (IsReadable h.rows) (sources_of p)
+    → All (IsReadable h.store) (sources_of p)
 sources_readable h s x p st placed same =
-    subst (All (IsReadable h.rows)) (sym same)
-    (All-map (IsReadable h.rows) (λ (r : Reference). source_for h.tables (reference_of r)) (references_of x)
-    (All-weaker (IsThere (definitions_of h.tables)) (λ r. IsReadable h.rows (source_for h.tables (reference_of r)))
+    subst (All (IsReadable h.store)) (sym same)
+    (All-map (IsReadable h.store) (λ (r : Reference). source_for h.tables (reference_of r)) (references_of x)
+    (All-weaker (IsThere (definitions_of h.tables)) (λ r. IsReadable h.store (source_for h.tables (reference_of r)))
     (readable h s st) (references_of x)
     (references_there (definitions_of h.tables) x placed)))

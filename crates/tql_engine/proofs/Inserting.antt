@@ -2,7 +2,7 @@
 use Rattle.std.proofs.Common.{◌≡◌, ℕ, [], Some, Err}
 use Rattle.std.specs.Prelude.{IsNone, ◌<ℤ◌, slice_get}
 use Rattle.tql_spec.specs.Calendar.{high}
-use Rattle.tql_spec.specs.Machine.{State, Alter, step}
+use Rattle.tql_spec.specs.Machine.{State, ChangeRows, step}
 use Rattle.tql_value.specs.Refusals.{refusal_of}
 use Rattle.tql_value.specs.declared.refusal.Refusal.{Refusal}
 use Rattle.tql_value.specs.declared.refusal.Refusal.TheVariants as r
@@ -10,15 +10,15 @@ use Rattle.tql_bound.specs.Changes.{insertion_of}
 use Rattle.tql_bound.specs.declared.change.Insertion.{Insertion}
 use Rattle.tql_dml.specs.Alters.{Alters, inserted}
 use Rattle.tql_catalog.specs.declared.catalog.Table.{Table}
-use Rattle.tql_engine.specs.Stands.{Held, StandsFor}
+use Rattle.tql_engine.specs.Stands.{EngineModel, StandsFor}
 use Rattle.tql_engine.specs.Effects.{Refuses}
 use Rattle.tql_engine.proofs.Doing.{insert_refused}
 
-module _ (h : Held) (s : State) (p : Table) (x : Insertion) (st : StandsFor h s)
-    (there : slice_get h.tables x.table ≡ Some p) (below : IsNone h.rows.working → h.next <ℤ high) where
+module _ (h : EngineModel) (s : State) (p : Table) (x : Insertion) (st : StandsFor h s)
+    (there : slice_get h.tables x.table ≡ Some p) (below : IsNone h.store.working → h.next <ℤ high) where
   pub insert_errs : (id : ℕ) (e : Refusal)
       → Alters id [] (λ m. (inserted p.definition x m).rows) (inserted p.definition x) (Err e)
-      → Refuses h s e (step s (Alter (insertion_of x)))
+      → Refuses h s e (step s (ChangeRows (insertion_of x)))
   insert_errs id r.OutOfMemory why = st
   insert_errs id r.StatementTooLong why = insert_refused h s p x (refusal_of r.StatementTooLong) st there below why
   insert_errs id r.NotUtf8 why = insert_refused h s p x (refusal_of r.NotUtf8) st there below why

@@ -16,7 +16,7 @@ use Rattle.tql_spec.specs.Change.{Outcome, modify}
 use Rattle.tql_spec.specs.ChangeLaws.{SameOutcome, ChangesKeepNoOrder, ChangesByParts}
 use Rattle.tql_spec.specs.Refusal as spec
 use Rattle.tql_spec.specs.Refusal.{first}
-use Rattle.tql_spec.specs.Machine.{State, Done, Refused, Alter, step, unless_refused, entries, newest_copy}
+use Rattle.tql_spec.specs.Machine.{State, Done, Refused, ChangeRows, step, unless_refused, entries, newest_copy}
 use Rattle.tql_spec.specs.Machine.{verb_of_work}
 use Rattle.tql_bound.specs.Changes.{modification_of}
 use Rattle.tql_bound.specs.Works.{work_of}
@@ -25,13 +25,12 @@ use Rattle.tql_catalog.specs.Tables.{definitions_of}
 use Rattle.tql_catalog.specs.declared.catalog.Table.{Table}
 use Rattle.tql_dml.specs.Alters.{Alters, Gives, gone, fates, coming, modified, portion_in, conds_in, IsVersionOf}
 use Rattle.tql_dml.specs.Alters as dml
-use Rattle.tql_store.specs.Held as store
-use Rattle.tql_store.specs.Held.{AreRemovable}
+use Rattle.tql_store.specs.StoreModel.{StoreModel, AreRemovable}
 use Rattle.tql_store.specs.Changes.{rows_after}
 use Rattle.tql_store.specs.Represents.{AnswersNow, Judged}
-use Rattle.tql_rows.specs.Readings.{version_shown as version_of}
+use Rattle.tql_store_rows.specs.Readings.{version_shown as version_of}
 use Rattle.tql_store.specs.declared.store.Delta.{Delta}
-use Rattle.tql_rows.specs.declared.version.Version as code
+use Rattle.tql_store_rows.specs.declared.version.Version as code
 use Rattle.tql_store.proofs.Judging.{judged, removable}
 use Rattle.tql_value.specs.Refusals.{refusal_of}
 use Rattle.tql_value.specs.declared.refusal.Refusal.{Refusal}
@@ -40,7 +39,7 @@ use Rattle.tql_engine.specs.Committing.{ChangesRows}
 use Rattle.tql_engine.specs.Effects.{Does, Refuses}
 use Rattle.tql_engine.specs.Fitting.{RowsFit, CopyFits}
 use Rattle.tql_engine.specs.Modifying.{Made, Makes}
-use Rattle.tql_engine.specs.Stands.{Held, StandsFor, copies_of, working_of}
+use Rattle.tql_engine.specs.Stands.{EngineModel, StandsFor, copies_of, working_of}
 use Rattle.tql_engine.proofs.Asked.{rows_fit, seen_law}
 use Rattle.tql_engine.proofs.ChangeKeeps.{working_now, working_rows, with_table_rows, AreRowsOf, begun_at, change_law}
 use Rattle.tql_engine.proofs.ChangeKeeps.{last_fits, rows_both, rows_left, begun_fit}
@@ -74,8 +73,8 @@ rows_read [] = refl
 rows_read (v ∷ vs) = ap {B = List Stamped} (λ xs. (version_of v).row ∷ xs) (rows_read vs)
 
 -- the rows that were read are those that the change sees
-pub same_rows : (h : Held) (s : State) (t : ℕ) (p : Table) (found : List code.Version) → StandsFor h s
-    → slice_get h.tables t ≡ Some p → AnswersNow h.rows p.id (map version_of found)
+pub same_rows : (h : EngineModel) (s : State) (t : ℕ) (p : Table) (found : List code.Version) → StandsFor h s
+    → slice_get h.tables t ≡ Some p → AnswersNow h.store p.id (map version_of found)
     → SameBag (dml.rows_in found) (working_rows s t)
 same_rows h s t p found st e answers =
     let now : current (table_history t (entries s)) ≡ completed still (working_rows s t) =
@@ -89,26 +88,26 @@ same_rows h s t p found st e answers =
 
 -- ---- the working copy fits
 
-copy_fits_by : (h : Held) (defs : List TableDef) (es : List Entry) (next : ℤ) (o : Option Entry)
+copy_fits_by : (h : EngineModel) (defs : List TableDef) (es : List Entry) (next : ℤ) (o : Option Entry)
     → (let s : State = record { definitions = defs; history = es; next = next; transaction = o } in StandsFor h s
     → CopyFits (definitions_of h.tables) (working_now s).copy)
 copy_fits_by h defs es next None f = last_fits (definitions_of h.tables) defs es f.fits.definitions f.fits.rows
 copy_fits_by h defs es next (Some e) f = f.fits.working
 
-pub copy_fits : (h : Held) (s : State) → StandsFor h s → CopyFits (definitions_of h.tables) (working_now s).copy
+pub copy_fits : (h : EngineModel) (s : State) → StandsFor h s → CopyFits (definitions_of h.tables) (working_now s).copy
 copy_fits h s f = copy_fits_by h s.definitions s.history s.next s.transaction f
 
 -- the moment of a change is one of the calendar, below the highest
-dated_by : (h : Held) (defs : List TableDef) (es : List Entry) (next : ℤ) (o : Option Entry)
+dated_by : (h : EngineModel) (defs : List TableDef) (es : List Entry) (next : ℤ) (o : Option Entry)
     → (let s : State = record { definitions = defs; history = es; next = next; transaction = o } in
-    StandsFor h s → (IsNone h.rows.working → h.next <ℤ high)
+    StandsFor h s → (IsNone h.store.working → h.next <ℤ high)
     → (first_moment ≤ℤ (working_now s).moment) × ((working_now s).moment <ℤ high))
 dated_by h defs es next None f below =
     (f.not_before, subst (λ n. n <ℤ high) f.clock (below (subst IsNone (sym f.opened) refl)))
 dated_by h defs es next (Some e) f below =
     (subst (λ n. first_moment ≤ℤ n) (sym f.dated.0) f.not_before, subst (λ n. n <ℤ high) (sym f.dated.0) f.dated.1)
 
-pub moment_dated : (h : Held) (s : State) → StandsFor h s → (IsNone h.rows.working → h.next <ℤ high)
+pub moment_dated : (h : EngineModel) (s : State) → StandsFor h s → (IsNone h.store.working → h.next <ℤ high)
     → (first_moment ≤ℤ (working_now s).moment) × ((working_now s).moment <ℤ high)
 moment_dated h s f below = dated_by h s.definitions s.history s.next s.transaction f below
 
@@ -121,8 +120,8 @@ versions_of d (v ∷ vs) f =
     let up = f.0.below in
     (record { cells = f.0.cells; start = (low, omega (arith, ints)) }, versions_of d vs f.1)
 
-pub read_fit : (h : Held) (s : State) (t : ℕ) (p : Table) (found : List code.Version) → StandsFor h s
-    → slice_get h.tables t ≡ Some p → AnswersNow h.rows p.id (map version_of found)
+pub read_fit : (h : EngineModel) (s : State) (t : ℕ) (p : Table) (found : List code.Version) → StandsFor h s
+    → slice_get h.tables t ≡ Some p → AnswersNow h.store p.id (map version_of found)
     → All (IsVersionOf p.definition) found
 read_fit h s t p found st e answers =
     All-from_recursion (IsVersionOf p.definition) found
@@ -133,9 +132,9 @@ read_fit h s t p found st e answers =
 
 -- ---- what the machine does
 
-module _ (no_order : ChangesKeepNoOrder) (by_parts : ChangesByParts) (h : Held) (s : State) (p : Table)
+module _ (no_order : ChangesKeepNoOrder) (by_parts : ChangesByParts) (h : EngineModel) (s : State) (p : Table)
     (x : Modification) (st : StandsFor h s) (there : slice_get h.tables x.table ≡ Some p)
-    (below : IsNone h.rows.working → h.next <ℤ high) where
+    (below : IsNone h.store.working → h.next <ℤ high) where
   -- the moment, and the rows that the change sees
   abbrev moment : ℤ
   moment = (working_now s).moment
@@ -149,7 +148,7 @@ module _ (no_order : ChangesKeepNoOrder) (by_parts : ChangesByParts) (h : Held) 
   abbrev outcome : Outcome
   outcome = modify p.definition moment rows (portion_in x) work (conds_in x)
 
-  modify_is : step s (Alter (modification_of x)) ≡ unless_refused (first outcome.faults) s
+  modify_is : step s (ChangeRows (modification_of x)) ≡ unless_refused (first outcome.faults) s
       (Done (verb_of_work work) (Some outcome.count)) (with_table_rows s x.table outcome.rows)
   modify_is =
       change_step h s (modification_of x) st below
@@ -157,26 +156,26 @@ module _ (no_order : ChangesKeepNoOrder) (by_parts : ChangesByParts) (h : Held) 
       (ap {B = Outcome} (λ d. modify d moment rows (portion_in x) work (conds_in x))
       (definition_law h s x.table p st there))
 
-  module _ (found : List code.Version) (answers : AnswersNow h.rows p.id (map version_of found)) where
+  module _ (found : List code.Version) (answers : AnswersNow h.store p.id (map version_of found)) where
     same : SameOutcome (modified p.definition found x moment) outcome
     same = no_order p.definition moment (dml.rows_in found) rows (portion_in x) work (conds_in x)
         (same_rows h s x.table p found st there answers)
 
     -- refused for the first fault
     pub modify_refused : (f : spec.Refusal) → ((m : ℤ) → first (modified p.definition found x m).faults ≡ Some f)
-        → Does h (Refused f) (step s (Alter (modification_of x)))
+        → Does h (Refused f) (step s (ChangeRows (modification_of x)))
     modify_refused f k =
-        by_step h (Refused f) (step s (Alter (modification_of x))) (refused f s)
+        by_step h (Refused f) (step s (ChangeRows (modification_of x))) (refused f s)
         (modify_is ∙ ap (λ q. unless_refused q s (Done (verb_of_work work) (Some outcome.count))
         (with_table_rows s x.table outcome.rows)) (sym same.fault ∙ k moment)) (refuses h s f st)
 
     -- the state after it
-    pub rows_modified : (added : List Row) (removed : List ℕ) (r : store.Held) (after : ℤ)
-        → AreRowsOf p.definition added → Judged h.rows p.id (touches p.definition (portion_in x) (conds_in x)) removed
-        → ChangesRows h.rows.working h.next after p.id removed added h.rows r
+    pub rows_modified : (added : List Row) (removed : List ℕ) (r : StoreModel) (after : ℤ)
+        → AreRowsOf p.definition added → Judged h.store p.id (touches p.definition (portion_in x) (conds_in x)) removed
+        → ChangesRows h.store.working h.next after p.id removed added h.store r
         → ((m : ℤ) → map (λ (y : Stamped). y.cells) (coming (fates p.definition found x m)) ≡ added)
         → ((m : ℤ) → first (modified p.definition found x m).faults ≡ None)
-        → StandsFor (record { tables = h.tables; rows = r; next = after }) (with_table_rows s x.table outcome.rows)
+        → StandsFor (record { tables = h.tables; store = r; next = after }) (with_table_rows s x.table outcome.rows)
     rows_modified added removed r after fit judged c cells sound =
         let gone : Stamped → Bool = touches p.definition (portion_in x) (conds_in x) in
         let old : RowsFit p.definition rows =
@@ -184,14 +183,14 @@ module _ (no_order : ChangesKeepNoOrder) (by_parts : ChangesByParts) (h : Held) 
         let bag : SameBag (rows_after moment gone added rows) outcome.rows =
         rows_made no_order by_parts p.definition moment (portion_in x) work (conds_in x) (dml.rows_in found) rows
         added (same_rows h s x.table p found st there answers) (sound moment) (cells moment) in
-        let changed : StandsFor (record { tables = h.tables; rows = r; next = after })
+        let changed : StandsFor (record { tables = h.tables; store = r; next = after })
         (with_table_rows s x.table (rows_after moment gone added rows)) =
         change_law h s x.table p gone removed added r after st there below fit judged c in
         let news : RowsFit p.definition (rows_after moment gone added rows) =
         rows_both p.definition (filter (λ y. not (gone y)) rows) (begun_at moment added)
         (rows_left p.definition (λ y. not (gone y)) rows old)
         (begun_fit p.definition moment added dated.0 dated.1 fit) in
-        swapped (record { tables = h.tables; rows = r; next = after }) x.table p there
+        swapped (record { tables = h.tables; store = r; next = after }) x.table p there
         (rows_after moment gone added rows) outcome.rows bag
         (rows_fit_same p.definition (rows_after moment gone added rows) outcome.rows bag news) s (copy_fits h s st)
         changed
@@ -200,17 +199,17 @@ module _ (no_order : ChangesKeepNoOrder) (by_parts : ChangesByParts) (h : Held) 
         dated = moment_dated h s st below
 
     -- and the reply
-    pub modify_does : (added : List Row) (removed : List ℕ) (r : store.Held) (after : ℤ) (count : ℕ)
-        → AreRowsOf p.definition added → Judged h.rows p.id (touches p.definition (portion_in x) (conds_in x)) removed
-        → ChangesRows h.rows.working h.next after p.id removed added h.rows r
+    pub modify_does : (added : List Row) (removed : List ℕ) (r : StoreModel) (after : ℤ) (count : ℕ)
+        → AreRowsOf p.definition added → Judged h.store p.id (touches p.definition (portion_in x) (conds_in x)) removed
+        → ChangesRows h.store.working h.next after p.id removed added h.store r
         → ((m : ℤ) → map (λ (y : Stamped). y.cells) (coming (fates p.definition found x m)) ≡ added)
         → ((m : ℤ) → first (modified p.definition found x m).faults ≡ None)
         → ((m : ℤ) → count ≡ (modified p.definition found x m).count)
-        → Does (record { tables = h.tables; rows = r; next = after }) (Done (verb_of_work work) (Some count))
-        (step s (Alter (modification_of x)))
+        → Does (record { tables = h.tables; store = r; next = after }) (Done (verb_of_work work) (Some count))
+        (step s (ChangeRows (modification_of x)))
     modify_does added removed r after count fit judged c cells sound n =
-        by_step (record { tables = h.tables; rows = r; next = after }) (Done (verb_of_work work) (Some count))
-        (step s (Alter (modification_of x)))
+        by_step (record { tables = h.tables; store = r; next = after }) (Done (verb_of_work work) (Some count))
+        (step s (ChangeRows (modification_of x)))
         (Done (verb_of_work work) (Some count), with_table_rows s x.table outcome.rows)
         (modify_is
         ∙ ap (λ q. unless_refused q s (Done (verb_of_work work) (Some outcome.count))
@@ -223,7 +222,7 @@ module _ (no_order : ChangesKeepNoOrder) (by_parts : ChangesByParts) (h : Held) 
         (record { replies = refl; stands = rows_modified added removed r after fit judged c cells sound })
 
   -- whatever it was refused for
-  pub modify_errs : (e : Refusal) → Makes h.rows p x (Err e) → Refuses h s e (step s (Alter (modification_of x)))
+  pub modify_errs : (e : Refusal) → Makes h.store p x (Err e) → Refuses h s e (step s (ChangeRows (modification_of x)))
   modify_errs r.OutOfMemory k = st
   modify_errs r.StatementTooLong k = modify_refused k.found k.answers (refusal_of r.StatementTooLong) k.alters
   modify_errs r.NotUtf8 k = modify_refused k.found k.answers (refusal_of r.NotUtf8) k.alters
@@ -257,7 +256,7 @@ module _ (no_order : ChangesKeepNoOrder) (by_parts : ChangesByParts) (h : Held) 
 
 -- ---- by its result
 
-pub makes_of : (h : store.Held) (p : Table) (x : Modification) (result : Result Delta Refusal) → Made h p x result
+pub makes_of : (h : StoreModel) (p : Table) (x : Modification) (result : Result Delta Refusal) → Made h p x result
     → Makes h p x result
 makes_of h p x (Ok delta) k = k
 makes_of h p x (Err r.OutOfMemory) k = tt
@@ -270,14 +269,14 @@ table_there (q ∷ ps) ℕ.zero l = (q, refl)
 table_there (q ∷ ps) (ℕ.suc t) l = table_there ps t (omega (arith, l))
 
 -- the ids of the versions that go
-pub gone_removable : (h : store.Held) (p : Table) (x : Modification) (delta : Delta) → Made h p x (Ok delta)
+pub gone_removable : (h : StoreModel) (p : Table) (x : Modification) (delta : Delta) → Made h p x (Ok delta)
     → AreRemovable h p.id delta.removed.items
 gone_removable h p x delta k =
     subst (AreRemovable h p.id) (sym k.alters.removed)
     (removable h p.id (λ (v : code.Version). touches p.definition (portion_in x) (conds_in x) (version_of v).row)
     k.found k.names k.once)
 
-pub gone_judged : (h : store.Held) (p : Table) (x : Modification) (delta : Delta) → Made h p x (Ok delta)
+pub gone_judged : (h : StoreModel) (p : Table) (x : Modification) (delta : Delta) → Made h p x (Ok delta)
     → Judged h p.id (touches p.definition (portion_in x) (conds_in x)) delta.removed.items
 gone_judged h p x delta k =
     subst (Judged h p.id (touches p.definition (portion_in x) (conds_in x))) (sym k.alters.removed)

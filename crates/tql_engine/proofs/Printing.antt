@@ -11,25 +11,25 @@ use Rattle.tql_spec.specs.Refusal as faults
 use Rattle.tql_spec.specs.Refusal.{first}
 use Rattle.tql_spec.specs.Change as change
 use Rattle.tql_spec.specs.Machine as machine
-use Rattle.tql_spec.specs.Machine.{State, Done, unless_refused, effect, step, altered, outcome, changed_table}
-use Rattle.tql_spec.specs.Machine.{verb_of, working, with_working, constraint_faults, state_faults, manner_of, asked}
+use Rattle.tql_spec.specs.Machine.{State, Done, unless_refused, effect, step, changed, outcome, changed_table}
+use Rattle.tql_spec.specs.Machine.{verb_of, working, with_working, constraint_faults, state_faults, class_of, asked}
 use Rattle.tql_spec.specs.Machine.{bag_of}
 use Rattle.tql_value.specs.Points.{ArePrintable, IsPrintable}
 use Rattle.tql_value.specs.declared.refusal.Refusal.{Refusal}
 use Rattle.tql_result.specs.Replies.{IsPrintableReply, reply_of}
 use Rattle.tql_result.specs.declared.reply.Reply.{Reply}
-use Rattle.tql_bind.specs.Bounds.{IsSound, bound_of}
-use Rattle.tql_bind.specs.Placed.{IsPlacedQuery, IsPlacedRef}
-use Rattle.tql_bind.specs.declared.bound.Bound.{Bound}
-use Rattle.tql_bind.specs.declared.bound.Bound.TheVariants as b
+use Rattle.tql_bound.specs.Bounds.{IsSound, bound_of}
+use Rattle.tql_bound.specs.Placed.{IsPlacedQuery, IsPlacedRef}
+use Rattle.tql_bound.specs.declared.bound.Bound.{Bound}
+use Rattle.tql_bound.specs.declared.bound.Bound.TheVariants as b
 use Rattle.tql_bound.specs.Changes.{insertion_of, modification_of, query_insertion_of}
-use Rattle.tql_bound.specs.Questions.{question_of}
-use Rattle.tql_bound.specs.declared.question.Question.{Question}
+use Rattle.tql_bound.specs.Queries.{bound_query_of}
+use Rattle.tql_bound.specs.declared.query.BoundQuery.{BoundQuery}
 use Rattle.tql_expr.proofs.Printing.{RowsPrint}
 use Rattle.tql_expr.proofs.QueryPrinting.{AllPrint, answers_print, items_literals}
 use Rattle.tql_exec.specs.Found.{ordered}
 use Rattle.tql_catalog.specs.Tables.{definitions_of}
-use Rattle.tql_engine.specs.Stands.{Held, StandsFor}
+use Rattle.tql_engine.specs.Stands.{EngineModel, StandsFor}
 use Rattle.tql_engine.specs.Effects.{DoesStep}
 use Rattle.tql_engine.proofs.Asked.{found_print, ordered_prints}
 use Rattle.tql_engine.proofs.Copies.{chosen}
@@ -45,9 +45,9 @@ unless_prints None s reply new k = k
 unless_prints (Some e) s reply new k = tt
 
 by_effect : (s : State) (x : machine.Bound) → Prints (effect s x) → Prints (step s x)
-by_effect s x k = unless_prints (first (state_faults s (manner_of x))) s (effect s x).0 (effect s x).1 k
+by_effect s x k = unless_prints (first (state_faults s (class_of x))) s (effect s x).0 (effect s x).1 k
 
-altered_prints : (s : State) (c : machine.Change) → Prints (altered s c)
+altered_prints : (s : State) (c : machine.Change) → Prints (changed s c)
 altered_prints s c =
     let e : Entry = working s s.transaction in
     let o : change.Outcome = outcome s e.moment e.copy c in
@@ -61,7 +61,7 @@ altered_prints s c =
 abbrev bag_there : State → ℕ → Ref → List Row
 bag_there s n r = if nat_lt r.table n then bag_of s r else []
 
-there_prints : (h : Held) (s : State) → StandsFor h s → (r : Ref)
+there_prints : (h : EngineModel) (s : State) → StandsFor h s → (r : Ref)
     → AllPrint (bag_there s (length (definitions_of h.tables)) r)
 there_prints h s st r = by_place (nat_lt r.table (length (definitions_of h.tables))) refl
   where
@@ -75,7 +75,7 @@ there_prints h s st r = by_place (nat_lt r.table (length (definitions_of h.table
         found_print h s r.table p.0 r.when st p.1
     by_place false e = All-nil (All IsPrintable)
 
-same_there : (h : Held) (s : State) (r : Ref) → IsPlacedRef (definitions_of h.tables) r
+same_there : (h : EngineModel) (s : State) (r : Ref) → IsPlacedRef (definitions_of h.tables) r
     → bag_there s (length (definitions_of h.tables)) r ≡ bag_of s r
 same_there h s r placed =
     chosen (nat_lt r.table (length (definitions_of h.tables))) (bag_of s r) []
@@ -85,12 +85,12 @@ same_there h s r placed =
     is_below n m h = grind (arith, nat_tests)
 
 -- its rows have texts
-pub answer_prints : (h : Held) (s : State) (x : Question) → StandsFor h s
-    → IsPlacedQuery (definitions_of h.tables) (question_of x) → RowsPrint (answer (bag_of s) (question_of x))
+pub answer_prints : (h : EngineModel) (s : State) (x : BoundQuery) → StandsFor h s
+    → IsPlacedQuery (definitions_of h.tables) (bound_query_of x) → RowsPrint (answer (bag_of s) (bound_query_of x))
 answer_prints h s x st placed =
     subst RowsPrint (answer_same (definitions_of h.tables) (bag_there s (length (definitions_of h.tables)))
-    (bag_of s) (same_there h s) (question_of x) placed.references)
-    (answers_print (bag_there s (length (definitions_of h.tables))) (question_of x) (there_prints h s st)
+    (bag_of s) (same_there h s) (bound_query_of x) placed.references)
+    (answers_print (bag_there s (length (definitions_of h.tables))) (bound_query_of x) (there_prints h s st)
     (items_literals x.terms x.items.items))
 
 -- so have they in any order
@@ -108,7 +108,7 @@ asked_prints s q None k = tt
 asked_prints s q (Some rows) k = ordered_prints q.ordering rows k
 
 -- the machine's reply has one
-step_prints : (h : Held) (s : State) → StandsFor h s → (x : Bound) → IsSound (definitions_of h.tables) x
+step_prints : (h : EngineModel) (s : State) → StandsFor h s → (x : Bound) → IsSound (definitions_of h.tables) x
     → Prints (step s (bound_of x))
 step_prints h s st (b.CreateTable d) k = by_effect s (bound_of (b.CreateTable d)) tt
 step_prints h s st (b.DropTable t) k = by_effect s (bound_of (b.DropTable t)) tt
@@ -116,16 +116,17 @@ step_prints h s st (b.Insert x) k = by_effect s (bound_of (b.Insert x)) (altered
 step_prints h s st (b.InsertFrom x) k =
     by_effect s (bound_of (b.InsertFrom x)) (altered_prints s (query_insertion_of x))
 step_prints h s st (b.Modify x) k = by_effect s (bound_of (b.Modify x)) (altered_prints s (modification_of x))
-step_prints h s st (b.Ask x) k =
-    by_effect s (machine.Ask (question_of x))
-    (asked_prints s (question_of x) (answer (bag_of s) (question_of x)) (answer_prints h s x st k))
+step_prints h s st (b.AnswerQuery x) k =
+    by_effect s (machine.AnswerQuery (bound_query_of x))
+    (asked_prints s (bound_query_of x) (answer (bag_of s) (bound_query_of x)) (answer_prints h s x st k))
 step_prints h s st (b.SetClock m) k = by_effect s (bound_of (b.SetClock m)) tt
 step_prints h s st b.Start k = by_effect s machine.Start tt
 step_prints h s st b.Commit k = by_effect s machine.Commit tt
 step_prints h s st b.Rollback k = by_effect s machine.Rollback tt
 
 -- so has the engine's
-pub does_print : (old new : Held) (s : State) → StandsFor old s → (x : Bound) → IsSound (definitions_of old.tables) x
+pub does_print : (old new : EngineModel) (s : State) → StandsFor old s → (x : Bound)
+    → IsSound (definitions_of old.tables) x
     → (result : Result Reply Refusal)
     → DoesStep new s result (step s (bound_of x)) → IfOk result (λ reply. IsPrintableReply (reply_of reply))
 does_print old new s st x k (Ok reply) d = subst IsPrintableReply (sym d.replies) (step_prints old s st x k)

@@ -8,12 +8,12 @@ use Rattle.tql_spec.specs.Change.{Outcome, insert}
 use Rattle.tql_spec.specs.ChangeLaws.{InsertsKeepNoOrder, SameOutcome}
 use Rattle.tql_spec.specs.Datum.{Row}
 use Rattle.tql_spec.specs.Definition.{Stamped, TableDef}
-use Rattle.tql_spec.specs.Machine.{State, Done, Inserted, Refused, Alter, bag_of, step, unless_refused}
+use Rattle.tql_spec.specs.Machine.{State, Done, Inserted, Refused, ChangeRows, bag_of, step, unless_refused}
 use Rattle.tql_spec.specs.Query.{OrderKey, answer, in_order}
 use Rattle.tql_spec.specs.Refusal as spec
 use Rattle.tql_spec.specs.Refusal.{ValueOutOfRange, first}
 use Rattle.tql_bound.specs.Changes.{query_insertion_of}
-use Rattle.tql_bound.specs.Questions.{question_of}
+use Rattle.tql_bound.specs.Queries.{bound_query_of}
 use Rattle.tql_bound.specs.declared.change.QueryInsertion.{QueryInsertion}
 use Rattle.tql_catalog.specs.Rows.{IsRowOf}
 use Rattle.tql_catalog.specs.declared.catalog.Table.{Table}
@@ -21,7 +21,7 @@ use Rattle.tql_spec.proofs.OrderBags.{ordered_bag}
 use Rattle.tql_exec.specs.Found.{ordered}
 use Rattle.tql_expr.specs.Evaluated.{Fails}
 use Rattle.tql_dml.specs.Alters.{Alters, Gives, added_rows}
-use Rattle.tql_store.specs.Held as store
+use Rattle.tql_store.specs.StoreModel.{StoreModel}
 use Rattle.tql_store.specs.declared.store.Delta.{Delta}
 use Rattle.tql_value.specs.Refusals.{refusal_of}
 use Rattle.tql_value.specs.Views.{rows_of}
@@ -31,7 +31,7 @@ use Rattle.tql_engine.specs.Adding.{Added, Adds}
 use Rattle.tql_engine.specs.Committing.{ChangesRows}
 use Rattle.tql_engine.specs.Effects.{Does, Refuses}
 use Rattle.tql_engine.specs.Fitting.{RowsFit}
-use Rattle.tql_engine.specs.Stands.{Held, StandsFor}
+use Rattle.tql_engine.specs.Stands.{EngineModel, StandsFor}
 use Rattle.tql_engine.proofs.Added.{altered_by, insert_faults, rows_begun}
 use Rattle.tql_engine.proofs.Asked.{rows_fit}
 use Rattle.tql_engine.proofs.ChangeKeeps.{AreRowsOf, begun_at, begun_fit, rows_both, with_table_rows, working_now}
@@ -63,11 +63,11 @@ none_behind keys (Some bag) e = absurd (cc)
 
 -- no rows
 pub not_answered : (s : State) (p : Table) (x : QueryInsertion) (e : Refusal)
-    → Fails (ordered (question_of x.question).ordering (answer (bag_of s) (question_of x.question))) e
+    → Fails (ordered (bound_query_of x.query).ordering (answer (bag_of s) (bound_query_of x.query))) e
     → Adds s p x (Err e)
 not_answered s p x r.OutOfMemory f = tt
 not_answered s p x r.ValueOutOfRange f =
-    inl (refl, none_behind (question_of x.question).ordering (answer (bag_of s) (question_of x.question)) f)
+    inl (refl, none_behind (bound_query_of x.query).ordering (answer (bag_of s) (bound_query_of x.query)) f)
 not_answered s p x _ f = absurd f
 
 by_result : (s : State) (p : Table) (x : QueryInsertion) (result : Result Delta Refusal) → Added s p x result
@@ -78,18 +78,19 @@ by_result s p x (Err _) a fits = inr a
 
 -- what is made of those that there are
 pub adds_of : (s : State) (p : Table) (x : QueryInsertion) (rows : List Row) (result : Result Delta Refusal)
-    → ordered (question_of x.question).ordering (answer (bag_of s) (question_of x.question)) ≡ Some rows
+    → ordered (bound_query_of x.query).ordering (answer (bag_of s) (bound_query_of x.query)) ≡ Some rows
     → Alters p.id [] (λ m. (added_rows p.definition x.columns.items (Some rows) m).rows)
     (added_rows p.definition x.columns.items (Some rows)) result
     → IfOk result (λ delta. All (IsRowOf p.definition) (rows_of delta.added.items)) → Adds s p x result
 adds_of s p x rows result e alters fits =
-    let k = bag_behind (question_of x.question).ordering (answer (bag_of s) (question_of x.question)) rows e in
+    let k = bag_behind (bound_query_of x.query).ordering (answer (bag_of s) (bound_query_of x.query)) rows e in
     by_result s p x result (record { bag = k.0; answered = k.1; rows = rows; same = k.2; alters = alters }) fits
 
 -- ---- what the machine does
 
-module _ (no_order : InsertsKeepNoOrder) (h : Held) (s : State) (p : Table) (x : QueryInsertion) (st : StandsFor h s)
-    (there : slice_get h.tables x.table ≡ Some p) (below : IsNone h.rows.working → h.next <ℤ high) where
+module _ (no_order : InsertsKeepNoOrder) (h : EngineModel) (s : State) (p : Table) (x : QueryInsertion)
+    (st : StandsFor h s)
+    (there : slice_get h.tables x.table ≡ Some p) (below : IsNone h.store.working → h.next <ℤ high) where
   -- the moment, the rows that are there, and the columns that are filled
   abbrev moment : ℤ
   moment = (working_now s).moment
@@ -102,13 +103,13 @@ module _ (no_order : InsertsKeepNoOrder) (h : Held) (s : State) (p : Table) (x :
 
   -- what the query answers
   abbrev answers : Option (List Row)
-  answers = answer (bag_of s) (question_of x.question)
+  answers = answer (bag_of s) (bound_query_of x.query)
 
   -- what the machine makes of any answer
   abbrev pub outcome_of : Option (List Row) → Outcome
   outcome_of o = insert p.definition moment rows columns o
 
-  insert_is : step s (Alter (query_insertion_of x)) ≡ unless_refused (first (outcome_of answers).faults) s
+  insert_is : step s (ChangeRows (query_insertion_of x)) ≡ unless_refused (first (outcome_of answers).faults) s
       (Done Inserted (Some (outcome_of answers).count)) (with_table_rows s x.table (outcome_of answers).rows)
   insert_is =
       change_step h s (query_insertion_of x) st below
@@ -116,15 +117,15 @@ module _ (no_order : InsertsKeepNoOrder) (h : Held) (s : State) (p : Table) (x :
       (ap {B = Outcome} (λ d. insert d moment rows columns answers) (definition_law h s x.table p st there))
 
   answered_is : (o : Option (List Row)) → answers ≡ o
-      → step s (Alter (query_insertion_of x)) ≡ unless_refused (first (outcome_of o).faults) s
+      → step s (ChangeRows (query_insertion_of x)) ≡ unless_refused (first (outcome_of o).faults) s
       (Done Inserted (Some (outcome_of o).count)) (with_table_rows s x.table (outcome_of o).rows)
   answered_is o e =
       insert_is ∙ ap (λ q. unless_refused (first (outcome_of q).faults) s (Done Inserted (Some (outcome_of q).count))
       (with_table_rows s x.table (outcome_of q).rows)) e
 
   -- refused, where the query is out of range
-  out_of_range : answers ≡ None → Does h (Refused ValueOutOfRange) (step s (Alter (query_insertion_of x)))
-  out_of_range e = by_step h (Refused ValueOutOfRange) (step s (Alter (query_insertion_of x)))
+  out_of_range : answers ≡ None → Does h (Refused ValueOutOfRange) (step s (ChangeRows (query_insertion_of x)))
+  out_of_range e = by_step h (Refused ValueOutOfRange) (step s (ChangeRows (query_insertion_of x)))
       (refused ValueOutOfRange s) (answered_is None e) (refuses h s ValueOutOfRange st)
 
   module _ (bag got : List Row) (answered : answers ≡ Some bag) (same : SameBag got bag) where
@@ -134,9 +135,9 @@ module _ (no_order : InsertsKeepNoOrder) (h : Held) (s : State) (p : Table) (x :
     -- refused for the first fault
     row_refused : (f : spec.Refusal)
         → ((m : ℤ) → first (added_rows p.definition columns (Some got) m).faults ≡ Some f)
-        → Does h (Refused f) (step s (Alter (query_insertion_of x)))
+        → Does h (Refused f) (step s (ChangeRows (query_insertion_of x)))
     row_refused f k =
-        by_step h (Refused f) (step s (Alter (query_insertion_of x))) (refused f s)
+        by_step h (Refused f) (step s (ChangeRows (query_insertion_of x))) (refused f s)
         (answered_is (Some bag) answered
         ∙ ap (λ q. unless_refused q s (Done Inserted (Some (outcome_of (Some bag)).count))
         (with_table_rows s x.table (outcome_of (Some bag)).rows))
@@ -144,13 +145,13 @@ module _ (no_order : InsertsKeepNoOrder) (h : Held) (s : State) (p : Table) (x :
         (refuses h s f st)
 
     -- the state after it
-    pub rows_inserted : (added : List Row) (removed : List ℕ) (r : store.Held) (after : ℤ)
+    pub rows_inserted : (added : List Row) (removed : List ℕ) (r : StoreModel) (after : ℤ)
         → AreRowsOf p.definition added → removed ≡ []
-        → ChangesRows h.rows.working h.next after p.id removed added h.rows r
+        → ChangesRows h.store.working h.next after p.id removed added h.store r
         → ((m : ℤ) → map (λ (y : Stamped). y.cells) (added_rows p.definition columns (Some got) m).rows ≡ added)
         → StandsFor (record {
           tables = h.tables;
-          rows = r;
+          store = r;
           next = after;
         }) (with_table_rows s x.table (outcome_of (Some bag)).rows)
     rows_inserted added removed r after fit none c cells =
@@ -166,7 +167,7 @@ module _ (no_order : InsertsKeepNoOrder) (h : Held) (s : State) (p : Table) (x :
         (begun_fit p.definition moment added dated.0 dated.1 fit) in
         swapped (record {
           tables = h.tables;
-          rows = r;
+          store = r;
           next = after;
         }) x.table p there (rows ++ begun_at moment added) (outcome_of (Some bag)).rows both
         (rows_fit_same p.definition (rows ++ begun_at moment added) (outcome_of (Some bag)).rows both news) s
@@ -174,23 +175,23 @@ module _ (no_order : InsertsKeepNoOrder) (h : Held) (s : State) (p : Table) (x :
         (rows_added h s x.table p added removed r after st there below fit none c)
 
     -- and the reply
-    pub query_inserts : (added : List Row) (removed : List ℕ) (r : store.Held) (after : ℤ) (count : ℕ)
+    pub query_inserts : (added : List Row) (removed : List ℕ) (r : StoreModel) (after : ℤ) (count : ℕ)
         → AreRowsOf p.definition added → removed ≡ []
-        → ChangesRows h.rows.working h.next after p.id removed added h.rows r
+        → ChangesRows h.store.working h.next after p.id removed added h.store r
         → ((m : ℤ) → map (λ (y : Stamped). y.cells) (added_rows p.definition columns (Some got) m).rows ≡ added)
         → ((m : ℤ) → first (added_rows p.definition columns (Some got) m).faults ≡ None)
         → ((m : ℤ) → count ≡ (added_rows p.definition columns (Some got) m).count)
         → Does (record {
           tables = h.tables;
-          rows = r;
+          store = r;
           next = after;
-        }) (Done Inserted (Some count)) (step s (Alter (query_insertion_of x)))
+        }) (Done Inserted (Some count)) (step s (ChangeRows (query_insertion_of x)))
     query_inserts added removed r after count fit none c cells sound n =
         by_step (record {
           tables = h.tables;
-          rows = r;
+          store = r;
           next = after;
-        }) (Done Inserted (Some count)) (step s (Alter (query_insertion_of x)))
+        }) (Done Inserted (Some count)) (step s (ChangeRows (query_insertion_of x)))
         (Done Inserted (Some count), with_table_rows s x.table (outcome_of (Some bag)).rows)
         (answered_is (Some bag) answered
         ∙ ap (λ q. unless_refused q s (Done Inserted (Some (outcome_of (Some bag)).count))
@@ -208,13 +209,13 @@ module _ (no_order : InsertsKeepNoOrder) (h : Held) (s : State) (p : Table) (x :
   either : (f : spec.Refusal) (e : Refusal) → refusal_of e ≡ f
       → ((e ≡ r.ValueOutOfRange) × (answers ≡ None)) ⊎ Added s p x (Err e)
       → ((a : Added s p x (Err e)) → (m : ℤ) → first (added_rows p.definition columns (Some a.rows) m).faults ≡ Some f)
-      → Does h (Refused f) (step s (Alter (query_insertion_of x)))
+      → Does h (Refused f) (step s (ChangeRows (query_insertion_of x)))
   either f e same (inl k) told =
-      subst (λ g. Does h (Refused g) (step s (Alter (query_insertion_of x)))) (ap refusal_of (sym k.0)
+      subst (λ g. Does h (Refused g) (step s (ChangeRows (query_insertion_of x)))) (ap refusal_of (sym k.0)
       ∙ same) (out_of_range k.1)
   either f e same (inr a) told = row_refused a.bag a.rows a.answered a.same f (told a)
 
-  pub query_errs : (e : Refusal) → Adds s p x (Err e) → Refuses h s e (step s (Alter (query_insertion_of x)))
+  pub query_errs : (e : Refusal) → Adds s p x (Err e) → Refuses h s e (step s (ChangeRows (query_insertion_of x)))
   query_errs r.OutOfMemory k = st
   query_errs r.StatementTooLong k = either (refusal_of r.StatementTooLong) r.StatementTooLong refl k (λ a. a.alters)
   query_errs r.NotUtf8 k = either (refusal_of r.NotUtf8) r.NotUtf8 refl k (λ a. a.alters)

@@ -7,10 +7,10 @@ use Rattle.tql_spec.specs.Running.{Runs, does_run}
 use Rattle.tql_spec.specs.Run.{IsWhole, IsTextOf, finished}
 use Rattle.tql_value.specs.declared.refusal.Refusal.{Refusal}
 use Rattle.tql_value.specs.declared.refusal.Refusal.TheVariants as r
-use Rattle.tql_tree.specs.Trees.{tree_of}
-use Rattle.tql_tree.specs.declared.tree.Tree as code
+use Rattle.tql_syntax_tree.specs.Trees.{tree_of}
+use Rattle.tql_syntax_tree.specs.declared.tree.Tree as code
 use Rattle.tql_syntax.specs.Texts.{ReadsText}
-use Rattle.tql_grammar.proofs.TextLaws.{one_statement}
+use Rattle.tql_syntax_grammar.proofs.TextLaws.{one_statement}
 use Rattle.tql_engine.specs.Sense.{ReadsAs}
 
 -- what spells a statement that runs spells it in the whole grammar

@@ -12,18 +12,17 @@ use Rattle.tql_spec.specs.Machine.{State, new_state, is_not_later}
 use Rattle.tql_catalog.specs.Tables.{definitions_of}
 use Rattle.tql_catalog.specs.declared.catalog.Table.{Table}
 use Rattle.tql_catalog.specs.Defined.{IsDefinition}
-use Rattle.tql_store.specs.Held as store
-use Rattle.tql_store.specs.Held.{is_versioned, has_table, table_count}
+use Rattle.tql_store.specs.StoreModel.{StoreModel, is_versioned, has_table, table_count}
 use Rattle.tql_store.specs.Changes.{newest}
 use Rattle.tql_store.specs.Represents.{Represents}
-use Rattle.tql_rows.specs.Changes.{Under}
+use Rattle.tql_store_rows.specs.Changes.{Under}
 use Rattle.tql_engine.specs.Effects.{not_later_than}
-use Rattle.tql_engine.specs.Stands.{Held, StandsFor, ArePlaced, IsKept, IsDated, copies_of, open_moment}
+use Rattle.tql_engine.specs.Stands.{EngineModel, StandsFor, ArePlaced, IsKept, IsDated, copies_of, open_moment}
 
 -- ---- a new engine
 
-pub new_law : (r : store.Held) → Represents r (λ t. []) (λ t. []) → r.working ≡ None → table_count r ≡ 0
-    → StandsFor (record { tables = []; rows = r; next = first_moment }) new_state
+pub new_law : (r : StoreModel) → Represents r (λ t. []) (λ t. []) → r.working ≡ None → table_count r ≡ 0
+    → StandsFor (record { tables = []; store = r; next = first_moment }) new_state
 new_law r stands idle count = record {
   fits = record { definitions = refl; defined = tt; narrow = tt; rows = tt; working = tt };
   clock = refl;
@@ -45,11 +44,11 @@ closed_is : (o : Option Entry) (w : Option ℤ) → w ≡ open_moment o → IsNo
 closed_is None w e c = refl
 closed_is (Some x) w e c = absurd (let f : true ≡ false = ap is_some (sym e) ∙ c in cc)
 
-pub closed_law : (h : Held) (s : State) → StandsFor h s → IsNone h.rows.working → s.transaction ≡ None
-closed_law h s f c = closed_is s.transaction h.rows.working f.opened c
+pub closed_law : (h : EngineModel) (s : State) → StandsFor h s → IsNone h.store.working → s.transaction ≡ None
+closed_law h s f c = closed_is s.transaction h.store.working f.opened c
 
 -- one is open in both, or in neither
-pub open_law : (h : Held) (s : State) → StandsFor h s → is_some s.transaction ≡ is_some h.rows.working
+pub open_law : (h : EngineModel) (s : State) → StandsFor h s → is_some s.transaction ≡ is_some h.store.working
 open_law h s f = same_test s.transaction ∙ ap is_some (sym f.opened)
   where
     same_test : (o : Option Entry) → is_some o ≡ is_some (open_moment o)
@@ -63,14 +62,15 @@ last_is : (tables : List Table) (m : ℤ) (es : List Entry) (last : Option ℤ) 
 last_is tables m [] last e = ap (not_later_than m) e
 last_is tables m (x ∷ older) last e = ap (not_later_than m) e
 
-pub last_law : (h : Held) (s : State) (m : ℤ) → StandsFor h s → is_not_later m s.history ≡ not_later_than m h.rows.last
-last_law h s m f = last_is h.tables m s.history h.rows.last (f.stands.dated 0)
+pub last_law : (h : EngineModel) (s : State) (m : ℤ) → StandsFor h s
+    → is_not_later m s.history ≡ not_later_than m h.store.last
+last_law h s m f = last_is h.tables m s.history h.store.last (f.stands.dated 0)
 
 falls_below : (n m : ℤ) (es : List Entry) → FallingFrom n es → is_not_later m es ≡ false → FallingFrom m es
 falls_below n m [] f e = tt
 falls_below n m (x ∷ older) f e = (grind (arith, ints), f.1)
 
-pub clock_law : (h : Held) (s : State) (m : ℤ) → StandsFor h s → IsNone h.rows.working
+pub clock_law : (h : EngineModel) (s : State) (m : ℤ) → StandsFor h s → IsNone h.store.working
     → is_not_later m s.history ≡ false → first_moment ≤ℤ m → m ≤ℤ high
     → StandsFor (record h { next = m }) (record s { next = m })
 clock_law h s m f closed later from until = record {
@@ -98,8 +98,8 @@ under_next : (tables : List Table) (n : ℤ) (es : List Entry) (last : Option �
 under_next tables n [] last e f = subst (λ (o : Option ℤ). Under o n) e tt
 under_next tables n (x ∷ older) last e f = subst (λ (o : Option ℤ). Under o n) e f.0
 
-pub under_law : (h : Held) (s : State) → StandsFor h s → Under h.rows.last s.next
-under_law h s f = under_next h.tables s.next s.history h.rows.last (f.stands.dated 0) f.falls
+pub under_law : (h : EngineModel) (s : State) → StandsFor h s → Under h.store.last s.next
+under_law h s f = under_next h.tables s.next s.history h.store.last (f.stands.dated 0) f.falls
 
 -- ---- tables
 
@@ -117,7 +117,7 @@ definition_of (q ∷ ps) zero p e = ap (λ (t : Table). t.definition) (some_is q
 definition_of (q ∷ ps) (suc t) p e = definition_of ps t p e
 
 -- the table's definition
-pub definition_law : (h : Held) (s : State) (t : ℕ) (p : Table) → StandsFor h s → slice_get h.tables t ≡ Some p
+pub definition_law : (h : EngineModel) (s : State) (t : ℕ) (p : Table) → StandsFor h s → slice_get h.tables t ≡ Some p
     → table_at s.definitions t ≡ p.definition
 definition_law h s t p f e = ap (λ (ds : List TableDef). table_at ds t) f.fits.definitions
     ∙ definition_of h.tables t p e
@@ -128,23 +128,23 @@ defined_of [] t p a e = cc
 defined_of (q ∷ ps) zero p a e = subst (λ (x : Table). IsDefinition x.definition) (some_is q p e) a.0
 defined_of (q ∷ ps) (suc t) p a e = defined_of ps t p a.1 e
 
-pub defined_law : (h : Held) (s : State) (t : ℕ) (p : Table) → StandsFor h s → slice_get h.tables t ≡ Some p
+pub defined_law : (h : EngineModel) (s : State) (t : ℕ) (p : Table) → StandsFor h s → slice_get h.tables t ≡ Some p
     → IsDefinition p.definition
 defined_law h s t p f e = defined_of h.tables t p f.fits.defined e
 
-kept_of : (rows : store.Held) (ps : List Table) (t : ℕ) (p : Table) → ArePlaced rows ps → slice_get ps t ≡ Some p
+kept_of : (rows : StoreModel) (ps : List Table) (t : ℕ) (p : Table) → ArePlaced rows ps → slice_get ps t ≡ Some p
     → IsKept rows p
 kept_of rows [] t p a e = cc
 kept_of rows (q ∷ ps) zero p a e = subst (λ (x : Table). IsKept rows x) (some_is q p e) a.1
 kept_of rows (q ∷ ps) (suc t) p a e = kept_of rows ps t p a.2 e
 
-pub versioned_law : (h : Held) (s : State) (t : ℕ) (p : Table) → StandsFor h s → slice_get h.tables t ≡ Some p
-    → is_versioned h.rows p.id ≡ is_some p.definition.system
-versioned_law h s t p f e = (kept_of h.rows h.tables t p f.placed e).versioned
+pub versioned_law : (h : EngineModel) (s : State) (t : ℕ) (p : Table) → StandsFor h s → slice_get h.tables t ≡ Some p
+    → is_versioned h.store p.id ≡ is_some p.definition.system
+versioned_law h s t p f e = (kept_of h.store h.tables t p f.placed e).versioned
 
-pub there_law : (h : Held) (s : State) (t : ℕ) (p : Table) → StandsFor h s → slice_get h.tables t ≡ Some p
-    → IsTrue (has_table h.rows p.id)
-there_law h s t p f e = (kept_of h.rows h.tables t p f.placed e).there
+pub there_law : (h : EngineModel) (s : State) (t : ℕ) (p : Table) → StandsFor h s → slice_get h.tables t ≡ Some p
+    → IsTrue (has_table h.store p.id)
+there_law h s t p f e = (kept_of h.store h.tables t p f.placed e).there
 
-pub count_law : (h : Held) (s : State) → StandsFor h s → length s.definitions ≡ table_count h.rows
+pub count_law : (h : EngineModel) (s : State) → StandsFor h s → length s.definitions ≡ table_count h.store
 count_law h s f = ap length f.fits.definitions ∙ length-map h.tables (λ (t : Table). t.definition) ∙ sym f.count

@@ -5,13 +5,13 @@ use Rattle.std.specs.Prelude.{ℤ, ◌&&◌, ◌<ℤ◌, not, int_le, is_some, i
 use Rattle.std.proofs.lemmas.Int.{ints}
 use Rattle.tql_spec.specs.Calendar.{high}
 use Rattle.tql_spec.specs.Refusal.{Refusal, NotInThisTransactionState, MomentNotAllowed, first, fault_if}
-use Rattle.tql_spec.specs.Machine.{State, state_faults, manner_of, is_clock_at_end}
-use Rattle.tql_bind.specs.Bounds.{bound_of}
-use Rattle.tql_bind.specs.declared.bound.Bound.{Bound}
-use Rattle.tql_bind.specs.declared.bound.Bound.TheVariants as b
+use Rattle.tql_spec.specs.Machine.{State, state_faults, class_of, is_clock_at_end}
+use Rattle.tql_bound.specs.Bounds.{bound_of}
+use Rattle.tql_bound.specs.declared.bound.Bound.{Bound}
+use Rattle.tql_bound.specs.declared.bound.Bound.TheVariants as b
 use Rattle.tql_engine.specs.Allowed.{IsIdle, HasTimeLeft, IsAllowed}
 use Rattle.tql_engine.specs.Effects.{asked_first}
-use Rattle.tql_engine.specs.Stands.{Held, StandsFor}
+use Rattle.tql_engine.specs.Stands.{EngineModel, StandsFor}
 use Rattle.tql_engine.proofs.Standing.{open_law}
 
 none_is : {A : Type 0} (o : Option A) → is_none o ≡ not (is_some o)
@@ -19,15 +19,15 @@ none_is None = refl
 none_is (Some x) = refl
 
 -- a transaction is open
-pub open_is : (h : Held) (s : State) → StandsFor h s → is_some s.transaction ≡ is_some h.rows.working
+pub open_is : (h : EngineModel) (s : State) → StandsFor h s → is_some s.transaction ≡ is_some h.store.working
 open_is = open_law
 
 -- none is open
-pub closed_is : (h : Held) (s : State) → StandsFor h s → is_none s.transaction ≡ not (is_some h.rows.working)
+pub closed_is : (h : EngineModel) (s : State) → StandsFor h s → is_none s.transaction ≡ not (is_some h.store.working)
 closed_is h s st = none_is s.transaction ∙ ap not (open_law h s st)
 
 -- the clock is at its end
-pub end_is : (h : Held) (s : State) → StandsFor h s → is_clock_at_end s ≡ int_le high h.next
+pub end_is : (h : EngineModel) (s : State) → StandsFor h s → is_clock_at_end s ≡ int_le high h.next
 end_is h s st = ap (int_le high) (sym st.clock)
 
 -- ---- where there is none
@@ -41,34 +41,34 @@ no_faults true u e f k = absurd cc
 no_faults false true e f k = absurd cc
 no_faults false false e f k = (refl, refl)
 
-idle : (h : Held) (s : State) → StandsFor h s → is_some s.transaction ≡ false → IsIdle h
+idle : (h : EngineModel) (s : State) → StandsFor h s → is_some s.transaction ≡ false → IsIdle h
 idle h s st k = sym (open_law h s st) ∙ k
 
 before : (n : ℤ) → int_le high n ≡ false → n <ℤ high
 before n e = grind (arith, ints, e)
 
-has_moment : (h : Held) (s : State) → StandsFor h s → is_clock_at_end s ≡ false → HasTimeLeft h
+has_moment : (h : EngineModel) (s : State) → StandsFor h s → is_clock_at_end s ≡ false → HasTimeLeft h
 has_moment h s st k = before h.next (sym (end_is h s st) ∙ k)
 
 second : (t u : Bool) → t && u ≡ false → t ≡ true → u ≡ false
 second true u k e = k
 second false u k e = absurd cc
 
-dated : (h : Held) (s : State) → StandsFor h s
+dated : (h : EngineModel) (s : State) → StandsFor h s
     → first (fault_if (is_none s.transaction && is_clock_at_end s) MomentNotAllowed) ≡ None → IsIdle h → HasTimeLeft h
 dated h s st k i =
     has_moment h s st (second (is_none s.transaction) (is_clock_at_end s)
     (no_fault (is_none s.transaction && is_clock_at_end s) MomentNotAllowed k) (closed_is h s st ∙ ap not i))
 
 -- the transaction and the clock allow the bound statement
-pub allowed_law : (h : Held) (s : State) (x : Bound) → StandsFor h s
-    → first (state_faults s (asked_first (manner_of (bound_of x)))) ≡ None → IsAllowed h x
+pub allowed_law : (h : EngineModel) (s : State) (x : Bound) → StandsFor h s
+    → first (state_faults s (asked_first (class_of (bound_of x)))) ≡ None → IsAllowed h x
 allowed_law h s (b.CreateTable d) st k = idle h s st (no_fault (is_some s.transaction) NotInThisTransactionState k)
 allowed_law h s (b.DropTable t) st k = idle h s st (no_fault (is_some s.transaction) NotInThisTransactionState k)
 allowed_law h s (b.Insert x) st k = dated h s st k
 allowed_law h s (b.InsertFrom x) st k = dated h s st k
 allowed_law h s (b.Modify x) st k = dated h s st k
-allowed_law h s (b.Ask q) st k = tt
+allowed_law h s (b.AnswerQuery q) st k = tt
 allowed_law h s (b.SetClock m) st k = idle h s st (no_fault (is_some s.transaction) NotInThisTransactionState k)
 allowed_law h s b.Start st k =
     let both = no_faults (is_some s.transaction) (is_clock_at_end s) NotInThisTransactionState MomentNotAllowed k in

@@ -12,7 +12,7 @@ use Rattle.tql_value.specs.declared.refusal.Refusal.{Refusal}
 use Rattle.tql_value.specs.declared.refusal.Refusal.TheVariants as r
 use Rattle.tql_result.specs.Replies.{reply_of}
 use Rattle.tql_result.specs.declared.reply.Reply.{Reply}
-use Rattle.tql_engine.specs.Stands.{Held, StandsFor}
+use Rattle.tql_engine.specs.Stands.{EngineModel, StandsFor}
 use Rattle.tql_engine.specs.Effects.{Does, Refuses, DoesStep, reply_by}
 use Rattle.tql_engine.specs.Sense.{ReadsAs}
 use Rattle.tql_run.specs.Responding as responding
@@ -20,11 +20,11 @@ use Rattle.tql_run.specs.Responding as responding
 -- ---- answers
 
 -- the reply is the machine's to the piece, or out of memory, and the engine stands for the state after it
-abbrev pub Answered : State → Piece → machine.Reply → Held → Type 0
+abbrev pub Answered : State → Piece → machine.Reply → EngineModel → Type 0
 Answered s p reply h = responding.Answered Answers s p reply (StandsFor h)
 
 -- a reply that the machine gives at the statement that a text says
-pub statement_answered : (new : Held) (s : State) (text : List ℕ) (t : Statement) (reply : machine.Reply)
+pub statement_answered : (new : EngineModel) (s : State) (text : List ℕ) (t : Statement) (reply : machine.Reply)
     → HasSense Runs (finished text) (Says t) → Does new reply (respond s t) → Answered s (finished text) reply new
 statement_answered new s text t reply sense d = record {
   state = (respond s t).1;
@@ -33,11 +33,12 @@ statement_answered new s text t reply sense d = record {
 }
 
 -- out of memory
-pub memory_answered : (new : Held) (s : State) (p : Piece) → StandsFor new s → Answered s p (Refused OutOfMemory) new
+pub memory_answered : (new : EngineModel) (s : State) (p : Piece) → StandsFor new s
+    → Answered s p (Refused OutOfMemory) new
 memory_answered new s p st = record { state = s; answers = inr (refl, refl); stands = st }
 
 -- a fault of the text
-pub fault_answered : (new : Held) (s : State) (p : Piece) (e : Refusal) → StandsFor new s
+pub fault_answered : (new : EngineModel) (s : State) (p : Piece) (e : Refusal) → StandsFor new s
     → HasSense Runs p (Faulty (refusal_of e)) → Answered s p (Refused (refusal_of e)) new
 fault_answered new s p e st sense = record {
   state = s;
@@ -46,7 +47,7 @@ fault_answered new s p e st sense = record {
 }
 
 -- what a statement's result answers
-pub refused_answered : (new : Held) (s : State) (text : List ℕ) (t : Statement) (e : Refusal)
+pub refused_answered : (new : EngineModel) (s : State) (text : List ℕ) (t : Statement) (e : Refusal)
     → HasSense Runs (finished text) (Says t) → Refuses new s e (respond s t)
     → Answered s (finished text) (Refused (refusal_of e)) new
 refused_answered new s text t r.OutOfMemory sense d = memory_answered new s (finished text) d
@@ -100,7 +101,7 @@ refused_answered new s text t r.ReferenceNotMet sense d =
     statement_answered new s text t (Refused (refusal_of r.ReferenceNotMet)) sense d
 
 -- what a text that says nothing answers
-pub unread_answered : (new : Held) (s : State) → StandsFor new s → (text : List ℕ) (e : Refusal)
+pub unread_answered : (new : EngineModel) (s : State) → StandsFor new s → (text : List ℕ) (e : Refusal)
     → ReadsAs text (Err e) → Answered s (finished text) (Refused (refusal_of e)) new
 unread_answered new s st text r.OutOfMemory why = memory_answered new s (finished text) st
 unread_answered new s st text r.StatementTooLong why = fault_answered new s (finished text) r.StatementTooLong st why
@@ -136,7 +137,7 @@ unread_answered new s st text r.DuplicateKey why = fault_answered new s (finishe
 unread_answered new s st text r.ReferenceNotMet why = fault_answered new s (finished text) r.ReferenceNotMet st why
 
 -- what a statement's result answers
-pub result_answered : (new : Held) (s : State) (text : List ℕ) (t : Statement) (result : Result Reply Refusal)
+pub result_answered : (new : EngineModel) (s : State) (text : List ℕ) (t : Statement) (result : Result Reply Refusal)
     → HasSense Runs (finished text) (Says t) → DoesStep new s result (respond s t)
     → Answered s (finished text) (reply_by result) new
 result_answered new s text t (Ok reply) sense d = statement_answered new s text t (reply_of reply) sense d

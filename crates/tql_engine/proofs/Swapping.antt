@@ -11,15 +11,14 @@ use Rattle.tql_spec.proofs.MemberLists.{times_some, there_if}
 use Rattle.tql_spec.specs.Definition.{Stamped, TableDef, Version, same_stamped}
 use Rattle.tql_spec.specs.History.{Copy, Entry, TableEntry}
 use Rattle.tql_spec.specs.Machine.{State, newest_copy}
-use Rattle.tql_store.specs.Held as store
-use Rattle.tql_store.specs.Held.{live}
+use Rattle.tql_store.specs.StoreModel.{StoreModel, live}
 use Rattle.tql_store.specs.Stands.{Told, Fits, StandsFor as StandFor}
 use Rattle.tql_store.specs.Changes.{InTransaction}
 use Rattle.tql_store.specs.Represents.{Copies, Working, Represents, StandsWith, horizon_of}
 use Rattle.tql_catalog.specs.Tables.{definitions_of}
 use Rattle.tql_catalog.specs.declared.catalog.Table.{Table}
 use Rattle.tql_engine.specs.Fitting.{RowFits, RowsFit, CopyFits}
-use Rattle.tql_engine.specs.Stands.{Held, StandsFor, ArePlaced, rows_of_id, copies_of, working_of}
+use Rattle.tql_engine.specs.Stands.{EngineModel, StandsFor, ArePlaced, rows_of_id, copies_of, working_of}
 use Rattle.tql_engine.proofs.Copies.{rows_set, fits_length}
 use Rattle.tql_engine.proofs.ChangeKeeps.{working_now, with_table_rows, set_fits}
 
@@ -82,7 +81,7 @@ stands_same horizon versions m xs ys older b f = record {
 }
 
 -- in the newest copies, with no transaction open
-pub copies_same : (r : store.Held) (m : ℤ) (xs ys : Working) (older : Copies) (working : Working) → r.working ≡ None
+pub copies_same : (r : StoreModel) (m : ℤ) (xs ys : Working) (older : Copies) (working : Working) → r.working ≡ None
     → ((t : ℕ) → SameBag (xs t) (ys t))
     → Represents r (λ t. record { moment = m; rows = xs t } ∷ older t) working
     → Represents r (λ t. record { moment = m; rows = ys t } ∷ older t) working
@@ -100,7 +99,7 @@ copies_same r m xs ys older working idle b f = record {
 }
 
 -- in the working copy of an open transaction
-pub working_same : (r : store.Held) (m : ℤ) (xs ys : Working) (copies : Copies) → r.working ≡ Some m
+pub working_same : (r : StoreModel) (m : ℤ) (xs ys : Working) (copies : Copies) → r.working ≡ Some m
     → ((t : ℕ) → SameBag (xs t) (ys t)) → Represents r copies xs → Represents r copies ys
 working_same r m xs ys copies is_open b f = record {
   dated = f.dated;
@@ -124,7 +123,7 @@ working_same r m xs ys copies is_open b f = record {
 -- ---- a state with the rows of one table in another order
 
 -- the rows of each table, as the store numbers them
-rows_same : (h : store.Held) (ps : List Table) (t : ℕ) (p : Table) → ArePlaced h ps → slice_get ps t ≡ Some p
+rows_same : (h : StoreModel) (ps : List Table) (t : ℕ) (p : Table) → ArePlaced h ps → slice_get ps t ≡ Some p
     → (copy : Copy) → CopyFits (definitions_of ps) copy → (xs ys : List Stamped) → SameBag xs ys
     → (id : ℕ) → SameBag (rows_of_id ps (slice_set copy t xs) id) (rows_of_id ps (slice_set copy t ys) id)
 rows_same h ps t p a there copy fits xs ys b id =
@@ -139,7 +138,7 @@ rows_same h ps t p a there copy fits xs ys b id =
     either true = b
     either false = same-refl (rows_of_id ps copy id)
 
-module _ (h : Held) (t : ℕ) (p : Table) (there : slice_get h.tables t ≡ Some p) (xs ys : List Stamped)
+module _ (h : EngineModel) (t : ℕ) (p : Table) (there : slice_get h.tables t ≡ Some p) (xs ys : List Stamped)
     (b : SameBag xs ys) (ok : RowsFit p.definition ys) where
   swapped_by : (defs : _) (es : List Entry) (next : ℤ) (o : Option Entry)
       → (let s : State = record { definitions = defs; history = es; next = next; transaction = o } in
@@ -162,9 +161,9 @@ module _ (h : Held) (t : ℕ) (p : Table) (there : slice_get h.tables t ≡ Some
         since = f.since;
         opened = f.opened;
         dated = f.dated;
-        stands = copies_same h.rows next (rows_of_id h.tables (slice_set copy t xs))
+        stands = copies_same h.store next (rows_of_id h.tables (slice_set copy t xs))
             (rows_of_id h.tables (slice_set copy t ys)) (copies_of h.tables es) (working_of h.tables None) f.opened
-            (rows_same h.rows h.tables t p f.placed there copy fits xs ys b) f.stands;
+            (rows_same h.store h.tables t p f.placed there copy fits xs ys b) f.stands;
         placed = f.placed;
         count = f.count;
       }
@@ -183,9 +182,9 @@ module _ (h : Held) (t : ℕ) (p : Table) (there : slice_get h.tables t ≡ Some
     since = f.since;
     opened = f.opened;
     dated = f.dated;
-    stands = working_same h.rows e.moment (rows_of_id h.tables (slice_set e.copy t xs))
+    stands = working_same h.store e.moment (rows_of_id h.tables (slice_set e.copy t xs))
         (rows_of_id h.tables (slice_set e.copy t ys)) (copies_of h.tables es) f.opened
-        (rows_same h.rows h.tables t p f.placed there e.copy fits xs ys b) f.stands;
+        (rows_same h.store h.tables t p f.placed there e.copy fits xs ys b) f.stands;
     placed = f.placed;
     count = f.count;
   }

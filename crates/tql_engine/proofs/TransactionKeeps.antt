@@ -6,15 +6,15 @@ use Rattle.tql_spec.specs.Calendar.{first_moment, high}
 use Rattle.tql_spec.specs.Definition.{TableDef}
 use Rattle.tql_spec.specs.History.{Entry, FallingFrom}
 use Rattle.tql_spec.specs.Machine.{State, working, committed}
-use Rattle.tql_store.specs.Held as store
+use Rattle.tql_store.specs.StoreModel.{StoreModel}
 use Rattle.tql_store.specs.Represents.{BeginCopies, CommitAppends, RollbackRestores}
 use Rattle.tql_catalog.specs.Tables.{definitions_of}
-use Rattle.tql_engine.specs.Stands.{Held, StandsFor, copies_of, working_of}
+use Rattle.tql_engine.specs.Stands.{EngineModel, StandsFor, copies_of, working_of}
 use Rattle.tql_engine.proofs.Copies.{any_working, same_places}
 use Rattle.tql_engine.proofs.ChangeKeeps.{last_fits, begun_stands, same_count}
 
-module _ (h : Held) (defs : List TableDef) (es : List Entry) (next : ℤ) (r : store.Held)
-    (places : r.tables ≡ h.rows.tables) where
+module _ (h : EngineModel) (defs : List TableDef) (es : List Entry) (next : ℤ) (r : StoreModel)
+    (places : r.tables ≡ h.store.tables) where
   -- the machine, with no transaction open
   abbrev idle : State
   idle = record { definitions = defs; history = es; next = next; transaction = None }
@@ -24,8 +24,8 @@ module _ (h : Held) (defs : List TableDef) (es : List Entry) (next : ℤ) (r : s
   within e = record { definitions = defs; history = es; next = next; transaction = Some e }
 
   -- begun
-  begun : StandsFor h idle → next <ℤ high → BeginCopies h.rows r → r.working ≡ Some next
-      → StandsFor (record h { rows = r }) (record idle { transaction = Some (working idle None) })
+  begun : StandsFor h idle → next <ℤ high → BeginCopies h.store r → r.working ≡ Some next
+      → StandsFor (record h { store = r }) (record idle { transaction = Some (working idle None) })
   begun f below begins is_open = record {
     fits = record {
       definitions = f.fits.definitions;
@@ -41,14 +41,14 @@ module _ (h : Held) (defs : List TableDef) (es : List Entry) (next : ℤ) (r : s
     since = f.since;
     opened = is_open;
     dated = (refl, below);
-    stands = begun_stands h.tables defs es h.rows r begins f.stands;
-    placed = same_places h.rows r h.tables places f.placed;
-    count = same_count h.rows r _ places f.count;
+    stands = begun_stands h.tables defs es h.store r begins f.stands;
+    placed = same_places h.store r h.tables places f.placed;
+    count = same_count h.store r _ places f.count;
   }
 
   -- committed
-  ended : (e : Entry) → StandsFor h (within e) → CommitAppends h.rows r → r.working ≡ None
-      → StandsFor (record { tables = h.tables; rows = r; next = next +ℤ pos 1 }) (committed (within e) e)
+  ended : (e : Entry) → StandsFor h (within e) → CommitAppends h.store r → r.working ≡ None
+      → StandsFor (record { tables = h.tables; store = r; next = next +ℤ pos 1 }) (committed (within e) e)
   ended e f commits is_idle =
       let same : e.moment ≡ next = f.dated.0 in
       let low : first_moment ≤ℤ e.moment = subst (λ m. first_moment ≤ℤ m) (sym same) f.not_before in
@@ -70,13 +70,13 @@ module _ (h : Held) (defs : List TableDef) (es : List Entry) (next : ℤ) (r : s
         dated = tt;
         stands = any_working r _ (working_of h.tables (Some e)) (working_of h.tables None) is_idle
             (commits (copies_of h.tables es) (working_of h.tables (Some e)) e.moment f.opened f.stands);
-        placed = same_places h.rows r h.tables places f.placed;
-        count = same_count h.rows r _ places f.count;
+        placed = same_places h.store r h.tables places f.placed;
+        count = same_count h.store r _ places f.count;
       }
 
   -- undone
-  undone : (e : Entry) → StandsFor h (within e) → RollbackRestores h.rows r → r.working ≡ None
-      → StandsFor (record h { rows = r }) idle
+  undone : (e : Entry) → StandsFor h (within e) → RollbackRestores h.store r → r.working ≡ None
+      → StandsFor (record h { store = r }) idle
   undone e f restores is_idle = record {
     fits = record {
       definitions = f.fits.definitions;
@@ -94,37 +94,37 @@ module _ (h : Held) (defs : List TableDef) (es : List Entry) (next : ℤ) (r : s
     dated = tt;
     stands = any_working r (copies_of h.tables es) (working_of h.tables (Some e)) (working_of h.tables None) is_idle
         (restores (copies_of h.tables es) (working_of h.tables (Some e)) e.moment f.opened f.stands);
-    placed = same_places h.rows r h.tables places f.placed;
-    count = same_count h.rows r _ places f.count;
+    placed = same_places h.store r h.tables places f.placed;
+    count = same_count h.store r _ places f.count;
   }
 
 -- the state where its transaction is told
-in_state : (h : Held) (s : State) (o : Option Entry) → s.transaction ≡ o → StandsFor h s
+in_state : (h : EngineModel) (s : State) (o : Option Entry) → s.transaction ≡ o → StandsFor h s
     → StandsFor h (record s { transaction = o })
 in_state h s o e f = subst (λ x. StandsFor h (record s { transaction = x })) e f
 
-pub begun_law : (h : Held) (s : State) (r : store.Held) → StandsFor h s → s.transaction ≡ None → h.next <ℤ high
-    → BeginCopies h.rows r → r.working ≡ Some h.next → r.tables ≡ h.rows.tables
-    → StandsFor (record h { rows = r }) (record s { transaction = Some (working s None) })
+pub begun_law : (h : EngineModel) (s : State) (r : StoreModel) → StandsFor h s → s.transaction ≡ None → h.next <ℤ high
+    → BeginCopies h.store r → r.working ≡ Some h.next → r.tables ≡ h.store.tables
+    → StandsFor (record h { store = r }) (record s { transaction = Some (working s None) })
 begun_law h s r f closed below begins is_open places =
-    subst (λ (x : Option Entry). StandsFor (record h { rows = r })
+    subst (λ (x : Option Entry). StandsFor (record h { store = r })
     (record s { transaction = Some (working (record s { transaction = x }) None) })) (sym closed)
     (begun h s.definitions s.history s.next r places (in_state h s None closed f)
     (subst (λ m. m <ℤ high) f.clock below) begins (is_open ∙ ap Some f.clock))
 
-pub ended_law : (h : Held) (s : State) (e : Entry) (r : store.Held) → StandsFor h s → s.transaction ≡ Some e
-    → CommitAppends h.rows r → r.working ≡ None → r.tables ≡ h.rows.tables
-    → StandsFor (record { tables = h.tables; rows = r; next = h.next +ℤ pos 1 }) (committed s e)
+pub ended_law : (h : EngineModel) (s : State) (e : Entry) (r : StoreModel) → StandsFor h s → s.transaction ≡ Some e
+    → CommitAppends h.store r → r.working ≡ None → r.tables ≡ h.store.tables
+    → StandsFor (record { tables = h.tables; store = r; next = h.next +ℤ pos 1 }) (committed s e)
 ended_law h s e r f is commits is_idle places =
-    subst (λ n. StandsFor (record { tables = h.tables; rows = r; next = n +ℤ pos 1 }) (committed s e)) (sym f.clock)
+    subst (λ n. StandsFor (record { tables = h.tables; store = r; next = n +ℤ pos 1 }) (committed s e)) (sym f.clock)
     (ended h s.definitions s.history s.next r places e (in_state h s (Some e) is f) commits is_idle)
 
-pub undone_law : (h : Held) (s : State) (e : Entry) (r : store.Held) → StandsFor h s → s.transaction ≡ Some e
-    → RollbackRestores h.rows r → r.working ≡ None → r.tables ≡ h.rows.tables
-    → StandsFor (record h { rows = r }) (record s { transaction = None })
+pub undone_law : (h : EngineModel) (s : State) (e : Entry) (r : StoreModel) → StandsFor h s → s.transaction ≡ Some e
+    → RollbackRestores h.store r → r.working ≡ None → r.tables ≡ h.store.tables
+    → StandsFor (record h { store = r }) (record s { transaction = None })
 undone_law h s e r f is restores is_idle places =
     undone h s.definitions s.history s.next r places e (in_state h s (Some e) is f) restores is_idle
 
 -- an open transaction has its moment before the end
-pub dated_below : (h : Held) (s : State) (e : Entry) → StandsFor h s → s.transaction ≡ Some e → h.next <ℤ high
+pub dated_below : (h : EngineModel) (s : State) (e : Entry) → StandsFor h s → s.transaction ≡ Some e → h.next <ℤ high
 dated_below h s e f is = subst (λ m. m <ℤ high) (sym f.clock) (in_state h s (Some e) is f).dated.1

@@ -20,11 +20,11 @@ use Rattle.tql_catalog.specs.Tables.{definitions_of}
 use Rattle.tql_catalog.specs.declared.catalog.Table.{Table}
 use Rattle.tql_dml.specs.Alters as dml
 use Rattle.tql_dml.specs.Alters.{AreTyped, portion_in, work_in}
-use Rattle.tql_rows.specs.Readings.{version_shown as version_of}
-use Rattle.tql_rows.specs.declared.version.Version as code
+use Rattle.tql_store_rows.specs.Readings.{version_shown as version_of}
+use Rattle.tql_store_rows.specs.declared.version.Version as code
 use Rattle.tql_store.specs.Represents.{AnswersNow}
 use Rattle.tql_engine.specs.Effects.{Does}
-use Rattle.tql_engine.specs.Stands.{Held, StandsFor, IsSound}
+use Rattle.tql_engine.specs.Stands.{EngineModel, StandsFor, IsSound}
 use Rattle.tql_engine.proofs.ChangeKeeps.{working_rows}
 use Rattle.tql_engine.proofs.Doing.{none_there}
 use Rattle.tql_engine.proofs.Modifying.{same_rows}
@@ -33,7 +33,7 @@ use Rattle.tql_engine.proofs.Swapping.{member_of_same}
 
 -- ---- steps
 
-pub sound_after : (old new : Held) (sound : IsSound old) (b : Bound) (reply : Reply)
+pub sound_after : (old new : EngineModel) (sound : IsSound old) (b : Bound) (reply : Reply)
     → IsTypedBound (definitions_of old.tables) b
     → Does new reply (step sound.state b) → IsSound new
 sound_after old new sound b reply bound does =
@@ -60,10 +60,11 @@ each_typed : (d : TableDef) (found : List code.Version) → ((r : Stamped) → I
 each_typed d [] h = tt
 each_typed d (v ∷ vs) h = (h (version_of v).row (inl refl), each_typed d vs (λ r m. h r (inr m)))
 
-pub read_typed : (h : Held) (s : State) (p : Table) (x : Modification) (found : List code.Version) → StandsFor h s
+pub read_typed : (h : EngineModel) (s : State) (p : Table) (x : Modification) (found : List code.Version)
+    → StandsFor h s
     → IsTypedState s
     → IsTypedChange (definitions_of h.tables) (modification_of x) → slice_get h.tables x.table ≡ Some p
-    → AnswersNow h.rows p.id (map version_of found)
+    → AnswersNow h.store p.id (map version_of found)
     → AreTyped p.definition found x
 read_typed h s p x found st typed bound there answers portion =
     let here : table_at s.definitions x.table ≡ p.definition = definition_law h s x.table p st there in

@@ -4,7 +4,7 @@ use Rattle.tql_spec.specs.Bag.{SameBag}
 use Rattle.tql_spec.specs.Datum.{Row}
 use Rattle.tql_spec.specs.Machine.{State, bag_of}
 use Rattle.tql_spec.specs.Query.{answer}
-use Rattle.tql_bound.specs.Questions.{question_of}
+use Rattle.tql_bound.specs.Queries.{bound_query_of}
 use Rattle.tql_bound.specs.declared.change.QueryInsertion.{QueryInsertion}
 use Rattle.tql_catalog.specs.Rows.{IsRowOf}
 use Rattle.tql_catalog.specs.declared.catalog.Table.{Table}
@@ -17,7 +17,7 @@ use Rattle.tql_value.specs.declared.refusal.Refusal.TheVariants.{OutOfMemory, Va
 -- the rows that the query answers, in some order, are tested and added
 pub record Added (s : State) (p : Table) (x : QueryInsertion) (result : Result Delta Refusal) : Type 0 where
   pub bag : List Row
-  pub answered : answer (bag_of s) (question_of x.question) ≡ Some bag
+  pub answered : answer (bag_of s) (bound_query_of x.query) ≡ Some bag
   pub rows : List Row
   pub same : SameBag rows bag
   pub alters : Alters p.id [] (λ m. (added_rows p.definition x.columns.items (Some rows) m).rows)
@@ -27,4 +27,4 @@ pub record Added (s : State) (p : Table) (x : QueryInsertion) (result : Result D
 abbrev pub Adds : State → Table → QueryInsertion → Result Delta Refusal → Type 0
 Adds s p x (Ok delta) = Added s p x (Ok delta) × All (IsRowOf p.definition) (rows_of delta.added.items)
 Adds s p x (Err OutOfMemory) = ⊤
-Adds s p x (Err e) = ((e ≡ ValueOutOfRange) × (answer (bag_of s) (question_of x.question) ≡ None)) ⊎ Added s p x (Err e)
+Adds s p x (Err e) = ((e ≡ ValueOutOfRange) × (answer (bag_of s) (bound_query_of x.query) ≡ None)) ⊎ Added s p x (Err e)

@@ -1,13 +1,13 @@
 -- What a change does to the store: in the open transaction, or in one of its own.
 use Rattle.std.specs.Prelude.{◌≡◌, ◌+ℤ◌, ℕ, ℤ, pos, List, Option, Some, None}
 use Rattle.tql_spec.specs.Datum.{Row}
-use Rattle.tql_store.specs.Held.{Held, named}
+use Rattle.tql_store.specs.StoreModel.{StoreModel, named}
 use Rattle.tql_store.specs.Represents.{BeginCopies, ChangeReplaces, CommitAppends, RollbackRestores}
 
 -- begun at the moment, changed, and committed
-pub record CommitsRows (m : ℤ) (t : ℕ) (removed : List ℕ) (rows : List Row) (old new : Held) : Type 0 where
-  pub opened : Held
-  pub changed : Held
+pub record CommitsRows (m : ℤ) (t : ℕ) (removed : List ℕ) (rows : List Row) (old new : StoreModel) : Type 0 where
+  pub opened : StoreModel
+  pub changed : StoreModel
   pub begins : BeginCopies old opened
   pub is_open : opened.working ≡ Some m
   pub same_names : (u id : ℕ) → named opened u id ≡ named old u id
@@ -18,8 +18,8 @@ pub record CommitsRows (m : ℤ) (t : ℕ) (removed : List ℕ) (rows : List Row
   pub places : new.tables ≡ old.tables
 
 -- begun at the moment, and undone
-pub record Undoes (m : ℤ) (old new : Held) : Type 0 where
-  pub opened : Held
+pub record Undoes (m : ℤ) (old new : StoreModel) : Type 0 where
+  pub opened : StoreModel
   pub begins : BeginCopies old opened
   pub is_open : opened.working ≡ Some m
   pub restores : RollbackRestores opened new
@@ -27,17 +27,17 @@ pub record Undoes (m : ℤ) (old new : Held) : Type 0 where
   pub places : new.tables ≡ old.tables
 
 -- changed in the open transaction of the moment
-pub record ReplacesRows (m : ℤ) (t : ℕ) (removed : List ℕ) (rows : List Row) (old new : Held) : Type 0 where
+pub record ReplacesRows (m : ℤ) (t : ℕ) (removed : List ℕ) (rows : List Row) (old new : StoreModel) : Type 0 where
   pub changes : ChangeReplaces t removed rows old new
   pub still_open : new.working ≡ Some m
   pub places : new.tables ≡ old.tables
 
 -- by the transaction that is open: the change, and the clock's moment after it
-abbrev pub ChangesRows : Option ℤ → ℤ → ℤ → ℕ → List ℕ → List Row → Held → Held → Type 0
+abbrev pub ChangesRows : Option ℤ → ℤ → ℤ → ℕ → List ℕ → List Row → StoreModel → StoreModel → Type 0
 ChangesRows None clock next t removed rows old new = CommitsRows clock t removed rows old new × (next ≡ clock +ℤ pos 1)
 ChangesRows (Some m) clock next t removed rows old new = ReplacesRows m t removed rows old new × (next ≡ clock)
 
 -- so is what a change leaves that was given up
-abbrev pub KeepsRows : Option ℤ → ℤ → Held → Held → Type 0
+abbrev pub KeepsRows : Option ℤ → ℤ → StoreModel → StoreModel → Type 0
 KeepsRows None clock old new = Undoes clock old new
 KeepsRows (Some m) clock old new = new ≡ old

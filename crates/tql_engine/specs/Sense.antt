@@ -2,8 +2,8 @@
 use Rattle.std.specs.Prelude.{ℕ, List, Result, Ok, Err, ⊤}
 use Rattle.tql_spec.specs.Run.{Says, Faulty, HasSense, finished}
 use Rattle.tql_spec.specs.Running.{Runs}
-use Rattle.tql_tree.specs.Trees.{tree_of}
-use Rattle.tql_tree.specs.declared.tree.Tree.{Tree}
+use Rattle.tql_syntax_tree.specs.Trees.{tree_of}
+use Rattle.tql_syntax_tree.specs.declared.tree.Tree.{Tree}
 use Rattle.tql_value.specs.Refusals.{refusal_of}
 use Rattle.tql_value.specs.declared.refusal.Refusal.{Refusal}
 use Rattle.tql_value.specs.declared.refusal.Refusal.TheVariants.{OutOfMemory}

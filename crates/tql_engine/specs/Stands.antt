@@ -10,23 +10,22 @@ use Rattle.tql_spec.specs.Machine.{State}
 use Rattle.tql_spec.specs.Typing.{IsTypedState}
 use Rattle.tql_catalog.specs.Tables.{definitions_of, tables_code}
 use Rattle.tql_catalog.specs.declared.catalog.Table.{Table}
-use Rattle.tql_store.specs.Held as store
-use Rattle.tql_store.specs.Held.{has_table, is_versioned, table_count}
+use Rattle.tql_store.specs.StoreModel.{StoreModel, has_table, is_versioned, table_count}
 use Rattle.tql_store.specs.Represents.{Copies, Represents}
 use Rattle.tql_engine.specs.Fitting.{StateFits}
 
 -- what an engine holds: its tables in the order of their creation, the store of their rows, and the moment of the
 -- next transaction
-pub record Held : Type 0 where
+pub record EngineModel : Type 0 where
   pub tables : List Table
-  pub rows : store.Held
+  pub store : StoreModel
   pub next : ℤ
 
 -- how the logic stores it, from the code of what the store holds
-abbrev pub held_code : Coded store.Held → Coded Held
-held_code rows =
-    code_by (List Table × (store.Held × ℤ)) (coded× tables_code (coded× rows coded_ℤ))
-    (λ h. (h.tables, (h.rows, h.next))) (λ p. record { tables = p.0; rows = p.1.0; next = p.1.1 }) (λ _. refl)
+abbrev pub held_code : Coded StoreModel → Coded EngineModel
+held_code store =
+    code_by (List Table × (StoreModel × ℤ)) (coded× tables_code (coded× store coded_ℤ))
+    (λ h. (h.tables, (h.store, h.next))) (λ p. record { tables = p.0; store = p.1.0; next = p.1.1 }) (λ _. refl)
 
 -- of a copy the rows of the table that is kept at a number; none where no table is
 abbrev pub rows_of_id : List Table → Copy → ℕ → List Stamped
@@ -46,12 +45,12 @@ abbrev pub is_free : ℕ → List Table → Bool
 is_free id tables = list_all (λ (p : Table). not (nat_eq p.id id)) tables
 
 -- a table is kept at its number, with its history where it has a system period
-pub record IsKept (rows : store.Held) (p : Table) : Type 0 where
+pub record IsKept (rows : StoreModel) (p : Table) : Type 0 where
   pub there : IsTrue (has_table rows p.id)
   pub versioned : is_versioned rows p.id ≡ is_some p.definition.system
 
 -- each table is kept, at a number of its own
-abbrev pub ArePlaced : store.Held → List Table → Type 0
+abbrev pub ArePlaced : StoreModel → List Table → Type 0
 ArePlaced rows [] = Unit {0}
 ArePlaced rows (p ∷ ps) = IsTrue (is_free p.id ps) × IsKept rows p × ArePlaced rows ps
 
@@ -76,23 +75,23 @@ IsDated next None = Unit {0}
 IsDated next (Some e) = (e.moment ≡ next) × (next <ℤ high)
 
 -- the engine stands for a state of the machine
-pub record StandsFor (h : Held) (s : State) : Type 0 where
+pub record StandsFor (h : EngineModel) (s : State) : Type 0 where
   pub fits : StateFits (definitions_of h.tables) s
   pub clock : h.next ≡ s.next
   pub not_before : first_moment ≤ℤ s.next
   pub not_after : s.next ≤ℤ high
   pub falls : FallingFrom s.next s.history
   pub since : AreSince first_moment s.history
-  pub opened : h.rows.working ≡ open_moment s.transaction
+  pub opened : h.store.working ≡ open_moment s.transaction
   pub dated : IsDated s.next s.transaction
-  pub stands : Represents h.rows (copies_of h.tables s.history) (working_of h.tables s.transaction)
-  pub placed : ArePlaced h.rows h.tables
-  pub count : table_count h.rows ≡ length h.tables
+  pub stands : Represents h.store (copies_of h.tables s.history) (working_of h.tables s.transaction)
+  pub placed : ArePlaced h.store h.tables
+  pub count : table_count h.store ≡ length h.tables
 
 -- what is true of every engine: it stands for some state of the machine, and in each copy of it, the working one too,
 -- values are of their
 -- columns' kinds, so that the ends of a row's application period are points of its kind
-pub record IsSound (h : Held) : Type 0 where
+pub record IsSound (h : EngineModel) : Type 0 where
   pub state : State
   pub stands : StandsFor h state
   pub typed : IsTypedState state

@@ -5,20 +5,20 @@ mod clock;
 mod creation;
 mod dropping;
 mod faults;
-mod questions;
+mod queries;
 mod transactions;
 
 use crate::sense::read_statement;
 use crate::store::Store;
 use std::marker::Model;
 use tql_bind::binder::bind;
-use tql_bind::bound::Bound;
+use tql_bound::bound::Bound;
 use tql_catalog::catalog::{Catalog, Table};
 use tql_memory::Memory;
 use tql_result::answer::Answer;
 use tql_result::reply::Reply;
 use tql_run::responder::Responder;
-use tql_tree::statement::Statement;
+use tql_syntax_tree::statement::Statement;
 use tql_value::calendar::FIRST_MOMENT;
 use tql_value::refusal::Refusal;
 
@@ -27,7 +27,7 @@ use tql_value::refusal::Refusal;
 pub struct Engine {
     memory: Memory,
     tables: Catalog,
-    rows: Store,
+    store: Store,
     next: i64,
 }
 
@@ -36,11 +36,11 @@ impl Drop for Engine {
         let Engine {
             memory: _,
             tables,
-            rows,
+            store,
             next: _,
         } = self;
         drop(tables);
-        drop(rows);
+        drop(store);
     }
 }
 
@@ -48,15 +48,15 @@ impl Model for Engine {
     ghost use Rattle.tql_index.specs.contracts.tree_index.TreeIndex.{the_row as tree_row};
     ghost use Rattle.tql_index.specs.contracts.tree_index.TreeIndexIntervalIndex.TheImpl.{ghosts};
     ghost use Rattle.tql_store.specs.contracts.store.Store.{the_row};
-    ghost use Rattle.tql_engine.specs.Stands.{Held, held_code, IsSound};
+    ghost use Rattle.tql_engine.specs.Stands.{EngineModel, held_code, IsSound};
 
-    ghost Value = { Held };
+    ghost Value = { EngineModel };
 
     ghost coded = { held_code (the_row tree_row ghosts).coded };
 
-    ghost view = { λ e. record { tables = e.tables; rows = e.rows; next = e.next } };
+    ghost view = { λ e. record { tables = e.tables; store = e.store; next = e.next } };
 
-    ghost invariant = { λ e. IsSound (record { tables = e.tables; rows = e.rows; next = e.next }) };
+    ghost invariant = { λ e. IsSound (record { tables = e.tables; store = e.store; next = e.next }) };
 }
 
 impl Engine {
@@ -65,9 +65,9 @@ impl Engine {
     ghost use Rattle.tql_spec.specs.Running.{does_run};
     ghost use Rattle.tql_spec.specs.Syntax.{is_too_wide};
     ghost use Rattle.tql_spec.specs.TypingLaws.{IsTypedBound};
-    ghost use Rattle.tql_tree.specs.Statements.{statement_of};
+    ghost use Rattle.tql_syntax_tree.specs.Statements.{statement_of};
     ghost use Rattle.tql_run.specs.Responding.{Answered};
-    ghost use Rattle.tql_bind.specs.Bounds.{IsSound, bound_of};
+    ghost use Rattle.tql_bound.specs.Bounds.{IsSound, bound_of};
     ghost use Rattle.tql_catalog.specs.Tables.{definitions_of};
     ghost use Rattle.tql_result.specs.Replies.{reply_of, IsPrintableReply};
     ghost use Rattle.tql_engine.specs.Stands.{StandsFor};
@@ -82,7 +82,7 @@ impl Engine {
         Engine {
             memory,
             tables: Catalog::new(memory),
-            rows: Store::new(memory),
+            store: Store::new(memory),
             next: FIRST_MOMENT,
         }
     }
@@ -109,7 +109,7 @@ impl Engine {
             Bound::Insert(insertion) => self.insert(&insertion),
             Bound::InsertFrom(insertion) => self.insert_from(&insertion),
             Bound::Modify(modification) => self.modify(&modification),
-            Bound::Ask(question) => self.ask(&question),
+            Bound::AnswerQuery(query) => self.answer_query(&query),
             Bound::SetClock(moment) => self.at(moment),
             Bound::Start => Ok(self.start()),
             Bound::Commit => self.commit(),

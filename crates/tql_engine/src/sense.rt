@@ -2,10 +2,10 @@
 ghost use Rattle.tql_engine.specs.Sense.{ReadsAs};
 
 use tql_memory::Memory;
-use tql_runnable::running::does_run;
 use tql_syntax::text::read_text;
-use tql_tree::tree::Tree;
-use tql_tree::width::is_too_wide;
+use tql_syntax_tree::running::does_run;
+use tql_syntax_tree::tree::Tree;
+use tql_syntax_tree::width::is_too_wide;
 use tql_value::refusal::Refusal;
 
 /// Reads a finished statement. Refused are, the first of them: over 1,048,576 bytes, bytes that are not UTF-8, over

@@ -7,25 +7,16 @@ ghost use Rattle.tql_spec.specs.Datum.{Row, same_row};
 ghost use Rattle.tql_spec.specs.Definition.{cell};
 ghost use Rattle.tql_spec.specs.Query.{by_columns, by_keys, row_order, if_distinct, in_order, directed};
 ghost use Rattle.tql_spec.specs.Datum.{order as value_order};
-ghost use Rattle.tql_bound.specs.Questions.{order_of};
-ghost use Rattle.tql_value.specs.Views.{datum_of_view, row_of, rows_of};
+ghost use Rattle.tql_bound.specs.Queries.{order_of};
+ghost use Rattle.tql_value.specs.Views.{row_of, rows_of};
 
 use std::cmp::Ordering;
-use tql_bound::question::OrderKey;
+use tql_bound::query::OrderKey;
+use tql_expr::row::cell_at;
 use tql_memory::Memory;
 use tql_spec::order_is_one;
 use tql_value::comparison::order;
-use tql_value::value::{Value, View};
-
-/// The value in a column; NULL past the row's end.
-fn cell_at(row: &[Value], column: usize) -> View<'_>
-    ensures { datum_of_view result ≡ cell (row_of row.now) column }
-{
-    match row.get(column) {
-        Some(value) => value.view(),
-        None => View::Null,
-    }
-}
+use tql_value::value::Value;
 
 /// The order of two rows by one key.
 fn compare_by(key: OrderKey, a: &[Value], b: &[Value]) -> Ordering

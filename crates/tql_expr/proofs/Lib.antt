@@ -6,3 +6,4 @@ pub mod PeriodSets
 pub mod Places
 pub mod Printing
 pub mod QueryPrinting
+pub mod Inserted

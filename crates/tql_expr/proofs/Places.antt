@@ -6,7 +6,7 @@ use Rattle.std.proofs.lemmas.Bool.{ltb-true, lt-ltb, and_parts, and_from}
 use Rattle.std.proofs.lemmas.List.{get_or_append_left}
 use Rattle.std.proofs.Math.Seq.{get_or-append_seam}
 use Rattle.tql_spec.specs.Datum.{Datum, Null}
-use Rattle.tql_spec.specs.Expression as tree
+use Rattle.tql_spec.specs.Expression as bound
 use Rattle.tql_value.specs.Views.{plain_comparison, datum_of_value}
 use Rattle.tql_value.specs.declared.value.Value as value
 use Rattle.tql_period.specs.Relations.{plain_relation}
@@ -42,30 +42,30 @@ pub same_term : (lit lit' : ℕ → Datum) (f g : ℕ → Term) (count place : �
     → ((k : ℕ) → k < place → f k ≡ g k)
     → (n : Node) → IsTrue (reads_before count place n) → node_term lit f n ≡ node_term lit' g n
 same_term lit lit' f g count place lits same (Literal k) h =
-    ap (λ d. OfExpr (tree.Literal d)) (lits k (ltb-true k count h))
+    ap (λ d. OfExpr (bound.Literal d)) (lits k (ltb-true k count h))
 same_term lit lit' f g count place lits same (Column i) h = refl
 same_term lit lit' f g count place lits same (Negate a) h =
-    ap (λ t. OfExpr (tree.Negate (expr_of t))) (same a (ltb-true a place h))
+    ap (λ t. OfExpr (bound.Negate (expr_of t))) (same a (ltb-true a place h))
 same_term lit lit' f g count place lits same (Binary op a b) h =
-    two (λ s t. OfExpr (tree.Binary (plain_operation op) (expr_of s) (expr_of t))) f g place a b same h
+    two (λ s t. OfExpr (bound.Binary (plain_operation op) (expr_of s) (expr_of t))) f g place a b same h
 same_term lit lit' f g count place lits same CountRows h = refl
 same_term lit lit' f g count place lits same (Aggregate o a) h =
-    ap (λ t. OfExpr (tree.Aggregate (plain_function o) (expr_of t))) (same a (ltb-true a place h))
+    ap (λ t. OfExpr (bound.Aggregate (plain_function o) (expr_of t))) (same a (ltb-true a place h))
 same_term lit lit' f g count place lits same (Compare sign a b) h =
-    two (λ s t. OfCond (tree.Compare (plain_comparison sign) (expr_of s) (expr_of t))) f g place a b same h
+    two (λ s t. OfCond (bound.Compare (plain_comparison sign) (expr_of s) (expr_of t))) f g place a b same h
 same_term lit lit' f g count place lits same (IsNull a) h =
-    ap (λ t. OfCond (tree.IsNull (expr_of t))) (same a (ltb-true a place h))
+    ap (λ t. OfCond (bound.IsNull (expr_of t))) (same a (ltb-true a place h))
 same_term lit lit' f g count place lits same (Related which a b c d) h =
-    four (λ s t u v. OfCond (tree.Related (plain_relation which) (expr_of s) (expr_of t) (expr_of u) (expr_of v))) f g
+    four (λ s t u v. OfCond (bound.Related (plain_relation which) (expr_of s) (expr_of t) (expr_of u) (expr_of v))) f g
     place a b c d same h
 same_term lit lit' f g count place lits same (ContainsPoint a b c) h =
-    four (λ s t u v. OfCond (tree.ContainsPoint (expr_of s) (expr_of t) (expr_of u))) f g place a b c c same h
+    four (λ s t u v. OfCond (bound.ContainsPoint (expr_of s) (expr_of t) (expr_of u))) f g place a b c c same h
 same_term lit lit' f g count place lits same (Not c) h =
-    ap (λ t. OfCond (tree.Not (cond_of t))) (same c (ltb-true c place h))
+    ap (λ t. OfCond (bound.Not (cond_of t))) (same c (ltb-true c place h))
 same_term lit lit' f g count place lits same (And c d) h =
-    two (λ s t. OfCond (tree.And (cond_of s) (cond_of t))) f g place c d same h
+    two (λ s t. OfCond (bound.And (cond_of s) (cond_of t))) f g place c d same h
 same_term lit lit' f g count place lits same (Or c d) h =
-    two (λ s t. OfCond (tree.Or (cond_of s) (cond_of t))) f g place c d same h
+    two (λ s t. OfCond (bound.Or (cond_of s) (cond_of t))) f g place c d same h
 
 -- with more literals it still names what is there
 pub more_literals : (count more place : ℕ) (n : Node) → count ≤ more → IsTrue (reads_before count place n)
@@ -140,7 +140,7 @@ term_in_kept lit done [] k within = refl
 term_in_kept lit done (n ∷ ns) k within =
     let x = node_term lit (term_in done) n in
     term_in_kept lit (done ++ x ∷ []) ns k (omega (arith, length-append done (x ∷ [])))
-    ∙ get_or_append_left done (x ∷ []) (OfExpr (tree.Literal Null)) k within
+    ∙ get_or_append_left done (x ∷ []) (OfExpr (bound.Literal Null)) k within
 
 -- the tree at a place is that of the node there, over all trees
 pub term_in_at : (lit : ℕ → Datum) (count : ℕ) (done : List Term) (ns : List Node) (place k : ℕ) (d : Node)
@@ -150,7 +150,7 @@ pub term_in_at : (lit : ℕ → Datum) (count : ℕ) (done : List Term) (ns : Li
 term_in_at lit count done [] place k d is all within = absurd (omega arith)
 term_in_at lit count done (n ∷ ns) place zero d is all within =
     let x = node_term lit (term_in done) n in
-    let last = OfExpr (tree.Literal Null) in
+    let last = OfExpr (bound.Literal Null) in
     let more = done ++ x ∷ [] in
     let here : place + zero ≡ length done = omega arith in
     ap (term_in (terms_from lit more ns)) here
@@ -208,13 +208,13 @@ literal_ordered vs v ns k is all =
 pub literal_added : (vs : List value.Value) (v : value.Value) (ns : List Node) (k : ℕ) → k ≡ length vs
     → IsTrue (all_read_before (length vs) 0 ns)
     → terms_from (datum_at (vs ++ v ∷ [])) [] (ns ++ Literal k ∷ []) ≡ terms_from (datum_at vs) [] ns ++ OfExpr
-    (tree.Literal (datum_of_value v)) ∷ []
+    (bound.Literal (datum_of_value v)) ∷ []
 literal_added vs v ns k is all =
     let lit = datum_at (vs ++ v ∷ []) in
     let here : lit k ≡ datum_of_value v = ap lit is ∙ ap datum_of_value (get_or-append_seam vs v [] value_is.Null) in
     terms_from-last lit [] ns (Literal k)
-    ∙ ap (λ d. terms_from lit [] ns ++ OfExpr (tree.Literal d) ∷ []) here
-    ∙ ap (λ ts. ts ++ OfExpr (tree.Literal (datum_of_value v)) ∷ [])
+    ∙ ap (λ d. terms_from lit [] ns ++ OfExpr (bound.Literal d) ∷ []) here
+    ∙ ap (λ ts. ts ++ OfExpr (bound.Literal (datum_of_value v)) ∷ [])
     (sym (same_terms (datum_at vs) lit (length vs) 0 [] ns
     (λ j h. ap datum_of_value (sym (get_or_append_left vs (v ∷ []) value_is.Null j h))) all))
 
@@ -224,7 +224,7 @@ literal_added vs v ns k is all =
 pub adds_last : (old new : Terms) (place : ℕ) (t : Term) → trees new ≡ trees old ++ t ∷ [] → place ≡ size old
     → Adds old new place t
 adds_last old new place t is here =
-    let none = OfExpr (tree.Literal Null) in
+    let none = OfExpr (bound.Literal Null) in
     let more : size new ≡ size old + 1 = ap length is ∙ length-append (trees old) (t ∷ []) in
     record {
       stays = record {

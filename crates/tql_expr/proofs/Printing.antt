@@ -6,7 +6,7 @@ use Rattle.tql_spec.specs.Words.{◌>>=◌, with_front, map_all}
 use Rattle.tql_spec.specs.Datum.{Datum, Int, Moment, Row, Operation, Minus, calculate, fits, result_of}
 use Rattle.tql_spec.specs.Definition.{System, with_generated, cell}
 use Rattle.tql_spec.specs.Expression.{eval, aggregate}
-use Rattle.tql_spec.specs.Expression as tree
+use Rattle.tql_spec.specs.Expression as bound
 use Rattle.tql_value.specs.Points.{IsPrintable, IsMoment}
 use Rattle.tql_value.specs.Views.{datum_of_value}
 use Rattle.tql_value.specs.declared.value.Value.{Value}
@@ -26,8 +26,8 @@ printable_cell (v ∷ vs) (suc i) h = printable_cell vs i (All-tail IsPrintable 
 -- ---- expressions of a statement
 
 -- a value that stands in an expression by itself has a text
-abbrev pub Prints : tree.Expr → Type 0
-Prints (tree.Literal v) = IsPrintable v
+abbrev pub Prints : bound.Expr → Type 0
+Prints (bound.Literal v) = IsPrintable v
 Prints _ = ⊤
 
 pub literal_prints : (vs : List Value) (k : ℕ) → All (λ v. IsPrintable (datum_of_value v)) vs
@@ -76,11 +76,11 @@ pub calculated_prints : (op : Operation) (x y : Datum) → OptionPrints (calcula
 calculated_prints op (Int a) (Int b) = if_prints (fits (result_of op a b)) (Some (Int (result_of op a b))) tt
 calculated_prints op _ _ = tt
 
-aggregate_prints : (f : tree.Function) → OptionPrints (aggregate f [])
-aggregate_prints tree.Count = tt
-aggregate_prints tree.Sum = tt
-aggregate_prints tree.Min = tt
-aggregate_prints tree.Max = tt
+aggregate_prints : (f : bound.Function) → OptionPrints (aggregate f [])
+aggregate_prints bound.Count = tt
+aggregate_prints bound.Sum = tt
+aggregate_prints bound.Min = tt
+aggregate_prints bound.Max = tt
 
 pub negated_prints : (o : Option Datum) → OptionPrints (o >>= λ v. calculate Minus (Int (pos 0)) v)
 negated_prints None = tt
@@ -91,14 +91,14 @@ binary_prints op None p = tt
 binary_prints op (Some x) None = tt
 binary_prints op (Some x) (Some y) = calculated_prints op x y
 
-pub eval_prints : (row : Row) (e : tree.Expr) → All IsPrintable row → Prints e → OptionPrints (eval [] row e)
-eval_prints row (tree.Literal v) h p = p
-eval_prints row (tree.Column i) h p = printable_cell row i h
-eval_prints row (tree.Negate e) h p = negated_prints (eval [] row e)
-eval_prints row (tree.Binary op a b) h p = binary_prints op (eval [] row a) (eval [] row b)
-eval_prints row tree.CountRows h p =
+pub eval_prints : (row : Row) (e : bound.Expr) → All IsPrintable row → Prints e → OptionPrints (eval [] row e)
+eval_prints row (bound.Literal v) h p = p
+eval_prints row (bound.Column i) h p = printable_cell row i h
+eval_prints row (bound.Negate e) h p = negated_prints (eval [] row e)
+eval_prints row (bound.Binary op a b) h p = binary_prints op (eval [] row a) (eval [] row b)
+eval_prints row bound.CountRows h p =
     if_prints (fits (pos (length {A = Row} []))) (Some (Int (pos (length {A = Row} [])))) tt
-eval_prints row (tree.Aggregate f e) h p =
+eval_prints row (bound.Aggregate f e) h p =
     if_prints (fits (pos (length {A = Row} []))) (aggregate f []) (aggregate_prints f)
 
 -- ---- rows

@@ -11,7 +11,7 @@ use Rattle.tql_spec.specs.Datum.{Datum, Null, Row, Int, order, fits, is_null, sa
 use Rattle.tql_spec.specs.Definition.{Name, cell}
 use Rattle.tql_spec.specs.Expression.{Expr, Function, Count, Sum, Min, Max, Cond, eval, aggregate, best, present}
 use Rattle.tql_spec.specs.Expression.{if_countable, passes, total}
-use Rattle.tql_spec.specs.Expression as tree
+use Rattle.tql_spec.specs.Expression as bound
 use Rattle.tql_spec.specs.Query.{Chain, Join, Query, Ref, Scope, alone, answer, cells_at, chain_rows, distinct_rows}
 use Rattle.tql_spec.specs.Query.{groups_by, if_distinct, joined_with, joins_from, keep, left_join, of_group, or_alone}
 use Rattle.tql_spec.specs.Query.{pairs, product, scopes}
@@ -211,8 +211,8 @@ kept_scopes having (s ∷ ss) h =
 
 -- the literals of an expression that stand by themselves, or as what an aggregate is taken over
 abbrev pub LiteralsPrint : Expr → Type 0
-LiteralsPrint (tree.Literal v) = IsPrintable v
-LiteralsPrint (tree.Aggregate f e) = Prints e
+LiteralsPrint (bound.Literal v) = IsPrintable v
+LiteralsPrint (bound.Aggregate f e) = Prints e
 LiteralsPrint _ = ⊤
 
 present_print : (vs : Row) → All IsPrintable vs → All IsPrintable (present vs)
@@ -254,12 +254,13 @@ each_value (r ∷ rows) e h p =
 
 value_prints : (group : List Row) (row : Row) (e : Expr) → AllPrint group → All IsPrintable row → LiteralsPrint e
     → OptionPrints (eval group row e)
-value_prints group row (tree.Literal v) g h p = p
-value_prints group row (tree.Column i) g h p = printable_cell row i h
-value_prints group row (tree.Negate e) g h p = negated_prints (eval group row e)
-value_prints group row (tree.Binary op a b) g h p = binary_prints op (eval group row a) (eval group row b)
-value_prints group row tree.CountRows g h p = if_prints (fits (pos (length group))) (Some (Int (pos (length group)))) tt
-value_prints group row (tree.Aggregate f e) g h p =
+value_prints group row (bound.Literal v) g h p = p
+value_prints group row (bound.Column i) g h p = printable_cell row i h
+value_prints group row (bound.Negate e) g h p = negated_prints (eval group row e)
+value_prints group row (bound.Binary op a b) g h p = binary_prints op (eval group row a) (eval group row b)
+value_prints group row bound.CountRows g h p =
+    if_prints (fits (pos (length group))) (Some (Int (pos (length group)))) tt
+value_prints group row (bound.Aggregate f e) g h p =
     if_prints (fits (pos (length group))) (map_all (λ r. eval [] r e) group >>= λ vs. aggregate f (present vs))
     (of_present f (map_all (λ r. eval [] r e) group) (each_value group e g p))
 

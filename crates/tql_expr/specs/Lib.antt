@@ -4,3 +4,5 @@ pub mod Meaning
 pub mod Searches
 pub mod Evaluated
 pub mod Sets
+pub mod Generated
+pub mod Shown

@@ -6,7 +6,7 @@ use Rattle.tql_spec.specs.Words.{◌>>=◌}
 use Rattle.tql_spec.specs.Datum.{Datum, calculate}
 use Rattle.tql_spec.specs.Datum as spec
 use Rattle.tql_spec.specs.Expression.{Expr, Binary, Cond, And, Or}
-use Rattle.tql_spec.specs.Expression as tree
+use Rattle.tql_spec.specs.Expression as bound
 use Rattle.tql_spec.specs.Truth as logic
 use Rattle.tql_value.specs.Views.{datum_of_value, plain_truth}
 use Rattle.tql_value.specs.declared.arithmetic.Range.{Range}
@@ -48,8 +48,8 @@ HasCond t id = id.place < size t
 
 -- the expression that an aggregate is
 abbrev pub aggregate : Terms → Aggregate → Expr
-aggregate t Rows = tree.CountRows
-aggregate t (Over f x) = tree.Aggregate (plain_function f) (expr t x)
+aggregate t Rows = bound.CountRows
+aggregate t (Over f x) = bound.Aggregate (plain_function f) (expr t x)
 
 -- what it is taken over is there
 abbrev pub HasOperand : Terms → Aggregate → Type 0

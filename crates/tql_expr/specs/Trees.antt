@@ -3,7 +3,7 @@ use Rattle.std.specs.Prelude.{ℕ, List, [], ◌∷◌, ◌++◌, slice_index_or
 use Rattle.tql_spec.specs.Datum.{Datum, Null}
 use Rattle.tql_spec.specs.Datum as spec
 use Rattle.tql_spec.specs.Expression.{Expr, Cond}
-use Rattle.tql_spec.specs.Expression as tree
+use Rattle.tql_spec.specs.Expression as bound
 use Rattle.tql_value.specs.Views.{plain_comparison}
 use Rattle.tql_period.specs.Relations.{plain_relation}
 use Rattle.tql_expr.specs.declared.node.Operation.{Operation}
@@ -21,11 +21,11 @@ plain_operation Subtract = spec.Minus
 plain_operation Multiply = spec.Times
 
 -- the function among the definitions' functions
-abbrev pub plain_function : Function → tree.Function
-plain_function Count = tree.Count
-plain_function Sum = tree.Sum
-plain_function Min = tree.Min
-plain_function Max = tree.Max
+abbrev pub plain_function : Function → bound.Function
+plain_function Count = bound.Count
+plain_function Sum = bound.Sum
+plain_function Min = bound.Min
+plain_function Max = bound.Max
 
 -- what a node stands for
 pub data Term : Type 0 where
@@ -35,33 +35,33 @@ pub data Term : Type 0 where
 -- the expression; NULL where it is none
 abbrev pub expr_of : Term → Expr
 expr_of (OfExpr e) = e
-expr_of (OfCond c) = tree.Literal Null
+expr_of (OfCond c) = bound.Literal Null
 
 -- the condition; NULL IS NULL where it is none
 abbrev pub cond_of : Term → Cond
-cond_of (OfExpr e) = tree.IsNull (tree.Literal Null)
+cond_of (OfExpr e) = bound.IsNull (bound.Literal Null)
 cond_of (OfCond c) = c
 
 -- the tree of a node, over the literals and the trees at the places that it names
 abbrev pub node_term : (ℕ → Datum) → (ℕ → Term) → Node → Term
-node_term lit at (Literal k) = OfExpr (tree.Literal (lit k))
-node_term lit at (Column i) = OfExpr (tree.Column i)
-node_term lit at (Negate a) = OfExpr (tree.Negate (expr_of (at a)))
-node_term lit at (Binary op a b) = OfExpr (tree.Binary (plain_operation op) (expr_of (at a)) (expr_of (at b)))
-node_term lit at CountRows = OfExpr tree.CountRows
-node_term lit at (Aggregate f a) = OfExpr (tree.Aggregate (plain_function f) (expr_of (at a)))
-node_term lit at (Compare sign a b) = OfCond (tree.Compare (plain_comparison sign) (expr_of (at a)) (expr_of (at b)))
-node_term lit at (IsNull a) = OfCond (tree.IsNull (expr_of (at a)))
+node_term lit at (Literal k) = OfExpr (bound.Literal (lit k))
+node_term lit at (Column i) = OfExpr (bound.Column i)
+node_term lit at (Negate a) = OfExpr (bound.Negate (expr_of (at a)))
+node_term lit at (Binary op a b) = OfExpr (bound.Binary (plain_operation op) (expr_of (at a)) (expr_of (at b)))
+node_term lit at CountRows = OfExpr bound.CountRows
+node_term lit at (Aggregate f a) = OfExpr (bound.Aggregate (plain_function f) (expr_of (at a)))
+node_term lit at (Compare sign a b) = OfCond (bound.Compare (plain_comparison sign) (expr_of (at a)) (expr_of (at b)))
+node_term lit at (IsNull a) = OfCond (bound.IsNull (expr_of (at a)))
 node_term lit at (Related which a b c d) =
-    OfCond (tree.Related (plain_relation which) (expr_of (at a)) (expr_of (at b)) (expr_of (at c)) (expr_of (at d)))
-node_term lit at (ContainsPoint a b c) = OfCond (tree.ContainsPoint (expr_of (at a)) (expr_of (at b)) (expr_of (at c)))
-node_term lit at (Not c) = OfCond (tree.Not (cond_of (at c)))
-node_term lit at (And c d) = OfCond (tree.And (cond_of (at c)) (cond_of (at d)))
-node_term lit at (Or c d) = OfCond (tree.Or (cond_of (at c)) (cond_of (at d)))
+    OfCond (bound.Related (plain_relation which) (expr_of (at a)) (expr_of (at b)) (expr_of (at c)) (expr_of (at d)))
+node_term lit at (ContainsPoint a b c) = OfCond (bound.ContainsPoint (expr_of (at a)) (expr_of (at b)) (expr_of (at c)))
+node_term lit at (Not c) = OfCond (bound.Not (cond_of (at c)))
+node_term lit at (And c d) = OfCond (bound.And (cond_of (at c)) (cond_of (at d)))
+node_term lit at (Or c d) = OfCond (bound.Or (cond_of (at c)) (cond_of (at d)))
 
 -- the tree at a place of a list; NULL past its end
 abbrev pub term_in : List Term → ℕ → Term
-term_in ts a = slice_index_or ts a (OfExpr (tree.Literal Null))
+term_in ts a = slice_index_or ts a (OfExpr (bound.Literal Null))
 
 -- the trees of nodes, each made of those before it: behind the trees so far
 abbrev pub terms_from : (ℕ → Datum) → List Term → List Node → List Term

@@ -1,7 +1,7 @@
 // What expressions are evaluated on.
 ghost use Rattle.std.specs.Prelude.{◌≡◌, List, [], length, slice_index_or};
 ghost use Rattle.tql_spec.specs.Datum as pure;
-ghost use Rattle.tql_spec.specs.Expression as tree;
+ghost use Rattle.tql_spec.specs.Expression as bound;
 ghost use Rattle.tql_value.specs.Views.{datum_of_view, outcome};
 ghost use Rattle.tql_expr.specs.Meaning.{HasOperand, aggregate as tree_of};
 
@@ -29,14 +29,14 @@ pub trait Columns {
     /// What an aggregate of the terms gives over the rows of the group; `Range` where a number inside leaves 64 bits.
     fn aggregate<'a>(&'a self, terms: &'a Terms, which: Aggregate) -> Result<View<'a>, Range>
         requires { HasOperand terms.now which }
-        ensures { outcome result ≡ tree.eval (group self.now) (values self.now) (tree_of terms.now which) };
+        ensures { outcome result ≡ bound.eval (group self.now) (values self.now) (tree_of terms.now which) };
 }
 
 /// What an aggregate of the terms gives over no rows: 0 where it counts, and else NULL (ISO/IEC 9075-2:2011, 10.9
 /// `<aggregate function>`). It is never out of range.
 pub fn over_no_rows<'a>(terms: &Terms, which: Aggregate) -> Result<View<'a>, Range>
     requires { HasOperand terms.now which }
-    ensures { (row : pure.Row) → outcome result ≡ tree.eval [] row (tree_of terms.now which) }
+    ensures { (row : pure.Row) → outcome result ≡ bound.eval [] row (tree_of terms.now which) }
 {
     match which {
         Aggregate::Rows | Aggregate::Over(Function::Count, _) => Ok(View::Int(0)),

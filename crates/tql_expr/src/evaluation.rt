@@ -1,7 +1,7 @@
 // The value of an expression and the truth of a condition, on a row.
 ghost use Rattle.std.specs.Prelude.{◌≡◌, ◌<◌, ◌≤◌, ◌-◌, IsTrue, IsOk, All, map};
 ghost use Rattle.tql_spec.specs.Datum.{Day, Moment};
-ghost use Rattle.tql_spec.specs.Expression as tree;
+ghost use Rattle.tql_spec.specs.Expression as bound;
 ghost use Rattle.tql_value.specs.Views.{outcome, plain_comparison};
 ghost use Rattle.tql_period.specs.Relations.{plain_relation};
 ghost use Rattle.tql_expr.specs.Trees.{expr_of, cond_of, term_in};
@@ -50,7 +50,7 @@ impl Terms {
     fn eval_at<'a, C: Columns>(&'a self, at: usize, columns: &'a C) -> Result<View<'a>, Range>
         requires { at < size self.now }
         ensures { outcome result
-            ≡ tree.eval (C.group columns.now) (C.values columns.now) (expr_of (term_in (trees self.now) at)) }
+            ≡ bound.eval (C.group columns.now) (C.values columns.now) (expr_of (term_in (trees self.now) at)) }
     {
         match self.node(at) {
             Node::Literal(k) => Ok(self.literal(k)),
@@ -77,9 +77,9 @@ impl Terms {
     ) -> Result<View<'a>, Range>
         requires within { at < size self.now }
         requires before { outcome before
-            ≡ tree.eval (C.group columns.now) (C.values columns.now) (expr_of (term_in (trees self.now) (at - 1))) }
+            ≡ bound.eval (C.group columns.now) (C.values columns.now) (expr_of (term_in (trees self.now) (at - 1))) }
         ensures { outcome result
-            ≡ tree.eval (C.group columns.now) (C.values columns.now) (expr_of (term_in (trees self.now) at)) }
+            ≡ bound.eval (C.group columns.now) (C.values columns.now) (expr_of (term_in (trees self.now) at)) }
     {
         match self.node(at) {
             Node::Binary(op, a, b) if a + 1 == at => applied(op, before, self.eval_at(b, columns)),
@@ -91,7 +91,7 @@ impl Terms {
     fn eval_run<'a, C: Columns>(&'a self, at: usize, columns: &'a C) -> Result<View<'a>, Range>
         requires { at < size self.now }
         ensures { outcome result
-            ≡ tree.eval (C.group columns.now) (C.values columns.now) (expr_of (term_in (trees self.now) at)) }
+            ≡ bound.eval (C.group columns.now) (C.values columns.now) (expr_of (term_in (trees self.now) at)) }
     {
         let start = self.run_start(at);
         let mut value = self.eval_at(start, columns);
@@ -110,8 +110,8 @@ impl Terms {
     ) -> Result<Truth, Range>
         requires first { a < size self.now }
         requires second { b < size self.now }
-        ensures { judged result ≡ tree.judge (C.group columns.now) (C.values columns.now)
-            (tree.Compare (plain_comparison sign)
+        ensures { judged result ≡ bound.judge (C.group columns.now) (C.values columns.now)
+            (bound.Compare (plain_comparison sign)
             (expr_of (term_in (trees self.now) a)) (expr_of (term_in (trees self.now) b))) }
     {
         let x = self.eval_at(a, columns)?;
@@ -130,8 +130,8 @@ impl Terms {
         requires to { x.1 < size self.now }
         requires start { y.0 < size self.now }
         requires end { y.1 < size self.now }
-        ensures { judged result ≡ tree.judge (C.group columns.now) (C.values columns.now)
-            (tree.Related (plain_relation which)
+        ensures { judged result ≡ bound.judge (C.group columns.now) (C.values columns.now)
+            (bound.Related (plain_relation which)
             (expr_of (term_in (trees self.now) x.0)) (expr_of (term_in (trees self.now) x.1))
             (expr_of (term_in (trees self.now) y.0)) (expr_of (term_in (trees self.now) y.1))) }
     {
@@ -151,8 +151,8 @@ impl Terms {
         requires from { x.0 < size self.now }
         requires to { x.1 < size self.now }
         requires point { point < size self.now }
-        ensures { judged result ≡ tree.judge (C.group columns.now) (C.values columns.now)
-            (tree.ContainsPoint (expr_of (term_in (trees self.now) x.0)) (expr_of (term_in (trees self.now) x.1))
+        ensures { judged result ≡ bound.judge (C.group columns.now) (C.values columns.now)
+            (bound.ContainsPoint (expr_of (term_in (trees self.now) x.0)) (expr_of (term_in (trees self.now) x.1))
             (expr_of (term_in (trees self.now) point))) }
     {
         let from = self.eval_at(x.0, columns)?;
@@ -165,7 +165,7 @@ impl Terms {
     fn holds_at<C: Columns>(&self, at: usize, columns: &C) -> Result<Truth, Range>
         requires { at < size self.now }
         ensures { judged result
-            ≡ tree.judge (C.group columns.now) (C.values columns.now) (cond_of (term_in (trees self.now) at)) }
+            ≡ bound.judge (C.group columns.now) (C.values columns.now) (cond_of (term_in (trees self.now) at)) }
     {
         match self.node(at) {
             Node::Compare(sign, a, b) => self.compare_at(sign, a, b, columns),
@@ -189,9 +189,9 @@ impl Terms {
     ) -> Result<Truth, Range>
         requires within { at < size self.now }
         requires before { judged before
-            ≡ tree.judge (C.group columns.now) (C.values columns.now) (cond_of (term_in (trees self.now) (at - 1))) }
+            ≡ bound.judge (C.group columns.now) (C.values columns.now) (cond_of (term_in (trees self.now) (at - 1))) }
         ensures { judged result
-            ≡ tree.judge (C.group columns.now) (C.values columns.now) (cond_of (term_in (trees self.now) at)) }
+            ≡ bound.judge (C.group columns.now) (C.values columns.now) (cond_of (term_in (trees self.now) at)) }
     {
         match self.node(at) {
             Node::And(c, d) if c + 1 == at => all(before, self.holds_at(d, columns)),
@@ -205,7 +205,7 @@ impl Terms {
     fn holds_run<C: Columns>(&self, at: usize, columns: &C) -> Result<Truth, Range>
         requires { at < size self.now }
         ensures { judged result
-            ≡ tree.judge (C.group columns.now) (C.values columns.now) (cond_of (term_in (trees self.now) at)) }
+            ≡ bound.judge (C.group columns.now) (C.values columns.now) (cond_of (term_in (trees self.now) at)) }
     {
         let start = self.run_start(at);
         let mut truth = self.holds_at(start, columns);
@@ -219,7 +219,7 @@ impl Terms {
     pub fn eval<'a, C: Columns>(&'a self, x: ExprId, columns: &'a C) -> Result<View<'a>, Range>
         requires { HasExpr self.now x }
         ensures { outcome result
-            ≡ tree.eval (C.group columns.now) (C.values columns.now) (expr self.now x) }
+            ≡ bound.eval (C.group columns.now) (C.values columns.now) (expr self.now x) }
     {
         self.eval_at(x.place, columns)
     }
@@ -229,8 +229,8 @@ impl Terms {
     pub fn holds<C: Columns>(&self, c: CondId, columns: &C) -> Result<Truth, Range>
         requires { HasCond self.now c }
         ensures truth { judged result
-            ≡ tree.judge (C.group columns.now) (C.values columns.now) (cond self.now c) }
-        ensures safe { IsTrue (tree.is_safe (cond self.now c)) → IsOk result }
+            ≡ bound.judge (C.group columns.now) (C.values columns.now) (cond self.now c) }
+        ensures safe { IsTrue (bound.is_safe (cond self.now c)) → IsOk result }
 
         // What it says of periods as sets of points, where their ends are days, and where they are moments.
         ensures days { SaysOfPeriods Day (C.group columns.now) (C.values columns.now)
@@ -250,7 +250,7 @@ impl Terms {
     pub fn passes<C: Columns>(&self, conjuncts: &[CondId], columns: &C) -> Result<bool, Range>
         requires { All (HasCond self.now) conjuncts.now }
         ensures { tested result
-            ≡ tree.passes (C.group columns.now) (C.values columns.now) (map (cond self.now) conjuncts.now) }
+            ≡ bound.passes (C.group columns.now) (C.values columns.now) (map (cond self.now) conjuncts.now) }
     {
         for conjunct in conjuncts {
             if !self.holds(*conjunct, columns)?.is_true() {

@@ -1,12 +1,15 @@
-// Bound expressions and conditions as flat nodes, their meaning as the trees of the definitions, and their evaluation.
+//! Bound expressions and conditions as flat nodes, their meaning as the trees of the definitions, what they read, and
+//! their evaluation.
 #![tactic(auto)]
 
 pub mod chains;
 pub mod columns;
 pub mod evaluation;
 pub mod node;
+pub mod row;
 pub mod safety;
 pub mod scalar;
 pub mod search;
+pub mod stored;
 pub mod terms;
 pub mod values;

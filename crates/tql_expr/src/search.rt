@@ -2,7 +2,7 @@
 ghost use Rattle.std.specs.Prelude.{◌≡◌, ◌<◌, ◌||◌, IfSome, not};
 ghost use Rattle.tql_spec.specs.Binding.{is_loose};
 ghost use Rattle.tql_spec.specs.Creation.{has_expr, has_number};
-ghost use Rattle.tql_spec.specs.Expression as tree;
+ghost use Rattle.tql_spec.specs.Expression as bound;
 ghost use Rattle.tql_expr.specs.Trees.{expr_of, cond_of, term_in};
 ghost use Rattle.tql_expr.specs.Meaning.{trees, size, expr, cond, HasExpr, HasCond};
 ghost use Rattle.tql_expr.specs.Searches.{sought};
@@ -31,7 +31,7 @@ struct Operands {
 impl<'a> Search<'a> {
     /// Whether a column is sought.
     fn is_column(self, column: usize) -> bool
-        ensures { result ≡ sought self.entry (tree.Column column) }
+        ensures { result ≡ sought self.entry (bound.Column column) }
     {
         match self {
             Search::Aggregate | Search::Nested => false,

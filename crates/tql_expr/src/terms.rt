@@ -52,7 +52,7 @@ impl Drop for Terms {
 
 impl Terms {
     ghost use Rattle.std.specs.Prelude.{◌≡◌, ◌<◌, [], IsTrue, MatchResult, length};
-    ghost use Rattle.tql_spec.specs.Expression as tree;
+    ghost use Rattle.tql_spec.specs.Expression as bound;
     ghost use Rattle.tql_value.specs.Views.{datum_of_value, datum_of_view, plain_comparison};
     ghost use Rattle.tql_period.specs.Relations.{plain_relation};
     ghost use Rattle.tql_expr.specs.Nodes.{reads_before};
@@ -87,7 +87,7 @@ impl Terms {
     /// Adds a value. A day or a moment is one that the calendar has.
     pub fn push_literal(&mut self, value: Value) -> Result<ExprId, AllocError>
         requires { IsPrintable (datum_of_value value) }
-        ensures { AddsExpr self.old self.new result (tree.Literal (datum_of_value value)) }
+        ensures { AddsExpr self.old self.new result (bound.Literal (datum_of_value value)) }
     {
         let place = self.nodes.len();
         let literal = self.literals.len();
@@ -100,7 +100,7 @@ impl Terms {
 
     /// Adds a column, by its number.
     pub fn push_column(&mut self, column: usize) -> Result<ExprId, AllocError>
-        ensures { AddsExpr self.old self.new result (tree.Column column) }
+        ensures { AddsExpr self.old self.new result (bound.Column column) }
     {
         let place = self.push(Node::Column(column))?;
         Ok(ExprId { place })
@@ -109,7 +109,7 @@ impl Terms {
     /// Adds `-x`.
     pub fn push_negate(&mut self, x: ExprId) -> Result<ExprId, AllocError>
         requires { HasExpr self.old x }
-        ensures { AddsExpr self.old self.new result (tree.Negate (expr self.old x)) }
+        ensures { AddsExpr self.old self.new result (bound.Negate (expr self.old x)) }
     {
         let place = self.push(Node::Negate(x.place))?;
         Ok(ExprId { place })
@@ -120,7 +120,7 @@ impl Terms {
         requires first { HasExpr self.old x }
         requires second { HasExpr self.old y }
         ensures { AddsExpr self.old self.new result
-            (tree.Binary (plain_operation op) (expr self.old x) (expr self.old y)) }
+            (bound.Binary (plain_operation op) (expr self.old x) (expr self.old y)) }
     {
         let place = self.push(Node::Binary(op, x.place, y.place))?;
         Ok(ExprId { place })
@@ -128,7 +128,7 @@ impl Terms {
 
     /// Adds `COUNT(*)`.
     pub fn push_count_rows(&mut self) -> Result<ExprId, AllocError>
-        ensures { AddsExpr self.old self.new result tree.CountRows }
+        ensures { AddsExpr self.old self.new result bound.CountRows }
     {
         let place = self.push(Node::CountRows)?;
         Ok(ExprId { place })
@@ -137,7 +137,7 @@ impl Terms {
     /// Adds an aggregate over `x`.
     pub fn push_aggregate(&mut self, function: Function, x: ExprId) -> Result<ExprId, AllocError>
         requires { HasExpr self.old x }
-        ensures { AddsExpr self.old self.new result (tree.Aggregate (plain_function function) (expr self.old x)) }
+        ensures { AddsExpr self.old self.new result (bound.Aggregate (plain_function function) (expr self.old x)) }
     {
         let place = self.push(Node::Aggregate(function, x.place))?;
         Ok(ExprId { place })
@@ -153,7 +153,7 @@ impl Terms {
         requires first { HasExpr self.old x }
         requires second { HasExpr self.old y }
         ensures { AddsCond self.old self.new result
-            (tree.Compare (plain_comparison sign) (expr self.old x) (expr self.old y)) }
+            (bound.Compare (plain_comparison sign) (expr self.old x) (expr self.old y)) }
     {
         let place = self.push(Node::Compare(sign, x.place, y.place))?;
         Ok(CondId { place })
@@ -162,7 +162,7 @@ impl Terms {
     /// Adds `x IS NULL`.
     pub fn push_is_null(&mut self, x: ExprId) -> Result<CondId, AllocError>
         requires { HasExpr self.old x }
-        ensures { AddsCond self.old self.new result (tree.IsNull (expr self.old x)) }
+        ensures { AddsCond self.old self.new result (bound.IsNull (expr self.old x)) }
     {
         let place = self.push(Node::IsNull(x.place))?;
         Ok(CondId { place })
@@ -180,7 +180,7 @@ impl Terms {
         requires start { HasExpr self.old y.0 }
         requires end { HasExpr self.old y.1 }
         ensures { AddsCond self.old self.new result
-            (tree.Related (plain_relation which)
+            (bound.Related (plain_relation which)
             (expr self.old x.0) (expr self.old x.1) (expr self.old y.0) (expr self.old y.1)) }
     {
         let node = Node::Related(which, x.0.place, x.1.place, y.0.place, y.1.place);
@@ -198,7 +198,7 @@ impl Terms {
         requires to { HasExpr self.old x.1 }
         requires point { HasExpr self.old point }
         ensures { AddsCond self.old self.new result
-            (tree.ContainsPoint (expr self.old x.0) (expr self.old x.1) (expr self.old point)) }
+            (bound.ContainsPoint (expr self.old x.0) (expr self.old x.1) (expr self.old point)) }
     {
         let place = self.push(Node::ContainsPoint(x.0.place, x.1.place, point.place))?;
         Ok(CondId { place })
@@ -207,7 +207,7 @@ impl Terms {
     /// Adds `NOT c`.
     pub fn push_not(&mut self, c: CondId) -> Result<CondId, AllocError>
         requires { HasCond self.old c }
-        ensures { AddsCond self.old self.new result (tree.Not (cond self.old c)) }
+        ensures { AddsCond self.old self.new result (bound.Not (cond self.old c)) }
     {
         let place = self.push(Node::Not(c.place))?;
         Ok(CondId { place })
@@ -217,7 +217,7 @@ impl Terms {
     pub fn push_and(&mut self, c: CondId, d: CondId) -> Result<CondId, AllocError>
         requires first { HasCond self.old c }
         requires second { HasCond self.old d }
-        ensures { AddsCond self.old self.new result (tree.And (cond self.old c) (cond self.old d)) }
+        ensures { AddsCond self.old self.new result (bound.And (cond self.old c) (cond self.old d)) }
     {
         let place = self.push(Node::And(c.place, d.place))?;
         Ok(CondId { place })
@@ -227,7 +227,7 @@ impl Terms {
     pub fn push_or(&mut self, c: CondId, d: CondId) -> Result<CondId, AllocError>
         requires first { HasCond self.old c }
         requires second { HasCond self.old d }
-        ensures { AddsCond self.old self.new result (tree.Or (cond self.old c) (cond self.old d)) }
+        ensures { AddsCond self.old self.new result (bound.Or (cond self.old c) (cond self.old d)) }
     {
         let place = self.push(Node::Or(c.place, d.place))?;
         Ok(CondId { place })

@@ -1,6 +1,6 @@
 // The values that expressions have on a row, in memory of their own.
 ghost use Rattle.std.specs.Prelude.{All, map};
-ghost use Rattle.tql_spec.specs.Expression as tree;
+ghost use Rattle.tql_spec.specs.Expression as bound;
 ghost use Rattle.tql_spec.specs.Words.{map_all};
 ghost use Rattle.tql_expr.specs.Evaluated.{Evaluated};
 ghost use Rattle.tql_expr.specs.Meaning.{expr as tree_of, HasExpr};
@@ -21,7 +21,7 @@ pub fn value_on<C: Columns>(
 ) -> Result<Value, Refusal>
     requires { HasExpr terms.now expr }
     ensures { Evaluated datum_of_value
-        (tree.eval (C.group columns.now) (C.values columns.now) (tree_of terms.now expr)) result }
+        (bound.eval (C.group columns.now) (C.values columns.now) (tree_of terms.now expr)) result }
 {
     terms.eval(expr, columns)?.to_value(memory)
 }
@@ -35,7 +35,7 @@ pub fn values_on<C: Columns>(
 ) -> Result<Vec<Value, Memory>, Refusal>
     requires { All (HasExpr terms.now) exprs.now }
     ensures { Evaluated (λ values. row_of values.items)
-        (map_all (tree.eval (C.group columns.now) (C.values columns.now)) (map (tree_of terms.now) exprs.now)) result }
+        (map_all (bound.eval (C.group columns.now) (C.values columns.now)) (map (tree_of terms.now) exprs.now)) result }
 {
     let mut values = Vec::with_capacity(memory, exprs.len())?;
     for expr in exprs {

@@ -8,20 +8,20 @@ use Rattle.std.proofs.lemmas.Int.{ints}
 use Rattle.std.specs.List.{sum_by, swap_remove}
 use Rattle.tql_spec.specs.Bag.{SameBag}
 use Rattle.tql_index.specs.Entry.{Entry, id_if}
-use Rattle.tql_index.specs.Held.{entry_held}
-use Rattle.tql_index.specs.declared.list_index.Held.{Held}
+use Rattle.tql_index.specs.ListEntries.{entry_held}
+use Rattle.tql_index.specs.declared.list_index.ListEntry.{ListEntry}
 use Rattle.tql_index.proofs.Finding.{ids_of, ids_of-append, ids_of-cons}
 use Rattle.tql_index.proofs.Order.{same_parts}
 use Rattle.tql_index.proofs.Bags.{one_taken}
 
 -- the first n are looked at
-pub record Listed (q : Entry → Bool) (hs : List Held) (n : ℕ) (found : List ℕ) : Type 0 where
+pub record Listed (q : Entry → Bool) (hs : List ListEntry) (n : ℕ) (found : List ℕ) : Type 0 where
   pub is : found ≡ ids_of q (map entry_held (take n hs))
 
-pub listed_none : (q : Entry → Bool) (hs : List Held) → Listed q hs 0 []
+pub listed_none : (q : Entry → Bool) (hs : List ListEntry) → Listed q hs 0 []
 listed_none q hs = record { is = refl }
 
-pub listed_more : (q : Entry → Bool) (hs : List Held) (n : ℕ) (found more : List ℕ) (h : Held) (b : Bool)
+pub listed_more : (q : Entry → Bool) (hs : List ListEntry) (n : ℕ) (found more : List ℕ) (h : ListEntry) (b : Bool)
     → Listed q hs n found → n < length hs → h ≡ get_or hs n h → b ≡ q (entry_held h) → more ≡ found ++ id_if b h.id
     → Listed q hs (n + 1) more
 listed_more q hs n found more h b s l e p f =
@@ -36,7 +36,7 @@ listed_more q hs n found more h b s l e p f =
           ∙ ap (λ z. ids_of q (map entry_held (take n hs)) ++ z) u);
     }
 
-listed_all : (q : Entry → Bool) (hs : List Held) (n : ℕ) (found : List ℕ) → Listed q hs n found → length hs ≤ n
+listed_all : (q : Entry → Bool) (hs : List ListEntry) (n : ℕ) (found : List ℕ) → Listed q hs n found → length hs ≤ n
     → SameBag found (ids_of q (map entry_held hs))
 listed_all q hs n found s l = let t : take n hs ≡ hs =
     take_all n hs l in record { totals = λ w. ap (sum_by w) (s.is ∙ ap (λ z. ids_of q (map entry_held z)) t) }
@@ -74,13 +74,14 @@ other_fields x y h e =
     absurd (cc)
 
 -- no member of the list is e
-pub none_in : (hs : List Held) (e : Entry)
-    → ((k : ℕ) (d : Held) → k < length hs → entry_held (get_or hs k d) ≡ e → ⊥) → Contains (map entry_held hs) e → ⊥
+pub none_in : (hs : List ListEntry) (e : Entry)
+    → ((k : ℕ) (d : ListEntry) → k < length hs → entry_held (get_or hs k d) ≡ e → ⊥) → Contains (map entry_held hs) e
+        → ⊥
 none_in [] e f (k, l, m) = absurd (omega (arith, l))
 none_in (h ∷ hs) e f (zero, l, m) = f zero h (omega arith) m
 none_in (h ∷ hs) e f (suc k, l, m) = none_in hs e (λ j d n. f (suc j) d (omega (arith, n))) (k, omega (arith, l), m)
 
-pub one_less : (hs : List Held) (k : ℕ) (r : Held) (e : Entry) (old : List Entry) → map entry_held hs ≡ old
+pub one_less : (hs : List ListEntry) (k : ℕ) (r : ListEntry) (e : Entry) (old : List Entry) → map entry_held hs ≡ old
     → k < length hs → r ≡ get_or hs k r → entry_held (get_or hs k r) ≡ e
     → SameBag old (e ∷ map entry_held (swap_remove hs k r))
 one_less hs k r e old v l g s =
@@ -90,9 +91,9 @@ one_less hs k r e old v l g s =
     subst (λ z. SameBag z (e ∷ map entry_held (swap_remove hs k r))) v u
 
 -- one place more is looked at
-pub none_more : (hs : List Held) (n : ℕ) (h : Held) (e : Entry)
-    → ((k : ℕ) (d : Held) → k < n → entry_held (get_or hs k d) ≡ e → ⊥) → n < length hs → h ≡ get_or hs n h
-    → (entry_held h ≡ e → ⊥) → (k : ℕ) (d : Held) → k < n + 1 → entry_held (get_or hs k d) ≡ e → ⊥
+pub none_more : (hs : List ListEntry) (n : ℕ) (h : ListEntry) (e : Entry)
+    → ((k : ℕ) (d : ListEntry) → k < n → entry_held (get_or hs k d) ≡ e → ⊥) → n < length hs → h ≡ get_or hs n h
+    → (entry_held h ≡ e → ⊥) → (k : ℕ) (d : ListEntry) → k < n + 1 → entry_held (get_or hs k d) ≡ e → ⊥
 none_more hs n h e f l g o k d m s = elim (cases_lt k n) [
   | inl i ↦ f k d i s
   | inr i ↦ let j : k ≡ n = omega (arith, i, m) in
@@ -101,7 +102,7 @@ none_more hs n h e f l g o k d m s = elim (cases_lt k n) [
 ]
 
 -- where all are looked at
-pub listed_whole : (q : Entry → Bool) (hs is : List Held) (n : ℕ) (found : List ℕ) (old : List Entry)
+pub listed_whole : (q : Entry → Bool) (hs is : List ListEntry) (n : ℕ) (found : List ℕ) (old : List Entry)
     → Listed q hs n found → length hs ≤ n → hs ≡ is → map entry_held is ≡ old → SameBag found (ids_of q old)
 listed_whole q hs is n found old s l e v =
     let t = listed_all q hs n found s l in

@@ -1,4 +1,4 @@
 pub mod Entry
-pub mod Held
+pub mod ListEntries
 pub mod Nodes
 pub mod Tree

@@ -1,6 +1,6 @@
 // The index as a plain list.
 ghost use Rattle.std.specs.Prelude.{◌≡◌, ◌↔◌, ◌<◌, [], length, map, slice_index_or, Contains, IsTrue, IfSome, IfNone};
-ghost use Rattle.tql_index.specs.Held.{entry_held};
+ghost use Rattle.tql_index.specs.ListEntries.{entry_held};
 
 use crate::index::{Id, IntervalIndex};
 use crate::search::push_if;
@@ -11,13 +11,13 @@ use tql_value::refusal::Refusal;
 
 // An entry of the list.
 #[derive(Clone, Copy, PartialEq, Eq)]
-struct Held {
+struct ListEntry {
     period: Period,
     id: Id,
 }
 
 // The first place of an entry.
-fn place_of(entries: &[Held], wanted: Held) -> Option<usize>
+fn place_of(entries: &[ListEntry], wanted: ListEntry) -> Option<usize>
     ensures within { IfSome result (λ k. k < length entries.now) }
     ensures found { IfSome result (λ k. (d : _) →
         entry_held (slice_index_or entries.now k d) ≡ entry_held wanted) }
@@ -35,13 +35,13 @@ fn place_of(entries: &[Held], wanted: Held) -> Option<usize>
 #[derive(Drop)]
 pub struct ListIndex {
     memory: Memory,
-    held: Vec<Held, Memory>,
+    held: Vec<ListEntry, Memory>,
 }
 
 impl Model for ListIndex {
     ghost use Rattle.std.specs.Prelude.{List, map};
     ghost use Rattle.tql_index.specs.Entry.{Entry};
-    ghost use Rattle.tql_index.specs.Held.{entry_held};
+    ghost use Rattle.tql_index.specs.ListEntries.{entry_held};
 
     ghost Value = { List Entry };
 
@@ -75,12 +75,12 @@ impl IntervalIndex for ListIndex {
     }
 
     fn add(&mut self, period: Period, id: Id) -> Result<(), Refusal> {
-        self.held.push(Held { period, id })?;
+        self.held.push(ListEntry { period, id })?;
         Ok(())
     }
 
     fn remove(&mut self, period: Period, id: Id) -> bool {
-        let Some(place) = place_of(&self.held, Held { period, id }) else {
+        let Some(place) = place_of(&self.held, ListEntry { period, id }) else {
             return false;
         };
         self.held.swap_remove(place);

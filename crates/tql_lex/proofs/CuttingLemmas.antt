@@ -5,7 +5,7 @@ use Rattle.std.proofs.Common.{take-append-drop, length-append, length-drop, drop
 use Rattle.std.proofs.lemmas.Bool.{eqb-true}
 use Rattle.std.proofs.lemmas.List.Sums.{count_by-le-length, sum_by-append}
 use Rattle.std.specs.Prelude.{◌&&◌, not, filter, map}
-use Rattle.tql_spec.specs.Script.{Place, Outside, AfterDash, InText, InName, InComment, Piece, place_after, can_end}
+use Rattle.tql_spec.specs.Script.{ScanState, Outside, AfterDash, InText, InName, InComment, Piece, state_after, can_end}
 use Rattle.tql_spec.specs.Script.{cut, without_lead, trimmed, statements}
 use Rattle.tql_spec.specs.Words.{is_empty}
 use Rattle.tql_spec.proofs.LineLaws.{lead_parts}
@@ -23,7 +23,7 @@ plus i (Some n) = Some (i + n)
 
 -- ---- what is cut off
 
-abbrev ends : Place → ℕ → Bool
+abbrev ends : ScanState → ℕ → Bool
 ends p b = (b == 59) && can_end p
 
 first_true : (x y : Bool) → (x && y) ≡ true → x ≡ true
@@ -34,16 +34,16 @@ second_true : (x y : Bool) → (x && y) ≡ true → y ≡ true
 second_true true y e = e
 second_true false y e = absurd cc
 
-outside_again : (p : Place) → can_end p ≡ true → place_after p 59 ≡ Outside
+outside_again : (p : ScanState) → can_end p ≡ true → state_after p 59 ≡ Outside
 outside_again Outside e = refl
 outside_again AfterDash e = refl
 outside_again InText e = absurd cc
 outside_again InName e = absurd cc
 outside_again InComment e = absurd cc
 
-outside_behind : (p : Place) (b : ℕ) → ends p b ≡ true → place_after p b ≡ Outside
+outside_behind : (p : ScanState) (b : ℕ) → ends p b ≡ true → state_after p b ≡ Outside
 outside_behind p b e = let same : b ≡ 59 =
-    eqb-true b 59 (first_true (b == 59) (can_end p) e) in ap (place_after p) same
+    eqb-true b 59 (first_true (b == 59) (can_end p) e) in ap (state_after p) same
     ∙ outside_again p (second_true (b == 59) (can_end p) e)
 
 some_is : {X : Type 0} (x y : X) → Option.Some x ≡ Option.Some y → x ≡ y
@@ -60,25 +60,25 @@ none_is : (o : Option ℕ) → one_more o ≡ None → o ≡ None
 none_is None e = refl
 none_is (Some m) e = absurd cc
 
-pub cut_ends : (p : Place) (bs more : List ℕ) (n : ℕ) → end_from p bs ≡ Some n
+pub cut_ends : (p : ScanState) (bs more : List ℕ) (n : ℕ) → end_from p bs ≡ Some n
     → cut p (bs ++ more) ≡ finished_piece (take n bs) ∷ cut Outside (drop (suc n) bs ++ more)
 cut_ends p [] more n e = absurd cc
-cut_ends p (b ∷ bs) more n e = by (ends p b) refl (cut_ends (place_after p b) bs more) where
+cut_ends p (b ∷ bs) more n e = by (ends p b) refl (cut_ends (state_after p b) bs more) where
   by : (t : Bool) → ends p b ≡ t
-      → ((k : ℕ) → end_from (place_after p b) bs ≡ Some k
-      → cut (place_after p b) (bs ++ more) ≡ finished_piece (take k bs) ∷ cut Outside (drop (suc k) bs ++ more))
+      → ((k : ℕ) → end_from (state_after p b) bs ≡ Some k
+      → cut (state_after p b) (bs ++ more) ≡ finished_piece (take k bs) ∷ cut Outside (drop (suc k) bs ++ more))
       → cut p (b ∷ bs ++ more) ≡ finished_piece (take n (b ∷ bs)) ∷ cut Outside (drop (suc n) (b ∷ bs) ++ more)
   by true q rest = let z : 0 ≡ n = some_is 0 n (rw q at e) in rw (q, outside_behind p b q, ← z) refl
-  by false q rest = let k = more_is (end_from (place_after p b) bs) n (rw q at e) in rw (q, k.2, rest k.0 k.1) refl
+  by false q rest = let k = more_is (end_from (state_after p b) bs) n (rw q at e) in rw (q, k.2, rest k.0 k.1) refl
 
-pub cut_never : (p : Place) (bs : List ℕ) → end_from p bs ≡ None → cut p bs ≡ unfinished_piece bs ∷ []
+pub cut_never : (p : ScanState) (bs : List ℕ) → end_from p bs ≡ None → cut p bs ≡ unfinished_piece bs ∷ []
 cut_never p [] e = refl
-cut_never p (b ∷ bs) e = by (ends p b) refl (cut_never (place_after p b) bs) where
+cut_never p (b ∷ bs) e = by (ends p b) refl (cut_never (state_after p b) bs) where
   by : (t : Bool) → ends p b ≡ t
-      → (end_from (place_after p b) bs ≡ None → cut (place_after p b) bs ≡ unfinished_piece bs ∷ [])
+      → (end_from (state_after p b) bs ≡ None → cut (state_after p b) bs ≡ unfinished_piece bs ∷ [])
       → cut p (b ∷ bs) ≡ unfinished_piece (b ∷ bs) ∷ []
   by true q rest = absurd (some_none 0 (rw q at e))
-  by false q rest = rw (q, rest (none_is (end_from (place_after p b) bs) (rw q at e))) refl
+  by false q rest = rw (q, rest (none_is (end_from (state_after p b) bs) (rw q at e))) refl
 
 -- ---- the statements of what is cut
 
@@ -146,16 +146,16 @@ placed_some before [] f e = absurd (omega arith)
 placed_some before (b ∷ bs) f e = refl
 
 -- a piece and the `;` that ends it
-with_end : (p : Place) (bs : List ℕ) (n : ℕ) → end_from p bs ≡ Some n → take (suc n) bs ≡ take n bs ++ 59 ∷ []
+with_end : (p : ScanState) (bs : List ℕ) (n : ℕ) → end_from p bs ≡ Some n → take (suc n) bs ≡ take n bs ++ 59 ∷ []
 with_end p [] n e = absurd cc
-with_end p (b ∷ bs) n e = by (ends p b) refl (with_end (place_after p b) bs) where
+with_end p (b ∷ bs) n e = by (ends p b) refl (with_end (state_after p b) bs) where
   by : (t : Bool) → ends p b ≡ t
-      → ((k : ℕ) → end_from (place_after p b) bs ≡ Some k → take (suc k) bs ≡ take k bs ++ 59 ∷ [])
+      → ((k : ℕ) → end_from (state_after p b) bs ≡ Some k → take (suc k) bs ≡ take k bs ++ 59 ∷ [])
       → take (suc n) (b ∷ bs) ≡ take n (b ∷ bs) ++ 59 ∷ []
   by true q rest = let z : 0 ≡ n =
       some_is 0 n (rw q at e) in rw (← z) (ap (λ (x : ℕ). x ∷ []) (eqb-true b 59 (first_true (b == 59) (can_end p) q)))
   by false q rest = let k =
-      more_is (end_from (place_after p b) bs) n (rw q at e) in rw (k.2) (ap (λ (z : List ℕ). b ∷ z) (rest k.0 k.1))
+      more_is (end_from (state_after p b) bs) n (rw q at e) in rw (k.2) (ap (λ (z : List ℕ). b ∷ z) (rest k.0 k.1))
 
 pub statements_never : (bs : List ℕ) → end_from Outside bs ≡ None → statements bs ≡ one (trimmed (unfinished_piece bs))
 statements_never bs e = rw (cut_never Outside bs e) (one_and (trimmed (unfinished_piece bs)) []

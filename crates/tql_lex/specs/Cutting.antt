@@ -2,28 +2,28 @@
 use Rattle.std.specs.Prelude.{◌≡◌, ℕ, ◌<◌, ◌==◌, ◌&&◌, Bool, true, false, suc, List, [], ◌∷◌, ◌++◌, length, Option}
 use Rattle.std.specs.Prelude.{Some, None, if◌then◌else◌}
 use Rattle.tql_spec.specs.Script as script
-use Rattle.tql_spec.specs.Script.{statements, place_after, can_end}
+use Rattle.tql_spec.specs.Script.{statements, state_after, can_end}
 use Rattle.tql_spec.specs.Lines.{placed_from}
-use Rattle.tql_lex.specs.declared.places.Place as code
-use Rattle.tql_lex.specs.declared.places.Place.TheVariants as c
+use Rattle.tql_lex.specs.declared.scan_state.ScanState as code
+use Rattle.tql_lex.specs.declared.scan_state.ScanState.TheVariants as c
 use Rattle.tql_lex.specs.declared.scan.Found.{Found}
 
 -- the place that a value of the code stands for
-abbrev pub place_of : code.Place → script.Place
-place_of c.Outside = script.Outside
-place_of c.AfterDash = script.AfterDash
-place_of c.InText = script.InText
-place_of c.InName = script.InName
-place_of c.InComment = script.InComment
+abbrev pub state_of : code.ScanState → script.ScanState
+state_of c.Outside = script.Outside
+state_of c.AfterDash = script.AfterDash
+state_of c.InText = script.InText
+state_of c.InName = script.InName
+state_of c.InComment = script.InComment
 
 abbrev pub one_more : Option ℕ → Option ℕ
 one_more None = None
 one_more (Some n) = Some (suc n)
 
 -- how many bytes stand before the first `;` that ends a piece
-abbrev pub end_from : script.Place → List ℕ → Option ℕ
+abbrev pub end_from : script.ScanState → List ℕ → Option ℕ
 end_from p [] = None
-end_from p (b ∷ bs) = if (b == 59) && can_end p then Some 0 else one_more (end_from (place_after p b) bs)
+end_from p (b ∷ bs) = if (b == 59) && can_end p then Some 0 else one_more (end_from (state_after p b) bs)
 
 abbrev pub finished_piece : List ℕ → script.Piece
 finished_piece text = record { text = text; finished = true }

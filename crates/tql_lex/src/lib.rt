@@ -3,9 +3,9 @@
 
 mod extent;
 pub mod folding;
-mod places;
 mod reserved;
 mod scan;
+mod scan_state;
 pub mod splitter;
 pub mod token;
 pub mod tokenizer;

@@ -4,7 +4,7 @@ ghost use Rattle.tql_spec.specs.Lines as lines;
 ghost use Rattle.tql_spec.specs.Script as script;
 ghost use Rattle.tql_lex.specs.Cutting.{end_from, IsFirst};
 
-use crate::places::{Place, can_end, place_after};
+use crate::scan_state::{ScanState, can_end, state_after};
 
 /// Whether a byte is a space, a tab, a line feed or a carriage return.
 pub(crate) fn is_blank(byte: u8) -> bool
@@ -45,12 +45,12 @@ fn end_of_piece(bytes: &[u8]) -> Option<usize>
     ensures value { result ≡ end_from script.Outside bytes.now }
     ensures within { IfSome result (λ n. n < length bytes.now) }
 {
-    let mut place = Place::Outside;
+    let mut place = ScanState::Outside;
     for (index, byte) in bytes.iter().enumerate() {
         if *byte == b';' && can_end(place) {
             return Some(index);
         }
-        place = place_after(place, *byte);
+        place = state_after(place, *byte);
     }
     None
 }

@@ -2,11 +2,11 @@
 use Rattle.std.specs.Prelude.{List, map, string_bytes}
 use Rattle.tql_spec.specs.Datum.{Row}
 use Rattle.tql_spec.specs.Definition.{Name}
-use Rattle.tql_spec.specs.Machine as spec
+use Rattle.tql_spec.specs.Machine as machine
 use Rattle.tql_spec.specs.Answer as run
 use Rattle.tql_value.specs.Views.{rows_of}
 use Rattle.tql_value.specs.Refusals.{refusal_of}
-use Rattle.tql_value.specs.declared.value.Rows.{Rows}
+use Rattle.tql_value.specs.declared.value.ResultTable.{ResultTable}
 use Rattle.tql_value.specs.Points.{ArePrintable}
 use Rattle.tql_result.specs.declared.reply.Verb.{Verb}
 use Rattle.tql_result.specs.declared.reply.Verb.TheVariants as verb
@@ -16,36 +16,36 @@ use Rattle.tql_result.specs.declared.answer.Answer.{Answer}
 use Rattle.tql_result.specs.declared.answer.Answer.TheVariants as answer
 
 -- the word among the definitions' words
-abbrev pub plain_verb : Verb → spec.Verb
-plain_verb verb.CreatedTable = spec.CreatedTable
-plain_verb verb.DroppedTable = spec.DroppedTable
-plain_verb verb.Inserted = spec.Inserted
-plain_verb verb.Updated = spec.Updated
-plain_verb verb.Deleted = spec.Deleted
-plain_verb verb.Started = spec.Started
-plain_verb verb.Committed = spec.Committed
-plain_verb verb.RolledBack = spec.RolledBack
-plain_verb verb.ClockSet = spec.ClockSet
+abbrev pub plain_verb : Verb → machine.Verb
+plain_verb verb.CreatedTable = machine.CreatedTable
+plain_verb verb.DroppedTable = machine.DroppedTable
+plain_verb verb.Inserted = machine.Inserted
+plain_verb verb.Updated = machine.Updated
+plain_verb verb.Deleted = machine.Deleted
+plain_verb verb.Started = machine.Started
+plain_verb verb.Committed = machine.Committed
+plain_verb verb.RolledBack = machine.RolledBack
+plain_verb verb.ClockSet = machine.ClockSet
 
 -- the data of a table's rows
-abbrev pub table_rows : Rows → List Row
+abbrev pub table_rows : ResultTable → List Row
 table_rows t = rows_of t.rows.items
 
 -- the names that a table is headed by
-abbrev pub headings_of : Rows → List Name
+abbrev pub headings_of : ResultTable → List Name
 headings_of t = map string_bytes t.headings.items
 
 -- the reply among the definitions' replies
-abbrev pub reply_of : Reply → spec.Reply
-reply_of (reply.Done v n) = spec.Done (plain_verb v) n
-reply_of (reply.Table t) = spec.Table (headings_of t) (table_rows t)
-reply_of (reply.Refused e) = spec.Refused (refusal_of e)
+abbrev pub reply_of : Reply → machine.Reply
+reply_of (reply.Done v n) = machine.Done (plain_verb v) n
+reply_of (reply.Table t) = machine.Table (headings_of t) (table_rows t)
+reply_of (reply.Refused e) = machine.Refused (refusal_of e)
 
 -- a reply of such rows
-abbrev pub IsPrintableReply : spec.Reply → Type 0
-IsPrintableReply (spec.Done v n) = Unit {0}
-IsPrintableReply (spec.Table headings rows) = ArePrintable rows
-IsPrintableReply (spec.Refused e) = Unit {0}
+abbrev pub IsPrintableReply : machine.Reply → Type 0
+IsPrintableReply (machine.Done v n) = Unit {0}
+IsPrintableReply (machine.Table headings rows) = ArePrintable rows
+IsPrintableReply (machine.Refused e) = Unit {0}
 
 -- the answer among the definitions' answers
 abbrev pub answer_of : Answer → run.Answer

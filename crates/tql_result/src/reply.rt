@@ -1,5 +1,5 @@
 use tql_value::refusal::Refusal;
-use tql_value::value::Rows;
+use tql_value::value::ResultTable;
 
 /// What a statement did: the words that its reply begins with.
 #[derive(Clone, Copy, PartialEq, Eq, Debug)]
@@ -29,7 +29,7 @@ pub enum Reply {
     /// It is done, with the count of rows where it counts them.
     Done(Verb, Option<u64>),
     /// The rows that a question asked for.
-    Table(Rows),
+    Table(ResultTable),
     /// It is refused, and nothing has changed.
     Refused(Refusal),
 }

@@ -14,7 +14,7 @@ use crate::number::push_decimal;
 use crate::pieces::push_all;
 use crate::sink::Sink;
 use tql_memory::Memory;
-use tql_value::value::{Rows, Value};
+use tql_value::value::{ResultTable, Value};
 
 /// Pushes a value that is not its row's first, behind the bar that parts it from the one before.
 fn push_next_cell<S: Sink>(sink: &mut S, cell: &Value) -> Result<(), DeviceFault>
@@ -101,7 +101,7 @@ fn are_printable_rows(rows: &[Vec<Value, Memory>]) -> bool
 
 /// Whether a table has a text, which `write_table` asks for: no day and no moment in it lies outside the
 /// years 1 to 9999.
-pub fn is_printable_table(table: &Rows) -> bool
+pub fn is_printable_table(table: &ResultTable) -> bool
     ensures { IsTrue result ↔ ArePrintable (table_rows table.now) }
 {
     are_printable_rows(table.rows.as_slice())
@@ -110,7 +110,7 @@ pub fn is_printable_table(table: &Rows) -> bool
 /// Pushes a table: the line of its headings, a line for each row, and how many rows there are. Headings
 /// and values are parted by `|`; a heading stands in `"` unless it is of letters A to Z, `_` and digits
 /// (this project's choice). It takes no memory. After an error a beginning of the text was pushed.
-pub fn write_table<S: Sink>(sink: &mut S, table: &Rows) -> Result<(), DeviceFault>
+pub fn write_table<S: Sink>(sink: &mut S, table: &ResultTable) -> Result<(), DeviceFault>
     requires { ArePrintable (table_rows table.now) }
     ensures { Pushes (reply_text (Table (headings_of table.now) (table_rows table.now))) result
         (S.written sink.old) (S.written sink.new) (S.failures sink.old) (S.failures sink.new) }

@@ -5,7 +5,8 @@ use Rattle.tql_spec.specs.Words.{◌>>=◌, map_all, filter_all, with_front}
 use Rattle.tql_spec.specs.Bag.{SameBag}
 use Rattle.tql_spec.specs.Datum.{Row}
 use Rattle.tql_spec.specs.Expression.{Expr, Cond, eval, passes}
-use Rattle.tql_spec.specs.Query.{Query, Ref, Join, Inner, Left, Cross, Chain, Scope, pairs, keep, joined_with, joins_from, chain_rows, product, scopes, if_distinct, answer}
+use Rattle.tql_spec.specs.Query.{Query, Ref, Join, Inner, Left, Cross, Chain, Scope, pairs, keep, joined_with}
+use Rattle.tql_spec.specs.Query.{joins_from, chain_rows, product, scopes, if_distinct, answer}
 use Rattle.tql_spec.specs.QueryLaws.{SameRows, NamesGroups, shown, GroupsKeepNoOrder, AnswersKeepNoOrder}
 use Rattle.tql_spec.proofs.Bags.{same-refl}
 use Rattle.tql_spec.proofs.QueryBags.{Same, same_rows}

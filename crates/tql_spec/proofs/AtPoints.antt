@@ -1,5 +1,6 @@
 -- The tests of a copy, against what holds at every point.
-use Rattle.std.proofs.Common.{◌≡◌, ◌<◌, refl, sym, ap, subst, ◌∙◌, ℕ, zero, suc, Bool, true, List, [], ◌∷◌, length, inl, inr, arith}
+use Rattle.std.proofs.Common.{◌≡◌, ◌<◌, refl, sym, ap, subst, ◌∙◌, ℕ, zero, suc, Bool, true, List, [], ◌∷◌, length, inl}
+use Rattle.std.proofs.Common.{inr, arith}
 use Rattle.std.specs.Prelude.{Option, Some, None}
 use Rattle.std.specs.List.{list_all, AllByRecursion}
 use Rattle.tql_spec.specs.Bag.{In}
@@ -9,7 +10,8 @@ use Rattle.tql_spec.specs.History.{Copy, Entry}
 use Rattle.tql_spec.specs.Constraint.{key_holds, reference_holds, shown_rows, each_table, reference_to}
 use Rattle.tql_spec.specs.Machine.{entries, new_state}
 use Rattle.tql_spec.specs.Run.{CopyHolds}
-use Rattle.tql_spec.specs.AtPoints.{table_rows, parent_at, parent_rows, HoldsAtPoints, CopyTestsAreRight, RunsKeepPoints, ReachedHoldAtPoints}
+use Rattle.tql_spec.specs.AtPoints.{table_rows, parent_at, parent_rows, HoldsAtPoints, CopyTestsAreRight}
+use Rattle.tql_spec.specs.AtPoints.{RunsKeepPoints, ReachedHoldAtPoints}
 use Rattle.tql_spec.proofs.Members.{both}
 use Rattle.tql_spec.proofs.Tests.{key_test_is_right}
 use Rattle.tql_spec.proofs.Coverage.{reference_test_is_right}

@@ -1,5 +1,6 @@
 -- What INSERT, UPDATE and DELETE are bound to gives each column values of its kind.
-use Rattle.std.proofs.Common.{◌≡◌, refl, sym, ap, subst, ◌∙◌, ℕ, ◌+◌, zero, suc, Bool, true, false, List, [], ◌∷◌, ◌++◌, map, get_or, inl, inr, arith}
+use Rattle.std.proofs.Common.{◌≡◌, refl, sym, ap, subst, ◌∙◌, ℕ, ◌+◌, zero, suc, Bool, true, false, List, [], ◌∷◌, ◌++◌}
+use Rattle.std.proofs.Common.{map, get_or, inl, inr, arith}
 use Rattle.std.specs.Prelude.{Option, Some, None, is_some}
 use Rattle.std.specs.List.{list_any}
 use Rattle.tql_spec.specs.Bag.{In}
@@ -7,13 +8,15 @@ use Rattle.tql_spec.specs.Datum.{Datum, Null, Row, Kind, Ints, kind_of, same_kin
 use Rattle.tql_spec.specs.Refusal.{Refusal, TypesDoNotFit, FormNotAllowedHere, fault_if}
 use Rattle.tql_spec.specs.Expression.{Expr, Cond, eval}
 use Rattle.tql_spec.specs.Period.{Period}
-use Rattle.tql_spec.specs.Definition as D
+use Rattle.tql_spec.specs.Definition as definition
 use Rattle.tql_spec.specs.Definition.{Name, TableDef, table_at}
 use Rattle.tql_spec.specs.Change.{Assignment}
 use Rattle.tql_spec.specs.Syntax.{CellTree, NullCell, ValueCell, Tuple, SetTree, PortionTree, Condition}
 use Rattle.tql_spec.specs.Names.{Checked, check_each, Known, Typed, is_other_kind, kind_at}
 use Rattle.tql_spec.specs.Creation.{kinds_of, names_of, column_number, has_number, period_columns}
-use Rattle.tql_spec.specs.Binding.{table_number, insert_columns, assigned_columns, insert_values, kinds_for, cell, cells_misfit, tuple, own_scope, assignment, portion, sets_period, plain_filter, update}
+use Rattle.tql_spec.specs.Binding.{table_number, insert_columns, assigned_columns, insert_values, kinds_for, cell}
+use Rattle.tql_spec.specs.Binding.{cells_misfit, tuple, own_scope, assignment, portion, sets_period, plain_filter}
+use Rattle.tql_spec.specs.Binding.{update}
 use Rattle.tql_spec.specs.Typing.{Takes, IsOfKind, AreOfKinds, GiveKinds, column_kind}
 use Rattle.tql_spec.specs.TypingLaws.{IsTypedAssignment, IsTypedBound}
 use Rattle.tql_spec.proofs.RunKeeps.{no_left, no_right}
@@ -114,7 +117,8 @@ insert_typed defs n ns tuples e x m =
 -- ---- assignments
 
 -- the kind of a column, found in two ways
-pub kind_at_is : (cs : List D.Column) (i : ℕ) → kind_at cs i ≡ get_or (map (λ (c : D.Column). c.kind) cs) i Ints
+pub kind_at_is : (cs : List definition.Column) (i : ℕ)
+    → kind_at cs i ≡ get_or (map (λ (c : definition.Column). c.kind) cs) i Ints
 kind_at_is [] i = refl
 kind_at_is (c ∷ cs) zero = refl
 kind_at_is (c ∷ cs) (suc i) = kind_at_is cs i
@@ -125,8 +129,9 @@ own_fits d row h = record { each = known }
   where
     known : (k : Known) → In k (own_scope d) → FitsKnown row k
     known k (inl e) = subst (FitsKnown row) (sym e)
-        (λ i l. subst (λ c. IsOfKind (Some c) (D.cell row (0 + i))) (sym (kind_at_is d.columns i))
-        (subst (λ j. IsOfKind (Some (column_kind d i)) (D.cell row j)) (omega arith) (cell_kind (kinds_of d) row h i)))
+        (λ i l. subst (λ c. IsOfKind (Some c) (definition.cell row (0 + i))) (sym (kind_at_is d.columns i))
+        (subst (λ j. IsOfKind (Some (column_kind d i)) (definition.cell row j)) (omega arith)
+            (cell_kind (kinds_of d) row h i)))
     known k (inr m) = absurd m
 
 -- the value of an assignment

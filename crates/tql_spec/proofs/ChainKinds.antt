@@ -1,5 +1,6 @@
 -- The rows of a query's chains, side by side, have the kinds of the references in its scope.
-use Rattle.std.proofs.Common.{◌≡◌, ◌≤◌, refl, sym, ap, subst, ◌∙◌, ℕ, ◌+◌, List, [], ◌∷◌, ◌++◌, map, length, inl, inr, arith, length-append, get_or-append-add}
+use Rattle.std.proofs.Common.{◌≡◌, ◌≤◌, refl, sym, ap, subst, ◌∙◌, ℕ, ◌+◌, List, [], ◌∷◌, ◌++◌, map, length, inl, inr}
+use Rattle.std.proofs.Common.{arith, length-append, get_or-append-add}
 use Rattle.std.specs.Prelude.{replicate, Some}
 use Rattle.std.proofs.lemmas.List.{length-map}
 use Rattle.tql_spec.specs.Words.{◌>>=◌, map_all}
@@ -10,14 +11,17 @@ use Rattle.tql_spec.specs.Creation.{kinds_of}
 use Rattle.tql_spec.specs.Query.{Ref, Join, pairs, joined_with, joins_from, chain_rows, product}
 use Rattle.tql_spec.specs.Syntax.{RefTree, JoinTree, InnerJoin, LeftJoin, CrossJoin, ChainTree}
 use Rattle.tql_spec.specs.Names.{check_each, Known, kind_at}
-use Rattle.tql_spec.specs.Binding.{source, Source, Joined, add_join, join, joins, Linked, chain, moved, whole_scope, width_of, plain_conjuncts}
+use Rattle.tql_spec.specs.Binding.{source, BoundReference, Joined, add_join, join, joins, Linked, chain, moved}
+use Rattle.tql_spec.specs.Binding.{whole_scope}
+use Rattle.tql_spec.specs.Binding.{width_of, plain_conjuncts}
 use Rattle.tql_spec.specs.Typing.{IsOfKind, AreOfKinds}
 use Rattle.tql_spec.specs.TypingLaws.{IsTypedBag}
 use Rattle.tql_spec.proofs.MemberLists.{in_either, in_image}
 use Rattle.tql_spec.proofs.Steady.{front_is}
 use Rattle.tql_spec.proofs.ExprKinds.{FitsKnown, FitsScope, after}
 use Rattle.tql_spec.proofs.RowKinds.{null_kinds}
-use Rattle.tql_spec.proofs.JoinKinds.{in_filter_all, IsPairOf, in_pairs, left_pairs, Wide, Within, longer_fits, wider, within_more}
+use Rattle.tql_spec.proofs.JoinKinds.{in_filter_all, IsPairOf, in_pairs, left_pairs, Wide, Within, longer_fits, wider}
+use Rattle.tql_spec.proofs.JoinKinds.{within_more}
 
 -- ---- chains
 
@@ -96,7 +100,7 @@ module _ (defs : List TableDef) (bag : Ref → List Row) (typed : IsTypedBag def
   first_joined : (r : RefTree) → IsJoined (bag (source defs 0 r).value.ref)
       (record { joins = []; scope = (source defs 0 r).value.known ∷ []; width = width_of (source defs 0 r).value })
   first_joined r =
-      let s : Source = (source defs 0 r).value in
+      let s : BoundReference = (source defs 0 r).value in
       let w = within_more [] 0 s.known (λ j m. absurd m) refl in
       record {
         within = λ k m. let l = w k m in omega (arith, l);
@@ -114,7 +118,7 @@ module _ (defs : List TableDef) (bag : Ref → List Row) (typed : IsTypedBag def
       → Within (chain defs c).value.scope (chain defs c).value.width
       × ((x : Row) → In x rows → Wide (chain defs c).value.scope (chain defs c).value.width x)
   chain_wide c rows e =
-      let s : Source = (source defs 0 c.first).value in
+      let s : BoundReference = (source defs 0 c.first).value in
       let k = joins_kept (bag s.ref) (record { joins = []; scope = s.known ∷ []; width = width_of s }) c.joins
       (first_joined c.first) in
       (k.within, k.wide rows e)

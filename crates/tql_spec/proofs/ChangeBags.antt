@@ -6,7 +6,8 @@ use Rattle.std.proofs.lemmas.List.Sums.{sum_by-cons, sum_by-append}
 use Rattle.tql_spec.specs.Words.{map_all}
 use Rattle.tql_spec.specs.Bag.{SameBag}
 use Rattle.tql_spec.specs.Definition.{TableDef, Stamped, shown}
-use Rattle.tql_spec.specs.Change.{Fate, Untouched, Replaced, after_fates, new_rows, touched_count, row_faults, fate, outcome_of}
+use Rattle.tql_spec.specs.Change.{Fate, Untouched, Replaced, after_fates, new_rows, touched_count, row_faults, fate}
+use Rattle.tql_spec.specs.Change.{outcome_of}
 use Rattle.tql_spec.specs.ChangeLaws.{SameOutcome, ChangesKeepNoOrder, goes, ChangesByParts}
 use Rattle.tql_spec.proofs.Bags.{sum-filter, same-flat_map, same-refl}
 use Rattle.tql_spec.proofs.FaultBags.{first_by_bag}
@@ -118,12 +119,14 @@ module _ (f : Stamped → Option Fate) where
 
   -- what is weighed of all rows, by parts
   both_total : (w : Stamped → ℕ) (rows : List Stamped) (fates : List Fate) → map_all f rows ≡ Some fates
-      → sum_by (λ r. left_of w r (f r)) rows ≡ sum_by (λ r. cond (not (goes (f r))) (w r) 0) rows + sum_by (λ r. new_of w (f r)) rows
+      → sum_by (λ r. left_of w r (f r)) rows
+      ≡ sum_by (λ r. cond (not (goes (f r))) (w r) 0) rows + sum_by (λ r. new_of w (f r)) rows
   both_total w [] fates e = refl
   both_total w (x ∷ rows) fates e =
       let k = front_is (f x) (map_all f rows) fates e in
       let later = both_total w rows k.tail k.more in
-      let here : left_of w x (f x) ≡ cond (not (goes (f x))) (w x) 0 + new_of w (f x) = one_part w x (f x) (λ n. there k.head (sym n ∙ k.one)) in
+      let here : left_of w x (f x) ≡ cond (not (goes (f x))) (w x) 0 + new_of w (f x) =
+      one_part w x (f x) (λ n. there k.head (sym n ∙ k.one)) in
       omega (
         arith,
         here,
@@ -136,7 +139,8 @@ module _ (f : Stamped → Option Fate) where
       there : (y : Fate) → None ≡ Some y → ⊥
       there y e = cc
 
-  parts : (rows : List Stamped) (fates : List Fate) → map_all f rows ≡ Some fates → SameBag (after_fates rows fates) (filter (λ r. not (goes (f r))) rows ++ new_rows fates)
+  parts : (rows : List Stamped) (fates : List Fate) → map_all f rows ≡ Some fates
+      → SameBag (after_fates rows fates) (filter (λ r. not (goes (f r))) rows ++ new_rows fates)
   parts rows fates e = record {
     totals = λ w. omega (
       arith,

@@ -7,11 +7,15 @@ use Rattle.tql_spec.specs.Refusal.{TableIsReferenced, DuplicateKey, ReferenceNot
 use Rattle.tql_spec.specs.Definition.{Name, TableDef, place_of}
 use Rattle.tql_spec.specs.History.{Copy, Entry}
 use Rattle.tql_spec.specs.Constraint.{keys_hold, references_hold}
-use Rattle.tql_spec.specs.Machine.{State, Bound, CreateTable, DropTable, SetClock, Start, Commit, Rollback, Alter, Ask, changed_table, manner_of, state_faults, effect, newest_copy, constraint_faults}
-use Rattle.tql_spec.specs.Syntax.{Statement, CreateTree, DropTree, InsertValues, InsertSelect, UpdateTree, DeleteTree, QueryTree, StartTree, CommitTree, RollbackTree, AtTree}
+use Rattle.tql_spec.specs.Machine.{State, Bound, CreateTable, DropTable, SetClock, Start, Commit, Rollback, ChangeRows}
+use Rattle.tql_spec.specs.Machine.{AnswerQuery}
+use Rattle.tql_spec.specs.Machine.{changed_table, class_of, state_faults, effect, newest_copy, constraint_faults}
+use Rattle.tql_spec.specs.Syntax.{Statement, CreateTree, DropTree, InsertValues, InsertSelect, UpdateTree, DeleteTree}
+use Rattle.tql_spec.specs.Syntax.{QueryTree, StartTree, CommitTree, RollbackTree, AtTree}
 use Rattle.tql_spec.specs.Binding.{bind, or_no_table, is_referenced}
 use Rattle.tql_spec.specs.Run.{CopyHolds, ConstraintsHold, RunsKeepConstraints}
-use Rattle.tql_spec.proofs.RunKeeps.{no_left, no_right, asked_stays, changed_copy, altered_keeps, EffectKeeps, run_keeps}
+use Rattle.tql_spec.proofs.RunKeeps.{no_left, no_right, asked_stays, changed_copy, altered_keeps, EffectKeeps}
+use Rattle.tql_spec.proofs.RunKeeps.{run_keeps}
 use Rattle.tql_spec.proofs.InOrder.{state, no_fault}
 use Rattle.tql_spec.proofs.Constraints.{holds_empty, holds_more, holds_less}
 
@@ -33,7 +37,12 @@ dropped defs (DropTree n) e t q = by_place (place_of n defs) refl e q
         → DropTable (or_no_table o).value ≡ DropTable t → IsDropped defs t
     by_place None p f v = absurd (cc)
     by_place (Some k) p f v =
-        record { name = n; there = p ∙ ap (λ i. Some i) (cc); free = no_fault (is_referenced n defs) TableIsReferenced f }
+        record {
+          name = n;
+          there = p ∙ ap (λ i. Some i) (cc);
+          free =
+              no_fault (is_referenced n defs) TableIsReferenced f;
+        }
 dropped defs (CreateTree n x es versioned) e t q = absurd (cc)
 dropped defs (InsertValues n ns x ts) e t q = absurd (cc)
 dropped defs (InsertSelect n ns s) e t q = absurd (cc)
@@ -72,20 +81,22 @@ not_not false e = cc
 changed_holds : (defs : List TableDef) (copy : Copy) → length copy ≡ length defs → constraint_faults defs copy ≡ []
     → CopyHolds defs copy
 changed_holds defs copy n e =
-    let first = no_left (fault_if (not (keys_hold defs copy)) DuplicateKey) (fault_if (not (references_hold defs copy)) ReferenceNotMet) e in
+    let first = no_left (fault_if (not (keys_hold defs copy)) DuplicateKey)
+    (fault_if (not (references_hold defs copy)) ReferenceNotMet) e in
     let second = no_right (fault_if (not (keys_hold defs copy)) DuplicateKey)
     (fault_if (not (references_hold defs copy)) ReferenceNotMet) e in
     record {
       as_many = n;
       keys = not_not (keys_hold defs copy) (no_fault (not (keys_hold defs copy)) DuplicateKey first);
-      references = not_not (references_hold defs copy) (no_fault (not (references_hold defs copy)) ReferenceNotMet second);
+      references = not_not (references_hold defs copy)
+          (no_fault (not (references_hold defs copy)) ReferenceNotMet second);
     }
 
 -- ---- statements and runs
 
 -- each effect keeps keys and references
 effect_holds : (defs : List TableDef) (history : List Entry) (next : ℤ) (begun : Option Entry) (b : Bound)
-    → state_faults (state defs history next begun) (manner_of b) ≡ []
+    → state_faults (state defs history next begun) (class_of b) ≡ []
     → ((t : ℕ) → b ≡ DropTable t → IsDropped defs t)
     → ConstraintsHold (state defs history next begun) → ConstraintsHold (effect (state defs history next begun) b).1
 effect_holds defs history next None (CreateTable d) e g h =
@@ -102,7 +113,7 @@ effect_holds defs history next None Commit e g h = h
 effect_holds defs history next (Some w) Commit e g h = h
 effect_holds defs history next None Rollback e g h = h
 effect_holds defs history next (Some w) Rollback e g h = h.1
-effect_holds defs history next None (Alter c) e g h =
+effect_holds defs history next None (ChangeRows c) e g h =
     let s : State = state defs history next None in
     altered_keeps ConstraintsHold s c h
     (λ q. (
@@ -110,14 +121,15 @@ effect_holds defs history next None (Alter c) e g h =
           (length-set (newest_copy defs history) (changed_table c) _ ∙ (newest_holds defs history h).as_many) q.holds,
       h,
     ))
-effect_holds defs history next (Some w) (Alter c) e g h =
+effect_holds defs history next (Some w) (ChangeRows c) e g h =
     let s : State = state defs history next (Some w) in
     altered_keeps ConstraintsHold s c h
     (λ q. (
       changed_holds defs (changed_copy s c) (length-set w.copy (changed_table c) _ ∙ h.0.as_many) q.holds,
       h.1,
     ))
-effect_holds defs history next begun (Ask q) e g h = asked_stays ConstraintsHold (state defs history next begun) q _ h
+effect_holds defs history next begun (AnswerQuery q) e g h =
+    asked_stays ConstraintsHold (state defs history next begun) q _ h
 
 -- each statement that is taken keeps them
 keeps_constraints : EffectKeeps ConstraintsHold

@@ -1,5 +1,6 @@
 -- Keys and references of a whole copy: with one table more, with one less, and before any commit.
-use Rattle.std.proofs.Common.{◌≡◌, ◌<◌, refl, sym, ap, subst, ◌∙◌, ℕ, ◌+◌, zero, suc, Bool, true, false, List, [], ◌∷◌, ◌++◌, map, length, inl, inr, arith, length-append}
+use Rattle.std.proofs.Common.{◌≡◌, ◌<◌, refl, sym, ap, subst, ◌∙◌, ℕ, ◌+◌, zero, suc, Bool, true, false, List, [], ◌∷◌}
+use Rattle.std.proofs.Common.{◌++◌, map, length, inl, inr, arith, length-append}
 use Rattle.std.specs.Prelude.{◌&&◌, ◌||◌, remove, Option, Some, None, if◌then◌else◌}
 use Rattle.std.specs.List.{list_all, list_any}
 use Rattle.std.specs.Ordering.{nat_cmp}
@@ -14,7 +15,8 @@ use Rattle.tql_spec.specs.Bag.{In}
 use Rattle.tql_spec.specs.Datum.{Row}
 use Rattle.tql_spec.specs.Definition.{Name, TableDef, Reference, Stamped, no_table, table_at, place_of, next_place}
 use Rattle.tql_spec.specs.History.{Copy, rows_in}
-use Rattle.tql_spec.specs.Constraint.{key_holds, has_null, is_met, is_met_by, reference_holds, shown_rows, each_table, reference_to}
+use Rattle.tql_spec.specs.Constraint.{key_holds, has_null, is_met, is_met_by, reference_holds, shown_rows, each_table}
+use Rattle.tql_spec.specs.Constraint.{reference_to}
 use Rattle.tql_spec.specs.Binding.{is_referenced}
 use Rattle.tql_spec.specs.Run.{CopyHolds}
 use Rattle.tql_spec.proofs.Members.{both, by_bool}

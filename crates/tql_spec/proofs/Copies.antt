@@ -1,12 +1,15 @@
 -- The rows of a table in a copy that has changed, and the newest copy.
-use Rattle.std.proofs.Common.{◌≡◌, refl, sym, ap, ◌∙◌, ℕ, zero, suc, ◌+◌, List, [], ◌∷◌, ◌++◌, map, get_or, length, inl, inr, arith, length-append}
+use Rattle.std.proofs.Common.{◌≡◌, refl, sym, ap, ◌∙◌, ℕ, zero, suc, ◌+◌, List, [], ◌∷◌, ◌++◌, map, get_or, length, inl}
+use Rattle.std.proofs.Common.{inr, arith, length-append}
 use Rattle.std.specs.Prelude.{◌⊎◌, remove, slice_set, ℤ, Option, Some, None}
 use Rattle.std.proofs.lemmas.List.{length-map}
 use Rattle.std.proofs.Math.ListN.{length-set}
 use Rattle.tql_spec.specs.Bag.{In}
 use Rattle.tql_spec.specs.Definition.{TableDef, Stamped}
 use Rattle.tql_spec.specs.History.{Copy, Entry, rows_in}
-use Rattle.tql_spec.specs.Machine.{State, Bound, CreateTable, DropTable, SetClock, Start, Commit, Rollback, Alter, Ask, changed_table, manner_of, state_faults, effect, newest_copy}
+use Rattle.tql_spec.specs.Machine.{State, Bound, CreateTable, DropTable, SetClock, Start, Commit, Rollback, ChangeRows}
+use Rattle.tql_spec.specs.Machine.{AnswerQuery}
+use Rattle.tql_spec.specs.Machine.{changed_table, class_of, state_faults, effect, newest_copy}
 use Rattle.tql_spec.specs.Binding.{bind}
 use Rattle.tql_spec.specs.Reached.{CopiesFit}
 use Rattle.tql_spec.proofs.MemberLists.{in_image}
@@ -88,7 +91,7 @@ first_fits e es n h k x (inr m) = k x m
 
 -- each effect keeps the number of tables in copies
 pub effect_fits : (defs : List TableDef) (history : List Entry) (next : ℤ) (begun : Option Entry) (b : Bound)
-    → state_faults (state defs history next begun) (manner_of b) ≡ []
+    → state_faults (state defs history next begun) (class_of b) ≡ []
     → CopiesFit (state defs history next begun) → CopiesFit (effect (state defs history next begun) b).1
 effect_fits defs history next None (CreateTable d) e f =
     each_fits (λ copy. copy ++ [] ∷ []) defs (defs ++ d ∷ []) history f
@@ -104,17 +107,17 @@ effect_fits defs history next None Commit e f = f
 effect_fits defs history next (Some w) Commit e f = f
 effect_fits defs history next None Rollback e f = f
 effect_fits defs history next (Some w) Rollback e f = λ x m. f x (inr m)
-effect_fits defs history next None (Alter c) e f =
+effect_fits defs history next None (ChangeRows c) e f =
     let s : State = state defs history next None in
     altered_keeps CopiesFit s c f
     (λ q. first_fits (changed_entry s c) history (length defs)
     (length-set (newest_copy defs history) (changed_table c) _ ∙ newest_fits defs history f) f)
-effect_fits defs history next (Some w) (Alter c) e f =
+effect_fits defs history next (Some w) (ChangeRows c) e f =
     let s : State = state defs history next (Some w) in
     altered_keeps CopiesFit s c f
     (λ q. first_fits (changed_entry s c) history (length defs)
     (length-set w.copy (changed_table c) _ ∙ f w (inl refl)) (λ x m. f x (inr m)))
-effect_fits defs history next begun (Ask q) e f = asked_stays CopiesFit (state defs history next begun) q _ f
+effect_fits defs history next begun (AnswerQuery q) e f = asked_stays CopiesFit (state defs history next begun) q _ f
 
 -- each statement that is taken keeps it
 pub keeps_fit : EffectKeeps CopiesFit

@@ -1,15 +1,20 @@
 -- What CREATE TABLE defines has periods of points; and the points of a row's own period.
-use Rattle.std.proofs.Common.{◌≡◌, ◌<◌, refl, sym, ap, subst, ◌∙◌, ℕ, zero, suc, Bool, true, false, List, [], ◌∷◌, ◌++◌, map, get_or, length, arith}
+use Rattle.std.proofs.Common.{◌≡◌, ◌<◌, refl, sym, ap, subst, ◌∙◌, ℕ, zero, suc, Bool, true, false, List, [], ◌∷◌, ◌++◌}
+use Rattle.std.proofs.Common.{map, get_or, length, arith}
 use Rattle.std.specs.Prelude.{◌||◌, not, Option, Some}
 use Rattle.std.specs.List.{flat_map}
 use Rattle.tql_spec.specs.Words.{same_text}
-use Rattle.tql_spec.specs.Datum.{Datum, Null, Int, Text, Day, Moment, Row, Kind, Ints, Texts, Days, Moments, same_kind, is_null}
+use Rattle.tql_spec.specs.Datum.{Datum, Null, Int, Text, Day, Moment, Row, Kind, Ints, Texts, Days, Moments, same_kind}
+use Rattle.tql_spec.specs.Datum.{is_null}
 use Rattle.tql_spec.specs.Refusal.{Refusal, TypesDoNotFit, FormNotAllowedHere, fault_if}
-use Rattle.tql_spec.specs.Definition as D
+use Rattle.tql_spec.specs.Definition as definition
 use Rattle.tql_spec.specs.Definition.{Name, TableDef, Application, System, cell, point_of, period_by, period_of}
 use Rattle.tql_spec.specs.Syntax.{Element, ColumnTree}
 use Rattle.tql_spec.specs.Names.{Checked, check_each}
-use Rattle.tql_spec.specs.Creation.{PeriodPart, application_parts, system_parts, application_period, system_period, whole_faults, column_names, columns_of, column_number, constraints_of, kind_in, kind_of_type, kinds_of, has_name, has_number, is_generated_at, starts, stops, first_of, part_names, primary_names, column, are_ends, create}
+use Rattle.tql_spec.specs.Creation.{PeriodPart, application_parts, system_parts, application_period, system_period}
+use Rattle.tql_spec.specs.Creation.{whole_faults, column_names, columns_of, column_number, constraints_of, kind_in}
+use Rattle.tql_spec.specs.Creation.{kind_of_type, kinds_of, has_name, has_number, is_generated_at, starts, stops}
+use Rattle.tql_spec.specs.Creation.{first_of, part_names, primary_names, column, are_ends, create}
 use Rattle.tql_spec.specs.Typing.{IsOfKind, AreOfKinds, column_kind, is_required, IsTypedDefinition}
 use Rattle.tql_spec.specs.TypingLaws.{OwnPeriodsArePoints}
 use Rattle.tql_spec.proofs.RunKeeps.{no_left, no_right}
@@ -56,7 +61,8 @@ or_second_false true b e = absurd (cc)
 
 -- the kinds of the columns defined are those written
 kinds_written : (implied : List Name) (cs : List ColumnTree)
-    → map (λ (c : D.Column). c.kind) (map (column implied) cs) ≡ map (λ (c : ColumnTree). kind_of_type c.type_name) cs
+    → map (λ (c : definition.Column). c.kind) (map (column implied) cs)
+        ≡ map (λ (c : ColumnTree). kind_of_type c.type_name) cs
 kinds_written implied [] = refl
 kinds_written implied (c ∷ cs) = ap (λ ks. kind_of_type c.type_name ∷ ks) (kinds_written implied cs)
 

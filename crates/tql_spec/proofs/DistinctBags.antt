@@ -1,5 +1,6 @@
 -- Rows without their repeats, in any order.
-use Rattle.std.proofs.Common.{◌≡◌, ℕ, ◌+◌, Bool, true, false, cond, List, [], ◌∷◌, filter, refl, sym, ap, ◌∙◌, arith, subst, inl, inr}
+use Rattle.std.proofs.Common.{◌≡◌, ℕ, ◌+◌, Bool, true, false, cond, List, [], ◌∷◌, filter, refl, sym, ap, ◌∙◌, arith}
+use Rattle.std.proofs.Common.{subst, inl, inr}
 use Rattle.std.specs.Prelude.{not}
 use Rattle.std.specs.List.{sum_by}
 use Rattle.std.proofs.lemmas.List.Sums.{sum_by-cons}
@@ -44,7 +45,8 @@ twice p q w rows =
     let qp : Row → ℕ = λ r. cond (p r) (cond (q r) (w r) 0) 0 in
     once p q ∙ sum-same pq qp (λ r. either (q r) (p r) (w r)) rows ∙ sym (once q p)
   where
-    once : (a b : Row → Bool) → sum_by w (filter a (filter b rows)) ≡ sum_by (λ r. cond (b r) (cond (a r) (w r) 0) 0) rows
+    once : (a b : Row → Bool)
+        → sum_by w (filter a (filter b rows)) ≡ sum_by (λ r. cond (b r) (cond (a r) (w r) 0) 0) rows
     once a b = sum-filter a w (filter b rows) ∙ sum-filter b (λ r. cond (a r) (w r) 0) rows
 
     either : (b c : Bool) (n : ℕ) → cond b (cond c n 0) 0 ≡ cond c (cond {A = ℕ} b n 0) 0
@@ -99,4 +101,5 @@ distinct_same rows others h =
 pub in_distinct : (t : Row) (rows : List Row) → In t (distinct_rows rows) → In t rows
 in_distinct t [] m = m
 in_distinct t (r ∷ rows) (inl e) = inl e
-in_distinct t (r ∷ rows) (inr m) = inr (in_distinct t rows (in_kept (λ s. not (same_row r s)) t (distinct_rows rows) m).0)
+in_distinct t (r ∷ rows) (inr m) =
+    inr (in_distinct t rows (in_kept (λ s. not (same_row r s)) t (distinct_rows rows) m).0)

@@ -1,17 +1,25 @@
 -- The value of a bound expression is of its kind, on rows of the kinds of its scope.
-use Rattle.std.proofs.Common.{◌≡◌, ◌<◌, refl, sym, subst, ℕ, ◌+◌, suc, Bool, true, false, List, [], ◌∷◌, filter, length, inl, inr, arith}
+use Rattle.std.proofs.Common.{◌≡◌, ◌<◌, refl, sym, subst, ℕ, ◌+◌, suc, Bool, true, false, List, [], ◌∷◌, filter, length}
+use Rattle.std.proofs.Common.{inl, inr, arith}
 use Rattle.std.specs.Prelude.{ℤ, Option, Some, None, pos, neg_ℤ, not, nat_le, if◌then◌else◌}
 use Rattle.std.specs.List.{flat_map}
 use Rattle.tql_spec.specs.Words.{◌>>=◌, map_all, same_text}
 use Rattle.tql_spec.specs.Bag.{In}
 use Rattle.tql_spec.specs.Calendar.{number_of, read_date, read_timestamp}
-use Rattle.tql_spec.specs.Datum.{Datum, Null, Int, Text, Day, Moment, Row, Kind, Ints, Days, Moments, Operation, Plus, Minus, Times, calculate, exact, fits, result_of, is_null}
-use Rattle.tql_spec.specs.Expression.{Expr, Literal, Negate, Binary, CountRows, Aggregate, Function, Count, Sum, Min, Max, eval, best, total, present, if_countable}
+use Rattle.tql_spec.specs.Datum.{Datum, Null, Int, Text, Day, Moment, Row, Kind, Ints, Days, Moments, Operation, Plus}
+use Rattle.tql_spec.specs.Datum.{Minus, Times, calculate, exact, fits, result_of, is_null}
+use Rattle.tql_spec.specs.Expression.{Expr, Literal, Negate, Binary, CountRows, Aggregate, Function, Count, Sum, Min}
+use Rattle.tql_spec.specs.Expression.{Max, eval, best, total, present, if_countable}
 use Rattle.tql_spec.specs.Expression as bound
 use Rattle.tql_spec.specs.Definition.{Name, Column, Application, cell}
 use Rattle.tql_spec.specs.Syntax as tree
-use Rattle.tql_spec.specs.Syntax.{Product, MoreTerms, NoTerm, PlusTerm, MinusTerm, Terms, MoreFactors, NoFactor, TimesFactor, Factors, Signed, Unsigned, Positive, Negative, Primary, NumberLiteral, TextLiteral, DateLiteral, TimestampLiteral, ColumnNamed, Enclosed, CountStar, Over, Named}
-use Rattle.tql_spec.specs.Names.{Checked, Known, Thing, AColumn, APeriod, columns_named, periods_named, things_in, things, is_meant, Typed, typed, one_column, number, literal, arithmetic, negation, aggregate, negative, kind_at, expr, more_terms, product, more_factors, signed, primary}
+use Rattle.tql_spec.specs.Syntax.{Product, MoreTerms, NoTerm, PlusTerm, MinusTerm, Terms, MoreFactors, NoFactor}
+use Rattle.tql_spec.specs.Syntax.{TimesFactor, Factors, Signed, Unsigned, Positive, Negative, Primary, NumberLiteral}
+use Rattle.tql_spec.specs.Syntax.{TextLiteral, DateLiteral, TimestampLiteral, ColumnNamed, Enclosed, CountStar, Over}
+use Rattle.tql_spec.specs.Syntax.{Named}
+use Rattle.tql_spec.specs.Names.{Checked, Known, Thing, AColumn, APeriod, columns_named, periods_named, things_in}
+use Rattle.tql_spec.specs.Names.{things, is_meant, Typed, typed, one_column, number, literal, arithmetic, negation}
+use Rattle.tql_spec.specs.Names.{aggregate, negative, kind_at, expr, more_terms, product, more_factors, signed, primary}
 use Rattle.tql_spec.specs.Typing.{IsOfKind}
 use Rattle.tql_spec.proofs.MemberLists.{in_either, in_kept}
 use Rattle.tql_spec.proofs.Steady.{front_is}

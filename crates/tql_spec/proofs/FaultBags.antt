@@ -1,10 +1,17 @@
 -- The first fault depends on which faults are there alone.
-use Rattle.std.proofs.Common.{◌≡◌, ◌≤◌, ◌<◌, ℕ, Bool, true, false, cond, List, [], ◌∷◌, refl, sym, ap, subst, ◌∙◌, arith, inl, inr}
+use Rattle.std.proofs.Common.{◌≡◌, ◌≤◌, ◌<◌, ℕ, Bool, true, false, cond, List, [], ◌∷◌, refl, sym, ap, subst, ◌∙◌}
+use Rattle.std.proofs.Common.{arith, inl, inr}
 use Rattle.std.specs.Prelude.{nat_lt, Option, Some, None, slice_get, if◌then◌else◌}
 use Rattle.std.specs.List.{sum_by}
 use Rattle.std.proofs.lemmas.Bool.Decides.{nat_tests}
 use Rattle.tql_spec.specs.Bag.{SameBag, In}
-use Rattle.tql_spec.specs.Refusal.{Refusal, StatementTooLong, NotUtf8, UnfinishedStatement, NestedTooDeep, NotAStatement, TooManyColumnsOrTables, NotInThisTransactionState, MomentNotAllowed, ReadersAreOpen, TableUnknownOrAlreadyThere, NameUnknownAmbiguousOrRepeated, TypesDoNotFit, FormNotAllowedHere, TableIsReferenced, TooManyTablesOrReaders, BeforeTheHorizon, ReaderNotUsable, ValueOutOfRange, PortionNotRising, NullNotAllowed, PeriodNotRising, CheckFailed, DuplicateKey, ReferenceNotMet, OutOfMemory, place, first}
+use Rattle.tql_spec.specs.Refusal.{Refusal, StatementTooLong, NotUtf8, UnfinishedStatement, NestedTooDeep}
+use Rattle.tql_spec.specs.Refusal.{NotAStatement, TooManyColumnsOrTables, NotInThisTransactionState, MomentNotAllowed}
+use Rattle.tql_spec.specs.Refusal.{ReadersAreOpen, TableUnknownOrAlreadyThere, NameUnknownAmbiguousOrRepeated}
+use Rattle.tql_spec.specs.Refusal.{TypesDoNotFit, FormNotAllowedHere, TableIsReferenced, TooManyTablesOrReaders}
+use Rattle.tql_spec.specs.Refusal.{BeforeTheHorizon, ReaderNotUsable, ValueOutOfRange, PortionNotRising, NullNotAllowed}
+use Rattle.tql_spec.specs.Refusal.{PeriodNotRising, CheckFailed, DuplicateKey, ReferenceNotMet, OutOfMemory, place}
+use Rattle.tql_spec.specs.Refusal.{first}
 use Rattle.tql_spec.proofs.Members.{by_bool, sum-zero, sum-least}
 use Rattle.tql_spec.proofs.FirstFaults.{none_first}
 
@@ -83,7 +90,8 @@ alone x ys n = record {
 }
 
 -- by what is first behind it
-by_rest : (x : Refusal) (ys : List Refusal) (a : Refusal) (o : Option Refusal) → first ys ≡ o → ((y : Refusal) → first ys ≡ Some y → IsFirst y ys)
+by_rest : (x : Refusal) (ys : List Refusal) (a : Refusal) (o : Option Refusal) → first ys ≡ o
+    → ((y : Refusal) → first ys ≡ Some y → IsFirst y ys)
     → first (x ∷ ys) ≡ Some a → IsFirst a (x ∷ ys)
 by_rest x ys a None k later e =
     let q : x ≡ a = cc in
@@ -137,7 +145,8 @@ first_by_bag xs ys h = by_firsts (first xs) (first ys) refl refl
     by_firsts None (Some b) e f =
         absurd (not_none ys b (subst (λ zs. SameBag zs ys) (none_first xs e) h) (first_is ys b f).there)
     by_firsts (Some a) None e f =
-        absurd (not_none xs a (subst (λ zs. SameBag zs xs) (none_first ys f) (record { totals = λ w. sym (h.totals w) }))
+        absurd (not_none xs a
+        (subst (λ zs. SameBag zs xs) (none_first ys f) (record { totals = λ w. sym (h.totals w) }))
         (first_is xs a e).there)
     by_firsts (Some a) (Some b) e f =
         let k = first_is xs a e in

@@ -5,9 +5,11 @@ use Rattle.std.proofs.lemmas.Bool.Decides.{nat_tests}
 use Rattle.tql_spec.specs.Calendar.{read_timestamp}
 use Rattle.tql_spec.specs.Refusal.{Refusal, place, earlier, first}
 use Rattle.tql_spec.specs.Definition.{TableDef}
-use Rattle.tql_spec.specs.Machine.{State, Reply, Bound, Manner, SetsClock, manner_of, state_faults, effect, step, unless_refused}
-use Rattle.tql_spec.specs.Syntax.{Statement, CreateTree, DropTree, InsertValues, InsertSelect, UpdateTree, DeleteTree, QueryTree, StartTree, CommitTree, RollbackTree, AtTree}
-use Rattle.tql_spec.specs.Binding.{bind, manner, or_bad_moment}
+use Rattle.tql_spec.specs.Machine.{State, Reply, Bound, StatementClass, SetsClock, class_of, state_faults, effect, step}
+use Rattle.tql_spec.specs.Machine.{unless_refused}
+use Rattle.tql_spec.specs.Syntax.{Statement, CreateTree, DropTree, InsertValues, InsertSelect, UpdateTree, DeleteTree}
+use Rattle.tql_spec.specs.Syntax.{QueryTree, StartTree, CommitTree, RollbackTree, AtTree}
+use Rattle.tql_spec.specs.Binding.{bind, statement_class, or_bad_moment}
 use Rattle.tql_spec.specs.Run.{respond}
 
 -- the first of two, where there is one
@@ -16,7 +18,8 @@ sooner None o = o
 sooner (Some a) o = Some (earlier a o)
 
 -- of three, by their places
-pick : (a b c : Refusal) (x y z : Bool) → nat_lt (place b) (place a) ≡ x → nat_lt (place c) (place b) ≡ y → nat_lt (place c) (place a) ≡ z
+pick : (a b c : Refusal) (x y z : Bool) → nat_lt (place b) (place a) ≡ x → nat_lt (place c) (place b) ≡ y
+    → nat_lt (place c) (place a) ≡ z
     → earlier a (Some (earlier b (Some c))) ≡ earlier (earlier a (Some b)) (Some c)
 pick a b c true true true e f g = rw e (rw f (rw g refl))
 pick a b c true true false e f g = absurd (grind (arith, nat_tests))
@@ -33,7 +36,8 @@ behind a (Some b) (Some c) = ap (λ (r : Refusal). Some r) (pick a b c _ _ _ ref
 
 pub first_append : (xs ys : List Refusal) → first (xs ++ ys) ≡ sooner (first xs) (first ys)
 first_append [] ys = refl
-first_append (x ∷ xs) ys = ap (λ (o : Option Refusal). Some (earlier x o)) (first_append xs ys) ∙ behind x (first xs) (first ys)
+first_append (x ∷ xs) ys = ap (λ (o : Option Refusal). Some (earlier x o)) (first_append xs ys)
+    ∙ behind x (first xs) (first ys)
 
 -- no fault is first where there is none
 pub none_first : (xs : List Refusal) → first xs ≡ None → xs ≡ []
@@ -42,12 +46,14 @@ none_first (x ∷ xs) e = absurd (cc)
 
 -- ---- statements that are bound
 
-read_some : (m : Option ℤ) → first (or_bad_moment m).faults ≡ None → SetsClock m ≡ SetsClock (Some (or_bad_moment m).value)
+read_some : (m : Option ℤ) → first (or_bad_moment m).faults ≡ None
+    → SetsClock m ≡ SetsClock (Some (or_bad_moment m).value)
 read_some None e = absurd (cc)
 read_some (Some m) e = refl
 
 -- a statement without a fault does to the transaction and the clock what it does bound
-pub manner_kept : (defs : List TableDef) (t : Statement) → first (bind defs t).faults ≡ None → manner t ≡ manner_of (bind defs t).value
+pub manner_kept : (defs : List TableDef) (t : Statement) → first (bind defs t).faults ≡ None
+    → statement_class t ≡ class_of (bind defs t).value
 manner_kept defs (CreateTree n e es versioned) k = refl
 manner_kept defs (DropTree n) k = refl
 manner_kept defs (InsertValues n ns t ts) k = refl
@@ -58,14 +64,16 @@ manner_kept defs (QueryTree s keys) k = refl
 manner_kept defs StartTree k = refl
 manner_kept defs CommitTree k = refl
 manner_kept defs RollbackTree k = refl
-manner_kept defs (AtTree m) k = read_some (read_timestamp m) (sym (ap first (append-nil (or_bad_moment (read_timestamp m)).faults)) ∙ k)
+manner_kept defs (AtTree m) k =
+    read_some (read_timestamp m) (sym (ap first (append-nil (or_bad_moment (read_timestamp m)).faults)) ∙ k)
 
 -- a statement without a fault is a step of what it is bound to
-pub bound_steps : (s : State) (t : Statement) → first (bind s.definitions t).faults ≡ None → respond s t ≡ step s (bind s.definitions t).value
+pub bound_steps : (s : State) (t : Statement) → first (bind s.definitions t).faults ≡ None
+    → respond s t ≡ step s (bind s.definitions t).value
 bound_steps s t k =
     let b : Bound = (bind s.definitions t).value in
     let r : Reply × State = effect s b in
     let none = none_first (bind s.definitions t).faults k in
-    ap (λ (fs : List Refusal). unless_refused (first (state_faults s (manner t) ++ fs)) s r.0 r.1) none
-    ∙ ap (λ (fs : List Refusal). unless_refused (first fs) s r.0 r.1) (append-nil (state_faults s (manner t)))
-    ∙ ap (λ (m : Manner). unless_refused (first (state_faults s m)) s r.0 r.1) (manner_kept s.definitions t k)
+    ap (λ (fs : List Refusal). unless_refused (first (state_faults s (statement_class t) ++ fs)) s r.0 r.1) none
+    ∙ ap (λ (fs : List Refusal). unless_refused (first fs) s r.0 r.1) (append-nil (state_faults s (statement_class t)))
+    ∙ ap (λ (m : StatementClass). unless_refused (first (state_faults s m)) s r.0 r.1) (manner_kept s.definitions t k)

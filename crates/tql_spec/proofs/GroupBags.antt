@@ -1,5 +1,6 @@
 -- What a grouped query shows does not see the order of the rows.
-use Rattle.std.proofs.Common.{◌≡◌, ℕ, Bool, true, false, cond, List, [], ◌∷◌, map, filter, refl, sym, ap, ◌∙◌, subst, inl, inr}
+use Rattle.std.proofs.Common.{◌≡◌, ℕ, Bool, true, false, cond, List, [], ◌∷◌, map, filter, refl, sym, ap, ◌∙◌, subst}
+use Rattle.std.proofs.Common.{inl, inr}
 use Rattle.std.specs.Prelude.{Option, Some, None, slice_index_or}
 use Rattle.std.proofs.lemmas.List.Concat.{flat_map-cons}
 use Rattle.tql_spec.specs.Words.{◌>>=◌, map_all, filter_all, with_front, kept_if}
@@ -47,7 +48,8 @@ module _ {A B : Type 0} (test : A → Option Bool) (made : A → Option B) where
       → (kept >>= map_all made) ≡ flattened rest
       → (kept_if x t kept >>= map_all made) ≡ flattened (with_front (t >>= λ b. shown_if b (made x)) rest)
   one_more x None kept rest e = refl
-  one_more x (Some true) None rest e = nothing_behind (made x) ∙ ap (with_front (made x)) e ∙ passing_front (made x) rest
+  one_more x (Some true) None rest e = nothing_behind (made x) ∙ ap (with_front (made x)) e
+      ∙ passing_front (made x) rest
   one_more x (Some true) (Some xs) rest e = ap (with_front (made x)) e ∙ passing_front (made x) rest
   one_more x (Some false) None rest e = e ∙ failing_front rest
   one_more x (Some false) (Some xs) rest e = e ∙ failing_front rest

@@ -9,7 +9,9 @@ use Rattle.tql_spec.specs.Truth.{and, or, negated, truth_of}
 use Rattle.tql_spec.specs.Datum.{Datum, Int, Minus, Row, calculate, compare, exact, fits, is_null}
 use Rattle.tql_spec.specs.Period.{predicate, contains_point}
 use Rattle.tql_spec.specs.Definition.{cell}
-use Rattle.tql_spec.specs.Expression.{Function, Expr, Literal, Column, Negate, Binary, CountRows, Aggregate, Cond, Compare, IsNull, Related, ContainsPoint, Not, And, Or, present, aggregate, both, go_on, eval, judge, passes}
+use Rattle.tql_spec.specs.Expression.{Function, Expr, Literal, Column, Negate, Binary, CountRows, Aggregate, Cond}
+use Rattle.tql_spec.specs.Expression.{Compare, IsNull, Related, ContainsPoint, Not, And, Or, present, aggregate, both}
+use Rattle.tql_spec.specs.Expression.{go_on, eval, judge, passes}
 use Rattle.tql_spec.specs.Query.{cells_at}
 use Rattle.tql_spec.specs.Creation.{has_expr, has_number}
 use Rattle.tql_spec.specs.Binding.{is_loose}
@@ -110,7 +112,8 @@ module _ (groups : List ℕ) (group group' : List Row) (row row' : Row) (h : Sam
       → passes group row having ≡ passes group' row' having
   passing_same [] l = refl
   passing_same (c ∷ cs) l =
-      let p = and_parts (not (has_expr (is_loose groups) c)) (list_all (λ c. not (has_expr (is_loose groups) c)) cs) l in
+      let p = and_parts (not (has_expr (is_loose groups) c))
+      (list_all (λ c. not (has_expr (is_loose groups) c)) cs) l in
       λ i. truth_same c p.0 i >>= λ t. go_on t (passing_same cs p.1 i)
 
   -- the values of the items

@@ -6,7 +6,9 @@ use Rattle.tql_spec.specs.Calendar.{high}
 use Rattle.tql_spec.specs.Refusal.{Refusal, MomentNotAllowed, fault_if}
 use Rattle.tql_spec.specs.Definition.{TableDef}
 use Rattle.tql_spec.specs.History.{Copy, Entry, FallingFrom, Falling}
-use Rattle.tql_spec.specs.Machine.{State, Bound, CreateTable, DropTable, SetClock, Start, Commit, Rollback, Alter, Ask, manner_of, state_faults, effect, is_not_later, committed, new_state}
+use Rattle.tql_spec.specs.Machine.{State, Bound, CreateTable, DropTable, SetClock, Start, Commit, Rollback, ChangeRows}
+use Rattle.tql_spec.specs.Machine.{AnswerQuery}
+use Rattle.tql_spec.specs.Machine.{class_of, state_faults, effect, is_not_later, committed, new_state}
 use Rattle.tql_spec.specs.Binding.{bind}
 use Rattle.tql_spec.specs.Reached.{IsReached, IsInOrder}
 use Rattle.tql_spec.proofs.RunKeeps.{asked_stays, changed_copy, altered_keeps, EffectKeeps, run_keeps}
@@ -81,7 +83,7 @@ still_open defs history next w copy o = record {
 
 -- each effect keeps the order of moments
 effect_in_order : (defs : List TableDef) (history : List Entry) (next : ℤ) (begun : Option Entry) (b : Bound)
-    → state_faults (state defs history next begun) (manner_of b) ≡ []
+    → state_faults (state defs history next begun) (class_of b) ≡ []
     → IsInOrder (state defs history next begun) → IsInOrder (effect (state defs history next begun) b).1
 effect_in_order defs history next None (CreateTable d) e o =
     closed _ _ next (falls_in_each _ high history o.falling) (falls_in_each _ next history o.below_clock)
@@ -90,7 +92,8 @@ effect_in_order defs history next None (DropTable t) e o =
     closed _ _ next (falls_in_each _ high history o.falling) (falls_in_each _ next history o.below_clock)
 effect_in_order defs history next (Some w) (DropTable t) e o = absurd (cc)
 effect_in_order defs history next None (SetClock m) e o =
-    closed defs history m o.falling (falls_later next m history o.below_clock (no_fault (is_not_later m history) MomentNotAllowed e))
+    closed defs history m o.falling
+    (falls_later next m history o.below_clock (no_fault (is_not_later m history) MomentNotAllowed e))
 effect_in_order defs history next (Some w) (SetClock m) e o = absurd (cc)
 effect_in_order defs history next None Start e o =
     opened_at defs history next _ (before_end next (no_fault (int_le high next) MomentNotAllowed e)) o.below_clock
@@ -101,13 +104,15 @@ effect_in_order defs history next None Rollback e o = absurd (cc)
 effect_in_order defs history next (Some w) Rollback e o =
     let f = o.falling.0 in closed defs history next
     (falls_below w.moment high history (omega (arith, ints)) o.falling.1) o.below_clock
-effect_in_order defs history next None (Alter c) e o =
+effect_in_order defs history next None (ChangeRows c) e o =
     altered_keeps IsInOrder (state defs history next None) c o
-    (λ q. just_after defs history next _ (before_end next (no_fault (int_le high next) MomentNotAllowed e)) o.below_clock)
-effect_in_order defs history next (Some w) (Alter c) e o =
+    (λ q. just_after defs history next _
+    (before_end next (no_fault (int_le high next) MomentNotAllowed e)) o.below_clock)
+effect_in_order defs history next (Some w) (ChangeRows c) e o =
     altered_keeps IsInOrder (state defs history next (Some w)) c o
     (λ q. still_open defs history next w (changed_copy (state defs history next (Some w)) c) o)
-effect_in_order defs history next begun (Ask q) e o = asked_stays IsInOrder (state defs history next begun) q _ o
+effect_in_order defs history next begun (AnswerQuery q) e o =
+    asked_stays IsInOrder (state defs history next begun) q _ o
 
 -- each statement that is taken keeps it
 pub keeps_in_order : EffectKeeps IsInOrder

@@ -26,5 +26,6 @@ inserts d m rows columns tuples others h =
     record {
       rows = same-append (same-refl rows) same;
       count = same-length same;
-      fault = first_by_bag (flat_map faults (map made tuples)) (flat_map faults (map made others)) (same-flat_map faults faults same (λ r. same-refl (faults r)));
+      fault = first_by_bag (flat_map faults (map made tuples)) (flat_map faults (map made others))
+          (same-flat_map faults faults same (λ r. same-refl (faults r)));
     }

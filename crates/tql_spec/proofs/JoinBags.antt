@@ -89,7 +89,8 @@ module _ (on : List Cond) (width : ℕ) where
       → Same (left_join on width xs ys) (left_join on width xs ys')
   left_found_same [] ys ys' h = same-refl []
   left_found_same (x ∷ xs) ys ys' h = by_parts
-      (keep on (pairs (x ∷ []) ys)) (keep on (pairs (x ∷ []) ys')) (left_join on width xs ys) (left_join on width xs ys')
+      (keep on (pairs (x ∷ []) ys)) (keep on (pairs (x ∷ []) ys')) (left_join on width xs ys)
+      (left_join on width xs ys')
       (kept_same on (pairs (x ∷ []) ys) (pairs (x ∷ []) ys')
       (pairs_same (x ∷ []) (x ∷ []) ys ys' (same-refl (x ∷ [])) h))
       (left_found_same xs ys ys' h)

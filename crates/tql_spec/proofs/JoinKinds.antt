@@ -1,5 +1,6 @@
 -- Rows joined: each is one so far beside one of the next reference, or nulls, and it fits the wider scope.
-use Rattle.std.proofs.Common.{◌≡◌, ◌≤◌, refl, sym, subst, ◌∙◌, ℕ, ◌+◌, Bool, true, false, List, [], ◌∷◌, ◌++◌, map, length, inl, inr, arith, length-append, get_or-append-add}
+use Rattle.std.proofs.Common.{◌≡◌, ◌≤◌, refl, sym, subst, ◌∙◌, ℕ, ◌+◌, Bool, true, false, List, [], ◌∷◌, ◌++◌, map}
+use Rattle.std.proofs.Common.{length, inl, inr, arith, length-append, get_or-append-add}
 use Rattle.std.specs.Prelude.{replicate, Option, Some, None}
 use Rattle.std.proofs.Math.ListN.{get_or-append}
 use Rattle.std.proofs.lemmas.List.{length-map}
@@ -55,7 +56,8 @@ in_pairs P Q xs ys h k z m =
 module _ (P Q : Row → Type 0) (on : List Cond) (width : ℕ) (ys : List Row) (nulls : Q (replicate width Null))
     (right : (y : Row) → In y ys → Q y) where
   -- LEFT
-  pub left_pairs : (xs : List Row) → ((x : Row) → In x xs → P x) → (out : List Row) → left_join on width xs ys ≡ Some out
+  pub left_pairs : (xs : List Row) → ((x : Row) → In x xs → P x) → (out : List Row)
+      → left_join on width xs ys ≡ Some out
       → (z : Row) → In z out → IsPairOf P Q z
   left_pairs [] h out e z m = let q : [] ≡ out = cc in absurd (subst (λ (l : List Row). In z l) (sym q) m)
   left_pairs (x ∷ xs) h out e z m =

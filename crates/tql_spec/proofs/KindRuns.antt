@@ -1,5 +1,6 @@
 -- Statements keep the kinds of rows, so in every state that a run reaches rows are of their tables' kinds.
-use Rattle.std.proofs.Common.{◌≡◌, refl, sym, subst, ℕ, zero, suc, Bool, true, false, List, [], ◌∷◌, ◌++◌, map, filter, length, inl, inr, arith}
+use Rattle.std.proofs.Common.{◌≡◌, refl, sym, subst, ℕ, zero, suc, Bool, true, false, List, [], ◌∷◌, ◌++◌, map, filter}
+use Rattle.std.proofs.Common.{length, inl, inr, arith}
 use Rattle.std.specs.Prelude.{◌&&◌, not, remove, slice_set, ℤ, int_le, int_lt, if◌then◌else◌, Option, Some, None}
 use Rattle.std.proofs.Math.ListN.{get_or-append}
 use Rattle.tql_spec.specs.Bag.{In}
@@ -7,12 +8,17 @@ use Rattle.tql_spec.specs.Calendar.{high}
 use Rattle.tql_spec.specs.Refusal.{first}
 use Rattle.tql_spec.specs.Definition.{TableDef, Stamped, Version, no_table, table_at, full, shown}
 use Rattle.tql_spec.specs.Creation.{kinds_of}
-use Rattle.tql_spec.specs.History.{Copy, Entry, When, Now, AsOf, FromTo, Between, rows_in, table_history, found, as_of_from, found_from, completed, with_end, still, ends_before, meets, has_version}
-use Rattle.tql_spec.specs.Machine.{State, Bound, CreateTable, DropTable, SetClock, Start, Commit, Rollback, Alter, Ask, Change, outcome, changed_table, manner_of, state_faults, effect, newest_copy, new_state, bag_of, entries}
+use Rattle.tql_spec.specs.History.{Copy, Entry, When, Now, AsOf, FromTo, Between, rows_in, table_history, found}
+use Rattle.tql_spec.specs.History.{as_of_from, found_from, completed, with_end, still, ends_before, meets, has_version}
+use Rattle.tql_spec.specs.Machine.{State, Bound, CreateTable, DropTable, SetClock, Start, Commit, Rollback, ChangeRows}
+use Rattle.tql_spec.specs.Machine.{AnswerQuery}
+use Rattle.tql_spec.specs.Machine.{Change, outcome, changed_table, class_of, state_faults, effect, newest_copy}
+use Rattle.tql_spec.specs.Machine.{new_state, bag_of, entries}
 use Rattle.tql_spec.specs.Binding.{bind}
 use Rattle.tql_spec.specs.Reached.{CopiesFit}
 use Rattle.tql_spec.specs.Typing.{AreOfKinds, AreTypedDefinitions, IsTypedDefinition, IsTypedState, RowsAreTyped}
-use Rattle.tql_spec.specs.TypingLaws.{IsTypedBag, IsTypedBound, IsTypedChange, BoundAreTyped, BagsAreTyped, StepsKeepTypes, ReachedAreTyped}
+use Rattle.tql_spec.specs.TypingLaws.{IsTypedBag, IsTypedBound, IsTypedChange, BoundAreTyped, BagsAreTyped}
+use Rattle.tql_spec.specs.TypingLaws.{StepsKeepTypes, ReachedAreTyped}
 use Rattle.tql_spec.proofs.MemberLists.{in_either, in_image, in_kept}
 use Rattle.tql_spec.proofs.FirstFaults.{none_first}
 use Rattle.tql_spec.proofs.RunKeeps.{unless_either, asked_stays, changed_entry, altered_keeps, run_keeps}
@@ -177,7 +183,7 @@ rows_typed s h e m t r i = (h.1 e m t r i).typed
 
 -- each effect keeps it
 effect_good : (defs : List TableDef) (history : List Entry) (next : ℤ) (begun : Option Entry) (b : Bound)
-    → state_faults (state defs history next begun) (manner_of b) ≡ [] → IsTypedBound defs b
+    → state_faults (state defs history next begun) (class_of b) ≡ [] → IsTypedBound defs b
     → CopiesFit (state defs history next begun)
     → Both (state defs history next begun) → Both (effect (state defs history next begun) b).1
 effect_good defs history next None (CreateTable d) e g f h = (
@@ -197,7 +203,7 @@ effect_good defs history next None Commit e g f h = h
 effect_good defs history next (Some w) Commit e g f h = h
 effect_good defs history next None Rollback e g f h = h
 effect_good defs history next (Some w) Rollback e g f h = (h.0, λ x m. h.1 x (inr m))
-effect_good defs history next None (Alter c) e g f h =
+effect_good defs history next None (ChangeRows c) e g f h =
     let s : State = state defs history next None in
     altered_keeps Both s c h
     (λ q. (
@@ -206,7 +212,7 @@ effect_good defs history next None (Alter c) e g f h =
           (changed_good s next (newest_copy defs history) c h.0 (bag_typed s (rows_typed s h)) g
           (newest_good defs history h.1) q.sound) h.1,
     ))
-effect_good defs history next (Some w) (Alter c) e g f h =
+effect_good defs history next (Some w) (ChangeRows c) e g f h =
     let s : State = state defs history next (Some w) in
     altered_keeps Both s c h
     (λ q. (
@@ -215,7 +221,7 @@ effect_good defs history next (Some w) (Alter c) e g f h =
           (changed_good s w.moment w.copy c h.0 (bag_typed s (rows_typed s h)) g (h.1 w (inl refl)) q.sound)
           (λ x m. h.1 x (inr m)),
     ))
-effect_good defs history next begun (Ask q) e g f h = asked_stays Both (state defs history next begun) q _ h
+effect_good defs history next begun (AnswerQuery q) e g f h = asked_stays Both (state defs history next begun) q _ h
 
 -- a state by these
 typed_state : (s : State) → CopiesFit s → Both s → IsTypedState s
@@ -227,7 +233,7 @@ typed_state s f h = record {
 }
 
 -- each effect that the state does not refuse keeps it
-effect_typed : (s : State) (b : Bound) → state_faults s (manner_of b) ≡ [] → IsTypedState s
+effect_typed : (s : State) (b : Bound) → state_faults s (class_of b) ≡ [] → IsTypedState s
     → IsTypedBound s.definitions b
     → IsTypedState (effect s b).1
 effect_typed s b e h k = typed_state (effect s b).1
@@ -238,8 +244,8 @@ effect_typed s b e h k = typed_state (effect s b).1
 -- so does a step
 pub steps_keep : StepsKeepTypes
 steps_keep = record {
-  steps = λ s b h k. unless_either IsTypedState (first (state_faults s (manner_of b))) s (effect s b).0 (effect s b).1 h
-      (λ e. effect_typed s b (none_first (state_faults s (manner_of b)) e) h k);
+  steps = λ s b h k. unless_either IsTypedState (first (state_faults s (class_of b))) s (effect s b).0 (effect s b).1 h
+      (λ e. effect_typed s b (none_first (state_faults s (class_of b)) e) h k);
   effects = effect_typed;
 }
 

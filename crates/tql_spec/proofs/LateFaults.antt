@@ -1,5 +1,7 @@
--- In the order of report the faults of names, kinds, forms and literals stand behind those of the transaction and the clock.
-use Rattle.std.specs.Prelude.{◌≡◌, refl, ◌<◌, ℕ, ℤ, Bool, true, false, not, ◌||◌, is_some, is_none, nat_lt, List, [], ◌∷◌, map, Option, Some, None, ⊤, if◌then◌else◌}
+-- In the order of report the faults of names, kinds, forms and literals stand behind those of the transaction and the
+-- clock.
+use Rattle.std.specs.Prelude.{◌≡◌, refl, ◌<◌, ℕ, ℤ, Bool, true, false, not, ◌||◌, is_some, is_none, nat_lt, List, []}
+use Rattle.std.specs.Prelude.{◌∷◌, map, Option, Some, None, ⊤, if◌then◌else◌}
 use Rattle.std.proofs.Common.{arith}
 use Rattle.std.proofs.lemmas.Bool.Decides.{nat_tests}
 use Rattle.tql_spec.specs.Words.{listed}
@@ -8,10 +10,26 @@ use Rattle.tql_spec.specs.Datum.{Kind}
 use Rattle.tql_spec.specs.Refusal.{Refusal, place, earlier, first}
 use Rattle.tql_spec.specs.Definition.{Name, TableDef, Application, place_of, table_at}
 use Rattle.tql_spec.specs.Names.{Known, things, check_each, optional_conjuncts}
-use Rattle.tql_spec.specs.Creation.{or_first, number_in, column_number, column_numbers, PeriodPart, application_period, system_period, period_number, listed_columns, kinds_differ, kinds_at, kinds_in, kinds_of, periods_differ, application_kind, period_called, is_declared_key, names_of, application_name, application_parts, system_parts, constraints_of, repeats, reference, reference_in, references, keys, checks, whole_faults, create}
-use Rattle.tql_spec.specs.Binding.{or_no_table, table_number, or_bad_moment, moment, when, source, Joined, join, joins, chain, Output, item_outputs, outputs, group_column, only_place, places_of, key_place, order_key, plain_conjuncts, plain_filter, whole_scope, is_grouped, grouping_faults, select, cell, assigned_columns, insert_columns, kinds_for, cells_misfit, tuple, rising, read_point, period_kind, portion_period, portion, own_scope, assignment, sets_period, bind}
-use Rattle.tql_spec.specs.Syntax.{Named, Condition, MomentTree, SpanTree, NoSpan, AsOfTree, FromToTree, BetweenTree, RefTree, JoinTree, InnerJoin, LeftJoin, CrossJoin, ChainTree, Item, Items, AllColumns, TheseItems, SelectTree, KeyName, ByHeading, ByPosition, OrderTree, CellTree, NullCell, ValueCell, Tuple, SetTree, PortionTree, RefList, Constraint, KeyTree, ForeignTree, CheckTree, Element, Statement, CreateTree, DropTree, InsertValues, InsertSelect, UpdateTree, DeleteTree, QueryTree, StartTree, CommitTree, RollbackTree, AtTree}
-use Rattle.tql_spec.proofs.LateNames.{is_late, AreLate, none, ◌⊗◌, unknown, ambiguous, misfit, misplaced, referenced, crowded, outside, falling, each_late, one_column_late, expr_late, condition_late, conjuncts_late, optional_late}
+use Rattle.tql_spec.specs.Creation.{or_first, number_in, column_number, column_numbers, PeriodPart, application_period}
+use Rattle.tql_spec.specs.Creation.{system_period, period_number, listed_columns, kinds_differ, kinds_at, kinds_in}
+use Rattle.tql_spec.specs.Creation.{kinds_of, periods_differ, application_kind, period_called, is_declared_key}
+use Rattle.tql_spec.specs.Creation.{names_of, application_name, application_parts, system_parts, constraints_of}
+use Rattle.tql_spec.specs.Creation.{repeats, reference, reference_in, references, keys, checks, whole_faults, create}
+use Rattle.tql_spec.specs.Binding.{or_no_table, table_number, or_bad_moment, moment, when, source, Joined, join, joins}
+use Rattle.tql_spec.specs.Binding.{chain, Output, item_outputs, outputs, group_column, only_place, places_of, key_place}
+use Rattle.tql_spec.specs.Binding.{order_key, plain_conjuncts, plain_filter, whole_scope, is_grouped, grouping_faults}
+use Rattle.tql_spec.specs.Binding.{select, cell, assigned_columns, insert_columns, kinds_for, cells_misfit, tuple}
+use Rattle.tql_spec.specs.Binding.{rising, read_point, period_kind, portion_period, portion, own_scope, assignment}
+use Rattle.tql_spec.specs.Binding.{sets_period, bind}
+use Rattle.tql_spec.specs.Syntax.{Named, Condition, MomentTree, SpanTree, NoSpan, AsOfTree, FromToTree, BetweenTree}
+use Rattle.tql_spec.specs.Syntax.{RefTree, JoinTree, InnerJoin, LeftJoin, CrossJoin, ChainTree, Item, Items, AllColumns}
+use Rattle.tql_spec.specs.Syntax.{TheseItems, SelectTree, KeyName, ByHeading, ByPosition, OrderTree, CellTree, NullCell}
+use Rattle.tql_spec.specs.Syntax.{ValueCell, Tuple, SetTree, PortionTree, RefList, Constraint, KeyTree, ForeignTree}
+use Rattle.tql_spec.specs.Syntax.{CheckTree, Element, Statement, CreateTree, DropTree, InsertValues, InsertSelect}
+use Rattle.tql_spec.specs.Syntax.{UpdateTree, DeleteTree, QueryTree, StartTree, CommitTree, RollbackTree, AtTree}
+use Rattle.tql_spec.proofs.LateNames.{is_late, AreLate, none, ◌⊗◌, unknown, ambiguous, misfit, misplaced, referenced}
+use Rattle.tql_spec.proofs.LateNames.{crowded, outside, falling, each_late, one_column_late, expr_late, condition_late}
+use Rattle.tql_spec.proofs.LateNames.{conjuncts_late, optional_late}
 
 -- ---- names in lists
 
@@ -33,29 +51,37 @@ application_late es p = number_late _ p.start ⊗ number_late _ p.end ⊗ misfit
 system_late : (es : List Element) (p : PeriodPart) → AreLate (system_period es p).faults
 system_late es p = number_late _ p.start ⊗ number_late _ p.end ⊗ misfit _ ⊗ misplaced _ ⊗ none
 
-listed_late : (es : List Element) (as' : List Application) (ns : List Name) (p : Option Name) → AreLate (listed_columns es as' ns p).faults
+listed_late : (es : List Element) (as' : List Application) (ns : List Name) (p : Option Name)
+    → AreLate (listed_columns es as' ns p).faults
 listed_late es as' ns p = numbers_late _ ns ⊗ each_late (period_number es) (listed p) (number_late _) ⊗ misplaced _
 
-reference_late : (es : List Element) (as' : List Application) (child : RefList) (n : Name) (parent : TableDef) (names : RefList)
+reference_late : (es : List Element) (as' : List Application) (child : RefList) (n : Name) (parent : TableDef)
+    (names : RefList)
     → AreLate (reference es as' child n parent names).faults
 reference_late es as' child n parent names =
     let cs = (listed_columns es as' (child.first ∷ child.more) child.period).value in
     let ps = (column_numbers (names_of parent) (names.first ∷ names.more)).value in
-    listed_late es as' (child.first ∷ child.more) child.period ⊗ numbers_late (names_of parent) (names.first ∷ names.more)
+    listed_late es as' (child.first ∷ child.more) child.period ⊗ numbers_late (names_of parent)
+    (names.first ∷ names.more)
     ⊗ each_late (column_number (application_name parent.application)) (listed names.period) (number_late _)
     ⊗ misfit (kinds_differ (kinds_at (kinds_in es) cs) (kinds_at (kinds_of parent) ps))
-    ⊗ misfit (periods_differ (application_kind (kinds_in es) (period_called child.period as')) (application_kind (kinds_of parent) parent.application) child.period names.period)
-    ⊗ misplaced (not (if is_some child.period then is_some names.period else is_none names.period) || not (is_declared_key parent (is_some names.period) ps))
+    ⊗ misfit (periods_differ (application_kind (kinds_in es) (period_called child.period as'))
+    (application_kind (kinds_of parent) parent.application) child.period names.period)
+    ⊗ misplaced (not (if is_some child.period then is_some names.period else is_none names.period) || not
+    (is_declared_key parent (is_some names.period) ps))
     ⊗ none
 
-reference_in_late : (defs : List TableDef) (es : List Element) (as' : List Application) (child : RefList) (n : Name) (names : RefList) (o : Option ℕ)
+reference_in_late : (defs : List TableDef) (es : List Element) (as' : List Application) (child : RefList) (n : Name)
+    (names : RefList) (o : Option ℕ)
     → AreLate (reference_in defs es as' child n names o).faults
 reference_in_late defs es as' child n names None = unknown true
 reference_in_late defs es as' child n names (Some t) = reference_late es as' child n (table_at defs t) names ⊗ none
 
-references_late : (defs : List TableDef) (es : List Element) (as' : List Application) (cs : List Constraint) → AreLate (references defs es as' cs).faults
+references_late : (defs : List TableDef) (es : List Element) (as' : List Application) (cs : List Constraint)
+    → AreLate (references defs es as' cs).faults
 references_late defs es as' [] = none
-references_late defs es as' (ForeignTree child n names ∷ cs) = reference_in_late defs es as' child n names (place_of n defs) ⊗ references_late defs es as' cs ⊗ none
+references_late defs es as' (ForeignTree child n names ∷ cs) =
+    reference_in_late defs es as' child n names (place_of n defs) ⊗ references_late defs es as' cs ⊗ none
 references_late defs es as' (KeyTree primary n ns p ∷ cs) = references_late defs es as' cs
 references_late defs es as' (CheckTree c ∷ cs) = references_late defs es as' cs
 
@@ -65,17 +91,21 @@ keys_late es as' (KeyTree primary n ns p ∷ cs) = listed_late es as' (n ∷ ns)
 keys_late es as' (ForeignTree child n names ∷ cs) = keys_late es as' cs
 keys_late es as' (CheckTree c ∷ cs) = keys_late es as' cs
 
-checks_late : (es : List Element) (as' : List Application) (d : TableDef) (cs : List Constraint) → AreLate (checks es as' d cs).faults
+checks_late : (es : List Element) (as' : List Application) (d : TableDef) (cs : List Constraint)
+    → AreLate (checks es as' d cs).faults
 checks_late es as' d [] = none
 checks_late es as' d (CheckTree c ∷ cs) = condition_late _ c ⊗ misplaced _ ⊗ checks_late es as' d cs ⊗ none
 checks_late es as' d (KeyTree primary n ns p ∷ cs) = checks_late es as' d cs
 checks_late es as' d (ForeignTree child n names ∷ cs) = checks_late es as' d cs
 
-whole_late : (defs : List TableDef) (n : Name) (es : List Element) (versioned : Bool) → AreLate (whole_faults defs n es versioned)
+whole_late : (defs : List TableDef) (n : Name) (es : List Element) (versioned : Bool)
+    → AreLate (whole_faults defs n es versioned)
 whole_late defs n es versioned =
-    (((((((unknown _ ⊗ ambiguous _) ⊗ misfit _) ⊗ misplaced _) ⊗ misplaced _) ⊗ misplaced _) ⊗ misplaced _) ⊗ misplaced _) ⊗ crowded _
+    (((((((unknown _ ⊗ ambiguous _) ⊗ misfit _) ⊗ misplaced _) ⊗ misplaced _) ⊗ misplaced _) ⊗ misplaced _) ⊗ misplaced
+    _) ⊗ crowded _
 
-create_late : (defs : List TableDef) (n : Name) (es : List Element) (versioned : Bool) → AreLate (create defs n es versioned).faults
+create_late : (defs : List TableDef) (n : Name) (es : List Element) (versioned : Bool)
+    → AreLate (create defs n es versioned).faults
 create_late defs n es versioned =
     whole_late defs n es versioned ⊗ each_late (application_period es) (application_parts es) (application_late es)
     ⊗ each_late (system_period es) (system_parts es) (system_late es) ⊗ keys_late es _ (constraints_of es)
@@ -106,7 +136,8 @@ when_late d (FromToTree a b) = misplaced _ ⊗ moment_late a ⊗ moment_late b �
 when_late d (BetweenTree a b) = misplaced _ ⊗ moment_late a ⊗ moment_late b ⊗ none
 
 source_late : (defs : List TableDef) (offset : ℕ) (r : RefTree) → AreLate (source defs offset r).faults
-source_late defs offset r = table_late defs r.table ⊗ when_late (table_at defs (table_number defs r.table).value) r.span ⊗ none
+source_late defs offset r =
+    table_late defs r.table ⊗ when_late (table_at defs (table_number defs r.table).value) r.span ⊗ none
 
 plain_late : (scope : List Known) (c : Condition) → AreLate (plain_conjuncts scope c).faults
 plain_late scope c = conjuncts_late scope c ⊗ misplaced _
@@ -158,9 +189,12 @@ select_late defs s order =
     let items = map (λ (o : Output). o.typed.expr) outs in
     let having = (optional_conjuncts scope s.having).value in
     let headings = map (λ (o : Output). o.heading) outs in
-    each_late (chain defs) (s.first ∷ s.more) (chain_late defs) ⊗ ambiguous (repeats (map (λ (k : Known). k.name) scope)) ⊗ filter_late scope s.filter
-    ⊗ each_late (group_column scope) s.grouping (group_late scope) ⊗ optional_late scope s.having ⊗ outputs_late scope s.items
-    ⊗ misplaced (grouping_faults (is_grouped s items having) (check_each (group_column scope) s.grouping).value s items having)
+    each_late (chain defs) (s.first ∷ s.more) (chain_late defs) ⊗ ambiguous
+    (repeats (map (λ (k : Known). k.name) scope)) ⊗ filter_late scope s.filter
+    ⊗ each_late (group_column scope) s.grouping
+    (group_late scope) ⊗ optional_late scope s.having ⊗ outputs_late scope s.items
+    ⊗ misplaced (grouping_faults (is_grouped s items having)
+    (check_each (group_column scope) s.grouping).value s items having)
     ⊗ each_late (order_key headings) order (order_late headings) ⊗ none
 
 -- ---- changes
@@ -216,7 +250,8 @@ bind_late defs (InsertSelect n ns s) =
 bind_late defs (UpdateTree n p s ss c) =
     let d : TableDef = table_at defs (table_number defs n).value in
     let ns : List Name = map (λ (s : SetTree). s.column) (s ∷ ss) in
-    table_late defs n ⊗ portion_late d p ⊗ assigned_late d ns ⊗ misplaced (sets_period d p (assigned_columns d ns).value)
+    table_late defs n ⊗ portion_late d p ⊗ assigned_late d ns ⊗ misplaced
+    (sets_period d p (assigned_columns d ns).value)
     ⊗ each_late (assignment d) (s ∷ ss) (assignment_late d) ⊗ filter_late (own_scope d) c ⊗ none
 bind_late defs (DeleteTree n p c) =
     let d : TableDef = table_at defs (table_number defs n).value in

@@ -2,12 +2,24 @@
 use Rattle.std.specs.Prelude.{◌≡◌, refl, ℤ, Bool, true, false, nat_lt, List, [], ◌∷◌, ◌++◌, Option, Some, None}
 use Rattle.std.specs.List.{AllByRecursion}
 use Rattle.tql_spec.specs.Datum.{Datum, Kind, Plus, Minus, Times}
-use Rattle.tql_spec.specs.Refusal.{Refusal, place, fault_if, TableUnknownOrAlreadyThere, NameUnknownAmbiguousOrRepeated, TypesDoNotFit, FormNotAllowedHere, TableIsReferenced, TooManyTablesOrReaders, ValueOutOfRange, PortionNotRising}
+use Rattle.tql_spec.specs.Refusal.{Refusal, place, fault_if, TableUnknownOrAlreadyThere, NameUnknownAmbiguousOrRepeated}
+use Rattle.tql_spec.specs.Refusal.{TypesDoNotFit, FormNotAllowedHere, TableIsReferenced, TooManyTablesOrReaders}
+use Rattle.tql_spec.specs.Refusal.{ValueOutOfRange, PortionNotRising}
 use Rattle.tql_spec.specs.Calendar.{read_date, read_timestamp}
 use Rattle.tql_spec.specs.Expression.{Function, Count, Sum, Min, Max, Cond}
 use Rattle.tql_spec.specs.Syntax as tree
-use Rattle.tql_spec.specs.Syntax.{Named, Product, MoreTerms, NoTerm, PlusTerm, MinusTerm, Terms, MoreFactors, NoFactor, TimesFactor, Factors, Signed, Unsigned, Positive, Negative, Primary, NumberLiteral, TextLiteral, DateLiteral, TimestampLiteral, ColumnNamed, Enclosed, CountStar, Over, Marked, FromEnds, SystemTime, Operand, ByMark, ByName, Condition, AnyOf, MoreConjs, NoConj, OrConj, Conj, AllOf, MoreTests, NoTest, AndTest, Factor, Straight, Negated, Test, Grouped, Compared, NullTest, BetweenTest, InTest, RelationTest, ContainsPeriod, ContainsPoint}
-use Rattle.tql_spec.specs.Names.{Checked, check_each, Known, Thing, AColumn, APeriod, things, Typed, one_column, literal, arithmetic, aggregate, negative, expr, more_terms, product, more_factors, signed, primary, sole_name, Ends, one_period, system_periods, only_one, marked, operand, in_list, contained_point, contained_named, contained, condition, more_conjs, conj, more_tests, factor, test, factors_of, conjuncts, optional_conjuncts}
+use Rattle.tql_spec.specs.Syntax.{Named, Product, MoreTerms, NoTerm, PlusTerm, MinusTerm, Terms, MoreFactors, NoFactor}
+use Rattle.tql_spec.specs.Syntax.{TimesFactor, Factors, Signed, Unsigned, Positive, Negative, Primary, NumberLiteral}
+use Rattle.tql_spec.specs.Syntax.{TextLiteral, DateLiteral, TimestampLiteral, ColumnNamed, Enclosed, CountStar, Over}
+use Rattle.tql_spec.specs.Syntax.{Marked, FromEnds, SystemTime, Operand, ByMark, ByName, Condition, AnyOf, MoreConjs}
+use Rattle.tql_spec.specs.Syntax.{NoConj, OrConj, Conj, AllOf, MoreTests, NoTest, AndTest, Factor, Straight, Negated}
+use Rattle.tql_spec.specs.Syntax.{Test, Grouped, Compared, NullTest, BetweenTest, InTest, RelationTest, ContainsPeriod}
+use Rattle.tql_spec.specs.Syntax.{ContainsPoint}
+use Rattle.tql_spec.specs.Names.{Checked, check_each, Known, Thing, AColumn, APeriod, things, Typed, one_column}
+use Rattle.tql_spec.specs.Names.{literal, arithmetic, aggregate, negative, expr, more_terms, product, more_factors}
+use Rattle.tql_spec.specs.Names.{signed, primary, sole_name, Ends, one_period, system_periods, only_one, marked}
+use Rattle.tql_spec.specs.Names.{operand, in_list, contained_point, contained_named, contained, condition, more_conjs}
+use Rattle.tql_spec.specs.Names.{conj, more_tests, factor, test, factors_of, conjuncts, optional_conjuncts}
 
 -- a fault stands behind those of the transaction and the clock
 abbrev pub is_late : Refusal → Bool
@@ -22,7 +34,8 @@ pub record AreLate (faults : List Refusal) : Type 0 where
 pub none : AreLate []
 none = record { each = tt }
 
-all_both : (xs ys : List Refusal) → AllByRecursion (λ e. is_late e ≡ true) xs → AllByRecursion (λ e. is_late e ≡ true) ys → AllByRecursion (λ e. is_late e ≡ true) (xs ++ ys)
+all_both : (xs ys : List Refusal) → AllByRecursion (λ e. is_late e ≡ true) xs
+    → AllByRecursion (λ e. is_late e ≡ true) ys → AllByRecursion (λ e. is_late e ≡ true) (xs ++ ys)
 all_both [] ys h k = k
 all_both (x ∷ xs) ys h k = (h.0, all_both xs ys h.1 k)
 
@@ -58,7 +71,8 @@ outside b = fault b ValueOutOfRange refl
 pub falling : (b : Bool) → AreLate (fault_if b PortionNotRising)
 falling b = fault b PortionNotRising refl
 
-pub each_late : {A B : Type 0} (f : A → Checked B) (xs : List A) → ((x : A) → AreLate (f x).faults) → AreLate (check_each f xs).faults
+pub each_late : {A B : Type 0} (f : A → Checked B) (xs : List A) → ((x : A) → AreLate (f x).faults)
+    → AreLate (check_each f xs).faults
 each_late f [] h = none
 each_late f (x ∷ xs) h = h x ⊗ each_late f xs h ⊗ none
 
@@ -141,20 +155,23 @@ operand_late scope (ByName r) = one_period_late (things scope r)
 
 -- ---- conditions
 
-in_list_late : (scope : List Known) (a : Typed) (e : tree.Sum) (es : List tree.Sum) → AreLate (in_list scope a e es).faults
+in_list_late : (scope : List Known) (a : Typed) (e : tree.Sum) (es : List tree.Sum)
+    → AreLate (in_list scope a e es).faults
 in_list_late scope a e [] = expr_late scope e ⊗ misfit _
 in_list_late scope a e (e' ∷ es) = (expr_late scope e ⊗ misfit _) ⊗ in_list_late scope a e' es ⊗ none
 
 point_late : (scope : List Known) (x : Ends) (e : tree.Sum) → AreLate (contained_point scope x e).faults
 point_late scope x e = expr_late scope e ⊗ misfit _
 
-named_late : (scope : List Known) (x : Ends) (e : tree.Sum) (ts : List Thing) → AreLate (contained_named scope x e ts).faults
+named_late : (scope : List Known) (x : Ends) (e : tree.Sum) (ts : List Thing)
+    → AreLate (contained_named scope x e ts).faults
 named_late scope x e [] = point_late scope x e
 named_late scope x e (AColumn i c ∷ ts) = point_late scope x e
 named_late scope x e (APeriod s t k ∷ []) = misfit _
 named_late scope x e (APeriod s t k ∷ u ∷ ts) = point_late scope x e
 
-contained_late : (scope : List Known) (x : Ends) (e : tree.Sum) (o : Option Named) → AreLate (contained scope x e o).faults
+contained_late : (scope : List Known) (x : Ends) (e : tree.Sum) (o : Option Named)
+    → AreLate (contained scope x e o).faults
 contained_late scope x e None = point_late scope x e
 contained_late scope x e (Some r) = named_late scope x e (things scope r)
 
@@ -181,7 +198,8 @@ mutual
   test_late scope (Grouped c) = condition_late scope c
   test_late scope (Compared op a b) = expr_late scope a ⊗ expr_late scope b ⊗ misfit _
   test_late scope (NullTest n a) = expr_late scope a ⊗ none
-  test_late scope (BetweenTest n a b c) = expr_late scope a ⊗ (expr_late scope b ⊗ misfit _) ⊗ (expr_late scope c ⊗ misfit _) ⊗ none
+  test_late scope (BetweenTest n a b c) =
+      expr_late scope a ⊗ (expr_late scope b ⊗ misfit _) ⊗ (expr_late scope c ⊗ misfit _) ⊗ none
   test_late scope (InTest n a b bs) = expr_late scope a ⊗ in_list_late scope _ b bs ⊗ none
   test_late scope (RelationTest x r y) = operand_late scope x ⊗ operand_late scope y ⊗ misfit _
   test_late scope (ContainsPeriod x m) = operand_late scope x ⊗ marked_late scope m ⊗ misfit _
@@ -191,7 +209,8 @@ mutual
 
 pub conjuncts_late : (scope : List Known) (c : Condition) → AreLate (conjuncts scope c).faults
 conjuncts_late scope (AnyOf (AllOf f more) NoConj) = each_late (factor scope) (f ∷ factors_of more) (factor_late scope)
-conjuncts_late scope (AnyOf (AllOf f more) (OrConj d rest)) = condition_late scope (AnyOf (AllOf f more) (OrConj d rest)) ⊗ none
+conjuncts_late scope (AnyOf (AllOf f more) (OrConj d rest)) =
+    condition_late scope (AnyOf (AllOf f more) (OrConj d rest)) ⊗ none
 
 pub optional_late : (scope : List Known) (c : Option Condition) → AreLate (optional_conjuncts scope c).faults
 optional_late scope None = none

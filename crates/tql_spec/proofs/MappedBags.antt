@@ -18,7 +18,8 @@ weight_of w (Some y) = w y
 
 module _ {A B : Type 0} (f : A → Option B) where
   -- what is weighed of all is weighed of each
-  pub all_total : (w : B → ℕ) (xs : List A) (ys : List B) → map_all f xs ≡ Some ys → sum_by w ys ≡ sum_by (λ x. weight_of w (f x)) xs
+  pub all_total : (w : B → ℕ) (xs : List A) (ys : List B) → map_all f xs ≡ Some ys
+      → sum_by w ys ≡ sum_by (λ x. weight_of w (f x)) xs
   all_total w [] ys e = let q : [] ≡ ys = cc in ap (sum_by w) (sym q)
   all_total w (x ∷ xs) ys e =
       let k = front_is (f x) (map_all f xs) ys e in
@@ -38,7 +39,8 @@ module _ {A B : Type 0} (f : A → Option B) where
       omega (arith, sum_by-cons (λ z. lack_of (f z)) x xs, here, later)
 
   -- else some does
-  by_front : (x : A) (xs : List A) (o : Option B) (rest : Option (List B)) → f x ≡ o → map_all f xs ≡ rest → map_all f (x ∷ xs) ≡ None
+  by_front : (x : A) (xs : List A) (o : Option B) (rest : Option (List B)) → f x ≡ o → map_all f xs ≡ rest
+      → map_all f (x ∷ xs) ≡ None
       → (map_all f xs ≡ None → 0 < sum_by (λ z. lack_of (f z)) xs) → 0 < sum_by (λ z. lack_of (f z)) (x ∷ xs)
   by_front x xs None rest p q e later =
       let lack : lack_of (f x) ≡ 1 = ap lack_of p in

@@ -1,5 +1,6 @@
 -- Sums over members, and rows that are one.
-use Rattle.std.proofs.Common.{◌≡◌, ◌≤◌, ◌<◌, ℕ, ◌+◌, Bool, true, false, cond, List, [], ◌∷◌, refl, sym, ap, ◌∙◌, arith, inl, inr}
+use Rattle.std.proofs.Common.{◌≡◌, ◌≤◌, ◌<◌, ℕ, ◌+◌, Bool, true, false, cond, List, [], ◌∷◌, refl, sym, ap, ◌∙◌, arith}
+use Rattle.std.proofs.Common.{inl, inr}
 use Rattle.std.specs.Prelude.{◌⊎◌, ◌&&◌, ◌||◌, ℤ, ◌≤ℤ◌, ◌<ℤ◌, int_le, int_lt, ltb}
 use Rattle.std.specs.Ordering.{int_eq, is_eq, nat_cmp}
 use Rattle.std.specs.Cmp.{Equal-is, tied_itself}
@@ -29,7 +30,8 @@ le_tells a b = by_bool (int_le a b) (λ e. inl (e, grind (arith, ints))) (λ e. 
 
 pub sum-in : {X : Type 0} (v w : X → ℕ) (xs : List X) → ((x : X) → In x xs → v x ≡ w x) → sum_by v xs ≡ sum_by w xs
 sum-in v w [] h = refl
-sum-in v w (x ∷ xs) h = omega (arith, sum_by-cons v x xs, sum_by-cons w x xs, h x (inl refl), sum-in v w xs (λ y m. h y (inr m)))
+sum-in v w (x ∷ xs) h =
+    omega (arith, sum_by-cons v x xs, sum_by-cons w x xs, h x (inl refl), sum-in v w xs (λ y m. h y (inr m)))
 
 pub sum-zero : {X : Type 0} (w : X → ℕ) (xs : List X) → ((x : X) → In x xs → w x ≡ 0) → sum_by w xs ≡ 0
 sum-zero w [] h = refl
@@ -48,7 +50,8 @@ any-step false n = ap (ltb 0) (omega arith)
 
 pub any-total : {X : Type 0} (p : X → Bool) (xs : List X) → list_any p xs ≡ ltb 0 (sum_by (λ x. cond (p x) 1 0) xs)
 any-total p [] = refl
-any-total p (x ∷ xs) = ap (λ b. p x || b) (any-total p xs) ∙ any-step (p x) _ ∙ ap (ltb 0) (sym (sum_by-cons (λ y. cond (p y) 1 0) x xs))
+any-total p (x ∷ xs) = ap (λ b. p x || b) (any-total p xs) ∙ any-step (p x) _
+    ∙ ap (ltb 0) (sym (sum_by-cons (λ y. cond (p y) 1 0) x xs))
 
 -- ---- rows that are one
 
@@ -105,7 +108,8 @@ same_row-is (a ∷ as') (b ∷ bs) e =
     cc
 
 pub same_stamped-self : (r : Stamped) → same_stamped r r ≡ true
-same_stamped-self r = ap (λ b. b && int_eq r.start r.start) (same_row-self r.cells) ∙ (Decides-int_eq r.start r.start).1 refl
+same_stamped-self r = ap (λ b. b && int_eq r.start r.start) (same_row-self r.cells)
+    ∙ (Decides-int_eq r.start r.start).1 refl
 
 pub same_stamped-is : (a b : Stamped) → same_stamped a b ≡ true → a ≡ b
 same_stamped-is a b e =
@@ -113,7 +117,8 @@ same_stamped-is a b e =
     ap2 (same_row-is a.cells b.cells h.0) ((Decides-int_eq a.start b.start).0 h.1)
   where
     ap2 : a.cells ≡ b.cells → a.start ≡ b.start → a ≡ b
-    ap2 p q = ap (λ (x : List Datum). record { cells = x; start = a.start }) p ∙ ap (λ (s : ℤ). record { cells = b.cells; start = s }) q
+    ap2 p q = ap (λ (x : List Datum). record { cells = x; start = a.start }) p
+        ∙ ap (λ (s : ℤ). record { cells = b.cells; start = s }) q
 
 -- ---- a member among those that a test of rows picks
 
@@ -124,9 +129,11 @@ zero_either : (b : Bool) → cond {A = ℕ} b 0 0 ≡ 0
 zero_either true = refl
 zero_either false = refl
 
-pub picked : (q : Stamped → Bool) (r : Stamped) (rows : List Stamped) → In r rows → ltb 0 (sum_by (λ x. cond (q x) (cond (same_stamped r x) 1 0) 0) rows) ≡ q r
+pub picked : (q : Stamped → Bool) (r : Stamped) (rows : List Stamped) → In r rows
+    → ltb 0 (sum_by (λ x. cond (q x) (cond (same_stamped r x) 1 0) 0) rows) ≡ q r
 picked q r rows m = by_bool (q r)
-    (λ e. above _ (one_at e (same_stamped-self r) (sum-least (λ x. cond (q x) (cond (same_stamped r x) 1 0) 0) r rows m)) ∙ sym e)
+    (λ e. above _ (one_at e (same_stamped-self r)
+    (sum-least (λ x. cond (q x) (cond (same_stamped r x) 1 0) 0) r rows m)) ∙ sym e)
     (λ e. ap (ltb 0) (sum-zero (λ x. cond (q x) (cond (same_stamped r x) 1 0) 0) rows (λ x n. none e x)) ∙ sym e)
   where
     one_at : {n : ℕ} {a b : Bool} → a ≡ true → b ≡ true → cond a (cond {A = ℕ} b 1 0) 0 ≤ n → 0 < n

@@ -1,14 +1,17 @@
 -- Where a token list spells one statement at most, a piece has one sense, so that runs agree.
-use Rattle.std.proofs.Common.{◌≡◌, ◌<◌, ◌≤◌, refl, sym, ap, subst, ◌∙◌, Bool, true, false, List, [], ◌∷◌, length, inl, inr, arith}
+use Rattle.std.proofs.Common.{◌≡◌, ◌<◌, ◌≤◌, refl, sym, ap, subst, ◌∙◌, Bool, true, false, List, [], ◌∷◌, length, inl}
+use Rattle.std.proofs.Common.{inr, arith}
 use Rattle.std.specs.Prelude.{◌⊎◌, IsTrue, IsFalse, IsUtf8}
-use Rattle.tql_spec.specs.Refusal.{OutOfMemory, NotAStatement, NotUtf8, UnfinishedStatement, StatementTooLong, NestedTooDeep, TooManyColumnsOrTables}
+use Rattle.tql_spec.specs.Refusal.{OutOfMemory, NotAStatement, NotUtf8, UnfinishedStatement, StatementTooLong}
+use Rattle.tql_spec.specs.Refusal.{NestedTooDeep, TooManyColumnsOrTables}
 use Rattle.tql_spec.specs.Machine.{State, Reply, Refused}
 use Rattle.tql_spec.specs.Script.{Piece}
 use Rattle.tql_spec.specs.Token.{Token, depth}
 use Rattle.tql_spec.specs.Syntax.{Statement, is_too_wide}
 use Rattle.tql_spec.specs.Grammar.{IsStatement, SpellsOnce}
 use Rattle.tql_spec.specs.Running.{Runs}
-use Rattle.tql_spec.specs.Run.{Language, Sense, Says, Faulty, HasSense, IsWhole, IsDeep, IsTextOf, Answers, Run, respond_to}
+use Rattle.tql_spec.specs.Run.{Language, Sense, Says, Faulty, HasSense, IsWhole, IsDeep, IsTextOf, Answers, Run}
+use Rattle.tql_spec.specs.Run.{respond_to}
 use Rattle.tql_spec.specs.Meaning.{SensesAreOne, RunsAgree}
 use Rattle.tql_spec.proofs.TokenLaws.{one_list}
 

@@ -12,7 +12,8 @@ use Rattle.tql_spec.specs.Definition.{cell}
 use Rattle.tql_spec.specs.Query.{OrderKey, directed, by_keys, by_columns, row_order, in_order}
 use Rattle.tql_spec.specs.QueryLaws.{OrderIsOne, DistinctKeepsNoOrder}
 use Rattle.tql_spec.proofs.DistinctBags.{distinct_same}
-use Rattle.tql_spec.proofs.Orders.{Ascends, total_along, then_second, order-total, by_columns-total, by_columns-ties, one_in_order, placed_ascends, placed_bag}
+use Rattle.tql_spec.proofs.Orders.{Ascends, total_along, then_second, order-total, by_columns-total, by_columns-ties}
+use Rattle.tql_spec.proofs.Orders.{one_in_order, placed_ascends, placed_bag}
 
 -- ---- the order by keys
 
@@ -53,7 +54,8 @@ ordered_bag keys w (r ∷ rows) =
 -- the law of the printed order
 pub order_is_one : OrderIsOne
 order_is_one keys rows others h =
-    one_in_order (row_order keys) (row_order_total keys) (row_order_ties keys) (in_order keys rows) (in_order keys others)
+    one_in_order (row_order keys) (row_order_total keys) (row_order_ties keys) (in_order keys rows)
+    (in_order keys others)
     (ordered_ascends keys rows) (ordered_ascends keys others)
     (record { totals = λ w. ordered_bag keys w rows ∙ h.totals w ∙ sym (ordered_bag keys w others) })
 

@@ -1,5 +1,6 @@
 -- The order of values is total, and a bag has one list in order.
-use Rattle.std.proofs.Common.{◌≡◌, ℕ, suc, ◌+◌, ◌<◌, true, false, List, [], ◌∷◌, get_or, refl, sym, ◌∙◌, ap, subst, arith}
+use Rattle.std.proofs.Common.{◌≡◌, ℕ, suc, ◌+◌, ◌<◌, true, false, List, [], ◌∷◌, get_or, refl, sym, ◌∙◌, ap, subst}
+use Rattle.std.proofs.Common.{arith}
 use Rattle.std.specs.Prelude.{ℤ, pos, if◌then◌else◌}
 use Rattle.std.specs.Cmp.{IsTotalOrder}
 use Rattle.std.specs.Cmp.Lexicographic.{slice_cmp}
@@ -9,7 +10,8 @@ use Rattle.std.specs.Ordering.{int_cmp, nat_cmp, on, then_cmp, ordering_then, is
 use Rattle.std.specs.List.{sum_by}
 use Rattle.std.specs.List.Sorted.{IsSorted}
 use Rattle.std.proofs.lemmas.List.Sums.{sum_by-cons}
-use Rattle.std.proofs.lemmas.Cmp.{ranked, int_ranked, by_ranked, nat_cmp_total, int_cmp_total, nat_list_cmp_total, on_total, then_total, lists_total, tied_itself, upto}
+use Rattle.std.proofs.lemmas.Cmp.{ranked, int_ranked, by_ranked, nat_cmp_total, int_cmp_total, nat_list_cmp_total}
+use Rattle.std.proofs.lemmas.Cmp.{on_total, then_total, lists_total, tied_itself, upto}
 use Rattle.tql_spec.specs.Datum.{Datum, Null, Int, Text, Day, Moment, Row, order, rank}
 use Rattle.tql_spec.specs.Bag.{SameBag}
 use Rattle.tql_spec.specs.Query.{by_columns, placed, in_order}
@@ -38,7 +40,8 @@ by_parts = then_cmp (on rank nat_cmp) (then_cmp (on number_key int_cmp) (on text
 
 by_parts-total : IsTotalOrder by_parts
 unfolding by_parts
-by_parts-total = then_total (on_total rank nat_cmp_total) (then_total (on_total number_key int_cmp_total) (on_total text_key nat_list_cmp_total))
+by_parts-total = then_total (on_total rank nat_cmp_total)
+    (then_total (on_total number_key int_cmp_total) (on_total text_key nat_list_cmp_total))
 
 then_equal : (o : Ordering) → o ≡ ordering_then o Equal
 then_equal Less = refl
@@ -100,7 +103,8 @@ then_second Less p e = cc
 then_second Equal p e = e
 then_second Greater p e = cc
 
-lists_tie : {A : Type 0} (R : A → A → Ordering) → ((a b : A) → R a b ≡ Equal → a ≡ b) → (xs ys : List A) → slice_cmp R xs ys ≡ Equal → xs ≡ ys
+lists_tie : {A : Type 0} (R : A → A → Ordering) → ((a b : A) → R a b ≡ Equal → a ≡ b) → (xs ys : List A)
+    → slice_cmp R xs ys ≡ Equal → xs ≡ ys
 lists_tie R t [] [] e = refl
 lists_tie R t [] (y ∷ ys) e = cc
 lists_tie R t (x ∷ xs) [] e = cc
@@ -196,13 +200,16 @@ module _ {A : Type 0} (R : A → A → Ordering) (o : IsTotalOrder R) (ties : (a
   not_above : (x y : A) (ys : List A) → IsBelow R x ys → 0 < sum_by (mark y) ys → is_gt (R x y) ≡ false
   not_above x y [] b h = absurd (let k : 0 < 0 = h in omega (arith, k))
   not_above x y (z ∷ zs) b h = elim (R y z) as (λ r. R y z ≡ r → is_gt (R x y) ≡ false) [
-    | Less ↦ λ e. not_above x y zs b.1 (let k : sum_by (mark y) (z ∷ zs) ≡ 0 + sum_by (mark y) zs = marks y z zs ∙ rw e refl in omega (arith, k, h))
+    | Less ↦ λ e. not_above x y zs b.1 (let k : sum_by (mark y) (z ∷ zs) ≡ 0 + sum_by (mark y) zs = marks y z zs
+        ∙ rw e refl in omega (arith, k, h))
     | Equal ↦ λ e. subst (λ w. is_gt (R x w) ≡ false) (sym (ties y z e)) b.0
-    | Greater ↦ λ e. not_above x y zs b.1 (let k : sum_by (mark y) (z ∷ zs) ≡ 0 + sum_by (mark y) zs = marks y z zs ∙ rw e refl in omega (arith, k, h))
+    | Greater ↦ λ e. not_above x y zs b.1 (let k : sum_by (mark y) (z ∷ zs) ≡ 0 + sum_by (mark y) zs = marks y z zs
+        ∙ rw e refl in omega (arith, k, h))
   ] refl
 
   marks_itself : (x : A) (xs : List A) → 0 < sum_by (mark x) (x ∷ xs)
-  marks_itself x xs = let k : sum_by (mark x) (x ∷ xs) ≡ 1 + sum_by (mark x) xs = marks x x xs ∙ rw (tied_itself o x) refl in omega (arith, k)
+  marks_itself x xs = let k : sum_by (mark x) (x ∷ xs) ≡ 1 + sum_by (mark x) xs = marks x x xs
+      ∙ rw (tied_itself o x) refl in omega (arith, k)
 
   below_itself : (x : A) (xs : List A) → IsBelow R x xs → IsBelow R x (x ∷ xs)
   below_itself x xs b = (rw (tied_itself o x) refl, b)
@@ -210,7 +217,8 @@ module _ {A : Type 0} (R : A → A → Ordering) (o : IsTotalOrder R) (ties : (a
   -- two elements of which neither is above the other are one
   neither : (x y : A) → is_gt (R x y) ≡ false → is_gt (R y x) ≡ false → x ≡ y
   neither x y g h = elim (R x y) as (λ r. R x y ≡ r → x ≡ y) [
-    | Less ↦ λ e. let k : R y x ≡ Greater = o.antisymm y x ∙ rw e refl in absurd (let f : is_gt Greater ≡ false = subst (λ r. is_gt r ≡ false) k h in cc)
+    | Less ↦ λ e. let k : R y x ≡ Greater = o.antisymm y x ∙ rw e refl in
+        absurd (let f : is_gt Greater ≡ false = subst (λ r. is_gt r ≡ false) k h in cc)
     | Equal ↦ λ e. ties x y e
     | Greater ↦ λ e. absurd (let f : is_gt Greater ≡ false = subst (λ r. is_gt r ≡ false) e g in cc)
   ] refl
@@ -232,7 +240,8 @@ module _ {A : Type 0} (R : A → A → Ordering) (o : IsTotalOrder R) (ties : (a
   one_in_order (x ∷ xs) (y ∷ ys) a b s =
       let p : 0 < sum_by (mark y) (x ∷ xs) = omega (arith, s.totals (mark y), marks_itself y ys) in
       let q : 0 < sum_by (mark x) (y ∷ ys) = omega (arith, s.totals (mark x), marks_itself x xs) in
-      let e : x ≡ y = neither x y (not_above x y (x ∷ xs) (below_itself x xs (first_below x xs a)) p) (not_above y x (y ∷ ys) (below_itself y ys (first_below y ys b)) q) in
+      let e : x ≡ y = neither x y (not_above x y (x ∷ xs) (below_itself x xs (first_below x xs a)) p)
+      (not_above y x (y ∷ ys) (below_itself y ys (first_below y ys b)) q) in
       let t : SameBag (x ∷ xs) (x ∷ ys) = subst (λ z. SameBag (x ∷ xs) (z ∷ ys)) (sym e) s in
       let r : xs ≡ ys = one_in_order xs ys (rest_ascends x xs a) (rest_ascends y ys b) (tail_bags x xs ys t) in cc
 
@@ -246,10 +255,12 @@ sorted_ascends R o (x ∷ y ∷ rest) s = (
   flipped R o x y (s 0 x (omega arith) (omega arith)),
   sorted_ascends R o (y ∷ rest) (λ k d l h.
       let e : suc k + 1 ≡ suc (k + 1) = omega arith in
-      subst (λ n. is_lt (R (get_or (x ∷ y ∷ rest) n d) (get_or (y ∷ rest) k d)) ≡ false) e (s (suc k) d (omega arith) (omega arith))),
+      subst (λ n. is_lt (R (get_or (x ∷ y ∷ rest) n d) (get_or (y ∷ rest) k d)) ≡ false) e
+      (s (suc k) d (omega arith) (omega arith))),
 )
   where
-    flipped : {A : Type 0} (R : A → A → Ordering) → IsTotalOrder R → (x y : A) → is_lt (R y x) ≡ false → is_gt (R x y) ≡ false
+    flipped : {A : Type 0} (R : A → A → Ordering) → IsTotalOrder R → (x y : A) → is_lt (R y x) ≡ false
+        → is_gt (R x y) ≡ false
     flipped R o x y e = elim (R y x) as (λ r. R y x ≡ r → is_gt (R x y) ≡ false) [
       | Less ↦ λ f. absurd (let g : is_lt Less ≡ false = subst (λ r. is_lt r ≡ false) f e in cc)
       | Equal ↦ λ f. rw (o.antisymm x y, f) refl
@@ -264,26 +275,32 @@ module _ (R : Row → Row → Ordering) (o : IsTotalOrder R) where
     | Greater ↦ λ f. rw (o.antisymm y x, f) refl
   ] refl
 
-  placed_after : (s r : Row) (xs : List Row) → is_gt (R s r) ≡ false → Ascends R (s ∷ xs) → Ascends R (s ∷ placed R r xs)
+  placed_after : (s r : Row) (xs : List Row) → is_gt (R s r) ≡ false → Ascends R (s ∷ xs)
+      → Ascends R (s ∷ placed R r xs)
   placed_after s r [] h a = (h, tt)
-  placed_after s r (t ∷ rest) h a = elim (is_gt (R r t)) as (λ b. is_gt (R r t) ≡ b → Ascends R (s ∷ (if b then t ∷ placed R r rest else r ∷ t ∷ rest))) [
-    | true ↦ λ e. (a.0, placed_after t r rest (not_gt r t e) a.1)
-    | false ↦ λ e. (h, (e, a.1))
-  ] refl
+  placed_after s r (t ∷ rest) h a =
+      elim (is_gt (R r t)) as (λ b. is_gt (R r t) ≡ b
+      → Ascends R (s ∷ (if b then t ∷ placed R r rest else r ∷ t ∷ rest))) [
+        | true ↦ λ e. (a.0, placed_after t r rest (not_gt r t e) a.1)
+        | false ↦ λ e. (h, (e, a.1))
+      ] refl
 
   pub placed_ascends : (r : Row) (xs : List Row) → Ascends R xs → Ascends R (placed R r xs)
   placed_ascends r [] a = tt
-  placed_ascends r (s ∷ rest) a = elim (is_gt (R r s)) as (λ b. is_gt (R r s) ≡ b → Ascends R (if b then s ∷ placed R r rest else r ∷ s ∷ rest)) [
-    | true ↦ λ e. placed_after s r rest (not_gt r s e) a
-    | false ↦ λ e. (e, a)
-  ] refl
+  placed_ascends r (s ∷ rest) a =
+      elim (is_gt (R r s)) as (λ b. is_gt (R r s) ≡ b → Ascends R (if b then s ∷ placed R r rest else r ∷ s ∷ rest)) [
+        | true ↦ λ e. placed_after s r rest (not_gt r s e) a
+        | false ↦ λ e. (e, a)
+      ] refl
 
   pub placed_bag : (w : Row → ℕ) (r : Row) (xs : List Row) → sum_by w (placed R r xs) ≡ w r + sum_by w xs
   placed_bag w r [] = sum_by-cons w r []
-  placed_bag w r (s ∷ rest) = elim (is_gt (R r s)) as (λ b. sum_by w (if b then s ∷ placed R r rest else r ∷ s ∷ rest) ≡ w r + sum_by w (s ∷ rest)) [
-    | true ↦ omega (arith, sum_by-cons w s (placed R r rest), sum_by-cons w s rest, placed_bag w r rest)
-    | false ↦ sum_by-cons w r (s ∷ rest)
-  ]
+  placed_bag w r (s ∷ rest) =
+      elim (is_gt (R r s)) as (λ b. sum_by w (if b then s ∷ placed R r rest else r ∷ s ∷ rest)
+      ≡ w r + sum_by w (s ∷ rest)) [
+        | true ↦ omega (arith, sum_by-cons w s (placed R r rest), sum_by-cons w s rest, placed_bag w r rest)
+        | false ↦ sum_by-cons w r (s ∷ rest)
+      ]
 
 -- the printed order of an answer without ORDER BY ascends
 in_order_ascends : (rows : List Row) → Ascends by_columns (in_order [] rows)
@@ -292,10 +309,17 @@ in_order_ascends (r ∷ rows) = placed_ascends by_columns by_columns-total r (in
 
 in_order_bag : (w : Row → ℕ) (rows : List Row) → sum_by w (in_order [] rows) ≡ sum_by w rows
 in_order_bag w [] = refl
-in_order_bag w (r ∷ rows) = omega (arith, placed_bag by_columns by_columns-total w r (in_order [] rows), in_order_bag w rows, sum_by-cons w r rows)
+in_order_bag w (r ∷ rows) =
+    omega (
+      arith,
+      placed_bag by_columns by_columns-total w r (in_order [] rows),
+      in_order_bag w rows,
+      sum_by-cons w r rows,
+    )
 
 -- a bag that is sorted by all columns is the answer's order of it
-pub sorted_is_in_order : (sorted rows : List Row) → IsSorted by_columns sorted → SameBag sorted rows → sorted ≡ in_order [] rows
+pub sorted_is_in_order : (sorted rows : List Row) → IsSorted by_columns sorted → SameBag sorted rows
+    → sorted ≡ in_order [] rows
 sorted_is_in_order sorted rows s b =
     one_in_order by_columns by_columns-total by_columns-ties sorted (in_order [] rows)
     (sorted_ascends by_columns by_columns-total sorted s) (in_order_ascends rows)

@@ -21,8 +21,10 @@ Same (Some xs) None = ⊥
 pub mapped_same : {A B : Type 0} (f : A → Option B) (xs others : List A) → SameBag xs others → (o p : Option (List B))
     → map_all f xs ≡ o → map_all f others ≡ p → Same o p
 mapped_same f xs others h None None e k = tt
-mapped_same f xs others h None (Some ys) e k = absurd (omega (arith, some_lacks f xs e, h.totals (λ x. lack_of (f x)), none_lacks f others ys k))
-mapped_same f xs others h (Some ys) None e k = absurd (omega (arith, some_lacks f others k, h.totals (λ x. lack_of (f x)), none_lacks f xs ys e))
+mapped_same f xs others h None (Some ys) e k =
+    absurd (omega (arith, some_lacks f xs e, h.totals (λ x. lack_of (f x)), none_lacks f others ys k))
+mapped_same f xs others h (Some ys) None e k =
+    absurd (omega (arith, some_lacks f others k, h.totals (λ x. lack_of (f x)), none_lacks f xs ys e))
 mapped_same f xs others h (Some ys) (Some zs) e k = record {
   totals = λ w. all_total f w xs ys e ∙ h.totals (λ x. weight_of w (f x)) ∙ sym (all_total f w others zs k);
 }
@@ -40,14 +42,16 @@ kept_of test x = test x >>= λ b. Some (itself x b)
 abbrev pub flattened : {A : Type 0} → Option (List (List A)) → Option (List A)
 flattened o = o >>= λ xss. Some (flat_map (λ xs. xs) xss)
 
-kept_by : {A : Type 0} (x : A) (o : Option Bool) (rest : Option (List (List A))) → kept_if x o (flattened rest) ≡ flattened (with_front (o >>= λ b. Some (itself x b)) rest)
+kept_by : {A : Type 0} (x : A) (o : Option Bool) (rest : Option (List (List A)))
+    → kept_if x o (flattened rest) ≡ flattened (with_front (o >>= λ b. Some (itself x b)) rest)
 kept_by x None rest = refl
 kept_by x (Some true) None = refl
 kept_by x (Some false) None = refl
 kept_by x (Some true) (Some xss) = ap Some (sym (flat_map-cons (λ xs. xs) (x ∷ []) xss))
 kept_by x (Some false) (Some xss) = ap Some (sym (flat_map-cons (λ xs. xs) [] xss))
 
-filter_is : {A : Type 0} (test : A → Option Bool) (xs : List A) → filter_all test xs ≡ flattened (map_all (kept_of test) xs)
+filter_is : {A : Type 0} (test : A → Option Bool) (xs : List A)
+    → filter_all test xs ≡ flattened (map_all (kept_of test) xs)
 filter_is test [] = refl
 filter_is test (x ∷ xs) = ap (kept_if x (test x)) (filter_is test xs) ∙ kept_by x (test x) (map_all (kept_of test) xs)
 
@@ -57,14 +61,18 @@ flattened_same None (Some ys) h = absurd h
 flattened_same (Some xs) None h = absurd h
 flattened_same (Some xs) (Some ys) h = same-flat_map (λ zs. zs) (λ zs. zs) h (λ zs. same-refl zs)
 
-pub filtered_same : {A : Type 0} (test : A → Option Bool) (xs others : List A) → SameBag xs others → Same (filter_all test xs) (filter_all test others)
+pub filtered_same : {A : Type 0} (test : A → Option Bool) (xs others : List A) → SameBag xs others
+    → Same (filter_all test xs) (filter_all test others)
 filtered_same test xs others h =
-    let h' = flattened_same (map_all (kept_of test) xs) (map_all (kept_of test) others) (mapped_same (kept_of test) xs others h _ _ refl refl) in
-    subst (λ o. Same o (filter_all test others)) (sym (filter_is test xs)) (subst (λ p. Same (flattened (map_all (kept_of test) xs)) p) (sym (filter_is test others)) h')
+    let h' = flattened_same (map_all (kept_of test) xs) (map_all (kept_of test) others)
+    (mapped_same (kept_of test) xs others h _ _ refl refl) in
+    subst (λ o. Same o (filter_all test others)) (sym (filter_is test xs))
+    (subst (λ p. Same (flattened (map_all (kept_of test) xs)) p) (sym (filter_is test others)) h')
 
 -- ---- selections
 
-then_same : {A B : Type 0} (f : A → Option B) (o p : Option (List A)) → Same o p → Same (o >>= map_all f) (p >>= map_all f)
+then_same : {A B : Type 0} (f : A → Option B) (o p : Option (List A)) → Same o p
+    → Same (o >>= map_all f) (p >>= map_all f)
 then_same f None None h = tt
 then_same f None (Some ys) h = absurd h
 then_same f (Some xs) None h = absurd h

@@ -1,5 +1,6 @@
 -- The rows of a query have the kinds of its items, so each statement without a fault is bound to one that keeps kinds.
-use Rattle.std.proofs.Common.{◌≡◌, ◌<◌, refl, sym, ap, subst, ◌∙◌, ℕ, ◌+◌, suc, Bool, true, false, List, [], ◌∷◌, ◌++◌, map, filter, length, inl, inr, arith}
+use Rattle.std.proofs.Common.{◌≡◌, ◌<◌, refl, sym, ap, subst, ◌∙◌, ℕ, ◌+◌, suc, Bool, true, false, List, [], ◌∷◌, ◌++◌}
+use Rattle.std.proofs.Common.{map, filter, length, inl, inr, arith}
 use Rattle.std.specs.Prelude.{not, Option, Some, None}
 use Rattle.tql_spec.specs.Words.{map_all, filter_all}
 use Rattle.tql_spec.specs.Bag.{In}
@@ -7,13 +8,17 @@ use Rattle.tql_spec.specs.Datum.{Row, Kind, same_row}
 use Rattle.tql_spec.specs.Refusal.{Refusal, TypesDoNotFit, fault_if}
 use Rattle.tql_spec.specs.Expression.{Expr, eval, passes}
 use Rattle.tql_spec.specs.Expression as bound
-use Rattle.tql_spec.specs.Definition as D
+use Rattle.tql_spec.specs.Definition as definition
 use Rattle.tql_spec.specs.Definition.{Name, TableDef, cell, table_at}
-use Rattle.tql_spec.specs.Query.{Query, Ref, Scope, alone, of_group, scopes, groups_by, cells_at, distinct_rows, if_distinct, keep, product, chain_rows, answer}
-use Rattle.tql_spec.specs.Syntax.{Item, Items, AllColumns, TheseItems, SelectTree, CreateTree, DropTree, InsertValues, InsertSelect, UpdateTree, DeleteTree, QueryTree, StartTree, CommitTree, RollbackTree, AtTree}
+use Rattle.tql_spec.specs.Query.{Query, Ref, Scope, alone, of_group, scopes, groups_by, cells_at, distinct_rows}
+use Rattle.tql_spec.specs.Query.{if_distinct, keep, product, chain_rows, answer}
+use Rattle.tql_spec.specs.Syntax.{Item, Items, AllColumns, TheseItems, SelectTree, CreateTree, DropTree, InsertValues}
+use Rattle.tql_spec.specs.Syntax.{InsertSelect, UpdateTree, DeleteTree, QueryTree, StartTree, CommitTree, RollbackTree}
+use Rattle.tql_spec.specs.Syntax.{AtTree}
 use Rattle.tql_spec.specs.Names.{Checked, check_each, Known, Typed, typed, kind_at}
 use Rattle.tql_spec.specs.Creation.{create}
-use Rattle.tql_spec.specs.Binding.{Output, Selected, all_columns_from, item_outputs, outputs, chain, whole_scope, select, cells_misfit, kinds_for, table_number, insert_columns, insert_select}
+use Rattle.tql_spec.specs.Binding.{Output, Selected, all_columns_from, item_outputs, outputs, chain, whole_scope}
+use Rattle.tql_spec.specs.Binding.{select, cells_misfit, kinds_for, table_number, insert_columns, insert_select}
 use Rattle.tql_spec.specs.Typing.{IsOfKind, AreOfKinds}
 use Rattle.tql_spec.specs.TypingLaws.{HasScopeKinds, ValuesAreOfKind, IsTypedBag, IsTypedBound, BoundAreTyped}
 use Rattle.tql_spec.proofs.MemberLists.{in_image, in_kept}
@@ -41,7 +46,7 @@ column_keeps scope i k h = record {
 }
 
 -- the columns of a reference
-columns_keep : (scope : List Known) (i : ℕ) (cs : List D.Column)
+columns_keep : (scope : List Known) (i : ℕ) (cs : List definition.Column)
     → ((row : Row) → FitsScope scope row → (j : ℕ) → j < length cs → IsOfKind (Some (kind_at cs j)) (cell row (i + j)))
     → AllKeep scope (all_columns_from i cs)
 columns_keep scope i [] h o m = absurd m

@@ -1,5 +1,6 @@
 -- A change without a fault leaves rows of its table's kinds, with values in the columns of the application period.
-use Rattle.std.proofs.Common.{◌≡◌, refl, sym, ap, subst, ◌∙◌, ℕ, Bool, true, false, List, [], ◌∷◌, ◌++◌, map, length, inl, inr, arith}
+use Rattle.std.proofs.Common.{◌≡◌, refl, sym, ap, subst, ◌∙◌, ℕ, Bool, true, false, List, [], ◌∷◌, ◌++◌, map, length}
+use Rattle.std.proofs.Common.{inl, inr, arith}
 use Rattle.std.specs.Prelude.{◌⊎◌, ◌==◌, ◌||◌, replicate, ℤ, Option, Some, None}
 use Rattle.std.specs.List.{flat_map}
 use Rattle.std.proofs.lemmas.Bool.Decides.{nat_tests}
@@ -13,7 +14,9 @@ use Rattle.tql_spec.specs.Period.{Period, before, inside, after, if_any}
 use Rattle.tql_spec.specs.Expression.{Cond}
 use Rattle.tql_spec.specs.Definition.{TableDef, Stamped, cell, period_of, with_period, shown, stamped}
 use Rattle.tql_spec.specs.Creation.{kinds_of, has_number, period_columns}
-use Rattle.tql_spec.specs.Change.{Assignment, Fate, Untouched, Replaced, Work, after_fates, new_rows, assigned, new_row, row_faults, cell_faults, period_faults, check_fault, fate, fate_where, made_of, is_touched, pieces, insert as insertion, modify, outcome_of}
+use Rattle.tql_spec.specs.Change.{Assignment, Fate, Untouched, Replaced, Work, after_fates, new_rows, assigned, new_row}
+use Rattle.tql_spec.specs.Change.{row_faults, cell_faults, period_faults, check_fault, fate, fate_where, made_of}
+use Rattle.tql_spec.specs.Change.{is_touched, pieces, insert as insertion, modify, outcome_of}
 use Rattle.tql_spec.specs.Expression.{judge}
 use Rattle.tql_spec.specs.Binding.{kinds_for}
 use Rattle.tql_spec.specs.Typing.{AreOfKinds, IsTyped, IsTypedDefinition, HasPeriod}
@@ -21,7 +24,8 @@ use Rattle.tql_spec.specs.TypingLaws.{IsTypedWork}
 use Rattle.tql_spec.proofs.MemberLists.{in_left, in_right, in_either, in_image}
 use Rattle.tql_spec.proofs.RunKeeps.{no_left, no_right}
 use Rattle.tql_spec.proofs.Steady.{front_is}
-use Rattle.tql_spec.proofs.RowKinds.{null_kinds, kinds_length, filled_kinds, assigned_kinds, assigned_other, generated_kinds, period_kinds, period_there}
+use Rattle.tql_spec.proofs.RowKinds.{null_kinds, kinds_length, filled_kinds, assigned_kinds, assigned_other}
+use Rattle.tql_spec.proofs.RowKinds.{generated_kinds, period_kinds, period_there}
 
 -- a row of its table's kinds, with values in the columns of the application period
 pub record Good (d : TableDef) (r : Stamped) : Type 0 where
@@ -123,7 +127,8 @@ made_kinds d portion (Work.Set sets) w row h made e x m = at_row (assigned row r
         ]
 
 -- in a change of a portion it keeps the columns of the period
-pub made_periods : (d : TableDef) (p : Period) (work : Work) → IsTypedWork d (Some p) work → (row : Row) → HasPeriod d row
+pub made_periods : (d : TableDef) (p : Period) (work : Work) → IsTypedWork d (Some p) work → (row : Row)
+    → HasPeriod d row
     → (made : List Row) → made_of work row ≡ Some made → (x : Row) → In x made → HasPeriod d x
 made_periods d p Work.Remove w row h made e x m a q = let z : [] ≡ made = cc in absurd
     (subst (λ (xs : List Row). In x xs) (sym z) m)

@@ -1,17 +1,21 @@
 -- Rows of a table's kinds stay so where cells are set, generated cells are put in, and periods are changed.
-use Rattle.std.proofs.Common.{◌≡◌, ◌<◌, refl, sym, ap, subst, ◌∙◌, ℕ, zero, suc, Bool, true, false, List, [], ◌∷◌, ◌++◌, map, get_or, length, inl, inr, arith}
+use Rattle.std.proofs.Common.{◌≡◌, ◌<◌, refl, sym, ap, subst, ◌∙◌, ℕ, zero, suc, Bool, true, false, List, [], ◌∷◌, ◌++◌}
+use Rattle.std.proofs.Common.{map, get_or, length, inl, inr, arith}
 use Rattle.std.specs.Prelude.{◌&&◌, insert, remove, replicate, slice_set, nat_lt, ℤ, Option, Some, None}
 use Rattle.std.proofs.lemmas.Bool.Decides.{nat_tests}
 use Rattle.tql_spec.specs.Words.{◌>>=◌}
 use Rattle.tql_spec.specs.Bag.{In}
-use Rattle.tql_spec.specs.Datum.{Datum, Null, Int, Text, Day, Moment, Row, Kind, Ints, Texts, Days, Moments, kind_of, is_null}
+use Rattle.tql_spec.specs.Datum.{Datum, Null, Int, Text, Day, Moment, Row, Kind, Ints, Texts, Days, Moments, kind_of}
+use Rattle.tql_spec.specs.Datum.{is_null}
 use Rattle.tql_spec.specs.Period.{Period}
 use Rattle.tql_spec.specs.Refusal.{ValueOutOfRange, NullNotAllowed, fault_if}
 use Rattle.tql_spec.specs.Expression.{eval}
-use Rattle.tql_spec.specs.Definition.{Column, TableDef, Application, System, cell, point_like, with_period, with_period_by, with_generated, without_generated}
+use Rattle.tql_spec.specs.Definition.{Column, TableDef, Application, System, cell, point_like, with_period}
+use Rattle.tql_spec.specs.Definition.{with_period_by, with_generated, without_generated}
 use Rattle.tql_spec.specs.Creation.{kinds_of, are_ends}
 use Rattle.tql_spec.specs.Change.{Assignment, assigned, filled, cell_faults, is_too_long}
-use Rattle.tql_spec.specs.Typing.{Takes, IsOfKind, AreOfKinds, column_kind, is_required, IsSystemOf, IsApplicationOf, IsTypedDefinition, HasPeriod}
+use Rattle.tql_spec.specs.Typing.{Takes, IsOfKind, AreOfKinds, column_kind, is_required, IsSystemOf, IsApplicationOf}
+use Rattle.tql_spec.specs.Typing.{IsTypedDefinition, HasPeriod}
 use Rattle.tql_spec.proofs.Members.{by_bool}
 use Rattle.tql_spec.proofs.RunKeeps.{no_left, no_right}
 use Rattle.tql_spec.proofs.InOrder.{no_fault}

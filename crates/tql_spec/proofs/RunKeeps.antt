@@ -6,10 +6,12 @@ use Rattle.tql_spec.specs.Datum.{Row}
 use Rattle.tql_spec.specs.Query.{Query}
 use Rattle.tql_spec.specs.Change.{Outcome}
 use Rattle.tql_spec.specs.History.{Copy, Entry}
-use Rattle.tql_spec.specs.Machine.{State, Reply, Done, Change, effect, unless_refused, asked, altered, manner_of, state_faults, working, with_working, outcome, changed_table, constraint_faults, verb_of}
+use Rattle.tql_spec.specs.Machine.{State, Reply, Done, Change, effect, unless_refused, asked, changed, class_of}
+use Rattle.tql_spec.specs.Machine.{state_faults, working, with_working, outcome, changed_table, constraint_faults}
+use Rattle.tql_spec.specs.Machine.{verb_of}
 use Rattle.tql_spec.specs.Script.{Piece}
 use Rattle.tql_spec.specs.Syntax.{Statement}
-use Rattle.tql_spec.specs.Binding.{bind, manner}
+use Rattle.tql_spec.specs.Binding.{bind, statement_class}
 use Rattle.tql_spec.specs.Run.{Sense, Says, Faulty, Answers, Run, respond_to, statement_faults}
 use Rattle.tql_spec.proofs.FirstFaults.{none_first, manner_kept}
 
@@ -52,7 +54,7 @@ changed_entry s c = record { moment = (working s s.transaction).moment; copy = c
 
 -- a change is refused and leaves the state, or has no fault and keeps what its result keeps
 pub altered_keeps : (P : State → Type 0) (s : State) (c : Change) → P s
-    → (IsChange s c → P (with_working s s.transaction (changed_entry s c))) → P (altered s c).1
+    → (IsChange s c → P (with_working s s.transaction (changed_entry s c))) → P (changed s c).1
 altered_keeps P s c p k =
     let e : Entry = working s s.transaction in
     let o : Outcome = outcome s e.moment e.copy c in
@@ -69,17 +71,17 @@ altered_keeps P s c p k =
 -- what a statement is bound to, without a fault of names, and none by the state
 pub record IsTaken (s : State) (t : Statement) : Type 0 where
   pub sound : (bind s.definitions t).faults ≡ []
-  pub free : state_faults s (manner_of (bind s.definitions t).value) ≡ []
+  pub free : state_faults s (class_of (bind s.definitions t).value) ≡ []
 
 -- a statement without any fault is taken, for answer_keeps
 taken : (s : State) (t : Statement) → first (statement_faults s t) ≡ None → IsTaken s t
 taken s t e =
     let none = none_first (statement_faults s t) e in
-    let sound = no_right (state_faults s (manner t)) (bind s.definitions t).faults none in
+    let sound = no_right (state_faults s (statement_class t)) (bind s.definitions t).faults none in
     record {
       sound = sound;
       free = subst (λ m. state_faults s m ≡ []) (manner_kept s.definitions t (ap first sound))
-          (no_left (state_faults s (manner t)) (bind s.definitions t).faults none);
+          (no_left (state_faults s (statement_class t)) (bind s.definitions t).faults none);
     }
 
 -- the effect keeps the property, of each statement that is taken

@@ -4,10 +4,12 @@ use Rattle.std.proofs.lemmas.Bool.{and_parts}
 use Rattle.tql_spec.specs.Datum.{Datum, Row, compare, is_null}
 use Rattle.tql_spec.specs.Truth.{Truth, truth_of, negated, and, or}
 use Rattle.tql_spec.specs.Period.{predicate, contains_point}
-use Rattle.tql_spec.specs.Expression.{Expr, Literal, Column, Negate, Binary, CountRows, Aggregate, Cond, Compare, IsNull, Related, ContainsPoint, Not, And, Or, eval, judge, is_plain, is_safe}
+use Rattle.tql_spec.specs.Expression.{Expr, Literal, Column, Negate, Binary, CountRows, Aggregate, Cond, Compare}
+use Rattle.tql_spec.specs.Expression.{IsNull, Related, ContainsPoint, Not, And, Or, eval, judge, is_plain, is_safe}
 
 -- an expression in which nothing is calculated has a value
-plain_value : (group : List Row) (row : Row) (e : Expr) → IsTrue (is_plain e) → (v : Datum) × (eval group row e ≡ Some v)
+plain_value : (group : List Row) (row : Row) (e : Expr) → IsTrue (is_plain e)
+    → (v : Datum) × (eval group row e ≡ Some v)
 plain_value group row (Literal v) h = (v, refl)
 plain_value group row (Column i) h = (_, refl)
 plain_value group row (Negate e) h = absurd (cc)
@@ -16,7 +18,8 @@ plain_value group row CountRows h = absurd (cc)
 plain_value group row (Aggregate f e) h = absurd (cc)
 
 -- and such a condition a truth
-pub safe_truth : (group : List Row) (row : Row) (c : Cond) → IsTrue (is_safe c) → (t : Truth) × (judge group row c ≡ Some t)
+pub safe_truth : (group : List Row) (row : Row) (c : Cond) → IsTrue (is_safe c)
+    → (t : Truth) × (judge group row c ≡ Some t)
 safe_truth group row (Compare sign a b) h =
     let p = and_parts (is_plain a) (is_plain b) h in
     let x = plain_value group row a p.0 in

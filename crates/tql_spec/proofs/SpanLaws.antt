@@ -1,5 +1,6 @@
 -- What History's walks find, by spans and membership.
-use Rattle.std.proofs.Common.{◌≡◌, ℕ, ◌+◌, Bool, true, false, cond, List, [], ◌∷◌, ◌++◌, filter, refl, sym, ap, ◌∙◌, arith, inl, inr, subst, append_assoc, append-nil}
+use Rattle.std.proofs.Common.{◌≡◌, ℕ, ◌+◌, Bool, true, false, cond, List, [], ◌∷◌, ◌++◌, filter, refl, sym, ap, ◌∙◌}
+use Rattle.std.proofs.Common.{arith, inl, inr, subst, append_assoc, append-nil}
 use Rattle.std.specs.Prelude.{◌⊎◌, ◌&&◌, ◌||◌, not, ℤ, pos, ◌+ℤ◌, ◌≤ℤ◌, ◌<ℤ◌, int_le, int_lt, if◌then◌else◌}
 use Rattle.std.specs.Int.{int_max}
 use Rattle.std.proofs.lemmas.Int.{ints, clamps}
@@ -7,10 +8,15 @@ use Rattle.std.proofs.lemmas.List.{map-append}
 use Rattle.tql_spec.specs.Bag.{In}
 use Rattle.tql_spec.specs.Calendar.{high}
 use Rattle.tql_spec.specs.Definition.{Stamped, Version, same_stamped}
-use Rattle.tql_spec.specs.History.{Entry, TableEntry, FallingFrom, Falling, rows_in, table_history, has_row, still, ends_before, with_end, completed, current, as_of_from, as_of, meets, has_version, found_from, from_to}
-use Rattle.tql_spec.specs.Spans.{SpanHolds, InEach, EndsAt, found_rows, AreRowsOf, NowIsTheNewest, StandsAt, AsOfIsTheCopyThen, IsFromTo, IsBetween, times, MetWith, AreOfCopiesMet, RangesAreCopiesMet, ReadsBySpans}
+use Rattle.tql_spec.specs.History.{Entry, TableEntry, FallingFrom, Falling, rows_in, table_history, has_row, still}
+use Rattle.tql_spec.specs.History.{ends_before, with_end, completed, current, as_of_from, as_of, meets, has_version}
+use Rattle.tql_spec.specs.History.{found_from, from_to}
+use Rattle.tql_spec.specs.Spans.{SpanHolds, InEach, EndsAt, found_rows, AreRowsOf, NowIsTheNewest, StandsAt}
+use Rattle.tql_spec.specs.Spans.{AsOfIsTheCopyThen, IsFromTo, IsBetween, times, MetWith, AreOfCopiesMet}
+use Rattle.tql_spec.specs.Spans.{RangesAreCopiesMet, ReadsBySpans}
 use Rattle.tql_spec.proofs.Members.{by_bool, lt_tells, le_tells}
-use Rattle.tql_spec.proofs.MemberLists.{in_left, in_right, in_either, in_image, in_kept, has_tells, times_none, times_some, there_if, times_append, times_kept}
+use Rattle.tql_spec.proofs.MemberLists.{in_left, in_right, in_either, in_image, in_kept, has_tells, times_none}
+use Rattle.tql_spec.proofs.MemberLists.{times_some, there_if, times_append, times_kept}
 
 -- ---- what a walk knows of the copies that it has passed
 

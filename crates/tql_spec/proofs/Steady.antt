@@ -1,5 +1,6 @@
 -- A statement leaves a row as often as it was, or takes it away; so rows are steady in every state that a run reaches.
-use Rattle.std.proofs.Common.{◌≡◌, refl, sym, ap, subst, ◌∙◌, ℕ, ◌+◌, Bool, true, false, cond, List, [], ◌∷◌, ◌++◌, map, inl, inr, arith}
+use Rattle.std.proofs.Common.{◌≡◌, refl, sym, ap, subst, ◌∙◌, ℕ, ◌+◌, Bool, true, false, cond, List, [], ◌∷◌, ◌++◌, map}
+use Rattle.std.proofs.Common.{inl, inr, arith}
 use Rattle.std.specs.Prelude.{◌⊎◌, ℤ, ◌<ℤ◌, ◌≤ℤ◌, Option, Some, None}
 use Rattle.std.proofs.lemmas.Int.{ints}
 use Rattle.std.proofs.lemmas.List.Sums.{sum_by-cons}
@@ -10,7 +11,8 @@ use Rattle.tql_spec.specs.Period.{Period}
 use Rattle.tql_spec.specs.Expression.{Cond}
 use Rattle.tql_spec.specs.Definition.{TableDef, Stamped, same_stamped, shown, stamped, table_at}
 use Rattle.tql_spec.specs.History.{Copy, rows_in}
-use Rattle.tql_spec.specs.Change.{Fate, Untouched, Replaced, after_fates, Work, fate, fate_where, made_of, is_touched, pieces, insert, modify, new_row, outcome_of}
+use Rattle.tql_spec.specs.Change.{Fate, Untouched, Replaced, after_fates, Work, fate, fate_where, made_of, is_touched}
+use Rattle.tql_spec.specs.Change.{pieces, insert, modify, new_row, outcome_of}
 use Rattle.tql_spec.specs.Machine.{State, Change, InsertTuples, InsertQuery, Modify, outcome, changed_table}
 use Rattle.tql_spec.specs.Spans.{times}
 use Rattle.tql_spec.proofs.Members.{by_bool, same_stamped-is}

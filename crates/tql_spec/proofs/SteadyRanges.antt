@@ -1,10 +1,12 @@
 -- Where rows are steady, any copy met that has a row tells how often it stands in a range, and where it ends.
-use Rattle.std.proofs.Common.{◌≡◌, ℕ, List, [], ◌∷◌, ◌++◌, refl, sym, ap, ◌∙◌, inl, inr, subst, append_assoc, append-nil}
+use Rattle.std.proofs.Common.{◌≡◌, ℕ, List, [], ◌∷◌, ◌++◌, refl, sym, ap, ◌∙◌, inl, inr, subst, append_assoc}
+use Rattle.std.proofs.Common.{append-nil}
 use Rattle.std.specs.Prelude.{◌⊎◌, ℤ}
 use Rattle.tql_spec.specs.Bag.{In}
 use Rattle.tql_spec.specs.Definition.{Stamped, Version}
 use Rattle.tql_spec.specs.History.{Entry, FromTo, Between, rows_in, table_history, found}
-use Rattle.tql_spec.specs.Spans.{InEach, EndsAt, IsFromTo, IsBetween, MetWith, AreOfCopiesMet, IsSteady, AreOfAnyCopyMet, SteadyRangesAgree}
+use Rattle.tql_spec.specs.Spans.{InEach, EndsAt, IsFromTo, IsBetween, MetWith, AreOfCopiesMet, IsSteady}
+use Rattle.tql_spec.specs.Spans.{AreOfAnyCopyMet, SteadyRangesAgree}
 use Rattle.tql_spec.proofs.MemberLists.{in_left, in_right}
 use Rattle.tql_spec.proofs.SpanLaws.{ends_later, ranges_are_copies_met}
 

@@ -7,7 +7,10 @@ use Rattle.tql_spec.specs.Bag.{In}
 use Rattle.tql_spec.specs.Calendar.{high}
 use Rattle.tql_spec.specs.Definition.{TableDef, Stamped}
 use Rattle.tql_spec.specs.History.{Copy, Entry, FallingFrom, Falling, rows_in}
-use Rattle.tql_spec.specs.Machine.{State, Bound, CreateTable, DropTable, SetClock, Start, Commit, Rollback, Alter, Ask, Change, outcome, changed_table, manner_of, state_faults, effect, entries, newest_copy, new_state}
+use Rattle.tql_spec.specs.Machine.{State, Bound, CreateTable, DropTable, SetClock, Start, Commit, Rollback, ChangeRows}
+use Rattle.tql_spec.specs.Machine.{AnswerQuery}
+use Rattle.tql_spec.specs.Machine.{Change, outcome, changed_table, class_of, state_faults, effect, entries}
+use Rattle.tql_spec.specs.Machine.{newest_copy, new_state}
 use Rattle.tql_spec.specs.Binding.{bind}
 use Rattle.tql_spec.specs.Spans.{times, InEach, IsSteady}
 use Rattle.tql_spec.specs.Reached.{IsInOrder, ReachedAreSteady, ReachedReadBySpans}
@@ -194,7 +197,7 @@ record IsChained (s : State) : Type 0 where
 
 -- each effect keeps the chain
 effect_chained : (defs : List TableDef) (history : List Entry) (next : ℤ) (begun : Option Entry) (b : Bound)
-    → state_faults (state defs history next begun) (manner_of b) ≡ []
+    → state_faults (state defs history next begun) (class_of b) ≡ []
     → IsInOrder (state defs history next begun) → Chain (entries (state defs history next begun))
     → Chain (entries (effect (state defs history next begun) b).1)
 effect_chained defs history next None (CreateTable d) e o k =
@@ -210,7 +213,7 @@ effect_chained defs history next None Commit e o k = k
 effect_chained defs history next (Some w) Commit e o k = k
 effect_chained defs history next None Rollback e o k = k
 effect_chained defs history next (Some w) Rollback e o k = k.1
-effect_chained defs history next None (Alter c) e o k =
+effect_chained defs history next None (ChangeRows c) e o k =
     let s : State = state defs history next None in
     altered_keeps (λ x. Chain (entries x)) s c k
     (λ q. (
@@ -218,10 +221,10 @@ effect_chained defs history next None (Alter c) e o k =
           (leaves_same next defs history k o.below_clock),
       k,
     ))
-effect_chained defs history next (Some w) (Alter c) e o k =
+effect_chained defs history next (Some w) (ChangeRows c) e o k =
     let s : State = state defs history next (Some w) in
     altered_keeps (λ x. Chain (entries x)) s c k (λ q. (changed_follows s w.moment w.copy (newest history) c k.0, k.1))
-effect_chained defs history next begun (Ask q) e o k =
+effect_chained defs history next begun (AnswerQuery q) e o k =
     asked_stays (λ x. Chain (entries x)) (state defs history next begun) q _ k
 
 -- each statement that is taken keeps it

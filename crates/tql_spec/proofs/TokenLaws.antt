@@ -1,5 +1,7 @@
 -- The first token of a text, and that a text has one list of tokens.
-use Rattle.std.proofs.Common.{◌≡◌, ℕ, suc, ◌+◌, ◌<◌, ◌==◌, Bool, true, false, cond, List, [], ◌∷◌, ◌++◌, length, take, drop, Option, Some, None, refl, sym, ap, ◌∙◌, subst, arith, append-nil, append_assoc, take-append-drop, length-append, inl, inr}
+use Rattle.std.proofs.Common.{◌≡◌, ℕ, suc, ◌+◌, ◌<◌, ◌==◌, Bool, true, false, cond, List, [], ◌∷◌, ◌++◌, length, take}
+use Rattle.std.proofs.Common.{drop, Option, Some, None, refl, sym, ap, ◌∙◌, subst, arith, append-nil, append_assoc}
+use Rattle.std.proofs.Common.{take-append-drop, length-append, inl, inr}
 use Rattle.std.specs.Prelude.{◌||◌, not, nat_le}
 use Rattle.std.specs.List.{list_all, prefix_len}
 use Rattle.std.proofs.lemmas.Bool.{eqb-true, eqb-false, eq-eqb, ne_eqb, leb-true, lt-leb, and_parts, or_cases, and_from}
@@ -7,8 +9,15 @@ use Rattle.std.proofs.lemmas.List.{drop_at, take_at}
 use Rattle.tql_spec.specs.Calendar.{is_digit}
 use Rattle.tql_spec.specs.Script.{is_blank, begins_comment, without_lead, starts_with_dash}
 use Rattle.tql_spec.specs.Text.{doubled}
-use Rattle.tql_spec.specs.Token.{Symbol, Open, Close, Comma, Dot, PlusSign, MinusSign, Star, EqualSign, UnequalSign, LessSign, AtMostSign, MoreSign, AtLeastSign, symbol_text, Token, Word, QuotedName, Number, Quote, Sign, is_letter, is_word_byte, Spells, lengthens, IsLongest, IsOneLine, IsGap, nothing, blank, comment, IsEnd, AreTokens}
-use Rattle.tql_spec.specs.FirstToken.{Sort, WordSort, NameSort, NumberSort, QuoteSort, SignSort, content_from, token_with, Start, LetterStart, DigitStart, QuoteStart, NameStart, LessStart, MoreStart, MinusStart, SymbolStart, NoStart, symbol_start, start_of, begins, one_more, quote_end, read_quote, read_name, read_less, read_from, first_token, Reading}
+use Rattle.tql_spec.specs.Token.{Symbol, Open, Close, Comma, Dot, PlusSign, MinusSign, Star, EqualSign, UnequalSign}
+use Rattle.tql_spec.specs.Token.{LessSign, AtMostSign, MoreSign, AtLeastSign, symbol_text, Token, Word, QuotedName}
+use Rattle.tql_spec.specs.Token.{Number, Quote, Sign, is_letter, is_word_byte, Spells, lengthens, IsLongest, IsOneLine}
+use Rattle.tql_spec.specs.Token.{IsGap, nothing, blank, comment, IsEnd, AreTokens}
+use Rattle.tql_spec.specs.FirstToken.{Sort, WordSort, NameSort, NumberSort, QuoteSort, SignSort, content_from}
+use Rattle.tql_spec.specs.FirstToken.{token_with, Start, LetterStart, DigitStart, QuoteStart, NameStart, LessStart}
+use Rattle.tql_spec.specs.FirstToken.{MoreStart, MinusStart, SymbolStart, NoStart, symbol_start, start_of, begins}
+use Rattle.tql_spec.specs.FirstToken.{one_more, quote_end, read_quote, read_name, read_less, read_from, first_token}
+use Rattle.tql_spec.specs.FirstToken.{Reading}
 
 -- ---- tests and options
 
@@ -38,46 +47,54 @@ longest t (b ∷ bs) h = h
 
 -- ---- runs
 
-run_of : (p : ℕ → Bool) (xs rest : List ℕ) → list_all p xs ≡ true → begins p rest ≡ false → prefix_len p (xs ++ rest) ≡ length xs
+run_of : (p : ℕ → Bool) (xs rest : List ℕ) → list_all p xs ≡ true → begins p rest ≡ false
+    → prefix_len p (xs ++ rest) ≡ length xs
 run_of p [] [] all other = refl
 run_of p [] (b ∷ rest) all other = rw other refl
-run_of p (x ∷ xs) rest all other = let h = and_parts (p x) (list_all p xs) all in rw (h.0, run_of p xs rest h.1 other) (omega arith)
+run_of p (x ∷ xs) rest all other = let h = and_parts (p x) (list_all p xs) all in
+    rw (h.0, run_of p xs rest h.1 other) (omega arith)
 
 run_all : (p : ℕ → Bool) (bs : List ℕ) → list_all p (take (prefix_len p bs) bs) ≡ true
 run_all p [] = refl
 run_all p (b ∷ bs) = by (p b) refl (run_all p bs) where
-  by : (t : Bool) → p b ≡ t → list_all p (take (prefix_len p bs) bs) ≡ true → list_all p (take (cond (p b) (1 + prefix_len p bs) 0) (b ∷ bs)) ≡ true
+  by : (t : Bool) → p b ≡ t → list_all p (take (prefix_len p bs) bs) ≡ true
+      → list_all p (take (cond (p b) (1 + prefix_len p bs) 0) (b ∷ bs)) ≡ true
   by true q h = let n : 1 + prefix_len p bs ≡ suc (prefix_len p bs) = omega arith in rw (q, n, q) h
   by false q h = rw q refl
 
 run_ends : (p : ℕ → Bool) (bs : List ℕ) → begins p (drop (prefix_len p bs) bs) ≡ false
 run_ends p [] = refl
 run_ends p (b ∷ bs) = by (p b) refl (run_ends p bs) where
-  by : (t : Bool) → p b ≡ t → begins p (drop (prefix_len p bs) bs) ≡ false → begins p (drop (cond (p b) (1 + prefix_len p bs) 0) (b ∷ bs)) ≡ false
+  by : (t : Bool) → p b ≡ t → begins p (drop (prefix_len p bs) bs) ≡ false
+      → begins p (drop (cond (p b) (1 + prefix_len p bs) 0) (b ∷ bs)) ≡ false
   by true q h = let n : 1 + prefix_len p bs ≡ suc (prefix_len p bs) = omega arith in rw (q, n) h
   by false q h = rw q q
 
 run_within : (p : ℕ → Bool) (bs : List ℕ) → length (take (prefix_len p bs) bs) ≡ prefix_len p bs
 run_within p [] = refl
 run_within p (b ∷ bs) = by (p b) refl (run_within p bs) where
-  by : (t : Bool) → p b ≡ t → length (take (prefix_len p bs) bs) ≡ prefix_len p bs → length (take (cond (p b) (1 + prefix_len p bs) 0) (b ∷ bs)) ≡ cond (p b) (1 + prefix_len p bs) 0
+  by : (t : Bool) → p b ≡ t → length (take (prefix_len p bs) bs) ≡ prefix_len p bs
+      → length (take (cond (p b) (1 + prefix_len p bs) 0) (b ∷ bs)) ≡ cond (p b) (1 + prefix_len p bs) 0
   by true q h = let n : 1 + prefix_len p bs ≡ suc (prefix_len p bs) = omega arith in rw (q, n, h) refl
   by false q h = rw q refl
 
 -- ---- quotes
 
-quote_reads : (q : ℕ) (t rest : List ℕ) → begins (λ b. b == q) rest ≡ false → quote_end q false (doubled q t ++ q ∷ rest) ≡ Some (suc (length (doubled q t)))
+quote_reads : (q : ℕ) (t rest : List ℕ) → begins (λ b. b == q) rest ≡ false
+    → quote_end q false (doubled q t ++ q ∷ rest) ≡ Some (suc (length (doubled q t)))
 quote_reads q [] [] other = rw (same_self q) refl
 quote_reads q [] (b ∷ rest) other = rw (same_self q, other) refl
 quote_reads q (b ∷ t) rest other = by (b == q) refl (quote_reads q t rest other) where
-  by : (s : Bool) → (b == q) ≡ s → quote_end q false (doubled q t ++ q ∷ rest) ≡ Some (suc (length (doubled q t))) → quote_end q false (doubled q (b ∷ t) ++ q ∷ rest) ≡ Some (suc (length (doubled q (b ∷ t))))
+  by : (s : Bool) → (b == q) ≡ s → quote_end q false (doubled q t ++ q ∷ rest) ≡ Some (suc (length (doubled q t)))
+      → quote_end q false (doubled q (b ∷ t) ++ q ∷ rest) ≡ Some (suc (length (doubled q (b ∷ t))))
   by true e h = rw (e, e, h, e) refl
   by false e h = rw (e, e, h) refl
 
 content_reads : (q : ℕ) (t : List ℕ) → content_from q false (doubled q t ++ q ∷ []) ≡ t
 content_reads q [] = rw (same_self q) refl
 content_reads q (b ∷ t) = by (b == q) refl (content_reads q t) where
-  by : (s : Bool) → (b == q) ≡ s → content_from q false (doubled q t ++ q ∷ []) ≡ t → content_from q false (doubled q (b ∷ t) ++ q ∷ []) ≡ b ∷ t
+  by : (s : Bool) → (b == q) ≡ s → content_from q false (doubled q t ++ q ∷ []) ≡ t
+      → content_from q false (doubled q (b ∷ t) ++ q ∷ []) ≡ b ∷ t
   by true e h = rw (e, e, h) refl
   by false e h = rw (e, e, h) refl
 
@@ -96,27 +113,30 @@ record QuoteEnds (q : ℕ) (again : Bool) (bs : List ℕ) (n : ℕ) : Type 0 whe
 
 quote_sound : (q : ℕ) (again : Bool) (bs : List ℕ) (n : ℕ) → quote_end q again bs ≡ Some n → QuoteEnds q again bs n
 quote_sound q false [] n e = absurd cc
-quote_sound q true [] n e = record { text = []; rest = []; parts = refl; size = some_is 0 n e; closed = refl; other = refl }
-quote_sound q false (b ∷ bs) n e = let k = more_is (quote_end q (b == q) bs) n e in by k.0 k.2 (b == q) refl (quote_sound q (b == q) bs k.0 k.1) where
-  by : (m : ℕ) → n ≡ suc m → (s : Bool) → (b == q) ≡ s → QuoteEnds q (b == q) bs m → QuoteEnds q false (b ∷ bs) n
-  by m size true e r0 = let r : QuoteEnds q true bs m = rw e at r0 in record {
-    text = b ∷ r.text;
-    rest = r.rest;
-    parts = ap (λ (z : List ℕ). b ∷ z) r.parts;
-    size = ap suc r.size ∙ sym size;
-    closed = rw e (ap (λ (z : ℕ). z ∷ r.text) (eqb-true b q e) ∙ r.closed);
-    other = r.other;
-  }
-  by m size false e r0 = let r : QuoteEnds q false bs m = rw e at r0 in record {
-    text = b ∷ r.text;
-    rest = r.rest;
-    parts = ap (λ (z : List ℕ). b ∷ z) r.parts;
-    size = ap suc r.size ∙ sym size;
-    closed = rw (e, e) (ap (λ (z : List ℕ). b ∷ z) r.closed);
-    other = r.other;
-  }
+quote_sound q true [] n e =
+    record { text = []; rest = []; parts = refl; size = some_is 0 n e; closed = refl; other = refl }
+quote_sound q false (b ∷ bs) n e = let k = more_is (quote_end q (b == q) bs) n e in
+    by k.0 k.2 (b == q) refl (quote_sound q (b == q) bs k.0 k.1) where
+      by : (m : ℕ) → n ≡ suc m → (s : Bool) → (b == q) ≡ s → QuoteEnds q (b == q) bs m → QuoteEnds q false (b ∷ bs) n
+      by m size true e r0 = let r : QuoteEnds q true bs m = rw e at r0 in record {
+        text = b ∷ r.text;
+        rest = r.rest;
+        parts = ap (λ (z : List ℕ). b ∷ z) r.parts;
+        size = ap suc r.size ∙ sym size;
+        closed = rw e (ap (λ (z : ℕ). z ∷ r.text) (eqb-true b q e) ∙ r.closed);
+        other = r.other;
+      }
+      by m size false e r0 = let r : QuoteEnds q false bs m = rw e at r0 in record {
+        text = b ∷ r.text;
+        rest = r.rest;
+        parts = ap (λ (z : List ℕ). b ∷ z) r.parts;
+        size = ap suc r.size ∙ sym size;
+        closed = rw (e, e) (ap (λ (z : List ℕ). b ∷ z) r.closed);
+        other = r.other;
+      }
 quote_sound q true (b ∷ bs) n e = by (b == q) refl e (quote_sound q false bs) where
-  by : (s : Bool) → (b == q) ≡ s → cond (b == q) (one_more (quote_end q false bs)) (Some 0) ≡ Some n → ((m : ℕ) → quote_end q false bs ≡ Some m → QuoteEnds q false bs m) → QuoteEnds q true (b ∷ bs) n
+  by : (s : Bool) → (b == q) ≡ s → cond (b == q) (one_more (quote_end q false bs)) (Some 0) ≡ Some n
+      → ((m : ℕ) → quote_end q false bs ≡ Some m → QuoteEnds q false bs m) → QuoteEnds q true (b ∷ bs) n
   by true t e h =
       let k = more_is (quote_end q false bs) n (rw t at e) in
       let r = h k.0 k.1 in
@@ -128,7 +148,15 @@ quote_sound q true (b ∷ bs) n e = by (b == q) refl e (quote_sound q false bs) 
         closed = rw t (ap (λ (z : ℕ). z ∷ b ∷ r.text) (sym (eqb-true b q t)) ∙ ap (λ (z : List ℕ). b ∷ b ∷ z) r.closed);
         other = r.other;
       }
-  by false t e h = record { text = []; rest = b ∷ bs; parts = refl; size = some_is 0 n (rw t at e); closed = refl; other = t }
+  by false t e h = record {
+    text = [];
+    rest = b ∷ bs;
+    parts = refl;
+    size = some_is 0 n (rw t at e);
+    closed =
+        refl;
+    other = t;
+  }
 
 -- ---- what begins at a byte
 
@@ -185,7 +213,8 @@ abbrev pub read : Sort → ℕ → Reading
 read s n = Some (s, n)
 
 as_read : (bytes : List ℕ) (x s : Sort) (k n : ℕ) → read x k ≡ read s n → Reads bytes x k → Reads bytes s n
-as_read bytes x s k n e r = let p = some_is {X = Sort × ℕ} (x, k) (s, n) e in subst (λ (q : Sort × ℕ). Reads bytes q.0 q.1) p r
+as_read bytes x s k n e r = let p = some_is {X = Sort × ℕ} (x, k) (s, n) e in
+    subst (λ (q : Sort × ℕ). Reads bytes q.0 q.1) p r
 
 digits_are_word_bytes : (b : ℕ) → is_letter b ≡ false → is_digit b ≡ false → is_word_byte b ≡ false
 digits_are_word_bytes b e f = rw (e, f) refl
@@ -206,7 +235,8 @@ word_read b bs e =
       longest = longest (Word []) (drop n bs) (run_ends is_word_byte bs);
     }
 
-number_read : (b : ℕ) (bs : List ℕ) → is_digit b ≡ true → begins is_letter (drop (prefix_len is_digit bs) bs) ≡ false → Reads (b ∷ bs) NumberSort (suc (prefix_len is_digit bs))
+number_read : (b : ℕ) (bs : List ℕ) → is_digit b ≡ true → begins is_letter (drop (prefix_len is_digit bs) bs) ≡ false
+    → Reads (b ∷ bs) NumberSort (suc (prefix_len is_digit bs))
 number_read b bs e f =
     let n = prefix_len is_digit bs in
     record {
@@ -218,9 +248,12 @@ number_read b bs e f =
       longest = longest (Number []) (drop n bs) (no_word_byte (drop n bs) f (run_ends is_digit bs));
     }
 
-number_reads : (b : ℕ) (bs : List ℕ) (s : Sort) (n : ℕ) → is_digit b ≡ true → (t : Bool) → begins is_letter (drop (prefix_len is_digit bs) bs) ≡ t → cond t None (read NumberSort (suc (prefix_len is_digit bs))) ≡ read s n → Reads (b ∷ bs) s n
+number_reads : (b : ℕ) (bs : List ℕ) (s : Sort) (n : ℕ) → is_digit b ≡ true → (t : Bool)
+    → begins is_letter (drop (prefix_len is_digit bs) bs) ≡ t
+    → cond t None (read NumberSort (suc (prefix_len is_digit bs))) ≡ read s n → Reads (b ∷ bs) s n
 number_reads b bs s n e true f r = absurd cc
-number_reads b bs s n e false f r = as_read (b ∷ bs) NumberSort s (suc (prefix_len is_digit bs)) n r (number_read b bs e f)
+number_reads b bs s n e false f r =
+    as_read (b ∷ bs) NumberSort s (suc (prefix_len is_digit bs)) n r (number_read b bs e f)
 
 quote_read : (bs : List ℕ) (m : ℕ) → QuoteEnds 39 false bs m → Reads (39 ∷ bs) QuoteSort (suc m)
 quote_read bs m r = record {
@@ -232,11 +265,14 @@ quote_read bs m r = record {
   longest = longest (Quote []) r.rest r.other;
 }
 
-quote_sorts : (bs : List ℕ) (s : Sort) (n : ℕ) (o : Option ℕ) → quote_end 39 false bs ≡ o → read_quote o ≡ read s n → Reads (39 ∷ bs) s n
+quote_sorts : (bs : List ℕ) (s : Sort) (n : ℕ) (o : Option ℕ) → quote_end 39 false bs ≡ o → read_quote o ≡ read s n
+    → Reads (39 ∷ bs) s n
 quote_sorts bs s n None e r = absurd cc
-quote_sorts bs s n (Some m) e r = as_read (39 ∷ bs) QuoteSort s (suc m) n r (quote_read bs m (quote_sound 39 false bs m e))
+quote_sorts bs s n (Some m) e r =
+    as_read (39 ∷ bs) QuoteSort s (suc m) n r (quote_read bs m (quote_sound 39 false bs m e))
 
-some_content : (q : ℕ) (bs : List ℕ) (m : ℕ) (r : QuoteEnds q false bs m) → (m == 1) ≡ false → content_from q false r.text ≡ [] → ⊥
+some_content : (q : ℕ) (bs : List ℕ) (m : ℕ) (r : QuoteEnds q false bs m) → (m == 1) ≡ false
+    → content_from q false r.text ≡ [] → ⊥
 some_content q bs m r e none =
     let one : r.text ≡ q ∷ [] = r.closed ∙ ap (λ (z : List ℕ). doubled q z ++ q ∷ []) none in
     eqb-false m 1 e (sym r.size ∙ ap length one)
@@ -251,15 +287,18 @@ name_read bs m some r = record {
   longest = longest (QuotedName []) r.rest r.other;
 }
 
-name_sorts : (bs : List ℕ) (s : Sort) (n : ℕ) (o : Option ℕ) → quote_end 34 false bs ≡ o → read_name o ≡ read s n → Reads (34 ∷ bs) s n
+name_sorts : (bs : List ℕ) (s : Sort) (n : ℕ) (o : Option ℕ) → quote_end 34 false bs ≡ o → read_name o ≡ read s n
+    → Reads (34 ∷ bs) s n
 name_sorts bs s n None e r = absurd cc
 name_sorts bs s n (Some m) e r = by (m == 1) refl r where
   by : (t : Bool) → (m == 1) ≡ t → cond t None (read NameSort (suc m)) ≡ read s n → Reads (34 ∷ bs) s n
   by true f r = absurd cc
   by false f r = as_read (34 ∷ bs) NameSort s (suc m) n r (name_read bs m f (quote_sound 34 false bs m e))
 
-sign_read : (x : Symbol) (text rest : List ℕ) → symbol_text x ≡ text → begins (lengthens (Sign x)) rest ≡ false → Reads (text ++ rest) (SignSort x) (length text)
-sign_read x text rest e f = record { text = text; rest = rest; parts = refl; size = refl; spelled = sym e; longest = longest (Sign x) rest f }
+sign_read : (x : Symbol) (text rest : List ℕ) → symbol_text x ≡ text → begins (lengthens (Sign x)) rest ≡ false
+    → Reads (text ++ rest) (SignSort x) (length text)
+sign_read x text rest e f =
+    record { text = text; rest = rest; parts = refl; size = refl; spelled = sym e; longest = longest (Sign x) rest f }
 
 never : (rest : List ℕ) → begins (λ (b : ℕ). false) rest ≡ false
 never [] = refl
@@ -273,32 +312,46 @@ begins_with : (c : ℕ) (bs : List ℕ) → begins (λ b. b == c) bs ≡ true �
 begins_with c [] e = absurd cc
 begins_with c (b ∷ bs) e = (bs, ap (λ (z : ℕ). z ∷ bs) (eqb-true b c e))
 
-neither : (bs : List ℕ) → begins (λ b. b == 61) bs ≡ false → begins (λ b. b == 62) bs ≡ false → begins (lengthens (Sign LessSign)) bs ≡ false
+neither : (bs : List ℕ) → begins (λ b. b == 61) bs ≡ false → begins (λ b. b == 62) bs ≡ false
+    → begins (lengthens (Sign LessSign)) bs ≡ false
 neither [] e f = refl
 neither (b ∷ bs) e f = rw (e, f) refl
 
-less_reads : (bs : List ℕ) (s : Sort) (n : ℕ) (t u : Bool) → begins (λ b. b == 61) bs ≡ t → begins (λ b. b == 62) bs ≡ u → cond t (read (SignSort AtMostSign) 2) (cond u (read (SignSort UnequalSign) 2) (read (SignSort LessSign) 1)) ≡ read s n → Reads (60 ∷ bs) s n
-less_reads bs s n true u e f r = let k = begins_with 61 bs e in as_read (60 ∷ bs) (SignSort AtMostSign) s 2 n r (rw k.1 (sign_read AtMostSign (60 ∷ 61 ∷ []) k.0 refl (never k.0)))
-less_reads bs s n false true e f r = let k = begins_with 62 bs f in as_read (60 ∷ bs) (SignSort UnequalSign) s 2 n r (rw k.1 (sign_read UnequalSign (60 ∷ 62 ∷ []) k.0 refl (never k.0)))
-less_reads bs s n false false e f r = as_read (60 ∷ bs) (SignSort LessSign) s 1 n r (sign_read LessSign (60 ∷ []) bs refl (neither bs e f))
+less_reads : (bs : List ℕ) (s : Sort) (n : ℕ) (t u : Bool) → begins (λ b. b == 61) bs ≡ t → begins (λ b. b == 62) bs ≡ u
+    → cond t (read (SignSort AtMostSign) 2) (cond u (read (SignSort UnequalSign) 2) (read (SignSort LessSign) 1))
+    ≡ read s n → Reads (60 ∷ bs) s n
+less_reads bs s n true u e f r = let k = begins_with 61 bs e in
+    as_read (60 ∷ bs) (SignSort AtMostSign) s 2 n r (rw k.1 (sign_read AtMostSign (60 ∷ 61 ∷ []) k.0 refl (never k.0)))
+less_reads bs s n false true e f r = let k = begins_with 62 bs f in
+    as_read (60 ∷ bs) (SignSort UnequalSign) s 2 n r
+    (rw k.1 (sign_read UnequalSign (60 ∷ 62 ∷ []) k.0 refl (never k.0)))
+less_reads bs s n false false e f r =
+    as_read (60 ∷ bs) (SignSort LessSign) s 1 n r (sign_read LessSign (60 ∷ []) bs refl (neither bs e f))
 
-more_reads : (bs : List ℕ) (s : Sort) (n : ℕ) (t : Bool) → begins (λ b. b == 61) bs ≡ t → cond t (read (SignSort AtLeastSign) 2) (read (SignSort MoreSign) 1) ≡ read s n → Reads (62 ∷ bs) s n
-more_reads bs s n true e r = let k = begins_with 61 bs e in as_read (62 ∷ bs) (SignSort AtLeastSign) s 2 n r (rw k.1 (sign_read AtLeastSign (62 ∷ 61 ∷ []) k.0 refl (never k.0)))
+more_reads : (bs : List ℕ) (s : Sort) (n : ℕ) (t : Bool) → begins (λ b. b == 61) bs ≡ t
+    → cond t (read (SignSort AtLeastSign) 2) (read (SignSort MoreSign) 1) ≡ read s n → Reads (62 ∷ bs) s n
+more_reads bs s n true e r = let k = begins_with 61 bs e in
+    as_read (62 ∷ bs) (SignSort AtLeastSign) s 2 n r
+    (rw k.1 (sign_read AtLeastSign (62 ∷ 61 ∷ []) k.0 refl (never k.0)))
 more_reads bs s n false e r = as_read (62 ∷ bs) (SignSort MoreSign) s 1 n r (sign_read MoreSign (62 ∷ []) bs refl e)
 
-minus_reads : (bs : List ℕ) (s : Sort) (n : ℕ) (t : Bool) → begins (λ b. b == 45) bs ≡ t → cond t None (read (SignSort MinusSign) 1) ≡ read s n → Reads (45 ∷ bs) s n
+minus_reads : (bs : List ℕ) (s : Sort) (n : ℕ) (t : Bool) → begins (λ b. b == 45) bs ≡ t
+    → cond t None (read (SignSort MinusSign) 1) ≡ read s n → Reads (45 ∷ bs) s n
 minus_reads bs s n true e r = absurd cc
 minus_reads bs s n false e r = as_read (45 ∷ bs) (SignSort MinusSign) s 1 n r (sign_read MinusSign (45 ∷ []) bs refl e)
 
-sound_from : (st : Start) (b : ℕ) (bs : List ℕ) (s : Sort) (n : ℕ) → Means st b → read_from st bs ≡ read s n → Reads (b ∷ bs) s n
-sound_from LetterStart b bs s n m e = as_read (b ∷ bs) WordSort s (suc (prefix_len is_word_byte bs)) n e (word_read b bs m)
+sound_from : (st : Start) (b : ℕ) (bs : List ℕ) (s : Sort) (n : ℕ) → Means st b → read_from st bs ≡ read s n
+    → Reads (b ∷ bs) s n
+sound_from LetterStart b bs s n m e =
+    as_read (b ∷ bs) WordSort s (suc (prefix_len is_word_byte bs)) n e (word_read b bs m)
 sound_from DigitStart b bs s n m e = number_reads b bs s n m _ refl e
 sound_from QuoteStart b bs s n m e = rw m (quote_sorts bs s n _ refl e)
 sound_from NameStart b bs s n m e = rw m (name_sorts bs s n _ refl e)
 sound_from LessStart b bs s n m e = rw m (less_reads bs s n _ _ refl refl e)
 sound_from MoreStart b bs s n m e = rw m (more_reads bs s n _ refl e)
 sound_from MinusStart b bs s n m e = rw m (minus_reads bs s n _ refl e)
-sound_from (SymbolStart x) b bs s n m e = as_read (b ∷ bs) (SignSort x) s 1 n e (sign_read x (b ∷ []) bs m.0 (never_by (lengthens (Sign x)) m.1 bs))
+sound_from (SymbolStart x) b bs s n m e =
+    as_read (b ∷ bs) (SignSort x) s 1 n e (sign_read x (b ∷ []) bs m.0 (never_by (lengthens (Sign x)) m.1 bs))
 sound_from NoStart b bs s n m e = absurd cc
 
 pub first_token_sound : (bytes : List ℕ) (s : Sort) (n : ℕ) → first_token bytes ≡ read s n → Reads bytes s n
@@ -323,26 +376,41 @@ word_again : (w text rest : List ℕ) → Spells (Word w) text → IsLongest (Wo
 word_again w [] rest h l = absurd (let no : false ≡ true = h.0 in cc)
 word_again w (b ∷ bs) rest h l =
     let k = and_parts (is_letter b) (list_all is_word_byte bs) h.0 in
-    record { sort = WordSort; read_again = rw (k.0, run_of is_word_byte bs rest k.1 (stops (Word w) rest l)) refl; is = ap Word (sym h.1) }
+    record {
+      sort = WordSort;
+      read_again = rw (k.0, run_of is_word_byte bs rest k.1 (stops (Word w) rest l)) refl;
+      is =
+          ap Word (sym h.1);
+    }
 
-later_digit : (rest : List ℕ) → begins is_word_byte rest ≡ false → (begins is_letter rest ≡ false) × (begins is_digit rest ≡ false)
+later_digit : (rest : List ℕ) → begins is_word_byte rest ≡ false
+    → (begins is_letter rest ≡ false) × (begins is_digit rest ≡ false)
 later_digit [] e = (refl, refl)
 later_digit (b ∷ rest) e = or_false (is_letter b) (is_digit b) e
 
-number_again : (ds text rest : List ℕ) → Spells (Number ds) text → IsLongest (Number ds) rest → IsRead (Number ds) text rest
+number_again : (ds text rest : List ℕ) → Spells (Number ds) text → IsLongest (Number ds) rest
+    → IsRead (Number ds) text rest
 number_again ds [] rest h l = absurd (let no : false ≡ true = h.0 in cc)
 number_again ds (b ∷ bs) rest h l =
     let k = and_parts (is_digit b) (list_all is_digit bs) h.0 in
     let other = later_digit rest (stops (Number ds) rest l) in
     record {
       sort = NumberSort;
-      read_again = rw (digit_no_letter b k.0, k.0, run_of is_digit bs rest k.1 other.1, drop_at bs rest (length bs) refl, other.0) refl;
+      read_again = rw (
+        digit_no_letter b k.0,
+        k.0,
+        run_of is_digit bs rest k.1 other.1,
+        drop_at bs rest (length bs) refl,
+        other.0,
+      ) refl;
       is = ap Number (sym h.1);
     }
 
-closed_again : (q : ℕ) (t rest : List ℕ) → begins (λ b. b == q) rest ≡ false → quote_end q false ((doubled q t ++ q ∷ []) ++ rest) ≡ Some (length (doubled q t ++ q ∷ []))
+closed_again : (q : ℕ) (t rest : List ℕ) → begins (λ b. b == q) rest ≡ false
+    → quote_end q false ((doubled q t ++ q ∷ []) ++ rest) ≡ Some (length (doubled q t ++ q ∷ []))
 closed_again q t rest other =
-    let n : suc (length (doubled q t)) ≡ length (doubled q t ++ q ∷ []) = omega (arith, length-append (doubled q t) (q ∷ [])) in
+    let n : suc (length (doubled q t)) ≡ length (doubled q t ++ q ∷ []) =
+    omega (arith, length-append (doubled q t) (q ∷ [])) in
     ap (quote_end q false) (append_assoc (doubled q t) (q ∷ []) rest) ∙ quote_reads q t rest other ∙ ap Some n
 
 quote_again : (t text rest : List ℕ) → Spells (Quote t) text → IsLongest (Quote t) rest → IsRead (Quote t) text rest
@@ -358,21 +426,25 @@ doubled_some q b t = by (b == q) where
   by true = omega arith
   by false = omega arith
 
-name_again : (t text rest : List ℕ) → Spells (QuotedName t) text → IsLongest (QuotedName t) rest → IsRead (QuotedName t) text rest
+name_again : (t text rest : List ℕ) → Spells (QuotedName t) text → IsLongest (QuotedName t) rest
+    → IsRead (QuotedName t) text rest
 name_again [] text rest h l = absurd (h.0 refl)
 name_again (b ∷ t) text rest h l =
-    let n : (length (doubled 34 (b ∷ t) ++ 34 ∷ []) == 1) ≡ false = ne_eqb _ 1 (λ e. omega (arith, e, doubled_some 34 b t, length-append (doubled 34 (b ∷ t)) (34 ∷ []))) in
+    let n : (length (doubled 34 (b ∷ t) ++ 34 ∷ []) == 1) ≡ false =
+    ne_eqb _ 1 (λ e. omega (arith, e, doubled_some 34 b t, length-append (doubled 34 (b ∷ t)) (34 ∷ []))) in
     rw h.1 (record {
       sort = NameSort;
       read_again = rw (closed_again 34 (b ∷ t) rest (stops (QuotedName (b ∷ t)) rest l), n) refl;
       is = ap QuotedName (content_reads 34 (b ∷ t));
     })
 
-less_again : (rest : List ℕ) → begins (lengthens (Sign LessSign)) rest ≡ false → read_less rest ≡ read (SignSort LessSign) 1
+less_again : (rest : List ℕ) → begins (lengthens (Sign LessSign)) rest ≡ false
+    → read_less rest ≡ read (SignSort LessSign) 1
 less_again [] e = refl
 less_again (b ∷ rest) e = let h = or_false (b == 61) (b == 62) e in rw (h.0, h.1) refl
 
-sign_again : (s : Symbol) (text rest : List ℕ) → Spells (Sign s) text → IsLongest (Sign s) rest → IsRead (Sign s) text rest
+sign_again : (s : Symbol) (text rest : List ℕ) → Spells (Sign s) text → IsLongest (Sign s) rest
+    → IsRead (Sign s) text rest
 sign_again Open text rest h l = rw h (record { sort = SignSort Open; read_again = refl; is = refl })
 sign_again Close text rest h l = rw h (record { sort = SignSort Close; read_again = refl; is = refl })
 sign_again Comma text rest h l = rw h (record { sort = SignSort Comma; read_again = refl; is = refl })
@@ -383,9 +455,12 @@ sign_again EqualSign text rest h l = rw h (record { sort = SignSort EqualSign; r
 sign_again UnequalSign text rest h l = rw h (record { sort = SignSort UnequalSign; read_again = refl; is = refl })
 sign_again AtMostSign text rest h l = rw h (record { sort = SignSort AtMostSign; read_again = refl; is = refl })
 sign_again AtLeastSign text rest h l = rw h (record { sort = SignSort AtLeastSign; read_again = refl; is = refl })
-sign_again LessSign text rest h l = rw h (record { sort = SignSort LessSign; read_again = less_again rest (stops (Sign LessSign) rest l); is = refl })
-sign_again MoreSign text rest h l = rw h (record { sort = SignSort MoreSign; read_again = rw (stops (Sign MoreSign) rest l) refl; is = refl })
-sign_again MinusSign text rest h l = rw h (record { sort = SignSort MinusSign; read_again = rw (stops (Sign MinusSign) rest l) refl; is = refl })
+sign_again LessSign text rest h l =
+    rw h (record { sort = SignSort LessSign; read_again = less_again rest (stops (Sign LessSign) rest l); is = refl })
+sign_again MoreSign text rest h l =
+    rw h (record { sort = SignSort MoreSign; read_again = rw (stops (Sign MoreSign) rest l) refl; is = refl })
+sign_again MinusSign text rest h l =
+    rw h (record { sort = SignSort MinusSign; read_again = rw (stops (Sign MinusSign) rest l) refl; is = refl })
 
 pub first_token_complete : (t : Token) (text rest : List ℕ) → Spells t text → IsLongest t rest → IsRead t text rest
 first_token_complete (Word w) text rest = word_again w text rest
@@ -433,22 +508,28 @@ pub no_lead : (bytes : List ℕ) (s : Sort) (n : ℕ) → first_token bytes ≡ 
 no_lead [] s n e = refl
 no_lead (b ∷ bs) s n e = by (is_blank b) refl (begins_comment b bs) refl where
   by : (t : Bool) → is_blank b ≡ t → (u : Bool) → begins_comment b bs ≡ u → without_lead false (b ∷ bs) ≡ b ∷ bs
-  by true p u q = let unread : first_token (b ∷ bs) ≡ None = ap (λ (st : Start). read_from st bs) (blank_starts b p) in absurd (none_some {X = Sort × ℕ} (s, n) (sym unread ∙ e))
+  by true p u q = let unread : first_token (b ∷ bs) ≡ None = ap (λ (st : Start). read_from st bs) (blank_starts b p) in
+      absurd (none_some {X = Sort × ℕ} (s, n) (sym unread ∙ e))
   by false p true q = absurd (none_some {X = Sort × ℕ} (s, n) (sym (comment_unread b bs q) ∙ e))
   by false p false q = rw (p, q) refl
 
-line_skipped : (words more : List ℕ) → IsOneLine words → without_lead true (words ++ 10 ∷ more) ≡ without_lead false more
+line_skipped : (words more : List ℕ) → IsOneLine words
+    → without_lead true (words ++ 10 ∷ more) ≡ without_lead false more
 line_skipped [] more one = refl
-line_skipped (b ∷ words) more one = let h = and_parts (not (b == 10)) (list_all (λ c. not (c == 10)) words) one in ap (λ (t : Bool). without_lead t (words ++ 10 ∷ more)) h.0 ∙ line_skipped words more h.1
+line_skipped (b ∷ words) more one = let h = and_parts (not (b == 10)) (list_all (λ c. not (c == 10)) words) one in
+    ap (λ (t : Bool). without_lead t (words ++ 10 ∷ more)) h.0 ∙ line_skipped words more h.1
 
 line_end : (words : List ℕ) → IsOneLine words → without_lead true words ≡ []
 line_end [] one = refl
-line_end (b ∷ words) one = let h = and_parts (not (b == 10)) (list_all (λ c. not (c == 10)) words) one in ap (λ (t : Bool). without_lead t words) h.0 ∙ line_end words h.1
+line_end (b ∷ words) one = let h = and_parts (not (b == 10)) (list_all (λ c. not (c == 10)) words) one in
+    ap (λ (t : Bool). without_lead t words) h.0 ∙ line_end words h.1
 
 gap_skipped : (gap more : List ℕ) → IsGap gap → without_lead false (gap ++ more) ≡ without_lead false more
 gap_skipped gap more nothing = refl
 gap_skipped gap more (blank {b} {bs} e g) = rw (e, blank_no_comment b (bs ++ more) e) (gap_skipped bs more g)
-gap_skipped gap more (comment words {bs} one g parts) = rw parts (ap (without_lead true) (append_assoc words (10 ∷ bs) more) ∙ line_skipped words (bs ++ more) one ∙ gap_skipped bs more g)
+gap_skipped gap more (comment words {bs} one g parts) =
+    rw parts (ap (without_lead true) (append_assoc words (10 ∷ bs) more) ∙ line_skipped words (bs ++ more) one
+    ∙ gap_skipped bs more g)
 
 pub end_skipped : (bytes : List ℕ) → IsEnd bytes → without_lead false bytes ≡ []
 end_skipped bytes (inl g) = ap (without_lead false) (sym (append-nil bytes)) ∙ gap_skipped bytes [] g
@@ -460,25 +541,32 @@ pub record Split (text other rest left : List ℕ) : Type 0 where
   pub same_text : text ≡ other
   pub same_rest : rest ≡ left
 
-same_split : (text other rest left : List ℕ) → text ++ rest ≡ other ++ left → length text ≡ length other → Split text other rest left
+same_split : (text other rest left : List ℕ) → text ++ rest ≡ other ++ left → length text ≡ length other
+    → Split text other rest left
 same_split text other rest left e n = record {
-  same_text = sym (take_at text rest (length text) refl) ∙ ap (take (length text)) e ∙ take_at other left (length text) (sym n);
-  same_rest = sym (drop_at text rest (length text) refl) ∙ ap (drop (length text)) e ∙ drop_at other left (length text) (sym n);
+  same_text = sym (take_at text rest (length text) refl) ∙ ap (take (length text)) e
+      ∙ take_at other left (length text) (sym n);
+  same_rest = sym (drop_at text rest (length text) refl) ∙ ap (drop (length text)) e
+      ∙ drop_at other left (length text) (sym n);
 }
 
 -- behind the gap stands the first token
-pub token_stands : (t : Token) (bytes gap text rest : List ℕ) → bytes ≡ gap ++ text ++ rest → IsGap gap → Spells t text → IsLongest t rest → without_lead false bytes ≡ text ++ rest
+pub token_stands : (t : Token) (bytes gap text rest : List ℕ) → bytes ≡ gap ++ text ++ rest → IsGap gap → Spells t text
+    → IsLongest t rest → without_lead false bytes ≡ text ++ rest
 token_stands t bytes gap text rest parts g spelled longest =
     let r = first_token_complete t text rest spelled longest in
-    ap (without_lead false) (parts ∙ append_assoc gap text rest) ∙ gap_skipped gap (text ++ rest) g ∙ no_lead (text ++ rest) r.sort (length text) r.read_again
+    ap (without_lead false) (parts ∙ append_assoc gap text rest) ∙ gap_skipped gap (text ++ rest) g
+    ∙ no_lead (text ++ rest) r.sort (length text) r.read_again
 
 pub record SameFirst (t u : Token) (rest left : List ℕ) : Type 0 where
   pub token : t ≡ u
   pub left_same : left ≡ rest
 
-pub same_first : (t u : Token) (text rest other left : List ℕ) → IsRead t text rest → IsRead u other left → text ++ rest ≡ other ++ left → SameFirst t u rest left
+pub same_first : (t u : Token) (text rest other left : List ℕ) → IsRead t text rest → IsRead u other left
+    → text ++ rest ≡ other ++ left → SameFirst t u rest left
 same_first t u text rest other left r q e =
-    let pair = some_is {X = Sort × ℕ} (r.sort, length text) (q.sort, length other) (sym r.read_again ∙ ap first_token e ∙ q.read_again) in
+    let pair = some_is {X = Sort × ℕ} (r.sort, length text) (q.sort, length other) (sym r.read_again ∙ ap first_token e
+    ∙ q.read_again) in
     let sorts : r.sort ≡ q.sort = ap (λ (z : Sort × ℕ). z.0) pair in
     let both = same_split text other rest left e (ap (λ (z : Sort × ℕ). z.1) pair) in
     record {
@@ -491,9 +579,15 @@ some_read t text rest r e = none_some {X = Sort × ℕ} (r.sort, length text) (s
 
 pub one_list : (text : List ℕ) (ts us : List Token) → AreTokens ts text → AreTokens us text → ts ≡ us
 one_list text [] [] a b = refl
-one_list text [] (u ∷ us) a b = absurd (some_read u b.1 b.2 (first_token_complete u b.1 b.2 b.5 b.6) (sym (token_stands u text b.0 b.1 b.2 b.3 b.4 b.5 b.6) ∙ end_skipped text a))
-one_list text (t ∷ ts) [] a b = absurd (some_read t a.1 a.2 (first_token_complete t a.1 a.2 a.5 a.6) (sym (token_stands t text a.0 a.1 a.2 a.3 a.4 a.5 a.6) ∙ end_skipped text b))
+one_list text [] (u ∷ us) a b =
+    absurd (some_read u b.1 b.2 (first_token_complete u b.1 b.2 b.5 b.6)
+    (sym (token_stands u text b.0 b.1 b.2 b.3 b.4 b.5 b.6) ∙ end_skipped text a))
+one_list text (t ∷ ts) [] a b =
+    absurd (some_read t a.1 a.2 (first_token_complete t a.1 a.2 a.5 a.6)
+    (sym (token_stands t text a.0 a.1 a.2 a.3 a.4 a.5 a.6) ∙ end_skipped text b))
 one_list text (t ∷ ts) (u ∷ us) a b =
-    let whole = sym (token_stands t text a.0 a.1 a.2 a.3 a.4 a.5 a.6) ∙ token_stands u text b.0 b.1 b.2 b.3 b.4 b.5 b.6 in
-    let same = same_first t u a.1 a.2 b.1 b.2 (first_token_complete t a.1 a.2 a.5 a.6) (first_token_complete u b.1 b.2 b.5 b.6) whole in
+    let whole = sym (token_stands t text a.0 a.1 a.2 a.3 a.4 a.5 a.6)
+    ∙ token_stands u text b.0 b.1 b.2 b.3 b.4 b.5 b.6 in
+    let same = same_first t u a.1 a.2 b.1 b.2 (first_token_complete t a.1 a.2 a.5 a.6)
+    (first_token_complete u b.1 b.2 b.5 b.6) whole in
     rw (same.token, one_list a.2 ts us a.7 (subst (AreTokens us) same.left_same b.7)) refl

@@ -1,5 +1,6 @@
 -- What CREATE TABLE defines, and why rows fit their tables in every state that a run reaches.
-use Rattle.std.proofs.Common.{◌≡◌, ◌<◌, refl, sym, ap, subst, ◌∙◌, ℕ, zero, suc, Bool, true, false, List, [], ◌∷◌, ◌++◌, map, get_or, length, inl, inr, arith}
+use Rattle.std.proofs.Common.{◌≡◌, ◌<◌, refl, sym, ap, subst, ◌∙◌, ℕ, zero, suc, Bool, true, false, List, [], ◌∷◌, ◌++◌}
+use Rattle.std.proofs.Common.{map, get_or, length, inl, inr, arith}
 use Rattle.std.specs.Prelude.{◌||◌, not, remove, slice_set, ℤ, Option, Some, None, if◌then◌else◌}
 use Rattle.std.proofs.lemmas.List.{length-map}
 use Rattle.std.proofs.Math.ListN.{get_or-append}
@@ -9,15 +10,22 @@ use Rattle.tql_spec.specs.Datum.{Moments, same_kind}
 use Rattle.tql_spec.specs.Refusal.{Refusal, TypesDoNotFit, FormNotAllowedHere, fault_if}
 use Rattle.tql_spec.specs.Definition.{Name, TableDef, Stamped, no_table, table_at, next_place}
 use Rattle.tql_spec.specs.History.{Copy, Entry, rows_in}
-use Rattle.tql_spec.specs.Syntax.{Element, Statement, CreateTree, DropTree, InsertValues, InsertSelect, UpdateTree, DeleteTree, QueryTree, StartTree, CommitTree, RollbackTree, AtTree}
+use Rattle.tql_spec.specs.Syntax.{Element, Statement, CreateTree, DropTree, InsertValues, InsertSelect, UpdateTree}
+use Rattle.tql_spec.specs.Syntax.{DeleteTree, QueryTree, StartTree, CommitTree, RollbackTree, AtTree}
 use Rattle.tql_spec.specs.Names.{Checked, check_each}
-use Rattle.tql_spec.specs.Creation.{PeriodPart, application_parts, system_parts, application_period, system_period, whole_faults, column_names, columns_of, column_number, number_in, or_first, kind_in, has_number, starts, stops, first_of, create}
-use Rattle.tql_spec.specs.Machine.{State, Bound, CreateTable, DropTable, SetClock, Start, Commit, Rollback, Alter, Ask, Change, outcome, changed_table, manner_of, state_faults, effect, newest_copy, new_state}
+use Rattle.tql_spec.specs.Creation.{PeriodPart, application_parts, system_parts, application_period, system_period}
+use Rattle.tql_spec.specs.Creation.{whole_faults, column_names, columns_of, column_number, number_in, or_first, kind_in}
+use Rattle.tql_spec.specs.Creation.{has_number, starts, stops, first_of, create}
+use Rattle.tql_spec.specs.Machine.{State, Bound, CreateTable, DropTable, SetClock, Start, Commit, Rollback, ChangeRows}
+use Rattle.tql_spec.specs.Machine.{AnswerQuery}
+use Rattle.tql_spec.specs.Machine.{Change, outcome, changed_table, class_of, state_faults, effect, newest_copy}
+use Rattle.tql_spec.specs.Machine.{new_state}
 use Rattle.tql_spec.specs.Binding.{bind}
 use Rattle.tql_spec.specs.Reached.{Fits, CopiesFit, RowsFit, ReachedFit}
 use Rattle.tql_spec.proofs.Members.{by_bool}
 use Rattle.tql_spec.proofs.MemberLists.{in_image}
-use Rattle.tql_spec.proofs.RunKeeps.{no_left, no_right, asked_stays, changed_entry, altered_keeps, EffectKeeps, run_keeps}
+use Rattle.tql_spec.proofs.RunKeeps.{no_left, no_right, asked_stays, changed_entry, altered_keeps, EffectKeeps}
+use Rattle.tql_spec.proofs.RunKeeps.{run_keeps}
 use Rattle.tql_spec.proofs.InOrder.{state, no_fault}
 use Rattle.tql_spec.proofs.Constraints.{same_text-self, same_text-is}
 use Rattle.tql_spec.proofs.Copies.{rows_more, skip, removed_at, rows_set, no_rows, keeps_fit}
@@ -73,7 +81,8 @@ period_is_pair es p e =
     let kinds : List Refusal = fault_if
     (not (same_kind (kind_in es s.value) Moments) || not (same_kind (kind_in es t.value) Moments)) TypesDoNotFit in
     let forms : List Refusal = fault_if
-    (same_text p.start p.end || not (has_number s.value (starts es)) || not (has_number t.value (stops es))) FormNotAllowedHere in
+    (same_text p.start p.end || not (has_number s.value (starts es)) || not
+    (has_number t.value (stops es))) FormNotAllowedHere in
     let second : t.faults ++ (kinds ++ (forms ++ [])) ≡ [] = no_right s.faults
     (t.faults ++ (kinds ++ (forms ++ []))) e in
     let third : kinds ++ (forms ++ []) ≡ [] = no_right t.faults (kinds ++ (forms ++ [])) second in
@@ -222,7 +231,7 @@ FitBoth s = AllSound s.definitions × RowsFit s
 
 -- each effect keeps that rows fit
 effect_rows : (defs : List TableDef) (history : List Entry) (next : ℤ) (begun : Option Entry) (b : Bound)
-    → state_faults (state defs history next begun) (manner_of b) ≡ []
+    → state_faults (state defs history next begun) (class_of b) ≡ []
     → ((d : TableDef) → b ≡ CreateTable d → Sound d) → CopiesFit (state defs history next begun)
     → FitBoth (state defs history next begun) → FitBoth (effect (state defs history next begun) b).1
 effect_rows defs history next None (CreateTable d) e g f h = (
@@ -245,7 +254,7 @@ effect_rows defs history next None Commit e g f h = h
 effect_rows defs history next (Some w) Commit e g f h = h
 effect_rows defs history next None Rollback e g f h = h
 effect_rows defs history next (Some w) Rollback e g f h = (h.0, λ x m. h.1 x (inr m))
-effect_rows defs history next None (Alter c) e g f h =
+effect_rows defs history next None (ChangeRows c) e g f h =
     let s : State = state defs history next None in
     altered_keeps FitBoth s c h
     (λ q. (
@@ -253,7 +262,7 @@ effect_rows defs history next None (Alter c) e g f h =
       first_rows defs (changed_entry s c) history
           (changed_rows_fit s next (newest_copy defs history) c h.0 (newest_rows_fit defs history h.1)) h.1,
     ))
-effect_rows defs history next (Some w) (Alter c) e g f h =
+effect_rows defs history next (Some w) (ChangeRows c) e g f h =
     let s : State = state defs history next (Some w) in
     altered_keeps FitBoth s c h
     (λ q. (
@@ -261,7 +270,7 @@ effect_rows defs history next (Some w) (Alter c) e g f h =
       first_rows defs (changed_entry s c) history
           (changed_rows_fit s w.moment w.copy c h.0 (h.1 w (inl refl))) (λ x m. h.1 x (inr m)),
     ))
-effect_rows defs history next begun (Ask q) e g f h = asked_stays FitBoth (state defs history next begun) q _ h
+effect_rows defs history next begun (AnswerQuery q) e g f h = asked_stays FitBoth (state defs history next begun) q _ h
 
 -- each statement that is taken keeps it
 keeps_rows_fit : EffectKeeps AreFit

@@ -1,5 +1,6 @@
 -- Rows have as many cells as their tables have columns that are not generated.
-use Rattle.std.proofs.Common.{◌≡◌, ◌<◌, refl, sym, ap, subst, ◌∙◌, ℕ, ◌+◌, zero, suc, Bool, true, false, List, [], ◌∷◌, ◌++◌, map, length, inl, inr, arith}
+use Rattle.std.proofs.Common.{◌≡◌, ◌<◌, refl, sym, ap, subst, ◌∙◌, ℕ, ◌+◌, zero, suc, Bool, true, false, List, [], ◌∷◌}
+use Rattle.std.proofs.Common.{◌++◌, map, length, inl, inr, arith}
 use Rattle.std.specs.Prelude.{insert, remove, replicate, slice_set, nat_lt, ℤ, Option, Some, None}
 use Rattle.std.proofs.lemmas.Bool.Decides.{nat_tests}
 use Rattle.std.proofs.lemmas.List.{length-replicate}
@@ -11,9 +12,11 @@ use Rattle.tql_spec.specs.Calendar.{high}
 use Rattle.tql_spec.specs.Datum.{Datum, Null, Moment, Row}
 use Rattle.tql_spec.specs.Period.{Period, before, inside, after, if_any}
 use Rattle.tql_spec.specs.Expression.{Cond, eval}
-use Rattle.tql_spec.specs.Definition.{TableDef, Application, System, Stamped, table_at, period_of, with_period, with_period_by, with_generated, without_generated, shown, stamped}
+use Rattle.tql_spec.specs.Definition.{TableDef, Application, System, Stamped, table_at, period_of, with_period}
+use Rattle.tql_spec.specs.Definition.{with_period_by, with_generated, without_generated, shown, stamped}
 use Rattle.tql_spec.specs.History.{Copy, rows_in}
-use Rattle.tql_spec.specs.Change.{Assignment, Fate, Replaced, Work, assigned, filled, new_row, fate, fate_where, made_of, is_touched, pieces, insert as insertion, modify, outcome_of}
+use Rattle.tql_spec.specs.Change.{Assignment, Fate, Replaced, Work, assigned, filled, new_row, fate, fate_where}
+use Rattle.tql_spec.specs.Change.{made_of, is_touched, pieces, insert as insertion, modify, outcome_of}
 use Rattle.tql_spec.specs.Machine.{State, Change, InsertTuples, InsertQuery, Modify, outcome, changed_table}
 use Rattle.tql_spec.specs.Binding.{generated_columns}
 use Rattle.tql_spec.specs.Reached.{Fits}

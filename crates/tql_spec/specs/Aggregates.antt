@@ -1,7 +1,13 @@
 -- Whether an aggregate stands in an expression, a condition or a select list as it is written.
 use Rattle.std.specs.Prelude.{Bool, true, false, ◌||◌, Option, Some, None}
 use Rattle.std.specs.List.{list_any}
-use Rattle.tql_spec.specs.Syntax.{Sum, Terms, MoreTerms, NoTerm, PlusTerm, MinusTerm, Product, Factors, MoreFactors, NoFactor, TimesFactor, Signed, Unsigned, Positive, Negative, Primary, NumberLiteral, TextLiteral, DateLiteral, TimestampLiteral, ColumnNamed, Enclosed, CountStar, Over, Marked, FromEnds, SystemTime, Operand, ByMark, ByName, Condition, AnyOf, MoreConjs, NoConj, OrConj, Conj, AllOf, MoreTests, NoTest, AndTest, Factor, Straight, Negated, Test, Grouped, Compared, NullTest, BetweenTest, InTest, RelationTest, ContainsPeriod, ContainsPoint}
+use Rattle.tql_spec.specs.Syntax.{Sum, Terms, MoreTerms, NoTerm, PlusTerm, MinusTerm, Product, Factors, MoreFactors}
+use Rattle.tql_spec.specs.Syntax.{NoFactor, TimesFactor, Signed, Unsigned, Positive, Negative, Primary, NumberLiteral}
+use Rattle.tql_spec.specs.Syntax.{TextLiteral, DateLiteral, TimestampLiteral, ColumnNamed, Enclosed, CountStar, Over}
+use Rattle.tql_spec.specs.Syntax.{Marked, FromEnds, SystemTime, Operand, ByMark, ByName, Condition, AnyOf, MoreConjs}
+use Rattle.tql_spec.specs.Syntax.{NoConj, OrConj, Conj, AllOf, MoreTests, NoTest, AndTest, Factor, Straight, Negated}
+use Rattle.tql_spec.specs.Syntax.{Test, Grouped, Compared, NullTest, BetweenTest, InTest, RelationTest, ContainsPeriod}
+use Rattle.tql_spec.specs.Syntax.{ContainsPoint}
 
 -- ---- expressions
 

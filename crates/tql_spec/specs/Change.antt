@@ -1,5 +1,6 @@
 -- The plain and the portion changes of a table's bag.
-use Rattle.std.specs.Prelude.{ℕ, suc, Bool, true, false, not, ◌&&◌, List, [], ◌∷◌, ◌++◌, map, length, replicate, slice_set, nat_lt, ℤ, Option, Some, None, if◌then◌else◌}
+use Rattle.std.specs.Prelude.{ℕ, suc, Bool, true, false, not, ◌&&◌, List, [], ◌∷◌, ◌++◌, map, length, replicate}
+use Rattle.std.specs.Prelude.{slice_set, nat_lt, ℤ, Option, Some, None, if◌then◌else◌}
 use Rattle.std.specs.List.{flat_map}
 use Rattle.tql_spec.specs.Words.{◌>>=◌, map_all}
 use Rattle.tql_spec.specs.Truth.{Truth, is_false}
@@ -7,7 +8,8 @@ use Rattle.tql_spec.specs.Datum.{Datum, Null, Text, Row, characters, is_null}
 use Rattle.tql_spec.specs.Period.{Period, rises, share_a_point, before, inside, after, if_any}
 use Rattle.tql_spec.specs.Refusal.{Refusal, ValueOutOfRange, NullNotAllowed, PeriodNotRising, CheckFailed, fault_if}
 use Rattle.tql_spec.specs.Expression.{Expr, Cond, eval, judge, passes}
-use Rattle.tql_spec.specs.Definition.{TableDef, Column, Application, Stamped, period_of, with_period, stamped, shown, cell}
+use Rattle.tql_spec.specs.Definition.{TableDef, Column, Application, Stamped, period_of, with_period, stamped, shown}
+use Rattle.tql_spec.specs.Definition.{cell}
 
 -- a column and what it is set to
 pub record Assignment : Type 0 where
@@ -25,13 +27,16 @@ is_too_long _ _ = false
 abbrev pub cell_faults : List Column → Row → List Refusal
 cell_faults [] row = []
 cell_faults (c ∷ cs) [] = []
-cell_faults (c ∷ cs) (v ∷ vs) = fault_if (is_too_long c.limit v) ValueOutOfRange ++ fault_if (c.required && is_null v) NullNotAllowed ++ cell_faults cs vs
+cell_faults (c ∷ cs) (v ∷ vs) =
+    fault_if (is_too_long c.limit v) ValueOutOfRange ++ fault_if
+    (c.required && is_null v) NullNotAllowed ++ cell_faults cs vs
 
 -- an application period without null that does not rise
 abbrev pub period_faults_by : Option Application → TableDef → Row → List Refusal
 period_faults_by None d row = []
 period_faults_by (Some a) d row =
-    fault_if (not (is_null (cell row a.start)) && not (is_null (cell row a.end)) && not (rises (period_of d row))) PeriodNotRising
+    fault_if (not (is_null (cell row a.start)) && not (is_null (cell row a.end)) && not
+    (rises (period_of d row))) PeriodNotRising
 
 -- the fault of a new row's application period
 abbrev pub period_faults : TableDef → Row → List Refusal
@@ -44,7 +49,8 @@ check_fault (Some t) = fault_if (is_false t) CheckFailed
 
 -- all that a new row can be refused for
 abbrev pub row_faults : TableDef → Row → List Refusal
-row_faults d row = cell_faults d.columns row ++ period_faults d row ++ flat_map (λ c. check_fault (judge [] row c)) d.checks
+row_faults d row = cell_faults d.columns row ++ period_faults d row ++ flat_map
+    (λ c. check_fault (judge [] row c)) d.checks
 
 -- ---- changes
 
@@ -70,7 +76,8 @@ new_row d columns values = filled (replicate (length d.columns) Null) columns va
 
 -- the outcome where these rows are added
 abbrev pub added_to : TableDef → List Stamped → List Stamped → Outcome
-added_to d rows new = record { rows = rows ++ new; count = length new; faults = flat_map (λ r. row_faults d (shown d r)) new }
+added_to d rows new =
+    record { rows = rows ++ new; count = length new; faults = flat_map (λ r. row_faults d (shown d r)) new }
 
 -- INSERT: one new row for each tuple
 abbrev pub insert : TableDef → ℤ → List Stamped → List ℕ → Option (List (List Datum)) → Outcome
@@ -103,7 +110,13 @@ touched_count (Replaced new ∷ fs) = suc (touched_count fs)
 -- the outcome where each row has this fate
 abbrev pub outcome_of : TableDef → List Stamped → Option (List Fate) → Outcome
 outcome_of d rows None = out_of_range rows
-outcome_of d rows (Some fates) = record { rows = after_fates rows fates; count = touched_count fates; faults = flat_map (λ r. row_faults d (shown d r)) (new_rows fates) }
+outcome_of d rows (Some fates) =
+    record {
+      rows = after_fates rows fates;
+      count = touched_count fates;
+      faults =
+          flat_map (λ r. row_faults d (shown d r)) (new_rows fates);
+    }
 
 -- the row with the values of SET, each computed on the old row
 abbrev pub assigned : Row → Row → List Assignment → Option Row
@@ -120,10 +133,12 @@ abbrev pub made_of : Work → Row → Option (List Row)
 made_of (Set sets) row = assigned row row sets >>= λ new. Some (new ∷ [])
 made_of Remove row = Some []
 
--- whether the change touches a row: it shares a point with the portion, and WHERE is true; WHERE is evaluated on such rows alone
+-- whether the change touches a row: it shares a point with the portion, and WHERE is true; WHERE is evaluated on such
+-- rows alone
 abbrev pub is_touched : TableDef → Option Period → List Cond → Row → Option Bool
 is_touched d None conds row = passes [] row conds
-is_touched d (Some portion) conds row = if share_a_point (period_of d row) portion then passes [] row conds else Some false
+is_touched d (Some portion) conds row =
+    if share_a_point (period_of d row) portion then passes [] row conds else Some false
 
 -- the rows that replace a touched row: what it becomes, within the portion, and its old values before and after it
 abbrev pub pieces : TableDef → Option Period → Row → List Row → List Row
@@ -136,7 +151,8 @@ pieces d (Some portion) row made =
 
 -- the fate of a touched row: each piece is a new row of the moment
 abbrev pub replacement : TableDef → ℤ → Option Period → Work → Row → Option Fate
-replacement d m portion work row = made_of work row >>= λ made. Some (Replaced (map (stamped d m) (pieces d portion row made)))
+replacement d m portion work row =
+    made_of work row >>= λ made. Some (Replaced (map (stamped d m) (pieces d portion row made)))
 
 -- a row that is not touched stays
 abbrev pub fate_where : Bool → Option Fate → Option Fate
@@ -145,7 +161,8 @@ fate_where false o = Some Untouched
 
 -- what becomes of a row
 abbrev pub fate : TableDef → ℤ → Option Period → Work → List Cond → Row → Option Fate
-fate d m portion work conds row = is_touched d portion conds row >>= λ b. fate_where b (replacement d m portion work row)
+fate d m portion work conds row =
+    is_touched d portion conds row >>= λ b. fate_where b (replacement d m portion work row)
 
 -- UPDATE and DELETE, plain or for a portion
 abbrev pub modify : TableDef → ℤ → List Stamped → Option Period → Work → List Cond → Outcome

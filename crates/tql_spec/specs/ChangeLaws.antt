@@ -35,13 +35,16 @@ goes (Some (Replaced new)) = true
 -- the law: where no fate is out of range, the rows after a change are those that stay and the new ones
 abbrev pub ChangesByParts : Type 0
 ChangesByParts =
-    (d : TableDef) (m : ℤ) (rows : List Stamped) (portion : Option Period) (work : Work) (conds : List Cond) (fates : List Fate)
+    (d : TableDef) (m : ℤ) (rows : List Stamped) (portion : Option Period) (work : Work) (conds : List Cond)
+    (fates : List Fate)
     → map_all (λ r. fate d m portion work conds (shown d r)) rows ≡ Some fates
-    → SameBag (after_fates rows fates) (filter (λ r. not (goes (fate d m portion work conds (shown d r)))) rows ++ new_rows fates)
+    → SameBag (after_fates rows fates)
+    (filter (λ r. not (goes (fate d m portion work conds (shown d r)))) rows ++ new_rows fates)
 
 -- ---- new rows
 
--- the law: an insertion of the same rows in another order leaves the same bag of rows, and reports the same count and the same fault
+-- the law: an insertion of the same rows in another order leaves the same bag of rows, and reports the same count and
+-- the same fault
 abbrev pub InsertsKeepNoOrder : Type 0
 InsertsKeepNoOrder =
     (d : TableDef) (m : ℤ) (rows : List Stamped) (columns : List ℕ) (tuples others : List Row) → SameBag tuples others

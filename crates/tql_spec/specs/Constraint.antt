@@ -1,12 +1,14 @@
 -- Keys and references, at each point.
-use Rattle.std.specs.Prelude.{ℕ, Bool, true, false, not, ◌&&◌, ◌||◌, ◌⊎◌, IsTrue, List, [], ◌∷◌, map, filter, ℤ, Contains, AllPairs, All, Option, Some, None}
+use Rattle.std.specs.Prelude.{ℕ, Bool, true, false, not, ◌&&◌, ◌||◌, ◌⊎◌, IsTrue, List, [], ◌∷◌, map, filter, ℤ}
+use Rattle.std.specs.Prelude.{Contains, AllPairs, All, Option, Some, None}
 use Rattle.std.specs.Bool.{Decides}
 use Rattle.std.specs.List.{list_all, list_any}
 use Rattle.tql_spec.specs.Words.{all_pairs}
 use Rattle.tql_spec.specs.Truth.{is_true}
 use Rattle.tql_spec.specs.Datum.{Row, Equals, compare, is_null}
 use Rattle.tql_spec.specs.Period.{Period, Holds, holds, share_a_point}
-use Rattle.tql_spec.specs.Definition.{TableDef, Key, Reference, Stamped, cell, period_of, shown, table_at, place_of, no_table}
+use Rattle.tql_spec.specs.Definition.{TableDef, Key, Reference, Stamped, cell, period_of, shown, table_at, place_of}
+use Rattle.tql_spec.specs.Definition.{no_table}
 use Rattle.tql_spec.specs.History.{Copy, rows_in}
 
 -- the cells of r in some columns equal those of s in others; a null equals nothing
@@ -37,7 +39,8 @@ key_holds d rows k = all_pairs (λ r s. not (clash d k r s)) rows
 
 -- the law: the test says what holds at each point
 abbrev pub KeyTestIsRight : Type 0
-KeyTestIsRight = (d : TableDef) (k : Key) (rows : List Row) → Decides (key_holds d rows k) (KeyHolds d k k.by_period rows)
+KeyTestIsRight = (d : TableDef) (k : Key) (rows : List Row)
+    → Decides (key_holds d rows k) (KeyHolds d k k.by_period rows)
 
 -- ---- references
 
@@ -106,9 +109,11 @@ keys_hold defs copy = each_table (λ d rows. list_all (key_holds d rows) d.keys)
 -- a reference of a table, to the parent's rows in the copy; a parent that is not there has none
 abbrev pub reference_to : List TableDef → Copy → TableDef → List Row → Reference → Option ℕ → Bool
 reference_to defs copy d rows f None = reference_holds d no_table f [] rows
-reference_to defs copy d rows f (Some t) = reference_holds d (table_at defs t) f (shown_rows (table_at defs t) (rows_in copy t)) rows
+reference_to defs copy d rows f (Some t) =
+    reference_holds d (table_at defs t) f (shown_rows (table_at defs t) (rows_in copy t)) rows
 
 -- whether each reference of each table holds
 abbrev pub references_hold : List TableDef → Copy → Bool
 references_hold defs copy =
-    each_table (λ d rows. list_all (λ f. reference_to defs copy d rows f (place_of f.parent defs)) d.references) defs copy
+    each_table (λ d rows. list_all (λ f. reference_to defs copy d rows f (place_of f.parent defs)) d.references) defs
+    copy

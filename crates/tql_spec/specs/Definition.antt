@@ -1,5 +1,6 @@
 -- The definition of a table.
-use Rattle.std.specs.Prelude.{ℕ, suc, Bool, ◌&&◌, nat_lt, List, [], ◌∷◌, slice_index_or, slice_set, insert, remove, ℤ, pos, Option, Some, None, if◌then◌else◌}
+use Rattle.std.specs.Prelude.{ℕ, suc, Bool, ◌&&◌, nat_lt, List, [], ◌∷◌, slice_index_or, slice_set, insert, remove, ℤ}
+use Rattle.std.specs.Prelude.{pos, Option, Some, None, if◌then◌else◌}
 use Rattle.std.specs.Ordering.{int_eq}
 use Rattle.tql_spec.specs.Words.{same_text}
 use Rattle.tql_spec.specs.Calendar.{high}
@@ -53,7 +54,16 @@ pub record TableDef : Type 0 where
 
 -- the table that is read where none is there
 abbrev pub no_table : TableDef
-no_table = record { name = []; columns = []; system = None; application = None; keys = []; references = []; checks = [] }
+no_table = record {
+  name = [];
+  columns = [];
+  system = None;
+  application = None;
+  keys = [];
+  references = [];
+  checks =
+      [];
+}
 
 -- the table with this number
 abbrev pub table_at : List TableDef → ℕ → TableDef

@@ -1,8 +1,11 @@
 -- The first token of a text, read from its first byte on.
-use Rattle.std.specs.Prelude.{ℕ, suc, Bool, true, false, ◌==◌, List, [], ◌∷◌, map, drop, Option, Some, None, if◌then◌else◌}
+use Rattle.std.specs.Prelude.{ℕ, suc, Bool, true, false, ◌==◌, List, [], ◌∷◌, map, drop, Option, Some, None}
+use Rattle.std.specs.Prelude.{if◌then◌else◌}
 use Rattle.std.specs.List.{prefix_len}
 use Rattle.tql_spec.specs.Calendar.{is_digit}
-use Rattle.tql_spec.specs.Token.{Symbol, Open, Close, Comma, Dot, PlusSign, MinusSign, Star, EqualSign, UnequalSign, LessSign, AtMostSign, MoreSign, AtLeastSign, Token, Word, QuotedName, Number, Quote, Sign, is_letter, is_word_byte, upper}
+use Rattle.tql_spec.specs.Token.{Symbol, Open, Close, Comma, Dot, PlusSign, MinusSign, Star, EqualSign, UnequalSign}
+use Rattle.tql_spec.specs.Token.{LessSign, AtMostSign, MoreSign, AtLeastSign, Token, Word, QuotedName, Number, Quote}
+use Rattle.tql_spec.specs.Token.{Sign, is_letter, is_word_byte, upper}
 
 -- a token without its text
 pub data Sort : Type 0 where
@@ -51,13 +54,16 @@ pub data Start : Type 0 where
 abbrev pub symbol_start : ℕ → Start
 symbol_start b =
     if b == 40 then SymbolStart Open else (if b == 41 then SymbolStart Close else (if b == 44 then SymbolStart Comma
-    else (if b == 46 then SymbolStart Dot else (if b == 43 then SymbolStart PlusSign else (if b == 42 then SymbolStart Star
+    else (if b == 46 then SymbolStart Dot else
+    (if b == 43 then SymbolStart PlusSign else (if b == 42 then SymbolStart Star
     else (if b == 61 then SymbolStart EqualSign else NoStart))))))
 
 abbrev pub start_of : ℕ → Start
 start_of b =
-    if is_letter b then LetterStart else (if is_digit b then DigitStart else (if b == 39 then QuoteStart else (if b == 34 then NameStart
-    else (if b == 60 then LessStart else (if b == 62 then MoreStart else (if b == 45 then MinusStart else symbol_start b))))))
+    if is_letter b then LetterStart else
+    (if is_digit b then DigitStart else (if b == 39 then QuoteStart else (if b == 34 then NameStart
+    else (if b == 60 then LessStart else
+    (if b == 62 then MoreStart else (if b == 45 then MinusStart else symbol_start b))))))
 
 -- a sort, and how many bytes the token has
 abbrev pub Reading : Type 0

@@ -1,5 +1,6 @@
 -- The copies of the database, newest first, and what a question finds in them.
-use Rattle.std.specs.Prelude.{ℕ, Bool, not, ◌&&◌, List, [], ◌∷◌, ◌++◌, map, filter, slice_index_or, ℤ, pos, ◌+ℤ◌, ◌<ℤ◌, int_le, int_lt, if◌then◌else◌}
+use Rattle.std.specs.Prelude.{ℕ, Bool, not, ◌&&◌, List, [], ◌∷◌, ◌++◌, map, filter, slice_index_or, ℤ, pos, ◌+ℤ◌, ◌<ℤ◌}
+use Rattle.std.specs.Prelude.{int_le, int_lt, if◌then◌else◌}
 use Rattle.std.specs.List.{list_any}
 use Rattle.tql_spec.specs.Calendar.{high}
 use Rattle.tql_spec.specs.Datum.{Row}
@@ -71,7 +72,8 @@ current (e ∷ older) = completed still e.rows
 abbrev pub as_of_from : ℤ → (Stamped → ℤ) → ℤ → List TableEntry → List Version
 as_of_from until ends m [] = []
 as_of_from until ends m (e ∷ older) =
-    if int_le e.moment m && int_lt m until then completed ends e.rows else as_of_from e.moment (ends_before e ends) m older
+    if int_le e.moment m && int_lt m until then completed ends e.rows else as_of_from e.moment
+    (ends_before e ends) m older
 
 -- the versions at a moment: the rows of the copy that stands then; none stands at the highest moment
 abbrev pub as_of : ℤ → List TableEntry → List Version
@@ -90,7 +92,8 @@ abbrev pub found_from : ℤ → (Stamped → ℤ) → ℤ → ℤ → List Table
 found_from until ends a b [] = []
 found_from until ends a b (e ∷ older) =
     let earlier = found_from e.moment (ends_before e ends) a b older in
-    filter (λ v. not (has_version earlier v.row)) (if meets a b e.moment until then completed ends e.rows else []) ++ earlier
+    filter (λ v. not (has_version earlier v.row))
+    (if meets a b e.moment until then completed ends e.rows else []) ++ earlier
 
 -- the versions from a moment to a moment, without the last
 abbrev pub from_to : ℤ → ℤ → List TableEntry → List Version
@@ -105,7 +108,8 @@ pub data When : Type 0 where
   FromTo : ℤ → ℤ → When
   Between : ℤ → ℤ → When
 
--- the versions that a reference finds in a table's copies; FROM .. TO ends before its last moment, and BETWEEN .. AND with it
+-- the versions that a reference finds in a table's copies; FROM .. TO ends before its last moment, and BETWEEN .. AND
+-- with it
 abbrev pub found : When → List TableEntry → List Version
 found Now entries = current entries
 found (AsOf m) entries = as_of m entries

@@ -1,5 +1,6 @@
 -- Where in a script its statements stand.
-use Rattle.std.specs.Prelude.{◌≡◌, ℕ, ◌+◌, ◌==◌, ◌||◌, Bool, true, false, not, List, [], ◌∷◌, ◌++◌, map, filter, count_by, if◌then◌else◌}
+use Rattle.std.specs.Prelude.{◌≡◌, ℕ, ◌+◌, ◌==◌, ◌||◌, Bool, true, false, not, List, [], ◌∷◌, ◌++◌, map, filter}
+use Rattle.std.specs.Prelude.{count_by, if◌then◌else◌}
 use Rattle.std.specs.List.{AllByRecursion}
 use Rattle.tql_spec.specs.Words.{is_empty}
 use Rattle.tql_spec.specs.Script.{Piece, Outside, cut, is_blank, begins_comment, trimmed, statements}
@@ -25,7 +26,8 @@ placed_behind before (p ∷ ps) =
 
 -- the statements of the bytes that stand behind these
 abbrev pub placed_from : List ℕ → List ℕ → List Placed
-placed_from before bytes = filter (λ (p : Placed). not (is_empty p.piece.text)) (placed_behind before (cut Outside bytes))
+placed_from before bytes =
+    filter (λ (p : Placed). not (is_empty p.piece.text)) (placed_behind before (cut Outside bytes))
 
 -- the statements of a script in their places
 abbrev pub placed_statements : List ℕ → List Placed

@@ -1,10 +1,12 @@
 -- The machine that copies the whole database at every commit: one statement, its names bound, run whole.
-use Rattle.std.specs.Prelude.{ℕ, Bool, false, not, ◌&&◌, List, [], ◌∷◌, ◌++◌, map, slice_set, remove, ℤ, pos, ◌+ℤ◌, int_le, Option, Some, None, is_some, is_none}
+use Rattle.std.specs.Prelude.{ℕ, Bool, false, not, ◌&&◌, List, [], ◌∷◌, ◌++◌, map, slice_set, remove, ℤ, pos, ◌+ℤ◌}
+use Rattle.std.specs.Prelude.{int_le, Option, Some, None, is_some, is_none}
 use Rattle.tql_spec.specs.Words.{listed, map_all}
 use Rattle.tql_spec.specs.Calendar.{high, first_moment}
 use Rattle.tql_spec.specs.Datum.{Row}
 use Rattle.tql_spec.specs.Period.{Period}
-use Rattle.tql_spec.specs.Refusal.{Refusal, ValueOutOfRange, DuplicateKey, ReferenceNotMet, NotInThisTransactionState, MomentNotAllowed, fault_if, first}
+use Rattle.tql_spec.specs.Refusal.{Refusal, ValueOutOfRange, DuplicateKey, ReferenceNotMet, NotInThisTransactionState}
+use Rattle.tql_spec.specs.Refusal.{MomentNotAllowed, fault_if, first}
 use Rattle.tql_spec.specs.Expression.{Expr, Cond, eval}
 use Rattle.tql_spec.specs.Definition.{Name, TableDef, table_at}
 use Rattle.tql_spec.specs.History.{Copy, Entry, rows_in, versions}
@@ -28,8 +30,8 @@ pub data Bound : Type 0 where
   Start : Bound
   Commit : Bound
   Rollback : Bound
-  Alter : Change → Bound
-  Ask : Query → Bound
+  ChangeRows : Change → Bound
+  AnswerQuery : Query → Bound
 
 -- the words that replies begin with
 pub data Verb : Type 0 where
@@ -51,7 +53,8 @@ pub data Reply : Type 0 where
 
 -- ---- the state
 
--- the definitions, the copies of the commits, newest first, the moment of the next transaction, and an open transaction with its working copy
+-- the definitions, the copies of the commits, newest first, the moment of the next transaction, and an open
+-- transaction with its working copy
 pub record State : Type 0 where
   pub definitions : List TableDef
   pub history : List Entry
@@ -87,24 +90,24 @@ bag_of s r = versions (table_at s.definitions r.table) r.table r.when (entries s
 -- ---- what a state refuses
 
 -- what a statement does to the transaction and the clock; the moment of AT where its literal is valid
-pub data Manner : Type 0 where
-  Defines : Manner
-  SetsClock : Option ℤ → Manner
-  Starts : Manner
-  Ends : Manner
-  Changes : Manner
-  Asks : Manner
+pub data StatementClass : Type 0 where
+  Defines : StatementClass
+  SetsClock : Option ℤ → StatementClass
+  Starts : StatementClass
+  Ends : StatementClass
+  Changes : StatementClass
+  Queries : StatementClass
 
--- the manner of a bound statement
-abbrev pub manner_of : Bound → Manner
-manner_of (CreateTable d) = Defines
-manner_of (DropTable t) = Defines
-manner_of (SetClock m) = SetsClock (Some m)
-manner_of Start = Starts
-manner_of Commit = Ends
-manner_of Rollback = Ends
-manner_of (Alter c) = Changes
-manner_of (Ask q) = Asks
+-- the statement_class of a bound statement
+abbrev pub class_of : Bound → StatementClass
+class_of (CreateTable d) = Defines
+class_of (DropTable t) = Defines
+class_of (SetClock m) = SetsClock (Some m)
+class_of Start = Starts
+class_of Commit = Ends
+class_of Rollback = Ends
+class_of (ChangeRows c) = Changes
+class_of (AnswerQuery q) = Queries
 
 -- a moment that is not later than the last commit's
 abbrev pub is_not_later : ℤ → List Entry → Bool
@@ -116,14 +119,16 @@ abbrev pub is_clock_at_end : State → Bool
 is_clock_at_end s = int_le high s.next
 
 -- the faults by the transaction and the clock
-abbrev pub state_faults : State → Manner → List Refusal
+abbrev pub state_faults : State → StatementClass → List Refusal
 state_faults s Defines = fault_if (is_some s.transaction) NotInThisTransactionState
 state_faults s (SetsClock None) = fault_if (is_some s.transaction) NotInThisTransactionState
-state_faults s (SetsClock (Some m)) = fault_if (is_some s.transaction) NotInThisTransactionState ++ fault_if (is_not_later m s.history) MomentNotAllowed
-state_faults s Starts = fault_if (is_some s.transaction) NotInThisTransactionState ++ fault_if (is_clock_at_end s) MomentNotAllowed
+state_faults s (SetsClock (Some m)) =
+    fault_if (is_some s.transaction) NotInThisTransactionState ++ fault_if (is_not_later m s.history) MomentNotAllowed
+state_faults s Starts =
+    fault_if (is_some s.transaction) NotInThisTransactionState ++ fault_if (is_clock_at_end s) MomentNotAllowed
 state_faults s Ends = fault_if (is_none s.transaction) NotInThisTransactionState
 state_faults s Changes = fault_if (is_none s.transaction && is_clock_at_end s) MomentNotAllowed
-state_faults s Asks = []
+state_faults s Queries = []
 
 -- ---- effects
 
@@ -167,13 +172,16 @@ verb_of (Modify t portion work conds) = verb_of_work work
 
 -- what a change makes of its table in the working copy
 abbrev pub outcome : State → ℤ → Copy → Change → Outcome
-outcome s m copy (InsertTuples t columns tuples) = insert (table_at s.definitions t) m (rows_in copy t) columns (map_all (map_all (eval [] [])) tuples)
-outcome s m copy (InsertQuery t columns q) = insert (table_at s.definitions t) m (rows_in copy t) columns (answer (bag_of s) q)
+outcome s m copy (InsertTuples t columns tuples) =
+    insert (table_at s.definitions t) m (rows_in copy t) columns (map_all (map_all (eval [] [])) tuples)
+outcome s m copy (InsertQuery t columns q) =
+    insert (table_at s.definitions t) m (rows_in copy t) columns (answer (bag_of s) q)
 outcome s m copy (Modify t portion work conds) = modify (table_at s.definitions t) m (rows_in copy t) portion work conds
 
 -- the faults of a whole copy
 abbrev pub constraint_faults : List TableDef → Copy → List Refusal
-constraint_faults defs copy = fault_if (not (keys_hold defs copy)) DuplicateKey ++ fault_if (not (references_hold defs copy)) ReferenceNotMet
+constraint_faults defs copy =
+    fault_if (not (keys_hold defs copy)) DuplicateKey ++ fault_if (not (references_hold defs copy)) ReferenceNotMet
 
 -- the reply and the state, unless a fault is present
 abbrev pub unless_refused : Option Refusal → State → Reply → State → Reply × State
@@ -181,8 +189,8 @@ unless_refused None old reply new = (reply, new)
 unless_refused (Some e) old reply new = (Refused e, old)
 
 -- a change, with keys and references tested on the copy after it
-abbrev pub altered : State → Change → Reply × State
-altered s c =
+abbrev pub changed : State → Change → Reply × State
+changed s c =
     let e = working s s.transaction in
     let o = outcome s e.moment e.copy c in
     let copy = slice_set e.copy (changed_table c) o.rows in
@@ -207,12 +215,12 @@ effect s (SetClock m) = (Done ClockSet None, record s { next = m })
 effect s Start = (Done Started None, record s { transaction = Some (working s None) })
 effect s Commit = (Done Committed None, with_commit s s.transaction)
 effect s Rollback = (Done RolledBack None, record s { transaction = None })
-effect s (Alter c) = altered s c
-effect s (Ask q) = asked s q (answer (bag_of s) q)
+effect s (ChangeRows c) = changed s c
+effect s (AnswerQuery q) = asked s q (answer (bag_of s) q)
 
 -- one step
 abbrev pub step : State → Bound → Reply × State
-step s b = let r = effect s b in unless_refused (first (state_faults s (manner_of b))) s r.0 r.1
+step s b = let r = effect s b in unless_refused (first (state_faults s (class_of b))) s r.0 r.1
 
 -- the replies to a list of statements, and the state after them
 abbrev pub replies : State → List Bound → List Reply

@@ -1,4 +1,4 @@
--- A script means one thing: what a piece says, and what a run replies. tql_grammar has the proofs, of the whole
+-- A script means one thing: what a piece says, and what a run replies. tql_syntax_grammar has the proofs, of the whole
 -- grammar.
 use Rattle.std.specs.Prelude.{◌≡◌, List}
 use Rattle.tql_spec.specs.Bag.{In}

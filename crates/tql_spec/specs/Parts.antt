@@ -1,6 +1,7 @@
 -- Lists of the parts of expressions and conditions, as the trees hold them behind a first part.
 use Rattle.std.specs.Prelude.{Bool, if◌then◌else◌, List, [], ◌∷◌}
-use Rattle.tql_spec.specs.Syntax.{Product, MoreTerms, NoTerm, PlusTerm, MinusTerm, MoreFactors, NoFactor, TimesFactor, Signed, MoreConjs, NoConj, OrConj, Conj, MoreTests, NoTest, AndTest, Factor}
+use Rattle.tql_spec.specs.Syntax.{Product, MoreTerms, NoTerm, PlusTerm, MinusTerm, MoreFactors, NoFactor, TimesFactor}
+use Rattle.tql_spec.specs.Syntax.{Signed, MoreConjs, NoConj, OrConj, Conj, MoreTests, NoTest, AndTest, Factor}
 
 -- a term behind the first, and whether it is subtracted
 pub record AddedTerm : Type 0 where

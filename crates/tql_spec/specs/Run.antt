@@ -1,7 +1,8 @@
 -- The answers to a script: from bytes to replies, over whole runs.
 use Rattle.std.specs.Prelude.{◌≡◌, ◌⊎◌, ◌<◌, ◌≤◌, ℕ, true, IsTrue, IsFalse, IsUtf8, List, [], ◌∷◌, ◌++◌, length}
 use Rattle.std.specs.List.{AllByRecursion}
-use Rattle.tql_spec.specs.Refusal.{Refusal, OutOfMemory, NotAStatement, NotUtf8, UnfinishedStatement, StatementTooLong, NestedTooDeep, TooManyColumnsOrTables, first}
+use Rattle.tql_spec.specs.Refusal.{Refusal, OutOfMemory, NotAStatement, NotUtf8, UnfinishedStatement, StatementTooLong}
+use Rattle.tql_spec.specs.Refusal.{NestedTooDeep, TooManyColumnsOrTables, first}
 use Rattle.tql_spec.specs.Definition.{TableDef}
 use Rattle.tql_spec.specs.History.{Entry, Copy}
 use Rattle.tql_spec.specs.Constraint.{keys_hold, references_hold}
@@ -13,7 +14,7 @@ use Rattle.tql_spec.specs.Token.{Token, AreTokens, depth}
 use Rattle.tql_spec.specs.Syntax.{Statement, is_too_wide}
 use Rattle.tql_spec.specs.Grammar.{IsStatement}
 use Rattle.tql_spec.specs.Running.{Runs}
-use Rattle.tql_spec.specs.Binding.{bind, manner}
+use Rattle.tql_spec.specs.Binding.{bind, statement_class}
 
 -- ---- what a piece of a script says
 
@@ -55,7 +56,8 @@ HasSense L p (Faulty NotUtf8) = (length p.text ≤ 1_048_576) × ¬ IsUtf8 p.tex
 HasSense L p (Faulty UnfinishedStatement) = (length p.text ≤ 1_048_576) × IsUtf8 p.text × IsFalse p.finished
 HasSense L p (Faulty NestedTooDeep) = IsWhole p × IsDeep p.text
 HasSense L p (Faulty NotAStatement) = IsWhole p × ¬ IsDeep p.text × ((s : Statement) → IsTextOf L p.text s → ⊥)
-HasSense L p (Faulty TooManyColumnsOrTables) = IsWhole p × ((s : Statement) × IsTextOf L p.text s × IsTrue (is_too_wide s))
+HasSense L p (Faulty TooManyColumnsOrTables) =
+    IsWhole p × ((s : Statement) × IsTextOf L p.text s × IsTrue (is_too_wide s))
 HasSense L p (Faulty _) = ⊥
 HasSense L p (Says s) = IsWhole p × IsTextOf L p.text s × IsFalse (is_too_wide s)
 
@@ -63,7 +65,7 @@ HasSense L p (Says s) = IsWhole p × IsTextOf L p.text s × IsFalse (is_too_wide
 
 -- every fault of the state, of names, kinds, forms and literals that a statement has
 abbrev pub statement_faults : State → Statement → List Refusal
-statement_faults s t = state_faults s (manner t) ++ (bind s.definitions t).faults
+statement_faults s t = state_faults s (statement_class t) ++ (bind s.definitions t).faults
 
 -- the reply to a statement and the state after it
 abbrev pub respond : State → Statement → Reply × State
@@ -99,12 +101,13 @@ verdict (Faulty e) = Replied (Refused e)
 -- where it is checked over the whole grammar: by this verdict, or out of memory; the state stays as it is
 abbrev pub Checks : Answering
 Checks old p answer new =
-    (((sense : Sense) × HasSense IsStatement p sense × (answer ≡ verdict sense)) ⊎ (answer ≡ Replied (Refused OutOfMemory)))
+    (((sense : Sense) × HasSense IsStatement p sense × (answer ≡ verdict sense)) ⊎
+    (answer ≡ Replied (Refused OutOfMemory)))
     × (new ≡ old)
 
 -- ---- runs
 
--- what pieces are answered, one after another, each in this manner
+-- what pieces are answered, one after another, each in this statement_class
 abbrev pub RunBy : {R : Type 0} → (State → Piece → R → State → Type 0) → State → List Piece → List R → State → Type 0
 RunBy A old [] [] new = new ≡ old
 RunBy A old (p ∷ ps) (r ∷ rs) new = (mid : State) × A old p r mid × RunBy A mid ps rs new
@@ -117,7 +120,8 @@ Run = RunBy Answers
 
 -- the bytes written are the texts of a run over the script's statements
 abbrev pub Writes : State → (script output : List ℕ) → State → Type 0
-Writes old script output new = (replies : List Reply) × Run old (statements script) replies new × (output ≡ replies_text replies)
+Writes old script output new =
+    (replies : List Reply) × Run old (statements script) replies new × (output ≡ replies_text replies)
 
 -- ---- what every state keeps
 

@@ -2,7 +2,9 @@
 use Rattle.std.specs.Prelude.{Bool, true, false, IsTrue, List, ◌∷◌, None}
 use Rattle.std.specs.List.{list_all}
 use Rattle.tql_spec.specs.Token.{Token}
-use Rattle.tql_spec.specs.Syntax.{Element, ColumnElement, PeriodElement, Statement, CreateTree, DropTree, InsertValues, InsertSelect, UpdateTree, DeleteTree, QueryTree, StartTree, CommitTree, RollbackTree, AtTree}
+use Rattle.tql_spec.specs.Syntax.{Element, ColumnElement, PeriodElement, Statement, CreateTree, DropTree, InsertValues}
+use Rattle.tql_spec.specs.Syntax.{InsertSelect, UpdateTree, DeleteTree, QueryTree, StartTree, CommitTree, RollbackTree}
+use Rattle.tql_spec.specs.Syntax.{AtTree}
 use Rattle.tql_spec.specs.Grammar.{IsStatement}
 
 -- ---- statements

@@ -1,5 +1,6 @@
 -- The tokens of a text.
-use Rattle.std.specs.Prelude.{◌≡◌, ◌⊎◌, ℕ, suc, pred, ◌-◌, max, Bool, false, not, ◌&&◌, ◌||◌, ◌==◌, nat_le, IsTrue, IsFalse, List, [], ◌∷◌, ◌++◌, map, codes, if◌then◌else◌, ⊤}
+use Rattle.std.specs.Prelude.{◌≡◌, ◌⊎◌, ℕ, suc, pred, ◌-◌, max, Bool, false, not, ◌&&◌, ◌||◌, ◌==◌, nat_le, IsTrue}
+use Rattle.std.specs.Prelude.{IsFalse, List, [], ◌∷◌, ◌++◌, map, codes, if◌then◌else◌, ⊤}
 use Rattle.std.specs.List.{list_all, list_any}
 use Rattle.tql_spec.specs.Words.{same_text}
 use Rattle.tql_spec.specs.Calendar.{is_digit}
@@ -100,7 +101,8 @@ IsOneLine bs = IsTrue (list_all (λ b. not (b == 10)) bs)
 pub data IsGap : List ℕ → Type 0 where
   nothing : IsGap []
   blank : {b : ℕ} {bs : List ℕ} → IsTrue (is_blank b) → IsGap bs → IsGap (b ∷ bs)
-  comment : (words : List ℕ) {bs gap : List ℕ} → IsOneLine words → IsGap bs → gap ≡ 45 ∷ 45 ∷ words ++ 10 ∷ bs → IsGap gap
+  comment : (words : List ℕ) {bs gap : List ℕ} → IsOneLine words → IsGap bs → gap ≡ 45 ∷ 45 ∷ words ++ 10 ∷ bs
+      → IsGap gap
 
 -- blanks and comments up to the end, the last comment perhaps without a line feed
 abbrev pub IsEnd : List ℕ → Type 0
@@ -110,7 +112,8 @@ IsEnd bytes = IsGap bytes ⊎ ((gap words : List ℕ) × IsGap gap × IsOneLine 
 abbrev pub AreTokens : List Token → List ℕ → Type 0
 AreTokens [] bytes = IsEnd bytes
 AreTokens (t ∷ ts) bytes =
-    (gap text rest : List ℕ) × (bytes ≡ gap ++ text ++ rest) × IsGap gap × Spells t text × IsLongest t rest × AreTokens ts rest
+    (gap text rest : List ℕ) ×
+    (bytes ≡ gap ++ text ++ rest) × IsGap gap × Spells t text × IsLongest t rest × AreTokens ts rest
 
 -- the most parentheses that are open at once, where so many are
 abbrev pub depth_from : ℕ → List Token → ℕ
@@ -126,14 +129,17 @@ depth = depth_from 0
 -- the words that are never names
 abbrev pub reserved : List (List ℕ)
 reserved =
-    codes "ALL" ∷ codes "AND" ∷ codes "AS" ∷ codes "BETWEEN" ∷ codes "BIGINT" ∷ codes "BY" ∷ codes "CHECK" ∷ codes "CONSTRAINT"
-    ∷ codes "CONTAINS" ∷ codes "COUNT" ∷ codes "CREATE" ∷ codes "CROSS" ∷ codes "DATE" ∷ codes "DELETE" ∷ codes "DISTINCT"
+    codes "ALL" ∷ codes "AND" ∷ codes "AS" ∷ codes "BETWEEN" ∷ codes "BIGINT" ∷ codes "BY" ∷ codes "CHECK" ∷ codes
+    "CONSTRAINT"
+    ∷ codes "CONTAINS" ∷ codes "COUNT" ∷ codes "CREATE" ∷ codes "CROSS" ∷ codes "DATE" ∷ codes "DELETE" ∷ codes
+    "DISTINCT"
     ∷ codes "DROP" ∷ codes "EQUALS" ∷ codes "FOR" ∷ codes "FOREIGN" ∷ codes "FROM" ∷ codes "FULL" ∷ codes "GROUP"
     ∷ codes "HAVING" ∷ codes "IMMEDIATELY" ∷ codes "IN" ∷ codes "INNER" ∷ codes "INSERT" ∷ codes "INT" ∷ codes "INTEGER"
     ∷ codes "INTO" ∷ codes "IS" ∷ codes "JOIN" ∷ codes "LEFT" ∷ codes "MAX" ∷ codes "MIN" ∷ codes "NOT" ∷ codes "NULL"
     ∷ codes "ON" ∷ codes "OR" ∷ codes "ORDER" ∷ codes "OUTER" ∷ codes "OVERLAPS" ∷ codes "PERIOD" ∷ codes "PORTION"
     ∷ codes "PRECEDES" ∷ codes "PRIMARY" ∷ codes "REFERENCES" ∷ codes "RIGHT" ∷ codes "SELECT" ∷ codes "SET"
-    ∷ codes "SUCCEEDS" ∷ codes "SUM" ∷ codes "SYSTEM_TIME" ∷ codes "TABLE" ∷ codes "TIMESTAMP" ∷ codes "TO" ∷ codes "UNIQUE"
+    ∷ codes "SUCCEEDS" ∷ codes "SUM" ∷ codes "SYSTEM_TIME" ∷ codes "TABLE" ∷ codes "TIMESTAMP" ∷ codes "TO" ∷ codes
+    "UNIQUE"
     ∷ codes "UPDATE" ∷ codes "VALUES" ∷ codes "VARCHAR" ∷ codes "WHERE" ∷ codes "WITH" ∷ []
 
 -- whether a word is reserved

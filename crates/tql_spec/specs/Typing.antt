@@ -1,5 +1,6 @@
 -- The kinds of the values in rows: each value is of the kind of its column, or null.
-use Rattle.std.specs.Prelude.{◌≡◌, ℕ, zero, suc, ◌<◌, Bool, false, IsTrue, List, [], ◌∷◌, length, slice_index_or, Option, Some, None}
+use Rattle.std.specs.Prelude.{◌≡◌, ℕ, zero, suc, ◌<◌, Bool, false, IsTrue, List, [], ◌∷◌, length, slice_index_or}
+use Rattle.std.specs.Prelude.{Option, Some, None}
 use Rattle.tql_spec.specs.Bag.{In}
 use Rattle.tql_spec.specs.Datum.{Datum, Row, Kind, Ints, Moments, kind_of, is_null}
 use Rattle.tql_spec.specs.Expression.{Expr, eval}
@@ -76,12 +77,14 @@ IsTyped d r = AreOfKinds (kinds_of d) (shown d r)
 -- so has each row of each copy, the working one too
 abbrev pub RowsAreTyped : State → Type 0
 RowsAreTyped s =
-    (e : Entry) → In e (entries s) → (t : ℕ) (r : Stamped) → In r (rows_in e.copy t) → IsTyped (table_at s.definitions t) r
+    (e : Entry) → In e (entries s) → (t : ℕ) (r : Stamped) → In r (rows_in e.copy t)
+    → IsTyped (table_at s.definitions t) r
 
 -- no null stands in the columns of a row's application period
 abbrev pub HasPeriod : TableDef → Row → Type 0
 HasPeriod d row =
-    (a : Application) → d.application ≡ Some a → (is_null (cell row a.start) ≡ false) × (is_null (cell row a.end) ≡ false)
+    (a : Application) → d.application ≡ Some a
+    → (is_null (cell row a.start) ≡ false) × (is_null (cell row a.end) ≡ false)
 
 -- none does in any row of any copy
 abbrev pub RowsHavePeriods : State → Type 0

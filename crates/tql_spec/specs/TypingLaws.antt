@@ -8,12 +8,16 @@ use Rattle.tql_spec.specs.Definition.{TableDef, Application, cell, period_of, ta
 use Rattle.tql_spec.specs.Creation.{kinds_of, has_number, period_columns}
 use Rattle.tql_spec.specs.Query.{Ref, answer}
 use Rattle.tql_spec.specs.Change.{Assignment, Work}
-use Rattle.tql_spec.specs.Machine.{State, Change, InsertTuples, InsertQuery, Modify, Bound, CreateTable, DropTable, SetClock, Start, Commit, Rollback, Alter, Ask, bag_of, manner_of, state_faults, effect, step}
+use Rattle.tql_spec.specs.Machine.{State, Change, InsertTuples, InsertQuery, Modify, Bound, CreateTable, DropTable}
+use Rattle.tql_spec.specs.Machine.{SetClock, Start, Commit, Rollback, ChangeRows, AnswerQuery, bag_of, class_of}
+use Rattle.tql_spec.specs.Machine.{state_faults}
+use Rattle.tql_spec.specs.Machine.{effect, step}
 use Rattle.tql_spec.specs.Syntax.{Sum, Statement}
 use Rattle.tql_spec.specs.Names.{Known, expr}
 use Rattle.tql_spec.specs.Binding.{bind, kinds_for}
 use Rattle.tql_spec.specs.Reached.{IsReached}
-use Rattle.tql_spec.specs.Typing.{IsOfKind, AreOfKinds, GiveKinds, column_kind, IsTypedDefinition, HasPeriod, IsTypedState}
+use Rattle.tql_spec.specs.Typing.{IsOfKind, AreOfKinds, GiveKinds, column_kind, IsTypedDefinition, HasPeriod}
+use Rattle.tql_spec.specs.Typing.{IsTypedState}
 
 -- ---- expressions
 
@@ -30,7 +34,8 @@ ValuesAreOfKind = (scope : List Known) (e : Sum) (group : List Row) (row : Row)
 
 -- ---- bound statements
 
--- an assignment: its value on a row of the table is of its column's kind, and a change of a portion sets no column of the period
+-- an assignment: its value on a row of the table is of its column's kind, and a change of a portion sets no column of
+-- the period
 pub record IsTypedAssignment (d : TableDef) (portion : Option Period) (a : Assignment) : Type 0 where
   pub value : (row : Row) → AreOfKinds (kinds_of d) row → (v : Datum) → eval [] row a.value ≡ Some v
       → IsOfKind (Some (column_kind d a.column)) v
@@ -62,8 +67,8 @@ IsTypedBound defs (SetClock m) = Unit {0}
 IsTypedBound defs Start = Unit {0}
 IsTypedBound defs Commit = Unit {0}
 IsTypedBound defs Rollback = Unit {0}
-IsTypedBound defs (Alter c) = IsTypedChange defs c
-IsTypedBound defs (Ask q) = Unit {0}
+IsTypedBound defs (ChangeRows c) = IsTypedChange defs c
+IsTypedBound defs (AnswerQuery q) = Unit {0}
 
 -- ---- laws
 
@@ -75,7 +80,7 @@ BoundAreTyped =
 -- the law: a step keeps the kinds, and so does an effect that the state does not refuse
 pub record StepsKeepTypes : Type 0 where
   pub steps : (s : State) (b : Bound) → IsTypedState s → IsTypedBound s.definitions b → IsTypedState (step s b).1
-  pub effects : (s : State) (b : Bound) → state_faults s (manner_of b) ≡ [] → IsTypedState s
+  pub effects : (s : State) (b : Bound) → state_faults s (class_of b) ≡ [] → IsTypedState s
       → IsTypedBound s.definitions b → IsTypedState (effect s b).1
 
 -- the law: what a question of a table finds in such a state, also of the past, are rows of its kinds

@@ -8,15 +8,15 @@ use Rattle.std.proofs.lemmas.List.Sums.{sum_by-cons}
 use Rattle.std.proofs.lemmas.List.Elements.{All-filter}
 use Rattle.tql_spec.proofs.Members.{by_bool}
 use Rattle.tql_spec.proofs.Bags.{sum-map}
-use Rattle.tql_spec.specs.Definition as spec
+use Rattle.tql_spec.specs.Definition as definition
 use Rattle.tql_spec.specs.Definition.{Stamped}
-use Rattle.tql_rows.specs.Changes.{alive}
-use Rattle.tql_store.specs.Held.{Held, named, is_open, is_removable, is_among, AreRemovable}
+use Rattle.tql_store_rows.specs.Changes.{alive}
+use Rattle.tql_store.specs.StoreModel.{StoreModel, named, is_open, is_removable, is_among, AreRemovable}
 use Rattle.tql_store.specs.Represents.{Judged}
-use Rattle.tql_rows.specs.Changes.{is_current}
-use Rattle.tql_rows.specs.Readings.{version_shown as version_of}
+use Rattle.tql_store_rows.specs.Changes.{is_current}
+use Rattle.tql_store_rows.specs.Readings.{version_shown as version_of}
 use Rattle.tql_store.specs.Views.{Names, NamesOnce}
-use Rattle.tql_rows.specs.declared.version.Version.{Version}
+use Rattle.tql_store_rows.specs.declared.version.Version.{Version}
 
 -- the ids of the versions whose rows pass a test
 abbrev pub ids_of : (Stamped → Bool) → List Version → List ℕ
@@ -32,7 +32,7 @@ one_number i j e = grind (arith, nat_tests)
 positive : (n : ℕ) → ltb 0 (1 + n) ≡ true
 positive n = grind (arith, nat_tests)
 
-one_version : (a b : spec.Version) → Some a ≡ Some b → a ≡ b
+one_version : (a b : definition.Version) → Some a ≡ Some b → a ≡ b
 one_version a b e = cc
 
 counting : (i : ℕ) (v : Version) (vs : List Version)
@@ -41,7 +41,7 @@ counting : (i : ℕ) (v : Version) (vs : List Version)
 counting i v vs = sum_by-cons (λ (x : Version). cond (nat_eq x.id i) 1 0) v vs
 
 -- a slot's place is listed if it is named at all and its row passes
-listed-ids : (t : ℕ) (gone : Stamped → Bool) (h : Held) (i : ℕ) (s : spec.Version) → named h t i ≡ Some s
+listed-ids : (t : ℕ) (gone : Stamped → Bool) (h : StoreModel) (i : ℕ) (s : definition.Version) → named h t i ≡ Some s
     → (found : List Version) → All (Names h t) found
     → is_among i (ids_of gone found) ≡ (ltb 0 (count_by (λ (x : Version). nat_eq x.id i) found) && gone s.row)
 listed-ids t gone h i s at [] names = refl
@@ -51,7 +51,7 @@ listed-ids t gone h i s at (v ∷ vs) names =
     by_bool (nat_eq v.id i) (here later) (past later)
   where
     row_is : nat_eq v.id i ≡ true → gone (version_of v).row ≡ gone s.row
-    row_is e = ap (λ (x : spec.Version). gone x.row) (one_version (version_of v) s (sym (names 0 v (omega arith))
+    row_is e = ap (λ (x : definition.Version). gone x.row) (one_version (version_of v) s (sym (names 0 v (omega arith))
         ∙ ap (named h t) (one_number v.id i e) ∙ at))
 
     here : is_among i (ids_of gone vs) ≡ (ltb 0 (count_by (λ (x : Version). nat_eq x.id i) vs) && gone s.row)
@@ -100,7 +100,7 @@ listed-ids t gone h i s at (v ∷ vs) names =
             ap (λ (b : Bool). cond {A = ℕ} b 1 0) e in omega arith
 
 -- the ids of the current versions whose rows go are judged by these rows
-pub judged : (h : Held) (t : ℕ) (gone : Stamped → Bool) (found : List Version) → All (Names h t) found
+pub judged : (h : StoreModel) (t : ℕ) (gone : Stamped → Bool) (found : List Version) → All (Names h t) found
     → NamesOnce h t is_current found → Judged h t gone (ids_of gone found)
 judged h t gone found names once = λ i s at.
     listed-ids t gone h i s at found names ∙ ap (λ (n : ℕ). ltb 0 n && gone s.row) (once i s at)
@@ -114,7 +114,8 @@ judged h t gone found names once = λ i s at.
 -- ---- they may be taken away
 
 -- a version that is named and counted is current
-current-found : (h : Held) (t : ℕ) (all found : List Version) → NamesOnce h t is_current all → All (Names h t) found
+current-found : (h : StoreModel) (t : ℕ) (all found : List Version) → NamesOnce h t is_current all
+    → All (Names h t) found
     → ((i : ℕ) → count_by (λ (v : Version). nat_eq v.id i) found ≤ count_by (λ (v : Version). nat_eq v.id i) all)
     → All (λ id. IsTrue (is_removable h t id)) (map (λ (v : Version). v.id) found)
 current-found h t all [] once names fewer = λ k d l. absurd (omega arith)
@@ -156,12 +157,12 @@ fewer-left p i (v ∷ vs) = chosen (p v) (fewer-left p i vs)
     chosen true h = omega (arith, counting i v vs, counting i v (filter p vs))
     chosen false h = omega (arith, counting i v vs)
 
-names-left : (h : Held) (t : ℕ) (p : Version → Bool) (found : List Version) → All (Names h t) found
+names-left : (h : StoreModel) (t : ℕ) (p : Version → Bool) (found : List Version) → All (Names h t) found
     → All (Names h t) (filter p found)
 names-left h t p found names = All-filter p (Names h t) found names
 
 -- an id that is named is the id of a version
-once-ids : (h : Held) (t : ℕ) (found : List Version) → All (Names h t) found → NamesOnce h t is_current found
+once-ids : (h : StoreModel) (t : ℕ) (found : List Version) → All (Names h t) found → NamesOnce h t is_current found
     → (i : ℕ) → count_by (λ (v : Version). nat_eq v.id i) found ≤ 1
 once-ids h t found names once i = named_or (named h t i) refl
   where
@@ -179,12 +180,12 @@ once-ids h t found names once i = named_or (named h t i) refl
         (λ other. let none : cond {A = ℕ} (nat_eq v.id i) 1 0 ≡ 0 = ap (λ (b : Bool). cond {A = ℕ} b 1 0) other in
         omega (arith, counting i v vs))
 
-    named_or : (o : Option spec.Version) → named h t i ≡ o → count_by (λ (v : Version). nat_eq v.id i) found ≤ 1
+    named_or : (o : Option definition.Version) → named h t i ≡ o → count_by (λ (v : Version). nat_eq v.id i) found ≤ 1
     named_or None e = let k = nobody found names e in omega arith
     named_or (Some v) e = subst (λ (n : ℕ). n ≤ 1) (sym (once i v e)) (at_most (alive v && is_current v))
 
 -- the ids of some of the current versions
-pub removable : (h : Held) (t : ℕ) (p : Version → Bool) (found : List Version) → All (Names h t) found
+pub removable : (h : StoreModel) (t : ℕ) (p : Version → Bool) (found : List Version) → All (Names h t) found
     → NamesOnce h t is_current found → AreRemovable h t (map (λ (v : Version). v.id) (filter p found))
 removable h t p found names once = record {
   current = current-found h t found (filter p found) once (names-left h t p found names) (λ i. fewer-left p i found);
@@ -193,7 +194,7 @@ removable h t p found names once = record {
 }
 
 -- the ids of all current versions
-pub all_removable : (h : Held) (t : ℕ) (found : List Version) → All (Names h t) found
+pub all_removable : (h : StoreModel) (t : ℕ) (found : List Version) → All (Names h t) found
     → NamesOnce h t is_current found → AreRemovable h t (map (λ (v : Version). v.id) found)
 all_removable h t found names once = record {
   current = current-found h t found found once names (λ i. omega arith);
@@ -202,14 +203,14 @@ all_removable h t found names once = record {
 }
 
 -- no ids
-pub none-removable : (h : Held) (t : ℕ) (removed : List ℕ) → removed ≡ [] → AreRemovable h t removed
+pub none-removable : (h : StoreModel) (t : ℕ) (removed : List ℕ) → removed ≡ [] → AreRemovable h t removed
 none-removable h t removed e = subst (AreRemovable h t) (sym e) (record {
   current = λ k d l. absurd (omega arith);
   once = λ i. omega arith;
 })
 
 -- ids stay good where they name what they named
-pub still-removable : (old new : Held) (t : ℕ) (removed : List ℕ) → ((id : ℕ) → named new t id ≡ named old t id)
+pub still-removable : (old new : StoreModel) (t : ℕ) (removed : List ℕ) → ((id : ℕ) → named new t id ≡ named old t id)
     → AreRemovable old t removed → AreRemovable new t removed
 still-removable old new t removed same r = record {
   current = λ k d l. ap is_open (same (slice_index_or removed k d))
@@ -217,6 +218,6 @@ still-removable old new t removed same r = record {
   once = r.once;
 }
 
-pub still-judged : (old new : Held) (t : ℕ) (gone : Stamped → Bool) (removed : List ℕ)
+pub still-judged : (old new : StoreModel) (t : ℕ) (gone : Stamped → Bool) (removed : List ℕ)
     → ((id : ℕ) → named new t id ≡ named old t id) → Judged old t gone removed → Judged new t gone removed
 still-judged old new t gone removed same j = λ id v e. j id v (sym (same id) ∙ e)

@@ -6,11 +6,11 @@ use Rattle.std.proofs.lemmas.Bool.Decides.{nat_tests}
 use Rattle.std.proofs.lemmas.List.{get_or_default}
 use Rattle.tql_spec.proofs.Members.{by_bool}
 use Rattle.tql_spec.specs.Definition.{Version}
-use Rattle.tql_rows.specs.Held.{Held, versions}
+use Rattle.tql_store_rows.specs.TableModel.{TableModel, versions}
 use Rattle.tql_store.specs.Orderly.{empty, table_at, touch_at, IsUntouched, IsNoted, IsPut}
-use Rattle.tql_store.specs.Places.{place_of, is_taken, is_kept}
-use Rattle.tql_store.specs.declared.tables.Place.{Place}
-use Rattle.tql_store.specs.declared.tables.Place.TheVariants.{Free, Versioned, Unversioned}
+use Rattle.tql_store.specs.TableSlots.{slot_at, is_taken, is_kept}
+use Rattle.tql_store.specs.declared.tables.TableSlot.{TableSlot}
+use Rattle.tql_store.specs.declared.tables.TableSlot.TheVariants.{Free, Versioned, Unversioned}
 
 pub one_number : (i j : ℕ) → nat_eq i j ≡ true → i ≡ j
 one_number i j e = grind (arith, nat_tests)
@@ -23,12 +23,12 @@ two_numbers i j e = λ same. grind (arith, nat_tests)
 
 -- ---- a table that is put
 
-pub put-here : (ts : List Held) (n : ℕ) (x : Held) → n < length ts → table_at (slice_set ts n x) n ≡ x
+pub put-here : (ts : List TableModel) (n : ℕ) (x : TableModel) → n < length ts → table_at (slice_set ts n x) n ≡ x
 put-here [] n x l = absurd (omega (arith, l))
 put-here (t ∷ ts) zero x l = refl
 put-here (t ∷ ts) (suc n) x l = put-here ts n x (omega (arith, l))
 
-pub put-other : (ts : List Held) (n t : ℕ) (x : Held) → nat_eq t n ≡ false
+pub put-other : (ts : List TableModel) (n t : ℕ) (x : TableModel) → nat_eq t n ≡ false
     → table_at (slice_set ts n x) t ≡ table_at ts t
 put-other [] n t x e = refl
 put-other (s ∷ ts) zero zero x e = absurd (grind (arith, nat_tests))
@@ -36,40 +36,40 @@ put-other (s ∷ ts) zero (suc t) x e = refl
 put-other (s ∷ ts) (suc n) zero x e = refl
 put-other (s ∷ ts) (suc n) (suc t) x e = put-other ts n t x (grind (arith, nat_tests))
 
-pub put-length : (ts : List Held) (n : ℕ) (x : Held) → length (slice_set ts n x) ≡ length ts
+pub put-length : (ts : List TableModel) (n : ℕ) (x : TableModel) → length (slice_set ts n x) ≡ length ts
 put-length [] n x = refl
 put-length (t ∷ ts) zero x = refl
 put-length (t ∷ ts) (suc n) x = ap suc (put-length ts n x)
 
-pub put-versions : (ts : List Held) (n : ℕ) (x : Held) → versions x ≡ versions (table_at ts n)
+pub put-versions : (ts : List TableModel) (n : ℕ) (x : TableModel) → versions x ≡ versions (table_at ts n)
     → map versions (slice_set ts n x) ≡ map versions ts
 put-versions [] n x e = refl
 put-versions (t ∷ ts) zero x e = ap (λ v. v ∷ map versions ts) e
 put-versions (t ∷ ts) (suc n) x e = ap (λ vs. versions t ∷ vs) (put-versions ts n x e)
 
 -- the versions of a number
-pub versions-at : (ts : List Held) (t : ℕ) → slice_index_or (map versions ts) t [] ≡ versions (table_at ts t)
+pub versions-at : (ts : List TableModel) (t : ℕ) → slice_index_or (map versions ts) t [] ≡ versions (table_at ts t)
 versions-at [] t = refl
 versions-at (s ∷ ts) zero = refl
 versions-at (s ∷ ts) (suc t) = versions-at ts t
 
 -- ---- where tables stand
 
-within_places : (ps : List Place) (t : ℕ) → is_taken (place_of ps t) ≡ true → t < length ps
+within_places : (ps : List TableSlot) (t : ℕ) → is_taken (slot_at ps t) ≡ true → t < length ps
 within_places [] t e = absurd (let f : false ≡ true = e in cc)
 within_places (p ∷ ps) zero e = omega arith
 within_places (p ∷ ps) (suc t) e = let l = within_places ps t e in omega (arith, l)
 
-pub taken-within : (ps : List Place) (ts : List Held) (t : ℕ) → length ts ≡ length ps
-    → is_taken (place_of ps t) ≡ true → t < length ts
+pub taken-within : (ps : List TableSlot) (ts : List TableModel) (t : ℕ) → length ts ≡ length ps
+    → is_taken (slot_at ps t) ≡ true → t < length ts
 taken-within ps ts t even e = let l = within_places ps t e in omega (arith, l, even)
 
-pub kept_taken : (p : Place) → is_kept p ≡ true → is_taken p ≡ true
+pub kept_taken : (p : TableSlot) → is_kept p ≡ true → is_taken p ≡ true
 kept_taken Free e = e
 kept_taken Versioned e = refl
 kept_taken Unversioned e = refl
 
-pub taken_not_free : (p : Place) → is_taken p ≡ true → p ≡ Free → ⊥
+pub taken_not_free : (p : TableSlot) → is_taken p ≡ true → p ≡ Free → ⊥
 taken_not_free p e f = let g : false ≡ true = ap is_taken (sym f) ∙ e in cc
 
 -- ---- numbers that are touched
@@ -168,6 +168,6 @@ noted n old new (inl s) = subst (λ (xs : List ℕ). Noted n old xs) (sym s.0) (
 noted n old new (inr s) = subst (λ (xs : List ℕ). Noted n old xs) (sym s.0) (noted_more n old s.1)
 
 -- an element that was read is the table of its number
-pub element-at : (ts : List Held) (i n : ℕ) (x : Held) → x ≡ slice_index_or ts i x → i ≡ n → n < length ts
+pub element-at : (ts : List TableModel) (i n : ℕ) (x : TableModel) → x ≡ slice_index_or ts i x → i ≡ n → n < length ts
     → x ≡ table_at ts n
 element-at ts i n x e q l = e ∙ ap (λ (j : ℕ). slice_index_or ts j x) q ∙ get_or_default ts n x (empty false) l

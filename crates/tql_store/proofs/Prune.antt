@@ -11,8 +11,8 @@ use Rattle.tql_spec.specs.Calendar.{high}
 use Rattle.tql_spec.specs.History.{TableEntry, with_end}
 use Rattle.tql_store.proofs.Apply.{in-filter, lt_true}
 use Rattle.tql_store.proofs.Readings.{stands_tells, sum-picked}
-use Rattle.tql_rows.specs.Changes.{pruned}
-use Rattle.tql_rows.specs.Changes.{Past}
+use Rattle.tql_store_rows.specs.Changes.{pruned}
+use Rattle.tql_store_rows.specs.Changes.{Past}
 use Rattle.tql_store.specs.Stands.{stands_at, Within, Fits, Told, StandsFor}
 
 -- what was past a horizon is past a later one
@@ -49,7 +49,8 @@ fits-kept h rows ends e until before f = record {
         (cond (stands_at ends e.moment r) (w r) 0) 0) [
           | inl s ↦ sym (ap (λ (b : Bool). cond b (cond (stands_at ends e.moment r) (w r) 0) 0)
               (lt_true {a = h} {b = ends r}
-              (let t = s.2 in elim (f.stops r m) [ inl a ↦ absurd (omega (arith, ints)) | inr a ↦ omega (arith, ints) ])))
+              (let t = s.2 in elim (f.stops r m)
+              [ inl a ↦ absurd (omega (arith, ints)) | inr a ↦ omega (arith, ints) ])))
           | inr s ↦ ap (λ (b : Bool). cond b (w r) 0) s.0 ∙ nothing (int_lt h (ends r)) (w r)
               ∙ ap (λ (b : Bool). cond (int_lt h (ends r)) (cond b (w r) 0) 0) (sym s.0)
         ]

@@ -172,8 +172,11 @@ found_more rows ends known until a b e earlier proper rises f k induct = by_bool
         let stop : e.moment <ℤ ends r = elim late [ inl c ↦ omega (arith, ints) | inr c ↦ omega (arith, ints) ] in
         let first : e.moment <ℤ b = elim late [ inl c ↦ omega (arith, ints) | inr c ↦ omega (arith, ints) ] in (
           meets-gives h0 rises first h4,
-          elim (stands_tells ends e.moment r)
-              [ inl s ↦ s.0 | inr s ↦ absurd (elim (s.1) [ inl c ↦ omega (arith, ints) | inr c ↦ omega (arith, ints) ]) ],
+          elim (stands_tells ends e.moment r) [
+            | inl s ↦ s.0
+            | inr s ↦ absurd
+                (elim (s.1) [ inl c ↦ omega (arith, ints) | inr c ↦ omega (arith, ints) ])
+          ],
         )
 
     fresh : (w : Version → ℕ)

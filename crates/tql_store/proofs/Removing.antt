@@ -14,14 +14,14 @@ use Rattle.tql_spec.specs.Bag.{SameBag, In}
 use Rattle.tql_spec.specs.Calendar.{high}
 use Rattle.tql_spec.specs.Datum.{Datum}
 use Rattle.tql_spec.specs.Definition.{Stamped, Version}
-use Rattle.tql_rows.proofs.Counting.{once-first, once-tail}
-use Rattle.tql_rows.proofs.Turns.{eq_false, lt_true, first_place, later_place}
-use Rattle.tql_rows.specs.Changes.{alive, close_at, closing, ended, fresh, is_current, nothing, replaced}
-use Rattle.tql_rows.specs.Held as rows
-use Rattle.tql_rows.specs.Held.{InTurn, IsJudged, versions, live}
+use Rattle.tql_store_rows.proofs.Counting.{once-first, once-tail}
+use Rattle.tql_store_rows.proofs.Turns.{eq_false, lt_true, first_place, later_place}
+use Rattle.tql_store_rows.specs.Changes.{alive, close_at, closing, ended, fresh, is_current, nothing, replaced}
+use Rattle.tql_store_rows.specs.TableModel as rows
+use Rattle.tql_store_rows.specs.TableModel.{InTurn, IsJudged, versions, live}
 use Rattle.tql_store.proofs.Numbers.{one_number, self_number}
 use Rattle.tql_store.proofs.Turning.{before}
-use Rattle.tql_store.specs.Held.{is_open, is_among}
+use Rattle.tql_store.specs.StoreModel.{is_open, is_among}
 
 abbrev pub at : List Version → ℕ → Version
 at vs k = slice_index_or vs k nothing
@@ -90,13 +90,13 @@ both_of : (a b : Bool) → (a && b) ≡ true → (a ≡ true) × (b ≡ true)
 both_of true b e = (refl, e)
 both_of false b e = absurd (let f : false ≡ true = e in cc)
 
-closed-past : (m : ℤ) (h : rows.Held) → InTurn m h → (v : Version) → In v h.closed → is_current v ≡ false
+closed-past : (m : ℤ) (h : rows.TableModel) → InTurn m h → (v : Version) → In v h.closed → is_current v ≡ false
 closed-past m h t v i = let p = t.past v i in let b = t.below in let l : v.end <ℤ high =
     omega (arith, ints, p.1, b) in eq_false l
 
 -- ---- they may be taken away
 
-pub removable-rows : (m : ℤ) (h : rows.Held) (removed : List ℕ) → InTurn m h
+pub removable-rows : (m : ℤ) (h : rows.TableModel) (removed : List ℕ) → InTurn m h
     → All (λ id. IsTrue (is_open (slice_get (versions h) id))) removed
     → ((id : ℕ) → count_by (λ j. nat_eq j id) removed ≤ 1) → rows.AreRemovable h removed
 removable-rows m h removed t all once = record {
@@ -107,7 +107,7 @@ removable-rows m h removed t all once = record {
 }
 
 -- a version of the table is alive if it is current
-alive-current : (m : ℤ) (h : rows.Held) → InTurn m h → (k : ℕ) → k < length h.current
+alive-current : (m : ℤ) (h : rows.TableModel) → InTurn m h → (k : ℕ) → k < length h.current
     → is_current (at h.current k) ≡ true → alive (at h.current k) ≡ true
 alive-current m h t k l e =
     let ends = (Decides-int_eq (at h.current k).end high).0 e in let below = t.below in
@@ -124,7 +124,7 @@ alive-current m h t k l e =
     not_told i n e = grind (arith, nat_tests)
 
 -- what the store judges, its table does
-pub judged-rows : (m : ℤ) (h : rows.Held) (gone : Stamped → Bool) (removed : List ℕ) → InTurn m h
+pub judged-rows : (m : ℤ) (h : rows.TableModel) (gone : Stamped → Bool) (removed : List ℕ) → InTurn m h
     → ((id : ℕ) (v : Version) → slice_get (versions h) id ≡ Some v
     → is_among id removed ≡ (alive v && (is_current v && gone v.row))) → IsJudged gone removed h
 judged-rows m h gone removed t j k l =
@@ -216,7 +216,8 @@ count-fresh m cells (r ∷ rs) = let k = count-fresh m cells rs in let one : sho
     refl in omega (arith, k, one, sum_by-cons shows (fresh m (cells r)) (map (λ x. fresh m (cells x)) rs))
 
 -- what goes and what comes make the difference
-pub counted-rows : {R : Type 0} (m : ℤ) (cells : R → List Datum) (rs : List R) (removed : List ℕ) (h n : rows.Held)
+pub counted-rows : {R : Type 0} (m : ℤ) (cells : R → List Datum) (rs : List R) (removed : List ℕ)
+    (h n : rows.TableModel)
     → InTurn m h → rows.AreRemovable h removed
     → SameBag (live n) (filter alive (closing m removed h.current ++ h.closed) ++ map (λ r. fresh m (cells r)) rs)
     → length (filter is_current (live n)) + length removed ≡ length (filter is_current (live h)) + length rs

@@ -17,19 +17,19 @@ use Rattle.tql_store.proofs.Apply.{lt_true, lt_false}
 use Rattle.tql_store.proofs.Begin.{new-stands, as_of-stands, from_to-stands, current-stands}
 use Rattle.tql_store.proofs.Laws.{commit-law, brief-commit-law, rollback-law, begin-law, apply-law, same-stands}
 use Rattle.tql_store.proofs.Laws.{same-undone}
-use Rattle.tql_rows.specs.Readings.{asked}
-use Rattle.tql_rows.specs.Changes.{alive, undone, pruned, replaced}
+use Rattle.tql_store_rows.specs.Readings.{asked}
+use Rattle.tql_store_rows.specs.Changes.{alive, undone, pruned, replaced}
 use Rattle.tql_store.specs.Changes.{InTransaction, last_rows, rows_after}
-use Rattle.tql_store.specs.Held.{Held, is_versioned, live}
-use Rattle.tql_store.specs.Places.{place_of, is_kept, is_brief}
+use Rattle.tql_store.specs.StoreModel.{StoreModel, is_versioned, live}
+use Rattle.tql_store.specs.TableSlots.{slot_at, is_kept, is_brief}
 use Rattle.tql_store.specs.Represents.{Copies, Working, horizon_of, StandsWith, Represents, CommitAppends}
 use Rattle.tql_store.specs.Represents.{RollbackRestores, BeginCopies, ChangeReplaces, ReplacesVersions, with_rows}
 use Rattle.tql_store.specs.Represents.{seen_by, AnswersAsOf, AnswersFromTo, AnswersNow}
-use Rattle.tql_rows.specs.Changes.{Under, holds, is_current}
+use Rattle.tql_store_rows.specs.Changes.{Under, holds, is_current}
 use Rattle.tql_store.specs.Stands.{Within, StandsFor}
-use Rattle.tql_store.specs.declared.tables.Place.{Place}
-use Rattle.tql_store.specs.declared.tables.Place.TheVariants.{Free, Versioned, Unversioned}
-use Rattle.tql_rows.specs.declared.readings.When.TheVariants.{FromTo, Between}
+use Rattle.tql_store.specs.declared.tables.TableSlot.{TableSlot}
+use Rattle.tql_store.specs.declared.tables.TableSlot.TheVariants.{Free, Versioned, Unversioned}
+use Rattle.tql_store_rows.specs.declared.readings.When.TheVariants.{FromTo, Between}
 
 pub same-list : {X : Type 0} {xs ys : List X} → xs ≡ ys → SameBag xs ys
 same-list {X} {xs} {ys} e = subst (SameBag xs) e (same-refl xs)
@@ -37,30 +37,31 @@ same-list {X} {xs} {ys} e = subst (SameBag xs) e (same-refl xs)
 -- ---- horizons
 
 -- the horizon of a table that keeps its history, and of a number at which none stands
-pub no_horizon : (places : List Place) (last : Option ℤ) (t : ℕ) → is_brief (place_of places t) ≡ false
+pub no_horizon : (places : List TableSlot) (last : Option ℤ) (t : ℕ) → is_brief (slot_at places t) ≡ false
     → horizon_of places last t ≡ None
 no_horizon places last t e = ap (λ (b : Bool). if b then last else None) e
 
 -- of one that keeps its last copy alone
-pub last_horizon : (places : List Place) (last : Option ℤ) (t : ℕ) → is_brief (place_of places t) ≡ true
+pub last_horizon : (places : List TableSlot) (last : Option ℤ) (t : ℕ) → is_brief (slot_at places t) ≡ true
     → horizon_of places last t ≡ last
 last_horizon places last t e = ap (λ (b : Bool). if b then last else None) e
 
-kept_not_brief : (p : Place) → is_kept p ≡ true → is_brief p ≡ false
+kept_not_brief : (p : TableSlot) → is_kept p ≡ true → is_brief p ≡ false
 kept_not_brief Free e = refl
 kept_not_brief Versioned e = refl
 kept_not_brief Unversioned e = cc
 
 -- every moment is within what is kept of a versioned table
-pub versioned-within : (h : Held) (t : ℕ) (m : ℤ) → is_versioned h t ≡ true → Within (horizon_of h.tables h.last t) m
+pub versioned-within : (h : StoreModel) (t : ℕ) (m : ℤ) → is_versioned h t ≡ true
+    → Within (horizon_of h.tables h.last t) m
 versioned-within h t m e =
-    subst (λ (g : Option ℤ). Within g m) (sym (no_horizon h.tables h.last t (kept_not_brief (place_of h.tables t) e)))
+    subst (λ (g : Option ℤ). Within g m) (sym (no_horizon h.tables h.last t (kept_not_brief (slot_at h.tables t) e)))
     tt
 
 -- ---- transactions
 
 -- what is known of a store in a transaction
-in_turn : (old : Held) (copies : Copies) (working : Working) (m : ℤ) → old.working ≡ Some m
+in_turn : (old : StoreModel) (copies : Copies) (working : Working) (m : ℤ) → old.working ≡ Some m
     → Represents old copies working → (t : ℕ)
     → InTransaction (horizon_of old.tables old.last t) (live old t) (record { moment = m; rows = working t }) (copies t)
 in_turn old copies working m e r t =
@@ -68,30 +69,31 @@ in_turn old copies working m e r t =
     (r.stands t)
 
 -- what is known of a store without one
-pub at_rest : (old : Held) (copies : Copies) (working : Working) → old.working ≡ None → Represents old copies working
+pub at_rest : (old : StoreModel) (copies : Copies) (working : Working) → old.working ≡ None
+    → Represents old copies working
     → (t : ℕ) → StandsFor (horizon_of old.tables old.last t) (live old t) (copies t)
 at_rest old copies working e r t =
     subst (λ (o : Option ℤ). StandsWith (horizon_of old.tables old.last t) o (live old t) (copies t) (working t)) e
     (r.stands t)
 
 -- a store stands for copies by its parts
-pub of_parts : (versions : List Version) (entries : List TableEntry) (rows : List Stamped) {places : List Place}
-    {last o : Option ℤ} (h : Held) → h.tables ≡ places → h.last ≡ last → h.working ≡ o → (t : ℕ)
+pub of_parts : (versions : List Version) (entries : List TableEntry) (rows : List Stamped) {places : List TableSlot}
+    {last o : Option ℤ} (h : StoreModel) → h.tables ≡ places → h.last ≡ last → h.working ≡ o → (t : ℕ)
     → StandsWith (horizon_of places last t) o versions entries rows
     → StandsWith (horizon_of h.tables h.last t) h.working versions entries rows
 of_parts versions entries rows {places} {last} {o} h tables dates opened t s =
-    subst (λ (ps : List Place). StandsWith (horizon_of ps h.last t) h.working versions entries rows) (sym tables)
+    subst (λ (ps : List TableSlot). StandsWith (horizon_of ps h.last t) h.working versions entries rows) (sym tables)
     (subst (λ (l : Option ℤ). StandsWith (horizon_of places l t) h.working versions entries rows) (sym dates)
     (subst (λ (w : Option ℤ). StandsWith (horizon_of places last t) w versions entries rows) (sym opened) s))
 
-pub commit-appends : (old new : Held) → new.tables ≡ old.tables → new.working ≡ None → new.last ≡ old.working
+pub commit-appends : (old new : StoreModel) → new.tables ≡ old.tables → new.working ≡ None → new.last ≡ old.working
     → ((t : ℕ) (m : ℤ) → old.working ≡ Some m
-    → SameBag (live new t) (if is_brief (place_of old.tables t) then pruned m (live old t) else live old t))
+    → SameBag (live new t) (if is_brief (slot_at old.tables t) then pruned m (live old t) else live old t))
     → CommitAppends old new
 commit-appends old new tables closed last versions = λ copies working m is r. record {
   dated = λ t. sym (last ∙ is);
   stands = λ t. of_parts _ _ _ new tables (last ∙ is) closed t
-      (by_bool (is_brief (place_of old.tables t))
+      (by_bool (is_brief (slot_at old.tables t))
       (λ brief. subst (λ (g : Option ℤ). StandsFor g (live new t) (record {
         moment = m;
         rows = working t;
@@ -111,12 +113,12 @@ commit-appends old new tables closed last versions = λ copies working m is r. r
       }) (copies t) (in_turn old copies working m is r t) (chosen t m is false kept))));
 }
   where
-    chosen : (t : ℕ) (m : ℤ) → old.working ≡ Some m → (b : Bool) → is_brief (place_of old.tables t) ≡ b
+    chosen : (t : ℕ) (m : ℤ) → old.working ≡ Some m → (b : Bool) → is_brief (slot_at old.tables t) ≡ b
         → SameBag (live new t) (if b then pruned m (live old t) else live old t)
     chosen t m is b e = subst (λ (c : Bool). SameBag (live new t) (if c then pruned m (live old t) else live old t))
         e (versions t m is)
 
-pub rollback-restores : (old new : Held) → new.tables ≡ old.tables → new.working ≡ None → new.last ≡ old.last
+pub rollback-restores : (old new : StoreModel) → new.tables ≡ old.tables → new.working ≡ None → new.last ≡ old.last
     → ((t : ℕ) (m : ℤ) → old.working ≡ Some m → SameBag (live new t) (undone m (live old t))) → RollbackRestores old new
 rollback-restores old new tables closed last versions = λ copies working m is r. record {
   dated = λ t. r.dated t ∙ sym last;
@@ -125,13 +127,13 @@ rollback-restores old new tables closed last versions = λ copies working m is r
 }
 
 -- the horizon lies before a moment that is later than the last commit
-horizon_under : (places : List Place) (last : Option ℤ) (t : ℕ) (m : ℤ) → Under last m
+horizon_under : (places : List TableSlot) (last : Option ℤ) (t : ℕ) (m : ℤ) → Under last m
     → Under (horizon_of places last t) m
-horizon_under places last t m later = by_bool (is_brief (place_of places t))
+horizon_under places last t m later = by_bool (is_brief (slot_at places t))
     (λ brief. subst (λ (g : Option ℤ). Under g m) (sym (last_horizon places last t brief)) later)
     (λ kept. subst (λ (g : Option ℤ). Under g m) (sym (no_horizon places last t kept)) tt)
 
-pub begin-copies : (m : ℤ) (old new : Held) → old.working ≡ None → Under old.last m → m <ℤ high
+pub begin-copies : (m : ℤ) (old new : StoreModel) → old.working ≡ None → Under old.last m → m <ℤ high
     → new.tables ≡ old.tables → new.working ≡ Some m → new.last ≡ old.last → ((t : ℕ) → live new t ≡ live old t)
     → BeginCopies old new
 begin-copies m old new is later below tables opened last versions = λ copies working r. record {
@@ -154,30 +156,30 @@ stands_seen : (horizon o : Option ℤ) (versions : List Version) (copies : Copie
 stands_seen horizon None versions copies working t s = s
 stands_seen horizon (Some m) versions copies working t s = s.now
 
-stands_now : (h : Held) (copies : Copies) (working : Working) (t : ℕ) → Represents h copies working
+stands_now : (h : StoreModel) (copies : Copies) (working : Working) (t : ℕ) → Represents h copies working
     → StandsFor (horizon_of h.tables h.last t) (live h t) (seen_by h.working copies working t)
 stands_now h copies working t r = stands_seen _ h.working (live h t) copies working t (r.stands t)
 
-pub answers-as_of : (h : Held) (t : ℕ) (m : ℤ) (found : List Version) → is_versioned h t ≡ true
+pub answers-as_of : (h : StoreModel) (t : ℕ) (m : ℤ) (found : List Version) → is_versioned h t ≡ true
     → SameBag found (filter (holds m) (live h t)) → AnswersAsOf h t m found
 answers-as_of h t m found kept e =
     λ copies working r. same-trans e
     (same-sym (as_of-stands _ _ _ m (stands_now h copies working t r) (versioned-within h t m kept)))
 
-pub answers-from_to : (h : Held) (t : ℕ) (a b : ℤ) (found : List Version) → is_versioned h t ≡ true
+pub answers-from_to : (h : StoreModel) (t : ℕ) (a b : ℤ) (found : List Version) → is_versioned h t ≡ true
     → SameBag found (filter (λ v. meets a b v.row.start v.end) (live h t)) → AnswersFromTo h t a b found
 answers-from_to h t a b found kept e =
     λ copies working r. same-trans e
     (same-sym (from_to-stands _ _ _ a b (stands_now h copies working t r) (versioned-within h t a kept)))
 
-pub answers-now : (h : Held) (t : ℕ) (found : List Version) → SameBag found (filter is_current (live h t))
+pub answers-now : (h : StoreModel) (t : ℕ) (found : List Version) → SameBag found (filter is_current (live h t))
     → AnswersNow h t found
 answers-now h t found e =
     λ copies working r. same-trans e (same-sym (current-stands _ _ _ (stands_now h copies working t r)))
 
 -- ---- changes
 
-pub change-replaces : (t : ℕ) (removed : List ℕ) (added : List (List Datum)) (old new : Held)
+pub change-replaces : (t : ℕ) (removed : List ℕ) (added : List (List Datum)) (old new : StoreModel)
     → ReplacesVersions t removed added old new → ChangeReplaces t removed added old new
 change-replaces t removed added old new e = λ copies working m gone is j r. record {
   dated = λ u. r.dated u ∙ sym e.last;
@@ -232,7 +234,7 @@ filter-twice p (v ∷ vs) = by_bool (p v)
     (λ e. rw e (rw e (ap (λ us. v ∷ us) (filter-twice p vs))))
     (λ e. rw e (filter-twice p vs))
 
-alive-live : (h : Held) (t : ℕ) → filter alive (live h t) ≡ live h t
+alive-live : (h : StoreModel) (t : ℕ) → filter alive (live h t) ≡ live h t
 alive-live h t = filter-twice alive (slice_index_or h.versions t [])
 
 -- tests that agree on what is alive
@@ -244,7 +246,7 @@ filter-alive p q h (v ∷ vs) = by_bool (alive v)
     ∙ ap (λ us. cond (q v) (v ∷ us) us) (filter-alive p q h vs)))
     (λ e. rw e (filter-alive p q h vs))
 
-filter-live : (p q : Version → Bool) → ((v : Version) → alive v ≡ true → p v ≡ q v) → (h : Held) (t : ℕ)
+filter-live : (p q : Version → Bool) → ((v : Version) → alive v ≡ true → p v ≡ q v) → (h : StoreModel) (t : ℕ)
     → filter p (live h t) ≡ filter q (live h t)
 filter-live p q same h t = ap (filter p) (sym (alive-live h t)) ∙ filter-alive p q same (live h t)
     ∙ ap (filter q) (alive-live h t)
@@ -263,13 +265,13 @@ below_next x b = elim (le_tells x b) as (λ y. int_le x b ≡ int_lt x (b +ℤ p
   | inr s ↦ s.0 ∙ sym (lt_false {a = x} {b = b +ℤ pos 1} (let t = s.1 in omega (arith, ints)))
 ]
 
-pub answers-range : (h : Held) (t : ℕ) (a b : ℤ) (found : List Version) → is_versioned h t ≡ true
+pub answers-range : (h : StoreModel) (t : ℕ) (a b : ℤ) (found : List Version) → is_versioned h t ≡ true
     → SameBag found (filter (asked (FromTo a b)) (live h t)) → AnswersFromTo h t a b found
 answers-range h t a b found kept e =
     answers-from_to h t a b found kept
     (same-trans e (same-list (filter-live (asked (FromTo a b)) (λ v. meets a b v.row.start v.end) (as_meets a b) h t)))
 
-pub answers-between : (h : Held) (t : ℕ) (a b : ℤ) (found : List Version) → is_versioned h t ≡ true
+pub answers-between : (h : StoreModel) (t : ℕ) (a b : ℤ) (found : List Version) → is_versioned h t ≡ true
     → SameBag found (filter (asked (Between a b)) (live h t)) → AnswersFromTo h t a (b +ℤ pos 1) found
 answers-between h t a b found kept e = answers-from_to h t a (b +ℤ pos 1) found kept
     (same-trans e (same-list (filter-live (asked (Between a b)) (λ v. meets a (b +ℤ pos 1) v.row.start v.end)
@@ -279,7 +281,7 @@ answers-between h t a b found kept e = answers-from_to h t a (b +ℤ pos 1) foun
 
 -- ---- a new store
 
-pub new-represents : (new : Held) → new.working ≡ None → new.last ≡ None → ((t : ℕ) → live new t ≡ [])
+pub new-represents : (new : StoreModel) → new.working ≡ None → new.last ≡ None → ((t : ℕ) → live new t ≡ [])
     → Represents new (λ t. []) (λ t. [])
 new-represents new closed last versions = record {
   dated = λ t. sym last;
@@ -294,4 +296,4 @@ new-represents new closed last versions = record {
     chosen false x = refl
 
     none : (t : ℕ) → horizon_of new.tables new.last t ≡ None
-    none t = ap (λ (l : Option ℤ). horizon_of new.tables l t) last ∙ chosen (is_brief (place_of new.tables t)) None
+    none t = ap (λ (l : Option ℤ). horizon_of new.tables l t) last ∙ chosen (is_brief (slot_at new.tables t)) None

@@ -12,29 +12,29 @@ use Rattle.tql_spec.specs.Calendar.{high}
 use Rattle.tql_spec.specs.Datum.{Datum}
 use Rattle.tql_spec.specs.Definition.{Stamped, Version}
 use Rattle.tql_index.specs.Entry.{Entry}
-use Rattle.tql_rows.proofs.Beginning.{begin-turn}
-use Rattle.tql_rows.proofs.Turns.{eq_false}
-use Rattle.tql_rows.specs.Changes.{alive, closing, fresh, is_current, pruned, replaced, undone, Past, Under}
-use Rattle.tql_rows.specs.Held as rows
-use Rattle.tql_rows.specs.Held.{AtRest, InTurn, IsIndexed, IsJudged, Since, versions, noted}
-use Rattle.tql_rows.specs.Readings.{AreEnded}
+use Rattle.tql_store_rows.proofs.Beginning.{begin-turn}
+use Rattle.tql_store_rows.proofs.Turns.{eq_false}
+use Rattle.tql_store_rows.specs.Changes.{alive, closing, fresh, is_current, pruned, replaced, undone, Past, Under}
+use Rattle.tql_store_rows.specs.TableModel as rows
+use Rattle.tql_store_rows.specs.TableModel.{AtRest, InTurn, IsIndexed, IsJudged, Since, versions, noted}
+use Rattle.tql_store_rows.specs.Readings.{AreEnded}
 use Rattle.tql_store.proofs.Numbers.{one_number, self_number, put-here, put-other, versions-at, taken-within}
 use Rattle.tql_store.proofs.Turning.{before, empty-rest, by_number, each-committed, each-undone, commit-bag}
 use Rattle.tql_store.proofs.Removing.{judged-rows, removable-rows, counted-rows}
-use Rattle.tql_store.specs.Held.{Held, AreRemovable, has_table, is_open, live, moment_or_high, named}
+use Rattle.tql_store.specs.StoreModel.{StoreModel, AreRemovable, has_table, is_open, live, moment_or_high, named}
 use Rattle.tql_store.specs.Orderly.{empty, table_at, touch_at, IsUntouched, IsPut, AreAtRest, AreInTurn, AreReady}
 use Rattle.tql_store.specs.Orderly.{IsOrderly, IsCommitted, IsUndone, HaveEnded, HasTurned}
-use Rattle.tql_store.specs.Places.{place_of, place_for, is_taken, is_kept, is_brief}
+use Rattle.tql_store.specs.TableSlots.{slot_at, place_for, is_taken, is_kept, is_brief}
 use Rattle.tql_store.specs.Represents.{Judged, ReplacesVersions, Takes}
-use Rattle.tql_store.specs.declared.tables.Place.{Place}
-use Rattle.tql_store.specs.declared.tables.Place.TheVariants.{Free}
+use Rattle.tql_store.specs.declared.tables.TableSlot.{TableSlot}
+use Rattle.tql_store.specs.declared.tables.TableSlot.TheVariants.{Free}
 
 pub same-list : {X : Type 0} {xs ys : List X} → xs ≡ ys → SameBag xs ys
 same-list {X} {xs} {ys} e = subst (SameBag xs) e (same-refl xs)
 
 -- ---- what a store shows
 
-abbrev pub shown : List Place → List rows.Held → Option ℤ → Option ℤ → Held
+abbrev pub shown : List TableSlot → List rows.TableModel → Option ℤ → Option ℤ → StoreModel
 shown places tables working last = record {
   tables = places;
   versions = map versions tables;
@@ -43,35 +43,38 @@ shown places tables working last = record {
 }
 
 -- as the code tells it
-pub shows : (places : List Place) (tables : List rows.Held) (working last : Option ℤ) (h : Held)
+pub shows : (places : List TableSlot) (tables : List rows.TableModel) (working last : Option ℤ) (h : StoreModel)
     → shown places tables working last ≡ h → shown places tables working last ≡ h
 shows places tables working last h e = e
 
-pub versions-of : {places : List Place} {working last : Option ℤ} (tables : List rows.Held) (h : Held) (t : ℕ)
-    (x : rows.Held) → shown places tables working last ≡ h → x ≡ table_at tables t
+pub versions-of : {places : List TableSlot} {working last : Option ℤ} (tables : List rows.TableModel) (h : StoreModel)
+    (t : ℕ)
+    (x : rows.TableModel) → shown places tables working last ≡ h → x ≡ table_at tables t
     → slice_index_or h.versions t [] ≡ versions x
-versions-of tables h t x is e = ap (λ (k : Held). slice_index_or k.versions t []) (sym is) ∙ versions-at tables t
+versions-of tables h t x is e = ap (λ (k : StoreModel). slice_index_or k.versions t []) (sym is) ∙ versions-at tables t
     ∙ ap versions (sym e)
 
-pub live-of : {places : List Place} {working last : Option ℤ} (tables : List rows.Held) (h : Held) (t : ℕ)
+pub live-of : {places : List TableSlot} {working last : Option ℤ} (tables : List rows.TableModel) (h : StoreModel)
+    (t : ℕ)
     → shown places tables working last ≡ h → live h t ≡ rows.live (table_at tables t)
 live-of tables h t is = ap (filter alive) (versions-of tables h t (table_at tables t) is refl)
 
 -- a table that is there has its number among them
-pub there-within : {places : List Place} {working last : Option ℤ} (tables : List rows.Held) (touched : List ℕ)
-    (h : Held) (t : ℕ) → shown places tables working last ≡ h → IsOrderly places tables touched working last
-    → is_taken (place_of h.tables t) ≡ true
+pub there-within : {places : List TableSlot} {working last : Option ℤ} (tables : List rows.TableModel)
+    (touched : List ℕ)
+    (h : StoreModel) (t : ℕ) → shown places tables working last ≡ h → IsOrderly places tables touched working last
+    → is_taken (slot_at h.tables t) ≡ true
     → t < length tables
 there-within {places} tables touched h t is o there =
-    taken-within places tables t o.even (ap (λ (k : Held). is_taken (place_of k.tables t)) is ∙ there)
+    taken-within places tables t o.even (ap (λ (k : StoreModel). is_taken (slot_at k.tables t)) is ∙ there)
 
 -- ---- what its tables' indexes hold
 
-pub record Indexed (h : rows.Held) : Type 0 where
+pub record Indexed (h : rows.TableModel) : Type 0 where
   pub rest : List Entry
   pub is : IsIndexed h rest
 
-pub indexed-at : (places : List Place) (tables : List rows.Held) (touched : List ℕ) (working last : Option ℤ)
+pub indexed-at : (places : List TableSlot) (tables : List rows.TableModel) (touched : List ℕ) (working last : Option ℤ)
     → IsOrderly places tables touched working last → (t : ℕ) → Indexed (table_at tables t)
 indexed-at places tables touched None last o t = record { rest = []; is = (o.ready.rest t).indexed }
 indexed-at places tables touched (Some m) last o t = record {
@@ -79,7 +82,7 @@ indexed-at places tables touched (Some m) last o t = record {
   is = (o.ready.turn t).indexed;
 }
 
-pub ended-at : (places : List Place) (tables : List rows.Held) (touched : List ℕ) (working last : Option ℤ)
+pub ended-at : (places : List TableSlot) (tables : List rows.TableModel) (touched : List ℕ) (working last : Option ℤ)
     → IsOrderly places tables touched working last → (t : ℕ) → AreEnded (table_at tables t)
 ended-at places tables touched None last o t =
     λ v i. before last high v.end o.ready.below ((o.ready.rest t).since.ended v i)
@@ -110,7 +113,7 @@ append_none [] ws e = e
 append_none (v ∷ vs) ws e = ap (λ us. v ∷ us) (append_none vs ws e)
 
 -- what is current stands among the current versions
-pub current-only : (h : rows.Held) → AreEnded h
+pub current-only : (h : rows.TableModel) → AreEnded h
     → filter is_current (filter alive h.current) ≡ filter is_current (rows.live h)
 current-only h ended = sym (ap (filter is_current) (filter-append alive h.current h.closed)
     ∙ filter-append is_current (filter alive h.current) (filter alive h.closed)
@@ -118,22 +121,22 @@ current-only h ended = sym (ap (filter is_current) (filter-append alive h.curren
 
 -- ---- tables that come and go
 
-pub put-orderly : (keeps : Bool) (p : Place) (n : ℕ) (places next : List Place) (old new : List rows.Held)
-    (touched : List ℕ) (working last : Option ℤ) (x : rows.Held) → IsOrderly places old touched working last
+pub put-orderly : (keeps : Bool) (p : TableSlot) (n : ℕ) (places next : List TableSlot) (old new : List rows.TableModel)
+    (touched : List ℕ) (working last : Option ℤ) (x : rows.TableModel) → IsOrderly places old touched working last
     → keeps ≡ is_kept p → Takes n p places next
     → length new ≡ length next → length old ≤ length new → IsPut n x old new → x ≡ empty keeps
     → IsOrderly next new touched working last
 put-orderly keeps p n places next old new touched working last x o match takes even more put is = record {
   even = even;
-  keeps = λ t. by_number (λ (u : ℕ). (table_at new u).keeps ≡ is_kept (place_of next u)) t n
-      (ap (λ (h : rows.Held). h.keeps) here ∙ match
-      ∙ sym (ap is_kept (takes.places n ∙ ap (λ (b : Bool). if b then p else place_of places n) (self_number n))))
-      (λ e. ap (λ (h : rows.Held). h.keeps) (put.others t e) ∙ o.keeps t
-      ∙ sym (ap is_kept (takes.places t ∙ ap (λ (b : Bool). if b then p else place_of places t) e)));
-  gone = λ t. by_number (λ (u : ℕ). place_of next u ≡ Free → rows.live (table_at new u) ≡ []) t n
+  keeps = λ t. by_number (λ (u : ℕ). (table_at new u).keeps ≡ is_kept (slot_at next u)) t n
+      (ap (λ (h : rows.TableModel). h.keeps) here ∙ match
+      ∙ sym (ap is_kept (takes.places n ∙ ap (λ (b : Bool). if b then p else slot_at places n) (self_number n))))
+      (λ e. ap (λ (h : rows.TableModel). h.keeps) (put.others t e) ∙ o.keeps t
+      ∙ sym (ap is_kept (takes.places t ∙ ap (λ (b : Bool). if b then p else slot_at places t) e)));
+  gone = λ t. by_number (λ (u : ℕ). slot_at next u ≡ Free → rows.live (table_at new u) ≡ []) t n
       (λ f. ap rows.live here)
       (λ e f. ap rows.live (put.others t e)
-      ∙ o.gone t (sym (takes.places t ∙ ap (λ (b : Bool). if b then p else place_of places t) e) ∙ f));
+      ∙ o.gone t (sym (takes.places t ∙ ap (λ (b : Bool). if b then p else slot_at places t) e) ∙ f));
   ready = ready working o.ready;
 }
   where
@@ -165,7 +168,7 @@ put-orderly keeps p n places next old new touched working last x o match takes e
     }
 
 -- of the table that is put no version is there
-pub put-live : (keeps : Bool) (n : ℕ) (old new : List rows.Held) (x : rows.Held) → IsPut n x old new
+pub put-live : (keeps : Bool) (n : ℕ) (old new : List rows.TableModel) (x : rows.TableModel) → IsPut n x old new
     → x ≡ empty keeps → (t : ℕ) → rows.live (table_at new t) ≡ (if nat_eq t n then [] else rows.live (table_at old t))
 put-live keeps n old new x put is t = by_bool (nat_eq t n)
     (λ e. ap (λ (u : ℕ). rows.live (table_at new u)) (one_number t n e) ∙ ap rows.live (put.here ∙ is)
@@ -173,7 +176,7 @@ put-live keeps n old new x put is t = by_bool (nat_eq t n)
     (λ e. ap rows.live (put.others t e) ∙ sym (ap (λ (b : Bool). if b then [] else rows.live (table_at old t)) e))
 
 -- where none was, none is
-pub added-live : (n : ℕ) (old new : List rows.Held) → rows.live (table_at old n) ≡ []
+pub added-live : (n : ℕ) (old new : List rows.TableModel) → rows.live (table_at old n) ≡ []
     → ((t : ℕ) → rows.live (table_at new t) ≡ (if nat_eq t n then [] else rows.live (table_at old t))) → (t : ℕ)
     → rows.live (table_at new t) ≡ rows.live (table_at old t)
 added-live n old new none h t = h t ∙ by_bool (nat_eq t n)
@@ -187,7 +190,7 @@ pub some-moment : (o : Option ℤ) → IsSome o → o ≡ Some (moment_or_high o
 some-moment None h = absurd (let f = h in cc)
 some-moment (Some m) h = refl
 
-pub in_turn : {places : List Place} {tables : List rows.Held} {touched : List ℕ} {last : Option ℤ}
+pub in_turn : {places : List TableSlot} {tables : List rows.TableModel} {touched : List ℕ} {last : Option ℤ}
     (working : Option ℤ) (m : ℤ) → working ≡ Some m → IsOrderly places tables touched working last
     → IsOrderly places tables touched (Some m) last
 in_turn {places} {tables} {touched} {last} working m e o =
@@ -196,36 +199,36 @@ in_turn {places} {tables} {touched} {last} working m e o =
 one_moment : (o : Option ℤ) (m n : ℤ) → o ≡ Some m → o ≡ Some n → m ≡ n
 one_moment o m n e f = ap moment_or_high (sym e ∙ f)
 
-pub committed-versions : (m : ℤ) (working last : Option ℤ) (places : List Place) (old new : List rows.Held)
-    (touched : List ℕ) (h g : Held) → working ≡ Some m → IsOrderly places old touched working last
+pub committed-versions : (m : ℤ) (working last : Option ℤ) (places : List TableSlot) (old new : List rows.TableModel)
+    (touched : List ℕ) (h g : StoreModel) → working ≡ Some m → IsOrderly places old touched working last
     → HaveEnded (IsCommitted m) (length touched) touched old new
     → shown places old working last ≡ h → g.versions ≡ map versions new → (t : ℕ) (n : ℤ) → h.working ≡ Some n
-    → SameBag (live g t) (if is_brief (place_of h.tables t) then pruned n (live h t) else live h t)
+    → SameBag (live g t) (if is_brief (slot_at h.tables t) then pruned n (live h t) else live h t)
 committed-versions m working last places old new touched h g at o e is now t n w =
     let turn = in_turn working m at o in
-    let same : m ≡ n = one_moment working m n at (ap (λ (k : Held). k.working) is ∙ w) in
-    subst (λ (k : Held). SameBag (live g t)
-    (if is_brief (place_of k.tables t) then pruned n (live k t) else live k t)) is
+    let same : m ≡ n = one_moment working m n at (ap (λ (k : StoreModel). k.working) is ∙ w) in
+    subst (λ (k : StoreModel). SameBag (live g t)
+    (if is_brief (slot_at k.tables t) then pruned n (live k t) else live k t)) is
     (subst (λ (x : ℤ). SameBag (live g t)
-    (if is_brief (place_of places t) then pruned x (live (shown places old working last) t) else live
+    (if is_brief (slot_at places t) then pruned x (live (shown places old working last) t) else live
     (shown places old working last) t)) same
-    (subst (λ vs. SameBag (live g t) (if is_brief (place_of places t) then pruned m vs else vs))
+    (subst (λ vs. SameBag (live g t) (if is_brief (slot_at places t) then pruned m vs else vs))
     (sym (live-of old (shown places old working last) t refl))
     (subst (λ vs. SameBag vs
-    (if is_brief (place_of places t) then pruned m (rows.live (table_at old t)) else rows.live (table_at old t)))
+    (if is_brief (slot_at places t) then pruned m (rows.live (table_at old t)) else rows.live (table_at old t)))
     (sym (ap (λ (vss : List (List Version)). filter alive (slice_index_or vss t [])) now
     ∙ ap (filter alive) (versions-at new t)))
     (commit-bag m places t (table_at old t) (table_at new t) (turn.keeps t) (turn.gone t)
     (each-committed m last old new touched turn.ready e t)))))
 
-pub undone-versions : (m : ℤ) (working last : Option ℤ) (places : List Place) (old new : List rows.Held)
-    (touched : List ℕ) (h g : Held) → working ≡ Some m → IsOrderly places old touched working last
+pub undone-versions : (m : ℤ) (working last : Option ℤ) (places : List TableSlot) (old new : List rows.TableModel)
+    (touched : List ℕ) (h g : StoreModel) → working ≡ Some m → IsOrderly places old touched working last
     → HaveEnded (IsUndone m) (length touched) touched old new
     → shown places old working last ≡ h → g.versions ≡ map versions new → (t : ℕ) (n : ℤ) → h.working ≡ Some n
     → SameBag (live g t) (undone n (live h t))
 undone-versions m working last places old new touched h g at o e is now t n w =
     let turn = in_turn working m at o in
-    let same : m ≡ n = one_moment working m n at (ap (λ (k : Held). k.working) is ∙ w) in
+    let same : m ≡ n = one_moment working m n at (ap (λ (k : StoreModel). k.working) is ∙ w) in
     subst (λ (x : ℤ). SameBag (live g t) (undone x (live h t))) same
     (subst (λ vs. SameBag (live g t) (undone m vs)) (sym (live-of old h t is))
     (subst (λ vs. SameBag vs (undone m (rows.live (table_at old t))))
@@ -236,19 +239,20 @@ undone-versions m working last places old new touched h g at o e is now t n w =
 -- ---- changes
 
 -- what the store's contract asks is what its table asks
-pub removable-at : (m : ℤ) (working last : Option ℤ) (places : List Place) (tables : List rows.Held)
-    (touched : List ℕ) (h : Held) (t : ℕ) (removed : List ℕ) → working ≡ Some m
+pub removable-at : (m : ℤ) (working last : Option ℤ) (places : List TableSlot) (tables : List rows.TableModel)
+    (touched : List ℕ) (h : StoreModel) (t : ℕ) (removed : List ℕ) → working ≡ Some m
     → IsOrderly places tables touched working last → shown places tables working last ≡ h
     → AreRemovable h t removed → rows.AreRemovable (table_at tables t) removed
 removable-at m working last places tables touched h t removed at o is r =
-    let s = subst (λ (k : Held). AreRemovable k t removed) (sym is) r in
+    let s = subst (λ (k : StoreModel). AreRemovable k t removed) (sym is) r in
     let s' = subst (λ (vs : List Version). All (λ id. IsTrue (is_open (slice_get vs id))) removed)
     (versions-at tables t) s.current in
     removable-rows m (table_at tables t) removed ((in_turn working m at o).ready.turn t) s' s.once
 
 pub replaces-at : {R : Type 0} (cells : R
-    → List Datum) (added : List R) (m : ℤ) (working last : Option ℤ) (places : List Place) (old new : List rows.Held)
-    (touched : List ℕ) (h g : Held) (n : ℕ) (removed : List ℕ) → working ≡ Some m
+    → List Datum) (added : List R) (m : ℤ) (working last : Option ℤ) (places : List TableSlot)
+        (old new : List rows.TableModel)
+    (touched : List ℕ) (h g : StoreModel) (n : ℕ) (removed : List ℕ) → working ≡ Some m
     → IsOrderly places old touched working last → shown places old working last ≡ h
     → shown places new working last ≡ g → AreRemovable h n removed → HasTurned m n old new
     → SameBag (rows.live (table_at new n))
@@ -259,12 +263,12 @@ pub replaces-at : {R : Type 0} (cells : R
     → ReplacesVersions n removed (map cells added) h g
 replaces-at {R} cells added m working last places old new touched h g n removed at o is now r turned bag judged =
     record {
-      tables = ap (λ (k : Held). k.tables) (sym now) ∙ ap (λ (k : Held). k.tables) is;
-      working = ap (λ (k : Held). k.working) (sym now) ∙ ap (λ (k : Held). k.working) is;
-      last = ap (λ (k : Held). k.last) (sym now) ∙ ap (λ (k : Held). k.last) is;
+      tables = ap (λ (k : StoreModel). k.tables) (sym now) ∙ ap (λ (k : StoreModel). k.tables) is;
+      working = ap (λ (k : StoreModel). k.working) (sym now) ∙ ap (λ (k : StoreModel). k.working) is;
+      last = ap (λ (k : StoreModel). k.last) (sym now) ∙ ap (λ (k : StoreModel). k.last) is;
       others = λ u e. same-list (live-of new g u now ∙ ap rows.live (turned.others u e) ∙ sym (live-of old h u is));
       versions = λ x gone w j.
-          let same : m ≡ x = one_moment working m x at (ap (λ (k : Held). k.working) is ∙ w) in
+          let same : m ≡ x = one_moment working m x at (ap (λ (k : StoreModel). k.working) is ∙ w) in
           subst (λ (y : ℤ). SameBag (live g n) (replaced y gone (map cells added) (live h n))) same
           (subst (λ vs. SameBag vs (replaced m gone (map cells added) (live h n))) (sym (live-of new g n now))
           (subst (λ vs. SameBag (rows.live (table_at new n)) (replaced m gone (map cells added) vs))
@@ -294,21 +298,21 @@ pub kept_for : (b : Bool) → b ≡ is_kept (place_for b)
 kept_for true = refl
 kept_for false = refl
 
-live-shown : (new : List rows.Held) (g : Held) (t : ℕ) → g.versions ≡ map versions new
+live-shown : (new : List rows.TableModel) (g : StoreModel) (t : ℕ) → g.versions ≡ map versions new
     → live g t ≡ rows.live (table_at new t)
 live-shown new g t now = ap (λ (vss : List (List Version)). filter alive (slice_index_or vss t [])) now
     ∙ ap (filter alive) (versions-at new t)
 
-pub dropped-versions : (n : ℕ) (places : List Place) (working last : Option ℤ) (old new : List rows.Held)
-    (x : rows.Held) (h g : Held) → shown places old working last ≡ h → IsPut n x old new → x ≡ empty false
+pub dropped-versions : (n : ℕ) (places : List TableSlot) (working last : Option ℤ) (old new : List rows.TableModel)
+    (x : rows.TableModel) (h g : StoreModel) → shown places old working last ≡ h → IsPut n x old new → x ≡ empty false
     → g.versions ≡ map versions new
     → (t : ℕ) → SameBag (live g t) (if nat_eq t n then [] else live h t)
 dropped-versions n places working last old new x h g is put e now t = same-list (live-shown new g t now
     ∙ put-live false n old new x put e t
     ∙ ap (λ (vs : List Version). if nat_eq t n then [] else vs) (sym (live-of old h t is)))
 
-pub added-versions : (keeps : Bool) (n : ℕ) (places : List Place) (working last : Option ℤ)
-    (old new : List rows.Held) (x : rows.Held) (h g : Held) → shown places old working last ≡ h
+pub added-versions : (keeps : Bool) (n : ℕ) (places : List TableSlot) (working last : Option ℤ)
+    (old new : List rows.TableModel) (x : rows.TableModel) (h g : StoreModel) → shown places old working last ≡ h
     → rows.live (table_at old n) ≡ [] → IsPut n x old new → x ≡ empty keeps → g.versions ≡ map versions new
     → (t : ℕ) → live g t ≡ live h t
 added-versions keeps n places working last old new x h g is none put e now t = live-shown new g t now

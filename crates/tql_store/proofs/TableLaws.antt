@@ -14,12 +14,12 @@ use Rattle.tql_store.proofs.StoreLaws.{at_rest, no_horizon, of_parts}
 use Rattle.tql_store.specs.Changes.{newest, emptied}
 use Rattle.tql_store.specs.Represents.{Copies, Working, horizon_of, StandsWith, Represents, Takes, AddsTable}
 use Rattle.tql_store.specs.Represents.{AddKeepsCopies, copies_without, DropEmpties}
-use Rattle.tql_store.specs.Held.{Held, live}
-use Rattle.tql_store.specs.Places.{place_of, place_for, is_brief}
-use Rattle.tql_rows.specs.Changes.{Under}
+use Rattle.tql_store.specs.StoreModel.{StoreModel, live}
+use Rattle.tql_store.specs.TableSlots.{slot_at, place_for, is_brief}
+use Rattle.tql_store_rows.specs.Changes.{Under}
 use Rattle.tql_store.specs.Stands.{Told, StandsFor}
-use Rattle.tql_store.specs.declared.tables.Place.{Place}
-use Rattle.tql_store.specs.declared.tables.Place.TheVariants.{Free}
+use Rattle.tql_store.specs.declared.tables.TableSlot.{TableSlot}
+use Rattle.tql_store.specs.declared.tables.TableSlot.TheVariants.{Free}
 
 decided : (u t : ℕ) → nat_eq u t ≡ true → u ≡ t
 decided u t e = grind (arith, nat_tests)
@@ -60,12 +60,14 @@ from_either : (b : Bool) (last o : Option ℤ) (versions : List Version) (entrie
 from_either true last o versions entries rows e s = from_last last o versions entries rows e s
 from_either false last o versions entries rows e s = s
 
-horizon_at : (t : ℕ) (p : Place) (old new : List Place) (last : Option ℤ) (u : ℕ) → Takes t p old new → (b : Bool)
-    → nat_eq u t ≡ b → horizon_of new last u ≡ (if is_brief (if b then p else place_of old u) then last else None)
-horizon_at t p old new last u takes b e = ap (λ (q : Place). if is_brief q then last else None) (takes.places u
-    ∙ ap (λ (c : Bool). if c then p else place_of old u) e)
+horizon_at : (t : ℕ) (p : TableSlot) (old new : List TableSlot) (last : Option ℤ) (u : ℕ) → Takes t p old new
+    → (b : Bool)
+    → nat_eq u t ≡ b → horizon_of new last u ≡ (if is_brief (if b then p else slot_at old u) then last else None)
+horizon_at t p old new last u takes b e = ap (λ (q : TableSlot). if is_brief q then last else None) (takes.places u
+    ∙ ap (λ (c : Bool). if c then p else slot_at old u) e)
 
-pub add-keeps : (versioned : Bool) (t : ℕ) (old new : Held) → AddsTable versioned t old new → AddKeepsCopies old new
+pub add-keeps : (versioned : Bool) (t : ℕ) (old new : StoreModel) → AddsTable versioned t old new
+    → AddKeepsCopies old new
 add-keeps versioned t old new a = λ copies working r. record {
   dated = λ u. r.dated u ∙ sym a.last;
   stands = λ u. of_parts _ _ _ new refl a.last a.working u
@@ -76,7 +78,7 @@ add-keeps versioned t old new a = λ copies working r. record {
       (sym (horizon_at t (place_for versioned) old.tables new.tables old.last u a.takes true same))
       (from_either (is_brief (place_for versioned)) old.last old.working (live old u) (copies u) (working u) (r.dated u)
       (subst (λ (g : Option ℤ). StandsWith g old.working (live old u) (copies u) (working u))
-      (no_horizon old.tables old.last u (ap is_brief (ap (place_of old.tables) (decided u t same) ∙ a.free)))
+      (no_horizon old.tables old.last u (ap is_brief (ap (slot_at old.tables) (decided u t same) ∙ a.free)))
       (r.stands u))))
       (λ other. subst (λ (g : Option ℤ). StandsWith g old.working (live old u) (copies u) (working u))
       (sym (horizon_at t (place_for versioned) old.tables new.tables old.last u a.takes false other)) (r.stands u))));
@@ -112,7 +114,7 @@ emptied-stands horizon versions entries s = record {
   told = told-emptied horizon s.rows s.ends high entries s.told;
 }
 
-pub drop-empties : (t : ℕ) (old new : Held) → old.working ≡ None → Takes t Free old.tables new.tables
+pub drop-empties : (t : ℕ) (old new : StoreModel) → old.working ≡ None → Takes t Free old.tables new.tables
     → new.working ≡ old.working → new.last ≡ old.last
     → ((u : ℕ) → SameBag (live new u) (if nat_eq u t then [] else live old u)) → DropEmpties t old new
 drop-empties t old new closed takes working_same last versions = λ copies working r. record {
@@ -179,7 +181,7 @@ same_with horizon (Some m) versions entries rows others h s = record {
 }
 
 -- a store stands for copies also where they are given in another way, and for working rows in another order
-pub represents-same : (h : Held) (copies others : Copies) (working changed : Working)
+pub represents-same : (h : StoreModel) (copies others : Copies) (working changed : Working)
     → ((t : ℕ) → copies t ≡ others t) → ((t : ℕ) → SameBag (changed t) (working t)) → Represents h copies working
     → Represents h others changed
 represents-same h copies others working changed same bags r = record {

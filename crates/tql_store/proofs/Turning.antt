@@ -15,18 +15,18 @@ use Rattle.tql_spec.specs.Bag.{SameBag, In}
 use Rattle.tql_spec.specs.Calendar.{high}
 use Rattle.tql_spec.specs.Definition.{Version}
 use Rattle.tql_index.specs.Entry.{Entry}
-use Rattle.tql_rows.proofs.Beginning.{begin-turn}
-use Rattle.tql_rows.proofs.Turns.{eq_false, lt_true}
-use Rattle.tql_rows.specs.Changes.{alive, is_current, nothing, Past, Under, pruned, reopened, undone}
-use Rattle.tql_rows.specs.Entries.{entries_from}
-use Rattle.tql_rows.specs.Held.{Held, AtRest, InTurn, IsIndexed, Since, versions, live, named}
+use Rattle.tql_store_rows.proofs.Beginning.{begin-turn}
+use Rattle.tql_store_rows.proofs.Turns.{eq_false, lt_true}
+use Rattle.tql_store_rows.specs.Changes.{alive, is_current, nothing, Past, Under, pruned, reopened, undone}
+use Rattle.tql_store_rows.specs.Entries.{entries_from}
+use Rattle.tql_store_rows.specs.TableModel.{TableModel, AtRest, InTurn, IsIndexed, Since, versions, live, named}
 use Rattle.tql_store.proofs.Numbers.{one_number, self_number, two_numbers, put-here, put-other, put-length}
 use Rattle.tql_store.proofs.Numbers.{taken_not_free, IsTouched, touched-or, AreApart, Noted, noted}
 use Rattle.tql_store.specs.Orderly.{empty, table_at, touch_at, IsUntouched, IsNoted, IsPut, AreAtRest, AreInTurn}
 use Rattle.tql_store.specs.Orderly.{IsOrderly, IsCommitted, IsUndone, HaveEnded, HasTurned}
-use Rattle.tql_store.specs.Places.{place_of, is_taken, is_kept, is_brief}
-use Rattle.tql_store.specs.declared.tables.Place.{Place}
-use Rattle.tql_store.specs.declared.tables.Place.TheVariants.{Free, Versioned, Unversioned}
+use Rattle.tql_store.specs.TableSlots.{slot_at, is_taken, is_kept, is_brief}
+use Rattle.tql_store.specs.declared.tables.TableSlot.{TableSlot}
+use Rattle.tql_store.specs.declared.tables.TableSlot.TheVariants.{Free, Versioned, Unversioned}
 
 -- ---- tables at rest
 
@@ -42,7 +42,7 @@ under_more (Some h) m n u l = omega (arith, ints, u, l)
 no_later : (last : Option ℤ) (m until : ℤ) → Under last m → Past last until → until ≤ℤ m
 no_later last m until u p = let l = before last m until u p in omega (arith, ints, l)
 
-rest-since : (last next : Option ℤ) (h : Held) → Since next h → AtRest last h → AtRest next h
+rest-since : (last next : Option ℤ) (h : TableModel) → Since next h → AtRest last h → AtRest next h
 rest-since last next h s r = record {
   none_ended = r.none_ended;
   none_dead = r.none_dead;
@@ -54,7 +54,7 @@ rest-since last next h s r = record {
   kept = r.kept;
 }
 
-since-later : (last : Option ℤ) (m : ℤ) (h : Held) → Under last m → Since last h → Since (Some m) h
+since-later : (last : Option ℤ) (m : ℤ) (h : TableModel) → Under last m → Since last h → Since (Some m) h
 since-later last m h u s = record {
   began = λ k l. no_later last m (named h k).row.start u (s.began k l);
   ended = λ v i. no_later last m v.end u (s.ended v i);
@@ -99,7 +99,7 @@ append_none : (vs ws : List Version) → ws ≡ [] → vs ++ ws ≡ vs
 append_none [] ws e = e
 append_none (v ∷ vs) ws e = ap (λ us. v ∷ us) (append_none vs ws e)
 
-rest-pruned : (last : Option ℤ) (m : ℤ) (h : Held) → m <ℤ high → AtRest last h → h.keeps ≡ false
+rest-pruned : (last : Option ℤ) (m : ℤ) (h : TableModel) → m <ℤ high → AtRest last h → h.keeps ≡ false
     → pruned m (live h) ≡ live h
 rest-pruned last m h below r e =
     let only = append_none h.current h.closed (r.kept e) in
@@ -108,7 +108,8 @@ rest-pruned last m h below r e =
 same-list : {X : Type 0} {xs ys : List X} → xs ≡ ys → SameBag xs ys
 same-list {X} {xs} {ys} e = subst (SameBag xs) e (same-refl xs)
 
-rest-committed : (last : Option ℤ) (m : ℤ) (h : Held) → Under last m → m <ℤ high → AtRest last h → IsCommitted m h h
+rest-committed : (last : Option ℤ) (m : ℤ) (h : TableModel) → Under last m → m <ℤ high → AtRest last h
+    → IsCommitted m h h
 rest-committed last m h u below r = record {
   rest = rest-since last (Some m) h (since-later last m h u r.since) r;
   keeps = refl;
@@ -149,7 +150,7 @@ in-place v (x ∷ xs) (inr i) = let s = in-place v xs i in record {
   is = s.is;
 }
 
-rest-undone : (last : Option ℤ) (m : ℤ) (h : Held) → Under last m → m <ℤ high → AtRest last h
+rest-undone : (last : Option ℤ) (m : ℤ) (h : TableModel) → Under last m → m <ℤ high → AtRest last h
     → undone m (live h) ≡ live h
 rest-undone last m h u below r = undone-none m (versions h) (λ v i. elim (in-append v h.current h.closed i) [
   | inl a ↦ first v (in-place v h.current a)
@@ -175,7 +176,7 @@ rest-undone last m h u below r = undone-none m (versions h) (λ v i. elim (in-ap
     second : (v : Version) → In v h.closed → (int_lt v.row.start m ≡ true) × (int_eq v.end m ≡ false)
     second v i = let p = turn.past v i in (lt_true p.0, eq_false p.1)
 
-rest-rolled : (last : Option ℤ) (m : ℤ) (h : Held) → Under last m → m <ℤ high → AtRest last h → IsUndone m h h
+rest-rolled : (last : Option ℤ) (m : ℤ) (h : TableModel) → Under last m → m <ℤ high → AtRest last h → IsUndone m h h
 rest-rolled last m h u below r = record {
   rest = λ next s. rest-since last next h s r;
   keeps = refl;
@@ -184,7 +185,7 @@ rest-rolled last m h u below r = record {
 
 -- ---- the ends of a transaction in each table
 
-pub each-committed : (m : ℤ) (last : Option ℤ) (old new : List Held) (touched : List ℕ)
+pub each-committed : (m : ℤ) (last : Option ℤ) (old new : List TableModel) (touched : List ℕ)
     → AreInTurn m last old touched → HaveEnded (IsCommitted m) (length touched) touched old new → (t : ℕ)
     → IsCommitted m (table_at old t) (table_at new t)
 each-committed m last old new touched r e t = elim (touched-or touched t) [
@@ -193,7 +194,8 @@ each-committed m last old new touched r e t = elim (touched-or touched t) [
       (rest-committed last m (table_at old t) r.under r.below (r.rest t away))
 ]
 
-pub each-undone : (m : ℤ) (last : Option ℤ) (old new : List Held) (touched : List ℕ) → AreInTurn m last old touched
+pub each-undone : (m : ℤ) (last : Option ℤ) (old new : List TableModel) (touched : List ℕ)
+    → AreInTurn m last old touched
     → HaveEnded (IsUndone m) (length touched) touched old new → (t : ℕ) → IsUndone m (table_at old t) (table_at new t)
 each-undone m last old new touched r e t = elim (touched-or touched t) [
   | inl s ↦ subst (λ (n : ℕ). IsUndone m (table_at old n) (table_at new n)) s.is (e.ended s.place s.within)
@@ -207,7 +209,8 @@ same-none (x ∷ xs) ys h e =
     absurd (let t = h.totals (λ v. 1) in let n : sum_by (λ (v : Version). 1) ys ≡ 0 = ap (sum_by (λ (v : Version). 1))
     e in omega (arith, t, n, sum_by-cons (λ (v : Version). 1) x xs))
 
-pub commit-orderly : (m : ℤ) (last : Option ℤ) (places : List Place) (old new : List Held) (touched none : List ℕ)
+pub commit-orderly : (m : ℤ) (last : Option ℤ) (places : List TableSlot) (old new : List TableModel)
+    (touched none : List ℕ)
     → IsOrderly places old touched (Some m) last → HaveEnded (IsCommitted m) (length touched) touched old new
     → none ≡ []
     → IsOrderly places new none None (Some m)
@@ -224,7 +227,8 @@ commit-orderly m last places old new touched none o e nil =
     either true vs e = e
     either false vs e = ap (pruned m) e
 
-pub rollback-orderly : (m : ℤ) (last : Option ℤ) (places : List Place) (old new : List Held) (touched none : List ℕ)
+pub rollback-orderly : (m : ℤ) (last : Option ℤ) (places : List TableSlot) (old new : List TableModel)
+    (touched none : List ℕ)
     → IsOrderly places old touched (Some m) last → HaveEnded (IsUndone m) (length touched) touched old new → none ≡ []
     → IsOrderly places new none None last
 rollback-orderly m last places old new touched none o e nil =
@@ -240,13 +244,14 @@ rollback-orderly m last places old new touched none o e nil =
     }
 
 -- what is left of a table that is kept, or not
-pub commit-bag : (m : ℤ) (places : List Place) (t : ℕ) (old new : Held) → old.keeps ≡ is_kept (place_of places t)
-    → (place_of places t ≡ Free → live old ≡ []) → IsCommitted m old new
-    → SameBag (live new) (if is_brief (place_of places t) then pruned m (live old) else live old)
+pub commit-bag : (m : ℤ) (places : List TableSlot) (t : ℕ) (old new : TableModel)
+    → old.keeps ≡ is_kept (slot_at places t)
+    → (slot_at places t ≡ Free → live old ≡ []) → IsCommitted m old new
+    → SameBag (live new) (if is_brief (slot_at places t) then pruned m (live old) else live old)
 commit-bag m places t old new keeps gone c =
-    subst (SameBag (live new)) (by_place (place_of places t) keeps gone) c.versions
+    subst (SameBag (live new)) (by_place (slot_at places t) keeps gone) c.versions
   where
-    by_place : (p : Place) → old.keeps ≡ is_kept p → (p ≡ Free → live old ≡ [])
+    by_place : (p : TableSlot) → old.keeps ≡ is_kept p → (p ≡ Free → live old ≡ [])
         → (if old.keeps then live old else pruned m (live old)) ≡ (if is_brief p then pruned m (live old) else live old)
     by_place Free k g = ap (λ (b : Bool). if b then live old else pruned m (live old)) k ∙ ap (pruned m) (g refl)
         ∙ sym (g refl)
@@ -255,13 +260,14 @@ commit-bag m places t old new keeps gone c =
 
 -- ---- a step of the loop over what is touched
 
-pub step-here : (Ends : Held → Held → Type 0) (n : ℕ) (touched : List ℕ) (old now : List Held)
+pub step-here : (Ends : TableModel → TableModel → Type 0) (n : ℕ) (touched : List ℕ) (old now : List TableModel)
     → HaveEnded Ends n touched old now → n < length touched → AreApart touched
     → table_at now (touch_at touched n) ≡ table_at old (touch_at touched n)
 step-here Ends n touched old now e l apart = e.others (touch_at touched n) (λ k o. apart k n o l)
 
 -- the table that is read is as it was
-pub read-here : (Ends : Held → Held → Type 0) (n : ℕ) (touched : List ℕ) (old now : List Held) (x : Held)
+pub read-here : (Ends : TableModel → TableModel → Type 0) (n : ℕ) (touched : List ℕ) (old now : List TableModel)
+    (x : TableModel)
     → x ≡ slice_index_or now (touch_at touched n) x → HaveEnded Ends n touched old now → n < length touched
     → AreApart touched
     → ((k : ℕ) → k < length touched → touch_at touched k < length old) → x ≡ table_at old (touch_at touched n)
@@ -269,7 +275,8 @@ read-here Ends n touched old now x e h l apart within =
     e ∙ get_or_default now (touch_at touched n) x (empty false)
     (let w = within n l in let q = h.even in omega (arith, w, q)) ∙ step-here Ends n touched old now h l apart
 
-pub step-ended : (Ends : Held → Held → Type 0) (n i : ℕ) (touched : List ℕ) (old now : List Held) (x : Held)
+pub step-ended : (Ends : TableModel → TableModel → Type 0) (n i : ℕ) (touched : List ℕ) (old now : List TableModel)
+    (x : TableModel)
     → HaveEnded Ends n touched old now → n < length touched → AreApart touched → i ≡ touch_at touched n → i < length old
     → Ends (table_at old (touch_at touched n)) x → HaveEnded Ends (n + 1) touched old (slice_set now i x)
 step-ended Ends n i touched old now x e l apart is within h = record {
@@ -298,18 +305,18 @@ step-ended Ends n i touched old now x e l apart is within h = record {
 pub by_number : (P : ℕ → Type 0) (t n : ℕ) → P n → (nat_eq t n ≡ false → P t) → P t
 by_number P t n here other = by_bool (nat_eq t n) (λ e. subst P (sym (one_number t n e)) here) other
 
-turned-orderly : (m : ℤ) (last : Option ℤ) (n : ℕ) (places : List Place) (old new : List Held)
-    (touched next : List ℕ) → is_taken (place_of places n) ≡ true → IsOrderly places old touched (Some m) last
+turned-orderly : (m : ℤ) (last : Option ℤ) (n : ℕ) (places : List TableSlot) (old new : List TableModel)
+    (touched next : List ℕ) → is_taken (slot_at places n) ≡ true → IsOrderly places old touched (Some m) last
     → HasTurned m n old new
     → ((t : ℕ) → IsUntouched next t → AtRest last (table_at new t))
     → ((k : ℕ) → k < length next → touch_at next k < length old) → AreApart next
     → IsOrderly places new next (Some m) last
 turned-orderly m last n places old new touched next there o h rest within apart = record {
   even = h.even ∙ o.even;
-  keeps = λ t. by_number (λ (u : ℕ). (table_at new u).keeps ≡ is_kept (place_of places u)) t n (h.keeps
-      ∙ o.keeps n) (λ e. ap (λ (x : Held). x.keeps) (h.others t e) ∙ o.keeps t);
-  gone = λ t. by_number (λ (u : ℕ). place_of places u ≡ Free
-      → live (table_at new u) ≡ []) t n (λ f. absurd (taken_not_free (place_of places n) there f))
+  keeps = λ t. by_number (λ (u : ℕ). (table_at new u).keeps ≡ is_kept (slot_at places u)) t n (h.keeps
+      ∙ o.keeps n) (λ e. ap (λ (x : TableModel). x.keeps) (h.others t e) ∙ o.keeps t);
+  gone = λ t. by_number (λ (u : ℕ). slot_at places u ≡ Free
+      → live (table_at new u) ≡ []) t n (λ f. absurd (taken_not_free (slot_at places n) there f))
       (λ e f. ap live (h.others t e) ∙ o.gone t f);
   ready = record {
     below = o.ready.below;
@@ -324,8 +331,8 @@ turned-orderly m last n places old new touched next there o h rest within apart 
   };
 }
 
-pub change-orderly : (m : ℤ) (last : Option ℤ) (n : ℕ) (places : List Place) (old new : List Held)
-    (touched next : List ℕ) → is_taken (place_of places n) ≡ true → n < length old
+pub change-orderly : (m : ℤ) (last : Option ℤ) (n : ℕ) (places : List TableSlot) (old new : List TableModel)
+    (touched next : List ℕ) → is_taken (slot_at places n) ≡ true → n < length old
     → IsOrderly places old touched (Some m) last → HasTurned m n old new
     → IsNoted n touched next → IsOrderly places new next (Some m) last
 change-orderly m last n places old new touched next there less o h is =
@@ -339,8 +346,8 @@ change-orderly m last n places old new touched next there less o h is =
     other next t s away = by_bool (nat_eq t n) (λ e. absurd (away s.place s.within (s.is ∙ sym (one_number t n e))))
         (λ e. e)
 
-pub refused-orderly : (m : ℤ) (last : Option ℤ) (n : ℕ) (places : List Place) (old new : List Held)
-    (touched next : List ℕ) → is_taken (place_of places n) ≡ true → IsOrderly places old touched (Some m) last
+pub refused-orderly : (m : ℤ) (last : Option ℤ) (n : ℕ) (places : List TableSlot) (old new : List TableModel)
+    (touched next : List ℕ) → is_taken (slot_at places n) ≡ true → IsOrderly places old touched (Some m) last
     → HasTurned m n old new
     → next ≡ touched → ((l : Option ℤ) → AtRest l (table_at old n) → AtRest l (table_at new n))
     → IsOrderly places new next (Some m) last
@@ -353,14 +360,14 @@ refused-orderly m last n places old new touched next there o h same rest =
     o.ready.within o.ready.apart)
 
 -- a change that was refused leaves a table at rest so
-pub refused-rest : (m : ℤ) (last : Option ℤ) (h n : Held) → InTurn m n
+pub refused-rest : (m : ℤ) (last : Option ℤ) (h n : TableModel) → InTurn m n
     → n ≡ record h { room = n.room; entries = n.entries } → SameBag n.entries h.entries → AtRest last h → AtRest last n
 refused-rest m last h n t e es r = subst (AtRest last) (sym e) (record {
   none_ended = r.none_ended;
   none_dead = r.none_dead;
   all_based = r.all_based;
-  room = λ k. let f = t.room (ap (λ (x : Held). x.keeps) e
-      ∙ k) in let c = ap (λ (x : Held). length x.closed) e in omega (arith, f, c);
+  room = λ k. let f = t.room (ap (λ (x : TableModel). x.keeps) e
+      ∙ k) in let c = ap (λ (x : TableModel). length x.closed) e in omega (arith, f, c);
   is_open = r.is_open;
   since = record { began = r.since.began; ended = r.since.ended };
   indexed = record {
@@ -371,7 +378,7 @@ refused-rest m last h n t e es r = subst (AtRest last) (sym e) (record {
   kept = r.kept;
 })
 
-pub turned : (m n' : ℤ) (n i : ℕ) (rows : List Held) (old new : Held) → n' ≡ m → i ≡ n → n < length rows
+pub turned : (m n' : ℤ) (n i : ℕ) (rows : List TableModel) (old new : TableModel) → n' ≡ m → i ≡ n → n < length rows
     → old ≡ table_at rows n → InTurn n' new → ((last : Option ℤ) → Since last old → Since last new)
     → new.keeps ≡ old.keeps → HasTurned m n rows (slice_set rows i new)
 turned m n' n i rows old new at is less start turn since keeps =
@@ -381,12 +388,12 @@ turned m n' n i rows old new at is less start turn since keeps =
       others = λ t e. put-other rows i t new (ap (nat_eq t) is ∙ e);
       turn = subst (InTurn m) (sym here) (subst (λ (x : ℤ). InTurn x new) at turn);
       since = λ last s. subst (Since last) (sym here) (since last (subst (Since last) (sym start) s));
-      keeps = ap (λ (x : Held). x.keeps) here ∙ keeps ∙ ap (λ (x : Held). x.keeps) start;
+      keeps = ap (λ (x : TableModel). x.keeps) here ∙ keeps ∙ ap (λ (x : TableModel). x.keeps) start;
     }
 
 -- ---- beginnings and tables
 
-pub begin-orderly : (m : ℤ) (last : Option ℤ) (places : List Place) (rows : List Held) (touched : List ℕ)
+pub begin-orderly : (m : ℤ) (last : Option ℤ) (places : List TableSlot) (rows : List TableModel) (touched : List ℕ)
     → IsOrderly places rows touched None last → Under last m → m <ℤ high → IsOrderly places rows touched (Some m) last
 begin-orderly m last places rows touched o u below = record {
   even = o.even;

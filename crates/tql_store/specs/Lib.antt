@@ -1,7 +1,7 @@
-pub mod Places
+pub mod TableSlots
 pub mod Stands
 pub mod Changes
-pub mod Held
+pub mod StoreModel
 pub mod Views
 pub mod Orderly
 pub mod Represents

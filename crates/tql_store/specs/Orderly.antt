@@ -5,17 +5,17 @@ use Rattle.std.specs.Prelude.{Contains, Option, Some, None, ℤ, ◌<ℤ◌, if�
 use Rattle.tql_spec.specs.Bag.{SameBag}
 use Rattle.tql_spec.specs.Calendar.{high}
 use Rattle.tql_spec.specs.Definition.{Version}
-use Rattle.tql_rows.specs.Changes.{Under, pruned, undone}
-use Rattle.tql_rows.specs.Held as rows
-use Rattle.tql_rows.specs.Held.{AtRest, InTurn, Since}
-use Rattle.tql_store.specs.Places.{place_of, is_kept}
-use Rattle.tql_store.specs.declared.tables.Place.{Place}
-use Rattle.tql_store.specs.declared.tables.Place.TheVariants.{Free}
+use Rattle.tql_store_rows.specs.Changes.{Under, pruned, undone}
+use Rattle.tql_store_rows.specs.TableModel as rows
+use Rattle.tql_store_rows.specs.TableModel.{AtRest, InTurn, Since}
+use Rattle.tql_store.specs.TableSlots.{slot_at, is_kept}
+use Rattle.tql_store.specs.declared.tables.TableSlot.{TableSlot}
+use Rattle.tql_store.specs.declared.tables.TableSlot.TheVariants.{Free}
 
 -- ---- tables by their numbers
 
 -- a table without versions, that keeps its history or does not
-abbrev pub empty : Bool → rows.Held
+abbrev pub empty : Bool → rows.TableModel
 empty keeps = record {
   keeps = keeps;
   current = [];
@@ -28,7 +28,7 @@ empty keeps = record {
 }
 
 -- the table of a number; past the end one without versions
-abbrev pub table_at : List rows.Held → ℕ → rows.Held
+abbrev pub table_at : List rows.TableModel → ℕ → rows.TableModel
 table_at tables t = slice_index_or tables t (empty false)
 
 -- a number that is touched
@@ -42,13 +42,13 @@ IsUntouched touched t = (k : ℕ) → k < length touched → touch_at touched k 
 -- ---- the store's invariant
 
 -- between transactions
-pub record AreAtRest (last : Option ℤ) (tables : List rows.Held) (touched : List ℕ) : Type 0 where
+pub record AreAtRest (last : Option ℤ) (tables : List rows.TableModel) (touched : List ℕ) : Type 0 where
   pub none : touched ≡ []
   pub below : Under last high
   pub rest : (t : ℕ) → AtRest last (table_at tables t)
 
 -- in a transaction of a moment
-pub record AreInTurn (m : ℤ) (last : Option ℤ) (tables : List rows.Held) (touched : List ℕ) : Type 0 where
+pub record AreInTurn (m : ℤ) (last : Option ℤ) (tables : List rows.TableModel) (touched : List ℕ) : Type 0 where
   pub below : m <ℤ high
   pub under : Under last m
   pub turn : (t : ℕ) → InTurn m (table_at tables t)
@@ -57,32 +57,33 @@ pub record AreInTurn (m : ℤ) (last : Option ℤ) (tables : List rows.Held) (to
   pub within : (k : ℕ) → k < length touched → touch_at touched k < length tables
   pub apart : (j k : ℕ) → j < k → k < length touched → touch_at touched j ≢ touch_at touched k
 
-abbrev pub AreReady : Option ℤ → Option ℤ → List rows.Held → List ℕ → Type 0
+abbrev pub AreReady : Option ℤ → Option ℤ → List rows.TableModel → List ℕ → Type 0
 AreReady None last tables touched = AreAtRest last tables touched
 AreReady (Some m) last tables touched = AreInTurn m last tables touched
 
-pub record IsOrderly (places : List Place) (tables : List rows.Held) (touched : List ℕ) (working last : Option ℤ) :
+pub record IsOrderly (places : List TableSlot) (tables : List rows.TableModel) (touched : List ℕ)
+    (working last : Option ℤ) :
     Type 0 where
   pub even : length tables ≡ length places
-  pub keeps : (t : ℕ) → (table_at tables t).keeps ≡ is_kept (place_of places t)
-  pub gone : (t : ℕ) → place_of places t ≡ Free → rows.live (table_at tables t) ≡ []
+  pub keeps : (t : ℕ) → (table_at tables t).keeps ≡ is_kept (slot_at places t)
+  pub gone : (t : ℕ) → slot_at places t ≡ Free → rows.live (table_at tables t) ≡ []
   pub ready : AreReady working last tables touched
 
 -- ---- what the ends of a transaction do to a table
 
-pub record IsCommitted (m : ℤ) (old new : rows.Held) : Type 0 where
+pub record IsCommitted (m : ℤ) (old new : rows.TableModel) : Type 0 where
   pub rest : AtRest (Some m) new
   pub keeps : new.keeps ≡ old.keeps
   pub versions : SameBag (rows.live new) (if old.keeps then rows.live old else pruned m (rows.live old))
 
-pub record IsUndone (m : ℤ) (old new : rows.Held) : Type 0 where
+pub record IsUndone (m : ℤ) (old new : rows.TableModel) : Type 0 where
   pub rest : (last : Option ℤ) → Since last old → AtRest last new
   pub keeps : new.keeps ≡ old.keeps
   pub versions : SameBag (rows.live new) (undone m (rows.live old))
 
 -- so many of the tables of these numbers have ended, and no other was looked at
-pub record HaveEnded (Ends : rows.Held → rows.Held
-    → Type 0) (n : ℕ) (touched : List ℕ) (old new : List rows.Held) : Type 0 where
+pub record HaveEnded (Ends : rows.TableModel → rows.TableModel
+    → Type 0) (n : ℕ) (touched : List ℕ) (old new : List rows.TableModel) : Type 0 where
   pub even : length new ≡ length old
   pub ended : (k : ℕ) → k < n → Ends (table_at old (touch_at touched k)) (table_at new (touch_at touched k))
   pub others : (t : ℕ) → ((k : ℕ) → k < n → touch_at touched k ≢ t) → table_at new t ≡ table_at old t
@@ -94,7 +95,7 @@ abbrev pub IsNoted : ℕ → List ℕ → List ℕ → Type 0
 IsNoted n old new = ((new ≡ old) × Contains old n) ⊎ ((new ≡ old ++ n ∷ []) × (Contains old n → ⊥))
 
 -- the table of a number is still in the transaction, and no other was looked at
-pub record HasTurned (m : ℤ) (n : ℕ) (old new : List rows.Held) : Type 0 where
+pub record HasTurned (m : ℤ) (n : ℕ) (old new : List rows.TableModel) : Type 0 where
   pub even : length new ≡ length old
   pub others : (t : ℕ) → nat_eq t n ≡ false → table_at new t ≡ table_at old t
   pub turn : InTurn m (table_at new n)
@@ -102,6 +103,6 @@ pub record HasTurned (m : ℤ) (n : ℕ) (old new : List rows.Held) : Type 0 whe
   pub keeps : (table_at new n).keeps ≡ (table_at old n).keeps
 
 -- another table stands at a number, and no other was looked at
-pub record IsPut (n : ℕ) (table : rows.Held) (old new : List rows.Held) : Type 0 where
+pub record IsPut (n : ℕ) (table : rows.TableModel) (old new : List rows.TableModel) : Type 0 where
   pub here : table_at new n ≡ table
   pub others : (t : ℕ) → nat_eq t n ≡ false → table_at new t ≡ table_at old t

@@ -5,14 +5,14 @@ use Rattle.tql_spec.specs.Bag.{SameBag}
 use Rattle.tql_spec.specs.Datum.{Datum}
 use Rattle.tql_spec.specs.Definition.{Stamped, Version}
 use Rattle.tql_spec.specs.History.{TableEntry, as_of, from_to, current}
-use Rattle.tql_rows.specs.Changes.{is_current}
+use Rattle.tql_store_rows.specs.Changes.{is_current}
 use Rattle.tql_store.specs.Stands.{StandsFor}
-use Rattle.tql_rows.specs.Changes.{alive, replaced}
+use Rattle.tql_store_rows.specs.Changes.{alive, replaced}
 use Rattle.tql_store.specs.Changes.{rows_after, InTransaction, last_rows, newest, emptied}
-use Rattle.tql_store.specs.Held.{Held, live, named, is_among, table_count}
-use Rattle.tql_store.specs.Places.{place_of, place_for, is_brief}
-use Rattle.tql_store.specs.declared.tables.Place.{Place}
-use Rattle.tql_store.specs.declared.tables.Place.TheVariants.{Free}
+use Rattle.tql_store.specs.StoreModel.{StoreModel, live, named, is_among, table_count}
+use Rattle.tql_store.specs.TableSlots.{slot_at, place_for, is_brief}
+use Rattle.tql_store.specs.declared.tables.TableSlot.{TableSlot}
+use Rattle.tql_store.specs.declared.tables.TableSlot.TheVariants.{Free}
 
 -- ---- the relation
 
@@ -26,8 +26,8 @@ Working = ℕ → List Stamped
 
 -- from where on the versions of a table are kept: all of them, or of an unversioned table what stands since the last
 -- commit
-abbrev pub horizon_of : List Place → Option ℤ → ℕ → Option ℤ
-horizon_of places last t = if is_brief (place_of places t) then last else None
+abbrev pub horizon_of : List TableSlot → Option ℤ → ℕ → Option ℤ
+horizon_of places last t = if is_brief (slot_at places t) then last else None
 
 -- with no transaction open the versions of a table stand for its copies; else for these with the working one
 abbrev pub StandsWith : Option ℤ → Option ℤ → List Version → List TableEntry → List Stamped → Type 0
@@ -38,14 +38,14 @@ StandsWith horizon (Some m) versions entries rows = InTransaction horizon versio
 }) entries
 
 -- the store stands for these copies of each table, and, if a transaction is open, this working copy
-pub record Represents (h : Held) (copies : Copies) (working : Working) : Type 0 where
+pub record Represents (h : StoreModel) (copies : Copies) (working : Working) : Type 0 where
   pub dated : (t : ℕ) → newest (copies t) ≡ h.last
   pub stands : (t : ℕ) → StandsWith (horizon_of h.tables h.last t) h.working (live h t) (copies t) (working t)
 
 -- ---- transactions
 
 -- what a beginning does: the working copy is the last one
-abbrev pub BeginCopies : Held → Held → Type 0
+abbrev pub BeginCopies : StoreModel → StoreModel → Type 0
 BeginCopies old new = (copies : Copies) (working : Working) → Represents old copies working
     → Represents new copies (λ t. last_rows (copies t))
 
@@ -54,24 +54,24 @@ abbrev pub appended : ℤ → Working → Copies → Copies
 appended m working copies t = record { moment = m; rows = working t } ∷ copies t
 
 -- what a commit does to the copies
-abbrev pub CommitAppends : Held → Held → Type 0
+abbrev pub CommitAppends : StoreModel → StoreModel → Type 0
 CommitAppends old new = (copies : Copies) (working : Working) (m : ℤ) → old.working ≡ Some m
     → Represents old copies working → Represents new (appended m working copies) working
 
 -- what a rollback gives back
-abbrev pub RollbackRestores : Held → Held → Type 0
+abbrev pub RollbackRestores : StoreModel → StoreModel → Type 0
 RollbackRestores old new = (copies : Copies) (working : Working) (m : ℤ) → old.working ≡ Some m
     → Represents old copies working → Represents new copies working
 
 -- ---- changes
 
 -- the ids listed are those of the versions that a change of a table takes away: what goes is told by the rows' values
-abbrev pub Judged : Held → ℕ → (Stamped → Bool) → List ℕ → Type 0
+abbrev pub Judged : StoreModel → ℕ → (Stamped → Bool) → List ℕ → Type 0
 Judged h t gone removed = (id : ℕ) (v : Version) → named h t id ≡ Some v
     → is_among id removed ≡ (alive v && (is_current v && gone v.row))
 
 -- a change of a table: those of its versions that go are replaced by those that come, and nothing else is touched
-pub record ReplacesVersions (t : ℕ) (removed : List ℕ) (added : List (List Datum)) (old new : Held) : Type 0 where
+pub record ReplacesVersions (t : ℕ) (removed : List ℕ) (added : List (List Datum)) (old new : StoreModel) : Type 0 where
   pub tables : new.tables ≡ old.tables
   pub working : new.working ≡ old.working
   pub last : new.last ≡ old.last
@@ -86,7 +86,7 @@ abbrev pub with_rows : ℕ → List Stamped → Working → Working
 with_rows t rows working u = if nat_eq u t then rows else working u
 
 -- what a change does: of its table the rows that go are replaced by those that come
-abbrev pub ChangeReplaces : ℕ → List ℕ → List (List Datum) → Held → Held → Type 0
+abbrev pub ChangeReplaces : ℕ → List ℕ → List (List Datum) → StoreModel → StoreModel → Type 0
 ChangeReplaces t removed added old new = (copies : Copies) (working : Working) (m : ℤ) (gone : Stamped → Bool)
     → old.working ≡ Some m → Judged old t gone removed → Represents old copies working
     → Represents new copies (with_rows t (rows_after m gone added (working t)) working)
@@ -94,12 +94,12 @@ ChangeReplaces t removed added old new = (copies : Copies) (working : Working) (
 -- ---- tables
 
 -- another place stands at a number, and nothing else is changed
-pub record Takes (t : ℕ) (place : Place) (old new : List Place) : Type 0 where
-  pub places : (u : ℕ) → place_of new u ≡ (if nat_eq u t then place else place_of old u)
+pub record Takes (t : ℕ) (place : TableSlot) (old new : List TableSlot) : Type 0 where
+  pub places : (u : ℕ) → slot_at new u ≡ (if nat_eq u t then place else slot_at old u)
 
 -- a new table is there, at a number where none was; no version, no transaction is touched
-pub record AddsTable (versioned : Bool) (t : ℕ) (old new : Held) : Type 0 where
-  pub free : place_of old.tables t ≡ Free
+pub record AddsTable (versioned : Bool) (t : ℕ) (old new : StoreModel) : Type 0 where
+  pub free : slot_at old.tables t ≡ Free
   pub takes : Takes t (place_for versioned) old.tables new.tables
   pub count : table_count new ≡ table_count old + 1
   pub working : new.working ≡ old.working
@@ -107,7 +107,7 @@ pub record AddsTable (versioned : Bool) (t : ℕ) (old new : Held) : Type 0 wher
   pub versions : (u : ℕ) → live new u ≡ live old u
 
 -- the same copies: the new table has no row in any, as its number had none
-abbrev pub AddKeepsCopies : Held → Held → Type 0
+abbrev pub AddKeepsCopies : StoreModel → StoreModel → Type 0
 AddKeepsCopies old new = (copies : Copies) (working : Working) → Represents old copies working
     → Represents new copies working
 
@@ -116,7 +116,7 @@ abbrev pub copies_without : ℕ → Copies → Copies
 copies_without t copies u = if nat_eq u t then emptied (copies u) else copies u
 
 -- what a drop does to the copies
-abbrev pub DropEmpties : ℕ → Held → Held → Type 0
+abbrev pub DropEmpties : ℕ → StoreModel → StoreModel → Type 0
 DropEmpties t old new = (copies : Copies) (working : Working) → Represents old copies working
     → Represents new (copies_without t copies) working
 
@@ -128,14 +128,14 @@ seen_by None copies working = copies
 seen_by (Some m) copies working = appended m working copies
 
 -- what a reading answers: what the definitions find in the copies
-abbrev pub AnswersAsOf : Held → ℕ → ℤ → List Version → Type 0
+abbrev pub AnswersAsOf : StoreModel → ℕ → ℤ → List Version → Type 0
 AnswersAsOf h t m found = (copies : Copies) (working : Working) → Represents h copies working
     → SameBag found (as_of m (seen_by h.working copies working t))
 
-abbrev pub AnswersFromTo : Held → ℕ → ℤ → ℤ → List Version → Type 0
+abbrev pub AnswersFromTo : StoreModel → ℕ → ℤ → ℤ → List Version → Type 0
 AnswersFromTo h t a b found = (copies : Copies) (working : Working) → Represents h copies working
     → SameBag found (from_to a b (seen_by h.working copies working t))
 
-abbrev pub AnswersNow : Held → ℕ → List Version → Type 0
+abbrev pub AnswersNow : StoreModel → ℕ → List Version → Type 0
 AnswersNow h t found = (copies : Copies) (working : Working) → Represents h copies working
     → SameBag found (current (seen_by h.working copies working t))

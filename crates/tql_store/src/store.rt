@@ -4,31 +4,34 @@ ghost use Rattle.std.specs.Prelude.{OnErr, IfErr, Err};
 ghost use Rattle.tql_spec.specs.Calendar.{high};
 ghost use Rattle.tql_spec.specs.Bag.{SameBag};
 ghost use Rattle.tql_spec.specs.Definition.{Stamped};
-ghost use Rattle.tql_rows.specs.Changes.{alive, closing, fresh, holds, is_current, pruned, replaced, undone, Under};
-ghost use Rattle.tql_rows.specs.Held.{AtRest, InTurn, AreRemovable as AreRemovableRows, IsJudged, live as live_rows};
-ghost use Rattle.tql_rows.specs.Held.{versions as all_versions};
-ghost use Rattle.tql_store.specs.Held.{Held, live, named, AreRemovable, moment_or_high, has_table as table_there};
-ghost use Rattle.tql_store.specs.Held.{is_versioned as table_versioned, table_count as tables_there};
+ghost use Rattle.tql_store_rows.specs.Changes.{alive, closing, fresh, holds, is_current, pruned, replaced, undone};
+ghost use Rattle.tql_store_rows.specs.Changes.{Under};
+ghost use Rattle.tql_store_rows.specs.TableModel.{AtRest, InTurn, AreRemovable as AreRemovableRows, IsJudged};
+ghost use Rattle.tql_store_rows.specs.TableModel.{live as live_rows};
+ghost use Rattle.tql_store_rows.specs.TableModel.{versions as all_versions};
+ghost use Rattle.tql_store.specs.StoreModel.{StoreModel, live, named, AreRemovable, moment_or_high};
+ghost use Rattle.tql_store.specs.StoreModel.{has_table as table_there};
+ghost use Rattle.tql_store.specs.StoreModel.{is_versioned as table_versioned, table_count as tables_there};
 ghost use Rattle.tql_store.specs.Orderly.{table_at, IsNoted, HasTurned};
-ghost use Rattle.tql_store.specs.Places.{place_of, is_brief};
-ghost use Rattle.tql_rows.specs.Readings.{version_shown as version_of};
+ghost use Rattle.tql_store.specs.TableSlots.{slot_at, is_brief};
+ghost use Rattle.tql_store_rows.specs.Readings.{version_shown as version_of};
 ghost use Rattle.tql_store.specs.Views.{Names, NamesOnce};
 ghost use Rattle.tql_store.specs.Represents.{Represents, BeginCopies, ChangeReplaces, CommitAppends, ReplacesVersions};
 ghost use Rattle.tql_store.specs.Represents.{RollbackRestores, AddsTable, AddKeepsCopies, DropEmpties, Takes};
 ghost use Rattle.tql_store.specs.Represents.{AnswersAsOf, AnswersFromTo, AnswersNow};
-ghost use Rattle.tql_rows.specs.Readings.{asked};
-ghost use Rattle.tql_rows.specs.declared.readings.When.TheVariants as when;
-ghost use Rattle.tql_store.specs.declared.tables.Place.TheVariants.{Free};
+ghost use Rattle.tql_store_rows.specs.Readings.{asked};
+ghost use Rattle.tql_store_rows.specs.declared.readings.When.TheVariants as when;
+ghost use Rattle.tql_store.specs.declared.tables.TableSlot.TheVariants.{Free};
 ghost use Rattle.tql_value.specs.Views.{datum_of_value};
 ghost use Rattle.tql_value.specs.declared.refusal.Refusal.TheVariants.{OutOfMemory};
 
-use crate::tables::{Place, clear_place, free_table, place_at, put_table, taken_count};
+use crate::tables::{TableSlot, clear_place, free_table, place_at, put_table, taken_count};
 use crate::turns::{commit_each, note, put_rows, set_rows, undo_each};
 use std::marker::Model;
 use tql_index::index::IntervalIndex;
 use tql_memory::Memory;
-use tql_rows::rows::Rows;
-use tql_rows::version::{HIGH, Version};
+use tql_store_rows::version::{HIGH, Version};
+use tql_store_rows::versions::Versions;
 use tql_value::refusal::Refusal;
 use tql_value::table::TableId;
 use tql_value::value::Value;
@@ -49,7 +52,7 @@ impl Delta {
     /// Makes the change in its table, and notes that as touched. Refused where memory is, and then nothing is changed.
     fn make<I: IntervalIndex>(
         self,
-        rows: &mut [Rows<I>],
+        rows: &mut [Versions<I>],
         touched: &mut Vec<usize, Memory>,
         moment: i64,
     ) -> Result<(), Refusal>
@@ -103,9 +106,9 @@ impl Drop for Delta {
 /// The versions of all tables: an index of each keeps those that are closed.
 pub struct Store<I: IntervalIndex> {
     memory: Memory,
-    places: Vec<Place, Memory>,
+    places: Vec<TableSlot, Memory>,
     /// The versions of the table of each number.
-    rows: Vec<Rows<I>, Memory>,
+    rows: Vec<Versions<I>, Memory>,
     /// The numbers of the tables that the open transaction changed.
     touched: Vec<usize, Memory>,
     working: Option<i64>,
@@ -130,10 +133,10 @@ impl<I: IntervalIndex> Drop for Store<I> {
 
 impl<I: IntervalIndex> Model for Store<I> {
     ghost use Rattle.std.specs.Prelude.{map};
-    ghost use Rattle.tql_rows.specs.Held.{versions};
-    ghost use Rattle.tql_store.specs.Held.{Held};
+    ghost use Rattle.tql_store_rows.specs.TableModel.{versions};
+    ghost use Rattle.tql_store.specs.StoreModel.{StoreModel};
 
-    ghost Value = { Held };
+    ghost Value = { StoreModel };
 
     ghost view = { λ s. record {
       tables = s.places.items;
@@ -216,8 +219,8 @@ impl<I: IntervalIndex> Store<I> {
     {
         self.rows.reserve(1)?;
         let table = free_table(&self.places);
-        put_table(&mut self.places, table, Place::of_table(versioned))?;
-        let rows = Rows::new(self.memory, versioned);
+        put_table(&mut self.places, table, TableSlot::of_table(versioned))?;
+        let rows = Versions::new(self.memory, versioned);
         put_rows(&mut self.rows, usize::from(table.number()), rows);
         Ok(table)
     }
@@ -234,7 +237,7 @@ impl<I: IntervalIndex> Store<I> {
         ensures copies { DropEmpties table self.old self.new }
     {
         clear_place(&mut self.places, table);
-        let rows = Rows::new(self.memory, false);
+        let rows = Versions::new(self.memory, false);
         set_rows(&mut self.rows, usize::from(table.number()), rows);
     }
 
@@ -287,7 +290,7 @@ impl<I: IntervalIndex> Store<I> {
         ensures working { self.new.working ≡ None }
         ensures last { self.new.last ≡ self.old.working }
         ensures versions { (t : ℕ) (m : ℤ) → self.old.working ≡ Some m → SameBag (live self.new t)
-            (if is_brief (place_of self.old.tables t) then pruned m (live self.old t) else live self.old t) }
+            (if is_brief (slot_at self.old.tables t) then pruned m (live self.old t) else live self.old t) }
         ensures copies { CommitAppends self.old self.new }
     {
         let moment = self.moment();

@@ -1,7 +1,7 @@
 ghost use Rattle.std.specs.Prelude.{◌≡◌, ℕ, ◌≤◌, ◌<◌, ◌+◌, true, false, OnOk, OnErr, count_by, length, max};
-ghost use Rattle.tql_store.specs.Places.{place_of, is_taken as taken, is_kept as kept, is_brief as brief, place_for};
+ghost use Rattle.tql_store.specs.TableSlots.{slot_at, is_taken as taken, is_kept as kept, is_brief as brief, place_for};
 ghost use Rattle.tql_store.specs.Represents.{Takes};
-ghost use Rattle.tql_store.specs.declared.tables.Place.TheVariants.{Free};
+ghost use Rattle.tql_store.specs.declared.tables.TableSlot.TheVariants.{Free};
 
 use std::alloc::AllocError;
 use tql_memory::Memory;
@@ -9,7 +9,7 @@ use tql_value::table::TableId;
 
 /// What stands at a table's number.
 #[derive(Clone, Copy)]
-pub enum Place {
+pub enum TableSlot {
     /// No table.
     Free,
     /// A table that keeps its history.
@@ -18,15 +18,15 @@ pub enum Place {
     Unversioned,
 }
 
-impl Place {
+impl TableSlot {
     /// The place of a table that is versioned, or not.
-    pub fn of_table(versioned: bool) -> Place
+    pub fn of_table(versioned: bool) -> TableSlot
         ensures { result ≡ place_for versioned }
     {
         if versioned {
-            Place::Versioned
+            TableSlot::Versioned
         } else {
-            Place::Unversioned
+            TableSlot::Unversioned
         }
     }
 
@@ -35,9 +35,9 @@ impl Place {
         ensures { result ≡ taken self }
     {
         match self {
-            Place::Free => false,
-            Place::Versioned => true,
-            Place::Unversioned => true,
+            TableSlot::Free => false,
+            TableSlot::Versioned => true,
+            TableSlot::Unversioned => true,
         }
     }
 
@@ -46,9 +46,9 @@ impl Place {
         ensures { result ≡ kept self }
     {
         match self {
-            Place::Free => false,
-            Place::Versioned => true,
-            Place::Unversioned => false,
+            TableSlot::Free => false,
+            TableSlot::Versioned => true,
+            TableSlot::Unversioned => false,
         }
     }
 
@@ -57,34 +57,34 @@ impl Place {
         ensures { result ≡ brief self }
     {
         match self {
-            Place::Free => false,
-            Place::Versioned => false,
-            Place::Unversioned => true,
+            TableSlot::Free => false,
+            TableSlot::Versioned => false,
+            TableSlot::Unversioned => true,
         }
     }
 }
 
 /// What stands at a table's number; past the end no table does.
-pub fn place_at(places: &[Place], table: TableId) -> Place
-    ensures { result ≡ place_of places.now table }
+pub fn place_at(places: &[TableSlot], table: TableId) -> TableSlot
+    ensures { result ≡ slot_at places.now table }
 {
     match places.get(usize::from(table.number())) {
         Some(place) => *place,
-        None => Place::Free,
+        None => TableSlot::Free,
     }
 }
 
 /// How many tables there are.
-pub fn taken_count(places: &[Place]) -> usize
+pub fn taken_count(places: &[TableSlot]) -> usize
     ensures { result ≡ count_by taken places.now }
 {
     places.iter().filter(|place| place.is_taken()).count()
 }
 
 /// The lowest number at which no table stands.
-fn free_number(places: &[Place]) -> usize
-    ensures free { taken (place_of places.now result) ≡ false }
-    ensures before { (k : ℕ) → k < result → taken (place_of places.now k) ≡ true }
+fn free_number(places: &[TableSlot]) -> usize
+    ensures free { taken (slot_at places.now result) ≡ false }
+    ensures before { (k : ℕ) → k < result → taken (slot_at places.now k) ≡ true }
     ensures within { result ≤ length places.now }
 {
     for (number, place) in places.iter().enumerate() {
@@ -96,9 +96,9 @@ fn free_number(places: &[Place]) -> usize
 }
 
 /// The table of the lowest number at which none stands.
-pub fn free_table(places: &[Place]) -> TableId
+pub fn free_table(places: &[TableSlot]) -> TableId
     requires { count_by taken places.now < 1000 }
-    ensures free { place_of places.now result ≡ Free }
+    ensures free { slot_at places.now result ≡ Free }
     ensures near { result ≤ length places.now }
 {
     let number = free_number(places);
@@ -110,9 +110,9 @@ pub fn free_table(places: &[Place]) -> TableId
 
 /// Puts a table at a number where none stands, or does nothing.
 pub fn put_table(
-    places: &mut Vec<Place, Memory>,
+    places: &mut Vec<TableSlot, Memory>,
     table: TableId,
-    place: Place,
+    place: TableSlot,
 ) -> Result<(), AllocError>
     requires near { table ≤ length places.old.items }
     ensures ok { OnOk result (Takes table place places.old.items places.new.items) }
@@ -130,12 +130,12 @@ pub fn put_table(
 }
 
 /// Takes the table at a number away.
-pub fn clear_place(places: &mut [Place], table: TableId)
+pub fn clear_place(places: &mut [TableSlot], table: TableId)
     ensures takes { Takes table Free places.old places.new }
     ensures len { length places.new ≡ length places.old }
 {
     let number = usize::from(table.number());
     if number < places.len() {
-        places[number] = Place::Free;
+        places[number] = TableSlot::Free;
     }
 }

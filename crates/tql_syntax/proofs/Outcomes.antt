@@ -5,14 +5,14 @@ use Rattle.tql_spec.specs.Token.{Token, depth}
 use Rattle.tql_spec.specs.Syntax.{Statement}
 use Rattle.tql_spec.specs.Grammar.{IsStatement}
 use Rattle.tql_value.specs.declared.refusal.Refusal.{Refusal}
-use Rattle.tql_tree.specs.declared.tree.Tree as code
-use Rattle.tql_grammar.specs.Outcome.{Read, Failed, whole}
-use Rattle.tql_grammar.specs.ReadingStatements.{statement_at, read_statement}
-use Rattle.tql_phrase.specs.Parsing.{refusal_for}
+use Rattle.tql_syntax_tree.specs.declared.tree.Tree as code
+use Rattle.tql_syntax_grammar.specs.Outcome.{Read, Failed, whole}
+use Rattle.tql_syntax_grammar.specs.ReadingStatements.{statement_at, read_statement}
+use Rattle.tql_syntax_expr.specs.Parsing.{refusal_for}
 use Rattle.tql_syntax.specs.Parses.{Spells, SpellsNone}
-use Rattle.tql_phrase.specs.declared.cursor.ParseError.{ParseError}
-use Rattle.tql_phrase.specs.declared.cursor.ParseError.TheVariants.{OutOfMemory, NotInGrammar}
-use Rattle.tql_grammar.proofs.StatementLaws.{reads_statement, statement_is_read}
+use Rattle.tql_syntax_expr.specs.declared.cursor.ParseError.{ParseError}
+use Rattle.tql_syntax_expr.specs.declared.cursor.ParseError.TheVariants.{OutOfMemory, NotInGrammar}
+use Rattle.tql_syntax_grammar.proofs.StatementLaws.{reads_statement, statement_is_read}
 
 -- where nothing is read as a whole, the tokens spell no statement
 nothing_read : (ts : List Token) → read_statement ts ≡ None → SpellsNone ts

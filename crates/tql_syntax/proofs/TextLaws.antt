@@ -7,10 +7,10 @@ use Rattle.tql_spec.specs.Run.{IsWhole, IsTextOf, finished}
 use Rattle.tql_spec.proofs.TokenLaws.{one_list}
 use Rattle.tql_value.specs.declared.refusal.Refusal.{Refusal}
 use Rattle.tql_value.specs.declared.refusal.Refusal.TheVariants as r
-use Rattle.tql_tree.specs.declared.tree.Tree as code
+use Rattle.tql_syntax_tree.specs.declared.tree.Tree as code
 use Rattle.tql_syntax.specs.Parses.{Spells, SpellsNone}
 use Rattle.tql_syntax.specs.Texts.{SpellsText, ReadsText}
-use Rattle.tql_grammar.proofs.TextLaws.{not_deep}
+use Rattle.tql_syntax_grammar.proofs.TextLaws.{not_deep}
 
 no_statement : (text : List ℕ) (ts : List Token) → AreTokens ts text → SpellsNone ts → (s : Statement)
     → IsTextOf IsStatement text s → ⊥

@@ -7,8 +7,8 @@ use Rattle.tql_spec.specs.Grammar.{IsStatement}
 use Rattle.tql_value.specs.declared.refusal.Refusal.{Refusal}
 use Rattle.tql_value.specs.declared.refusal.Refusal.TheVariants.{NestedTooDeep, NotAStatement, TooManyColumnsOrTables}
 use Rattle.tql_value.specs.declared.refusal.Refusal.TheVariants.{OutOfMemory}
-use Rattle.tql_tree.specs.Trees.{tree_of}
-use Rattle.tql_tree.specs.declared.tree.Tree.{Tree}
+use Rattle.tql_syntax_tree.specs.Trees.{tree_of}
+use Rattle.tql_syntax_tree.specs.declared.tree.Tree.{Tree}
 
 -- the tokens, all of them, spell the statement, and it keeps within the limits
 pub record IsParsed (ts : List Token) (s : tree.Statement) : Type 0 where

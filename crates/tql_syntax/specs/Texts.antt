@@ -6,8 +6,8 @@ use Rattle.tql_spec.specs.Run.{IsWhole, IsDeep, IsTextOf, finished}
 use Rattle.tql_value.specs.declared.refusal.Refusal.{Refusal}
 use Rattle.tql_value.specs.declared.refusal.Refusal.TheVariants.{StatementTooLong, NotUtf8, NestedTooDeep}
 use Rattle.tql_value.specs.declared.refusal.Refusal.TheVariants.{NotAStatement, OutOfMemory}
-use Rattle.tql_tree.specs.Trees.{tree_of}
-use Rattle.tql_tree.specs.declared.tree.Tree.{Tree}
+use Rattle.tql_syntax_tree.specs.Trees.{tree_of}
+use Rattle.tql_syntax_tree.specs.declared.tree.Tree.{Tree}
 
 -- the text spells no statement
 abbrev pub SpellsNoStatement : List ℕ → Type 0

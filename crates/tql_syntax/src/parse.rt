@@ -8,9 +8,9 @@ ghost use Rattle.tql_syntax.specs.Parses.{Parses, Spells};
 use crate::statements::statement_tree;
 use tql_lex::token::{Symbol, Token, TokenKind};
 use tql_memory::Memory;
-use tql_phrase::cursor::Cursor;
-use tql_tree::tree::Tree;
-use tql_tree::width::is_too_wide;
+use tql_syntax_expr::cursor::Cursor;
+use tql_syntax_tree::tree::Tree;
+use tql_syntax_tree::width::is_too_wide;
 use tql_value::refusal::Refusal;
 
 /// The most parentheses that may be open at once.

@@ -1,19 +1,20 @@
 //! Reading statements.
-ghost use Rattle.tql_grammar.specs.ReadingStatements as reading;
-ghost use Rattle.tql_phrase.specs.Parsing.{Reads};
-ghost use Rattle.tql_tree.specs.Statements.{statement_of};
-ghost use Rattle.tql_tree.specs.Trees.{tree_of};
+ghost use Rattle.tql_syntax_grammar.specs.ReadingStatements as reading;
+ghost use Rattle.tql_syntax_expr.specs.Parsing.{Reads};
+ghost use Rattle.tql_syntax_tree.specs.Statements.{statement_of};
+ghost use Rattle.tql_syntax_tree.specs.Trees.{tree_of};
 
-use tql_change::changes::{delete, insert, update};
-use tql_create::creates::{create, drop_table};
 use tql_memory::Memory;
-use tql_phrase::cursor::{Cursor, ParseError};
-use tql_query::queries::{moment, query};
-use tql_tree::statement::Statement;
-use tql_tree::tree::Tree;
+use tql_syntax_expr::cursor::{Cursor, ParseError};
+use tql_syntax_statement::changes::{delete, insert, update};
+use tql_syntax_statement::clauses::moment;
+use tql_syntax_statement::creates::{create, drop_table};
+use tql_syntax_statement::queries::query;
+use tql_syntax_tree::statement::Statement;
+use tql_syntax_tree::tree::Tree;
 
 /// A statement of transactions or of the clock.
-#[tactic(auto, unfolding(tql_grammar::specs::ReadingStatements::control_at))]
+#[tactic(auto, unfolding(tql_syntax_grammar::specs::ReadingStatements::control_at))]
 fn control<'a>(tokens: &mut Cursor<'_, 'a>) -> Result<Statement<'a>, ParseError>
     ensures { Reads statement_of (reading.control_at tokens.old) result tokens.new }
 {
@@ -35,7 +36,7 @@ fn control<'a>(tokens: &mut Cursor<'_, 'a>) -> Result<Statement<'a>, ParseError>
 }
 
 /// A statement that changes rows, or one of transactions or of the clock.
-#[tactic(auto, unfolding(tql_grammar::specs::ReadingStatements::change_at))]
+#[tactic(auto, unfolding(tql_syntax_grammar::specs::ReadingStatements::change_at))]
 fn change<'a>(memory: Memory, tokens: &mut Cursor<'_, 'a>) -> Result<Statement<'a>, ParseError>
     ensures { Reads statement_of (reading.change_at tokens.old) result tokens.new }
 {
@@ -52,7 +53,7 @@ fn change<'a>(memory: Memory, tokens: &mut Cursor<'_, 'a>) -> Result<Statement<'
 }
 
 /// A statement.
-#[tactic(auto, unfolding(tql_grammar::specs::ReadingStatements::statement_at))]
+#[tactic(auto, unfolding(tql_syntax_grammar::specs::ReadingStatements::statement_at))]
 fn statement<'a>(memory: Memory, tokens: &mut Cursor<'_, 'a>) -> Result<Statement<'a>, ParseError>
     ensures { Reads statement_of (reading.statement_at tokens.old) result tokens.new }
 {

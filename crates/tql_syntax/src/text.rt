@@ -6,7 +6,7 @@ use crate::parse::spelled;
 use tql_lex::splitter::LONGEST;
 use tql_lex::tokenizer::tokens;
 use tql_memory::Memory;
-use tql_tree::tree::Tree;
+use tql_syntax_tree::tree::Tree;
 use tql_value::refusal::Refusal;
 
 /// Reads a text of not too many bytes.

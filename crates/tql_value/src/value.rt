@@ -53,16 +53,16 @@ pub enum View<'a> {
 
 /// What a query answers: its headings, and its rows column by column.
 #[derive(Debug)]
-pub struct Rows {
+pub struct ResultTable {
     /// The heading of each column.
     pub headings: Vec<String<Memory>, Memory>,
     /// The rows, each as wide as the headings.
     pub rows: Vec<Vec<Value, Memory>, Memory>,
 }
 
-impl Drop for Rows {
+impl Drop for ResultTable {
     fn drop(self) {
-        let Rows { headings, rows } = self;
+        let ResultTable { headings, rows } = self;
         drop(headings);
         drop(rows);
     }

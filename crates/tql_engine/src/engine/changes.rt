@@ -29,9 +29,9 @@ impl Engine {
     ghost use Rattle.tql_spec.specs.Machine as machine;
     ghost use Rattle.tql_spec.specs.Machine.{State, step};
     ghost use Rattle.tql_spec.specs.TypingLaws.{IsTypedChange};
-    ghost use Rattle.tql_bind.specs.Placed.{IsPlacedQuery};
+    ghost use Rattle.tql_bound.specs.Placed.{IsPlacedQuery};
     ghost use Rattle.tql_bound.specs.Changes.{insertion_of, modification_of, query_insertion_of};
-    ghost use Rattle.tql_bound.specs.Questions.{question_of};
+    ghost use Rattle.tql_bound.specs.Queries.{bound_query_of};
     ghost use Rattle.tql_catalog.specs.declared.catalog.Table.{Table};
     ghost use Rattle.tql_engine.specs.Adding.{Adds};
     ghost use Rattle.tql_engine.specs.Modifying.{Makes};
@@ -46,14 +46,14 @@ impl Engine {
         requires typed { IsTypedChange (definitions_of self.old.tables) (insertion_of insertion.now) }
         requires below { IsIdle self.old → HasTimeLeft self.old }
         ensures { (s : State) → StandsFor self.old s
-            → DoesStep self.new s result (step s (machine.Alter (insertion_of insertion.now))) }
+            → DoesStep self.new s result (step s (machine.ChangeRows (insertion_of insertion.now))) }
     {
         let delta = match insert_tuples(self.memory, self.table_at(insertion.table), insertion) {
             Ok(delta) => delta,
             Err(refusal) => return Err(refusal),
         };
         let count = delta.count;
-        match change_rows(&mut self.rows, self.next, delta) {
+        match change_rows(&mut self.store, self.next, delta) {
             Ok(next) => {
                 self.next = next;
                 Ok(Reply::Done(Verb::Inserted, Some(count)))
@@ -65,11 +65,11 @@ impl Engine {
     /// The change that adds the rows of a query, which are read before.
     fn query_delta(&self, insertion: &QueryInsertion) -> Result<Delta, Refusal>
         requires within { insertion.now.table < length (definitions_of self.now.tables) }
-        requires placed { IsPlacedQuery (definitions_of self.now.tables) (question_of insertion.now.question) }
+        requires placed { IsPlacedQuery (definitions_of self.now.tables) (bound_query_of insertion.now.query) }
         ensures { (s : State) (p : Table) → StandsFor self.now s
             → slice_get self.now.tables insertion.now.table ≡ Some p → Adds s p insertion.now result }
     {
-        let rows = match self.answer_rows(&insertion.question) {
+        let rows = match self.answer_rows(&insertion.query) {
             Ok(rows) => rows,
             Err(refusal) => return Err(refusal),
         };
@@ -80,11 +80,11 @@ impl Engine {
     /// INSERT from a query. The rows begin at the clock's moment, which is that of an open transaction.
     pub(super) fn insert_from(&mut self, insertion: &QueryInsertion) -> Result<Reply, Refusal>
         requires within { insertion.now.table < length (definitions_of self.old.tables) }
-        requires placed { IsPlacedQuery (definitions_of self.old.tables) (question_of insertion.now.question) }
+        requires placed { IsPlacedQuery (definitions_of self.old.tables) (bound_query_of insertion.now.query) }
         requires typed { IsTypedChange (definitions_of self.old.tables) (query_insertion_of insertion.now) }
         requires below { IsIdle self.old → HasTimeLeft self.old }
         ensures { (s : State) → StandsFor self.old s
-            → DoesStep self.new s result (step s (machine.Alter (query_insertion_of insertion.now))) }
+            → DoesStep self.new s result (step s (machine.ChangeRows (query_insertion_of insertion.now))) }
     {
         inserts_keep_no_order();
         let delta = match self.query_delta(insertion) {
@@ -92,7 +92,7 @@ impl Engine {
             Err(refusal) => return Err(refusal),
         };
         let inserted = delta.count;
-        match change_rows(&mut self.rows, self.next, delta) {
+        match change_rows(&mut self.store, self.next, delta) {
             Ok(next) => {
                 self.next = next;
                 Ok(Reply::Done(Verb::Inserted, Some(inserted)))
@@ -105,10 +105,10 @@ impl Engine {
     fn delta_of(&self, modification: &Modification) -> Result<Delta, Refusal>
         requires { modification.now.table < length self.now.tables }
         ensures { (p : Table) → slice_get self.now.tables modification.now.table ≡ Some p
-            → Makes self.now.rows p modification.now result }
+            → Makes self.now.store p modification.now result }
     {
         let table = self.table_at(modification.table);
-        let found = self.rows.current(table.id)?;
+        let found = self.store.current(table.id)?;
         modify(self.memory, table, &found, modification)
     }
 
@@ -118,7 +118,7 @@ impl Engine {
         requires typed { IsTypedChange (definitions_of self.old.tables) (modification_of modification.now) }
         requires below { IsIdle self.old → HasTimeLeft self.old }
         ensures { (s : State) → StandsFor self.old s
-            → DoesStep self.new s result (step s (machine.Alter (modification_of modification.now))) }
+            → DoesStep self.new s result (step s (machine.ChangeRows (modification_of modification.now))) }
     {
         changes_keep_no_order();
         changes_by_parts();
@@ -127,7 +127,7 @@ impl Engine {
             Err(refusal) => return Err(refusal),
         };
         let count = delta.count;
-        match change_rows(&mut self.rows, self.next, delta) {
+        match change_rows(&mut self.store, self.next, delta) {
             Ok(next) => {
                 self.next = next;
                 Ok(Reply::Done(verb_of(&modification.work), Some(count)))

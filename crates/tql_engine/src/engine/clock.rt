@@ -16,9 +16,9 @@ impl Engine {
     /// Whether a moment is not later than the last commit's.
     #[tactic(auto, using(crate::proofs::LaterLemmas::not_later))]
     fn is_not_later(&self, moment: i64) -> bool
-        ensures { result ≡ not_later_than moment self.now.rows.last }
+        ensures { result ≡ not_later_than moment self.now.store.last }
     {
-        !self.rows.is_later(moment)
+        !self.store.is_later(moment)
     }
 
     /// AT: sets the clock to a moment, in microseconds since 1970-01-01. Refused, with nothing changed, where it is

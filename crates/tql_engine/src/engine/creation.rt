@@ -12,7 +12,7 @@ impl Engine {
     ghost use Rattle.tql_spec.specs.Typing.{IsTypedDefinition};
     ghost use Rattle.tql_catalog.specs.Tables.{definitions_of};
     ghost use Rattle.tql_value.specs.declared.refusal.Refusal.TheVariants.{OutOfMemory};
-    ghost use Rattle.tql_bind.specs.Bounds.{IsSoundTable};
+    ghost use Rattle.tql_bound.specs.Bounds.{IsSoundTable};
     ghost use Rattle.tql_engine.specs.Stands.{StandsFor};
     ghost use Rattle.tql_engine.specs.Allowed.{IsIdle};
     ghost use Rattle.tql_engine.specs.Effects.{DoesStep};
@@ -26,11 +26,11 @@ impl Engine {
         ensures err { OnErr result ((s : State) → StandsFor self.old s → StandsFor self.new s) }
         ensures memory { IfErr result (λ e. e ≡ OutOfMemory) }
     {
-        let id = self.rows.add_table(definition.is_versioned())?;
+        let id = self.store.add_table(definition.is_versioned())?;
         match self.tables.create(definition, id) {
             Ok(()) => Ok(()),
             Err(refusal) => {
-                self.rows.drop_table(id);
+                self.store.drop_table(id);
                 Err(refusal)
             }
         }

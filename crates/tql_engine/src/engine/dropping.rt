@@ -22,7 +22,7 @@ impl Engine {
             → Does self.new (reply_of result) (step s (machine.DropTable place)) }
     {
         let table = self.tables.remove(place);
-        self.rows.drop_table(table.id);
+        self.store.drop_table(table.id);
         Reply::Done(Verb::DroppedTable, None)
     }
 }

@@ -3,15 +3,15 @@
 ghost use Rattle.std.specs.Prelude.{◌≡◌, option_map, is_some, is_none, ◌&&◌};
 
 use crate::engine::Engine;
-use tql_tree::statement::Statement;
+use tql_syntax_tree::statement::Statement;
 use tql_value::calendar::HIGH;
 use tql_value::refusal::Refusal;
 
 impl Engine {
     ghost use Rattle.tql_spec.specs.Machine.{State, Starts, state_faults, is_clock_at_end};
     ghost use Rattle.tql_spec.specs.Refusal.{NotInThisTransactionState, MomentNotAllowed, first, fault_if};
-    ghost use Rattle.tql_spec.specs.Binding.{manner};
-    ghost use Rattle.tql_tree.specs.Statements.{statement_of};
+    ghost use Rattle.tql_spec.specs.Binding.{statement_class};
+    ghost use Rattle.tql_syntax_tree.specs.Statements.{statement_of};
     ghost use Rattle.tql_value.specs.Refusals.{refusal_of};
     ghost use Rattle.tql_engine.specs.Stands.{StandsFor};
     ghost use Rattle.tql_engine.specs.Effects.{asked_first};
@@ -21,7 +21,7 @@ impl Engine {
         ensures { (s : State) → StandsFor self.now s
             → option_map refusal_of result ≡ first (fault_if (is_some s.transaction) NotInThisTransactionState) }
     {
-        if self.rows.has_transaction() {
+        if self.store.has_transaction() {
             Some(Refusal::NotInThisTransactionState)
         } else {
             None
@@ -33,7 +33,7 @@ impl Engine {
         ensures { (s : State) → StandsFor self.now s → option_map refusal_of result
             ≡ first (fault_if (is_none s.transaction && is_clock_at_end s) MomentNotAllowed) }
     {
-        if !self.rows.has_transaction() && self.next >= HIGH {
+        if !self.store.has_transaction() && self.next >= HIGH {
             Some(Refusal::MomentNotAllowed)
         } else {
             None
@@ -44,7 +44,7 @@ impl Engine {
     fn start_fault(&self) -> Option<Refusal>
         ensures { (s : State) → StandsFor self.now s → option_map refusal_of result ≡ first (state_faults s Starts) }
     {
-        if self.rows.has_transaction() {
+        if self.store.has_transaction() {
             Some(Refusal::NotInThisTransactionState)
         } else if self.next >= HIGH {
             Some(Refusal::MomentNotAllowed)
@@ -58,7 +58,7 @@ impl Engine {
     pub(super) fn state_fault(&self, statement: &Statement<'_>) -> Option<Refusal>
         ensures { (s : State) → StandsFor self.now s
             → option_map refusal_of result
-            ≡ first (state_faults s (asked_first (manner (statement_of statement.now)))) }
+            ≡ first (state_faults s (asked_first (statement_class (statement_of statement.now)))) }
     {
         match statement {
             Statement::Create(_) | Statement::DropTable(_) | Statement::At(_) => self.open_fault(),

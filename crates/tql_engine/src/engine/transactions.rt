@@ -19,7 +19,7 @@ impl Engine {
         requires below { HasTimeLeft self.old }
         ensures { (s : State) → StandsFor self.old s → Does self.new (reply_of result) (step s machine.Start) }
     {
-        self.rows.begin(self.next);
+        self.store.begin(self.next);
         Reply::Done(Verb::Started, None)
     }
 
@@ -30,10 +30,10 @@ impl Engine {
         ensures answered { (s : State) → StandsFor self.old s → DoesStep self.new s result (step s machine.Commit) }
         ensures reason { IfErr result (λ e. e ≡ Refusal.NotInThisTransactionState) }
     {
-        if !self.rows.has_transaction() {
+        if !self.store.has_transaction() {
             return Err(Refusal::NotInThisTransactionState);
         }
-        self.rows.commit();
+        self.store.commit();
         self.next += 1;
         Ok(Reply::Done(Verb::Committed, None))
     }
@@ -44,10 +44,10 @@ impl Engine {
         ensures answered { (s : State) → StandsFor self.old s → DoesStep self.new s result (step s machine.Rollback) }
         ensures reason { IfErr result (λ e. e ≡ Refusal.NotInThisTransactionState) }
     {
-        if !self.rows.has_transaction() {
+        if !self.store.has_transaction() {
             return Err(Refusal::NotInThisTransactionState);
         }
-        self.rows.rollback();
+        self.store.rollback();
         Ok(Reply::Done(Verb::RolledBack, None))
     }
 }

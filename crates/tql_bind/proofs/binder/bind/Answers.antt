@@ -1,11 +1,11 @@
 use Rattle.std.proofs.Common.{◌≡◌, sym, subst}
 use Rattle.tql_spec.specs.Binding.{bind}
 use Rattle.tql_catalog.specs.Tables.{definitions_of}
-use Rattle.tql_tree.specs.Statements.{create_of, statement_of}
-use Rattle.tql_tree.specs.declared.statement.CreateTree.{CreateTree}
-use Rattle.tql_tree.specs.declared.statement.Statement.{Statement}
-use Rattle.tql_define.specs.Binds.{Binds}
-use Rattle.tql_bind.specs.Bounds.{bound_of}
+use Rattle.tql_syntax_tree.specs.Statements.{create_of, statement_of}
+use Rattle.tql_syntax_tree.specs.declared.statement.CreateTree.{CreateTree}
+use Rattle.tql_syntax_tree.specs.declared.statement.Statement.{Statement}
+use Rattle.tql_bind_table.specs.Binds.{Binds}
+use Rattle.tql_bound.specs.Bounds.{bound_of}
 use Rattle.tql_bind.proofs.binder.bind.Goals as goal
 
 pub returns-in-Create-clause-binds : goal.returns-in-Create-clause-binds

@@ -2,12 +2,12 @@ use Rattle.std.proofs.Common.{◌≡◌, sym, subst}
 use Rattle.tql_spec.specs.Binding.{bind}
 use Rattle.tql_spec.specs.Machine as machine
 use Rattle.tql_catalog.specs.Tables.{definitions_of}
-use Rattle.tql_bound.specs.Questions.{question_of}
-use Rattle.tql_tree.specs.Statements.{query_of, statement_of}
-use Rattle.tql_tree.specs.declared.statement.Query.{Query}
-use Rattle.tql_tree.specs.declared.statement.Statement.{Statement}
-use Rattle.tql_scope.specs.Gathered.{Gathers}
-use Rattle.tql_scope.proofs.Gathering.{sound_here}
+use Rattle.tql_bound.specs.Queries.{bound_query_of}
+use Rattle.tql_syntax_tree.specs.Statements.{query_of, statement_of}
+use Rattle.tql_syntax_tree.specs.declared.statement.Query.{Query}
+use Rattle.tql_syntax_tree.specs.declared.statement.Statement.{Statement}
+use Rattle.tql_bind_expr.specs.Gathered.{Gathers}
+use Rattle.tql_bind_expr.proofs.Gathering.{sound_here}
 use Rattle.tql_bind.proofs.binder.bound.Goals as goal
 
 pub returns-in-StartTransaction-clause-bound : goal.returns-in-StartTransaction-clause-bound
@@ -28,12 +28,12 @@ returns-in-Rollback-clause-bound c =
     subst (λ (s : Statement). Gathers (bind (definitions_of c.args.tables.now) (statement_of s)) old old
     machine.Rollback) (sym c.in-Rollback.is) (sound_here machine.Rollback old)
 
-pub returns-in_ok-question-in-Query-clause-bound : goal.returns-in_ok-question-in-Query-clause-bound
-returns-in_ok-question-in-Query-clause-bound c =
+pub returns-in_ok-bound_query-in-Query-clause-bound : goal.returns-in_ok-bound_query-in-Query-clause-bound
+returns-in_ok-bound_query-in-Query-clause-bound c =
     let defs = definitions_of c.args.tables.now in
-    let x = machine.Ask (question_of c.in_ok-question-in-Query.question) in
+    let x = machine.AnswerQuery (bound_query_of c.in_ok-bound_query-in-Query.query) in
     let inside : c.deref-in-Query.result.now ≡ c.in-Query.tree.value = cc (c.deref-in-Query.ensures) in
-    subst (λ (s : Statement). Gathers (bind defs (statement_of s)) c.args.faults.now c.ask.new.faults x)
+    subst (λ (s : Statement). Gathers (bind defs (statement_of s)) c.args.faults.now c.bind_query.new.faults x)
     (sym c.in-Query.is)
-    (subst (λ (q : Query). Gathers (bind defs (query_of q)) c.args.faults.now c.ask.new.faults x) inside
-    c.in_ok-question-in-Query.ensures)
+    (subst (λ (q : Query). Gathers (bind defs (query_of q)) c.args.faults.now c.bind_query.new.faults x) inside
+    c.in_ok-bound_query-in-Query.ensures)

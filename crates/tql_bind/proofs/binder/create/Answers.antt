@@ -4,8 +4,8 @@ use Rattle.tql_spec.specs.Creation as creation
 use Rattle.tql_spec.specs.Definition.{TableDef, place_of}
 use Rattle.tql_spec.specs.Refusal.{first}
 use Rattle.tql_catalog.specs.Tables.{definitions_of}
-use Rattle.tql_tree.specs.Expressions.{name_of}
-use Rattle.tql_tree.specs.Statements.{element_of, elements_of}
+use Rattle.tql_syntax_tree.specs.Expressions.{name_of}
+use Rattle.tql_syntax_tree.specs.Statements.{element_of, elements_of}
 use Rattle.tql_bind.proofs.Room.{room_law, free_law, narrow_law, same_table}
 use Rattle.tql_bind.proofs.binder.create.Goals as goal
 

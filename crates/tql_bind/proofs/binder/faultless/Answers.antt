@@ -2,12 +2,12 @@ use Rattle.std.proofs.Common.{◌∙◌, ap, sym, Ok}
 use Rattle.std.specs.Prelude.{option_map}
 use Rattle.tql_spec.specs.Binding.{bind}
 use Rattle.tql_catalog.specs.Tables.{definitions_of}
-use Rattle.tql_tree.specs.Statements.{statement_of}
+use Rattle.tql_syntax_tree.specs.Statements.{statement_of}
 use Rattle.tql_value.specs.Refusals.{refusal_of}
-use Rattle.tql_define.specs.Binds.{Binds}
-use Rattle.tql_scope.proofs.Gathering.{first_is}
-use Rattle.tql_bind.specs.Bounds.{bound_of}
-use Rattle.tql_define.proofs.Gathered.{told, clean}
+use Rattle.tql_bind_table.specs.Binds.{Binds}
+use Rattle.tql_bind_expr.proofs.Gathering.{first_is}
+use Rattle.tql_bound.specs.Bounds.{bound_of}
+use Rattle.tql_bind_table.proofs.Gathered.{told, clean}
 use Rattle.tql_bind.proofs.Placed.{sound_where_clean}
 use Rattle.tql_bind.proofs.binder.faultless.Goals as goal
 

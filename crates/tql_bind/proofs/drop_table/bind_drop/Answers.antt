@@ -1,7 +1,7 @@
 use Rattle.std.proofs.Common.{◌∙◌, List, ℕ, ap}
 use Rattle.tql_spec.specs.Binding.{is_referenced}
 use Rattle.tql_catalog.specs.Tables.{definitions_of}
-use Rattle.tql_tree.specs.Expressions.{name_of}
+use Rattle.tql_syntax_tree.specs.Expressions.{name_of}
 use Rattle.tql_bind.proofs.Gathered.{drop_bound}
 use Rattle.tql_bind.proofs.drop_table.bind_drop.Goals as goal
 

@@ -2,7 +2,7 @@ use Rattle.std.proofs.Common.{◌≡◌, drop, map}
 use Rattle.tql_spec.specs.Change.{assigned}
 use Rattle.tql_bound.specs.Works.{assignment_of}
 use Rattle.tql_value.specs.Views.{row_of}
-use Rattle.tql_cells.specs.Shown.{shown_by}
+use Rattle.tql_expr.specs.Shown.{shown_by}
 use Rattle.tql_dml.proofs.assignment.assign.Given as goal
 
 -- the assignments that are left, on the row so far, give what all give

@@ -1,6 +1,6 @@
 use Rattle.std.proofs.Common.{◌≡◌, take}
 use Rattle.tql_value.specs.Views.{row_of}
-use Rattle.tql_cells.specs.Shown.{shown_by}
+use Rattle.tql_expr.specs.Shown.{shown_by}
 use Rattle.tql_dml.proofs.assignment.copied.Given as goal
 
 abbrev pub invariant-loop-place : goal.invariant-loop-place

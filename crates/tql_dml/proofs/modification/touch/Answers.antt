@@ -1,5 +1,5 @@
 use Rattle.std.proofs.Common.{sym, ap, subst, ◌∙◌, List, ℕ, Option, Some}
-use Rattle.tql_cells.specs.Shown.{shown_by}
+use Rattle.tql_expr.specs.Shown.{shown_by}
 use Rattle.tql_expr.specs.Evaluated.{Evaluated}
 use Rattle.tql_dml.specs.Alters.{portion_in, work_in}
 use Rattle.tql_dml.specs.Cutting.{left_cells}

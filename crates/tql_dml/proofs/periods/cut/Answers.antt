@@ -2,7 +2,7 @@ use Rattle.std.proofs.Common.{◌≡◌, sym, ap, subst, ◌∙◌, Option, None
 use Rattle.std.specs.Prelude.{option_map}
 use Rattle.tql_period.specs.Points.{points_of}
 use Rattle.tql_period.specs.declared.period.Period.{Period}
-use Rattle.tql_cells.specs.Shown.{shown_by}
+use Rattle.tql_expr.specs.Shown.{shown_by}
 use Rattle.tql_dml.specs.Cutting.{reaches, IsCut}
 use Rattle.tql_dml.proofs.Cuts.{whole_cut, none_inside, some_inside}
 use Rattle.tql_dml.proofs.periods.cut.Goals as goal

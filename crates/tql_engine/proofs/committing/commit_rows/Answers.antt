@@ -1,7 +1,7 @@
 use Rattle.std.proofs.Common.{◌∙◌, ap, subst, Some}
 use Rattle.std.proofs.Math.Facts.{to_z-of_z}
 use Rattle.tql_store.specs.Represents.{RollbackRestores}
-use Rattle.tql_store.specs.Held.{Held}
+use Rattle.tql_store.specs.StoreModel.{StoreModel}
 use Rattle.tql_store.proofs.Judging.{still-removable}
 use Rattle.tql_engine.proofs.committing.commit_rows.Goals as goal
 
@@ -31,5 +31,5 @@ returns-in-Err-clause-err c = record {
   is_open = c.begin.ensures.working ∙ ap Some (to_z-of_z c.ranges.moment);
   restores = subst (λ old. RollbackRestores old c.rollback.new.self) c.in-Err.ensures.err c.rollback.ensures.copies;
   idle = c.rollback.ensures.working;
-  places = c.rollback.ensures.tables ∙ ap (λ (h : Held). h.tables) c.in-Err.ensures.err ∙ c.begin.ensures.tables;
+  places = c.rollback.ensures.tables ∙ ap (λ (h : StoreModel). h.tables) c.in-Err.ensures.err ∙ c.begin.ensures.tables;
 }

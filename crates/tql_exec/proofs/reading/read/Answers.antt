@@ -3,8 +3,8 @@ use Rattle.std.proofs.Common.{◌≡◌, ◌∙◌, ap, sym, subst, map, List}
 use Rattle.tql_spec.specs.Bag.{SameBag}
 use Rattle.tql_spec.specs.Datum.{Row}
 use Rattle.tql_spec.proofs.Bags.{same-map}
-use Rattle.tql_cells.specs.Generated.{generated}
-use Rattle.tql_rows.specs.Readings.{version_shown as version_of}
+use Rattle.tql_expr.specs.Generated.{generated}
+use Rattle.tql_store_rows.specs.Readings.{version_shown as version_of}
 use Rattle.tql_plan.specs.Nodes.{source_of}
 use Rattle.tql_exec.specs.Found.{bags_in, completed}
 use Rattle.tql_exec.proofs.reading.read.Goals as goal

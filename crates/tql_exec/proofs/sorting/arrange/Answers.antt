@@ -2,7 +2,7 @@
 use Rattle.std.proofs.Common.{map, ap, sym, ◌∙◌}
 use Rattle.tql_spec.proofs.Bags.{same-trans}
 use Rattle.tql_spec.specs.Query.{in_order, if_distinct}
-use Rattle.tql_bound.specs.Questions.{order_of}
+use Rattle.tql_bound.specs.Queries.{order_of}
 use Rattle.tql_value.specs.Views.{rows_of}
 use Rattle.tql_exec.proofs.Printed.{rows_printed, distinct_printed}
 use Rattle.tql_exec.proofs.sorting.arrange.Goals as goal

@@ -7,7 +7,7 @@ use Rattle.std.proofs.lemmas.Fn.{always_returns_same}
 use Rattle.tql_spec.specs.Datum.{Row}
 use Rattle.tql_spec.specs.Query.{row_order}
 use Rattle.tql_spec.proofs.Bags.{same-permutation, same-sym}
-use Rattle.tql_bound.specs.Questions.{order_of}
+use Rattle.tql_bound.specs.Queries.{order_of}
 use Rattle.tql_value.specs.declared.value.Value.{Value}
 use Rattle.tql_value.specs.Views.{row_of}
 use Rattle.tql_spec.proofs.OrderBags.{row_order_total}

@@ -1,7 +1,7 @@
 use Rattle.std.proofs.Common.{◌≡◌, ℕ, ◌<◌, true}
-use Rattle.tql_store.specs.Places.{place_of, is_taken}
+use Rattle.tql_store.specs.TableSlots.{slot_at, is_taken}
 use Rattle.tql_store.proofs.tables.free_number.Given as goal
 
 -- at each number so far a table stands
 abbrev pub invariant-loop-number : goal.invariant-loop-number
-invariant-loop-number l = (k : ℕ) → k < l.number → is_taken (place_of l.places k) ≡ true
+invariant-loop-number l = (k : ℕ) → k < l.number → is_taken (slot_at l.places k) ≡ true

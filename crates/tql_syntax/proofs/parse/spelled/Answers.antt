@@ -1,7 +1,7 @@
 use Rattle.std.proofs.Common.{map, arith, ◌≤◌}
 use Rattle.tql_spec.specs.Token.{depth}
 use Rattle.tql_lex.specs.Tokens.{token_of}
-use Rattle.tql_tree.specs.Trees.{tree_of}
+use Rattle.tql_syntax_tree.specs.Trees.{tree_of}
 use Rattle.tql_syntax.proofs.Outcomes.{refused, left_over, spelled}
 use Rattle.tql_syntax.proofs.parse.spelled.Goals as goal
 

@@ -1,7 +1,7 @@
 use Rattle.std.proofs.Common.{refl}
-use Rattle.tql_grammar.specs.ReadingStatements.{control_at}
-use Rattle.tql_tree.specs.Statements.{statement_of}
-use Rattle.tql_phrase.proofs.Refused.{refused}
+use Rattle.tql_syntax_grammar.specs.ReadingStatements.{control_at}
+use Rattle.tql_syntax_tree.specs.Statements.{statement_of}
+use Rattle.tql_syntax_expr.proofs.Refused.{refused}
 use Rattle.tql_syntax.proofs.statements.control.Goals as goal
 
 pub returns-in_err-expect_word : goal.returns-in_err-expect_word

@@ -1,22 +1,23 @@
 use Rattle.std.proofs.Common.{◌≡◌, ◌<◌, sym, subst, length}
 use Rattle.std.specs.Prelude.{All}
 use Rattle.std.proofs.lemmas.List.Elements.{All-weaker}
-use Rattle.tql_bind.specs.Placed.{IsPlacedQuery}
-use Rattle.tql_bound.specs.Questions.{question_of, references_of}
+use Rattle.tql_bound.specs.Placed.{IsPlacedQuery}
+use Rattle.tql_bound.specs.Queries.{bound_query_of, references_of}
 use Rattle.tql_catalog.specs.Tables.{definitions_of}
 use Rattle.tql_exec.specs.Found.{ordered}
 use Rattle.tql_expr.specs.Evaluated.{Evaluated}
 use Rattle.tql_value.specs.Views.{rows_of}
-use Rattle.tql_engine.specs.Stands.{Held, StandsFor, copies_of, working_of}
+use Rattle.tql_engine.specs.Stands.{EngineModel, StandsFor, copies_of, working_of}
 use Rattle.tql_engine.proofs.Finding.{IsThere, meaning_is, references_there, sources_readable}
 use Rattle.tql_engine.proofs.Standing.{place_law}
 use Rattle.tql_engine.proofs.engine.Engine.answer_rows.Goals as goal
 
 pub plan-requires : goal.plan-requires
 plan-requires c =
-    let x = c.args.question.now in
+    let x = c.args.query.now in
     let tables = c.self.inside.tables in
-    let placed = subst (λ (h : Held). IsPlacedQuery (definitions_of h.tables) (question_of x)) (sym c.self.view_is)
+    let placed = subst (λ (h : EngineModel). IsPlacedQuery (definitions_of h.tables) (bound_query_of x))
+        (sym c.self.view_is)
     c.requires in
     record {
       there = All-weaker (IsThere (definitions_of tables)) (λ r. r.table < length tables)
@@ -26,20 +27,22 @@ plan-requires c =
 
 pub answer_rows-requires-clause-readable : goal.answer_rows-requires-clause-readable
 answer_rows-requires-clause-readable c =
-    let x = c.args.question.now in
-    let placed = subst (λ (h : Held). IsPlacedQuery (definitions_of h.tables) (question_of x)) (sym c.self.view_is)
+    let x = c.args.query.now in
+    let placed = subst (λ (h : EngineModel). IsPlacedQuery (definitions_of h.tables) (bound_query_of x))
+        (sym c.self.view_is)
     c.requires in
     sources_readable _ c.self.invariant.state x c.in_ok-plan.plan c.self.invariant.stands placed
     c.in_ok-plan.ensures.sources
 
 pub returns : goal.returns
 returns c s st =
-    let x = c.args.question.now in
-    let placed = subst (λ (h : Held). IsPlacedQuery (definitions_of h.tables) (question_of x)) (sym c.self.view_is)
+    let x = c.args.query.now in
+    let placed = subst (λ (h : EngineModel). IsPlacedQuery (definitions_of h.tables) (bound_query_of x))
+        (sym c.self.view_is)
     c.requires in
     let back = subst (λ h. StandsFor h s) (sym c.self.view_is) st in
     let means = meaning_is _ s x c.in_ok-plan.plan back placed c.in_ok-plan.ensures.means in
     let given = c.answer_rows.ensures (copies_of c.self.inside.tables s.history)
     (working_of c.self.inside.tables s.transaction) back.stands in
     subst (λ o. Evaluated (λ rows. rows_of rows.items) o c.answer_rows.result)
-    (λ i. ordered (question_of (c.in_ok-plan.ensures.question i)).ordering (means i)) given
+    (λ i. ordered (bound_query_of (c.in_ok-plan.ensures.query i)).ordering (means i)) given

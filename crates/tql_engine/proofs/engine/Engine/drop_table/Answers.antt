@@ -1,7 +1,7 @@
 use Rattle.std.proofs.Common.{sym, subst}
 use Rattle.std.specs.Prelude.{IsNone}
 use Rattle.tql_spec.specs.Machine.{State, DropTable}
-use Rattle.tql_engine.specs.Stands.{Held, StandsFor}
+use Rattle.tql_engine.specs.Stands.{EngineModel, StandsFor}
 use Rattle.tql_engine.proofs.Standing.{there_law}
 use Rattle.tql_engine.proofs.DropKeeps.{drop_law}
 use Rattle.tql_engine.proofs.Doing.{drop_does}
@@ -9,7 +9,8 @@ use Rattle.tql_engine.proofs.Typed.{sound_after}
 use Rattle.tql_engine.proofs.engine.Engine.drop_table.Goals as goal
 
 pub drop_table-requires-clause-closed : goal.drop_table-requires-clause-closed
-drop_table-requires-clause-closed c = subst (λ (h : Held). IsNone h.rows.working) (sym c.self.view_is) c.requires.closed
+drop_table-requires-clause-closed c =
+    subst (λ (h : EngineModel). IsNone h.store.working) (sym c.self.view_is) c.requires.closed
 
 pub drop_table-requires-clause-present : goal.drop_table-requires-clause-present
 drop_table-requires-clause-present c =
@@ -19,7 +20,7 @@ drop_table-requires-clause-present c =
 pub invariant_of-self : goal.invariant_of-self
 invariant_of-self c =
     let s : State = c.self.invariant.state in
-    let closed = subst (λ (h : Held). IsNone h.rows.working) (sym c.self.view_is) c.requires.closed in
+    let closed = subst (λ (h : EngineModel). IsNone h.store.working) (sym c.self.view_is) c.requires.closed in
     sound_after _ _ c.self.invariant (DropTable c.args.place) _ tt
     (drop_does _ _ s c.args.place c.self.invariant.stands closed
     (drop_law _ s c.args.place c.remove-table.result _ _ c.self.invariant.stands closed c.remove-table.ensures.taken
@@ -28,8 +29,8 @@ invariant_of-self c =
 
 pub returns : goal.returns
 returns c s st =
-    let inside = subst (λ (h : Held). StandsFor h s) (sym c.self.view_is) st in
-    let closed = subst (λ (h : Held). IsNone h.rows.working) (sym c.self.view_is) c.requires.closed in
+    let inside = subst (λ (h : EngineModel). StandsFor h s) (sym c.self.view_is) st in
+    let closed = subst (λ (h : EngineModel). IsNone h.store.working) (sym c.self.view_is) c.requires.closed in
     drop_does _ _ s c.args.place inside closed
     (drop_law _ s c.args.place c.remove-table.result _ _ inside closed c.remove-table.ensures.taken
     c.remove-table.ensures.others

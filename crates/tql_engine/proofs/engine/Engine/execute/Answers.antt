@@ -6,15 +6,15 @@ use Rattle.tql_spec.specs.Refusal.{first}
 use Rattle.tql_spec.specs.TypingLaws.{IsTypedBound}
 use Rattle.tql_spec.proofs.FirstFaults.{none_first}
 use Rattle.tql_spec.proofs.QueryKinds.{bound_typed}
-use Rattle.tql_tree.specs.Statements.{statement_of}
+use Rattle.tql_syntax_tree.specs.Statements.{statement_of}
 use Rattle.tql_value.specs.Refusals.{refusal_of}
-use Rattle.tql_bind.specs.Bounds.{IsSound, bound_of}
+use Rattle.tql_bound.specs.Bounds.{IsSound, bound_of}
 use Rattle.tql_catalog.specs.Tables.{definitions_of}
 use Rattle.std.proofs.lemmas.List.Elements.{All-from_recursion}
 use Rattle.tql_engine.specs.Fitting.{IsNarrow}
-use Rattle.tql_engine.specs.Stands.{Held, StandsFor}
+use Rattle.tql_engine.specs.Stands.{EngineModel, StandsFor}
 use Rattle.tql_engine.proofs.Printing.{does_print}
-use Rattle.tql_define.specs.Binds.{Binds}
+use Rattle.tql_bind_table.specs.Binds.{Binds}
 use Rattle.tql_engine.proofs.RunningLaws.{makes_none}
 use Rattle.tql_engine.proofs.Joining.{state_does, bound_allowed, bound_does, refusal_does}
 use Rattle.tql_engine.proofs.engine.Engine.execute.Goals as goal
@@ -26,7 +26,7 @@ returns-in-Some-clause-answered c s st =
 
 pub perform-requires-clause-sound : goal.perform-requires-clause-sound
 perform-requires-clause-sound c =
-    let tables = ap (λ (h : Held). definitions_of h.tables) (sym c.self.view_is) in
+    let tables = ap (λ (h : EngineModel). definitions_of h.tables) (sym c.self.view_is) in
     subst (λ (ds : List TableDef). IsSound ds c.in-Ok.bound) (sym tables) c.in-Ok.ensures.sound
 
 pub perform-requires-clause-typed : goal.perform-requires-clause-typed
@@ -36,13 +36,13 @@ perform-requires-clause-typed c =
     let binds = c.in-Ok.ensures.binds in
     let typed : IsTypedBound ds (bound_of c.in-Ok.bound) =
     subst (IsTypedBound ds) binds.1 (bound_typed ds t (none_first (bind ds t).faults binds.0)) in
-    subst (λ (h : Held). IsTypedBound (definitions_of h.tables) (bound_of c.in-Ok.bound)) c.self.view_is typed
+    subst (λ (h : EngineModel). IsTypedBound (definitions_of h.tables) (bound_of c.in-Ok.bound)) c.self.view_is typed
 
 pub perform-requires-clause-allowed : goal.perform-requires-clause-allowed
 perform-requires-clause-allowed c =
     let s = c.self.invariant.state in
     let st = c.self.invariant.stands in
-    let back = subst (λ (h : Held). StandsFor h s) c.self.view_is st in
+    let back = subst (λ (h : EngineModel). StandsFor h s) c.self.view_is st in
     let t = statement_of c.args.statement.now in
     let same = st.fits.definitions in
     let none = subst (λ (ds : List TableDef). first (bind ds t).faults ≡ None) (sym same) c.in-Ok.ensures.binds.0 in
@@ -53,7 +53,7 @@ perform-requires-clause-allowed c =
 pub returns-in-Ok-clause-answered : goal.returns-in-Ok-clause-answered
 returns-in-Ok-clause-answered c s st =
     let t = statement_of c.args.statement.now in
-    let same = st.fits.definitions ∙ ap (λ (h : Held). definitions_of h.tables) (sym c.self.view_is) in
+    let same = st.fits.definitions ∙ ap (λ (h : EngineModel). definitions_of h.tables) (sym c.self.view_is) in
     let none = subst (λ (ds : List TableDef). first (bind ds t).faults ≡ None) (sym same) c.in-Ok.ensures.binds.0 in
     let is = ap (λ (ds : List TableDef). (bind ds t).value) same ∙ c.in-Ok.ensures.binds.1 in
     bound_does _ s t _ c.perform.result none is (c.perform.ensures s st)
@@ -61,15 +61,15 @@ returns-in-Ok-clause-answered c s st =
 pub returns-in-Ok-clause-printable : goal.returns-in-Ok-clause-printable
 returns-in-Ok-clause-printable c =
     let s = c.self.invariant.state in
-    let st = subst (λ (h : Held). StandsFor h s) c.self.view_is c.self.invariant.stands in
-    let tables = ap (λ (h : Held). definitions_of h.tables) (sym c.self.view_is) in
+    let st = subst (λ (h : EngineModel). StandsFor h s) c.self.view_is c.self.invariant.stands in
+    let tables = ap (λ (h : EngineModel). definitions_of h.tables) (sym c.self.view_is) in
     let sound = subst (λ (ds : List TableDef). IsSound ds c.in-Ok.bound) (sym tables) c.in-Ok.ensures.sound in
     does_print c.args.self.now _ s st c.in-Ok.bound sound c.perform.result (c.perform.ensures s st)
 
 pub returns-in-Err-clause-answered : goal.returns-in-Err-clause-answered
 returns-in-Err-clause-answered c s st =
     let t = statement_of c.args.statement.now in
-    let tables = ap (λ (h : Held). definitions_of h.tables) (sym c.self.view_is) in
+    let tables = ap (λ (h : EngineModel). definitions_of h.tables) (sym c.self.view_is) in
     let binds = subst (λ (ds : List TableDef). Binds bound_of (bind ds t) (Err c.in-Err.fault))
     (sym (st.fits.definitions ∙ tables)) c.in-Err.ensures.binds in
     refusal_does bound_of c.args.self.now s t c.in-Err.fault st (ap (option_map refusal_of) (sym c.in_default.is)

@@ -2,15 +2,15 @@ use Rattle.std.proofs.Common.{◌≡◌, ◌∙◌, sym, subst, List, [], Some, 
 use Rattle.std.specs.Prelude.{slice_get}
 use Rattle.tql_spec.specs.Datum.{Row}
 use Rattle.tql_spec.specs.Machine.{State}
-use Rattle.tql_bind.specs.Placed.{IsPlacedQuery}
-use Rattle.tql_bound.specs.Questions.{question_of}
+use Rattle.tql_bound.specs.Placed.{IsPlacedQuery}
+use Rattle.tql_bound.specs.Queries.{bound_query_of}
 use Rattle.tql_bound.specs.declared.change.QueryInsertion.{QueryInsertion}
 use Rattle.tql_catalog.specs.Tables.{definitions_of}
 use Rattle.tql_catalog.specs.declared.catalog.Table.{Table}
 use Rattle.tql_dml.specs.Alters.{Alters, added_rows}
 use Rattle.tql_value.specs.Views.{rows_of}
 use Rattle.tql_engine.specs.Adding.{Adds}
-use Rattle.tql_engine.specs.Stands.{Held, StandsFor}
+use Rattle.tql_engine.specs.Stands.{EngineModel, StandsFor}
 use Rattle.tql_engine.proofs.Printing.{answer_prints, rows_print}
 use Rattle.tql_engine.proofs.QueryInserting.{adds_of, not_answered}
 use Rattle.tql_engine.proofs.Standing.{place_law, some_is}
@@ -22,9 +22,9 @@ table_at-table-requires c = place_law c.args.self.now.tables c.args.insertion.no
 pub insert_rows-requires : goal.insert_rows-requires
 insert_rows-requires c =
     let s : State = c.self.invariant.state in
-    let x = c.args.insertion.now.question in
+    let x = c.args.insertion.now.query in
     let stands = subst (λ h. StandsFor h s) c.self.view_is c.self.invariant.stands in
-    rows_print (question_of x).ordering _ (rows_of c.in-Ok.rows.items)
+    rows_print (bound_query_of x).ordering _ (rows_of c.in-Ok.rows.items)
     (answer_prints c.args.self.now s x stands c.requires.placed) (c.in-Ok.ensures s stands)
 
 pub returns : goal.returns

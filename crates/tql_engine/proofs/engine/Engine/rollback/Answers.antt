@@ -1,7 +1,7 @@
 use Rattle.std.proofs.Common.{◌∙◌, ap, sym, subst}
 use Rattle.tql_spec.specs.Machine.{State, Rollback}
 use Rattle.std.specs.Prelude.{is_some}
-use Rattle.tql_engine.specs.Stands.{Held, StandsFor}
+use Rattle.tql_engine.specs.Stands.{EngineModel, StandsFor}
 use Rattle.tql_engine.proofs.Doing.{rollback_refused, rollback_does}
 use Rattle.tql_engine.proofs.Typed.{sound_after}
 use Rattle.tql_engine.proofs.engine.Engine.rollback.Goals as goal
@@ -24,5 +24,5 @@ returns-clause-answered c s st =
 
 pub returns-then-not-has_transaction-clause-answered : goal.returns-then-not-has_transaction-clause-answered
 returns-then-not-has_transaction-clause-answered c s st =
-    rollback_refused _ s st (ap (λ (h : Held). is_some h.rows.working) (sym c.self.view_is)
+    rollback_refused _ s st (ap (λ (h : EngineModel). is_some h.store.working) (sym c.self.view_is)
     ∙ sym c.has_transaction.ensures ∙ c.if-not-has_transaction.true)

@@ -2,14 +2,15 @@ use Rattle.std.proofs.Common.{◌∙◌, ap, sym, subst, Some}
 use Rattle.std.specs.Prelude.{IsNone, ◌<ℤ◌}
 use Rattle.tql_spec.specs.Calendar.{high}
 use Rattle.tql_spec.specs.Machine.{State, Start}
-use Rattle.tql_engine.specs.Stands.{Held, StandsFor}
+use Rattle.tql_engine.specs.Stands.{EngineModel, StandsFor}
 use Rattle.tql_engine.proofs.MomentFits.{clock_reads, clock_under}
 use Rattle.tql_engine.proofs.Doing.{start_does}
 use Rattle.tql_engine.proofs.Typed.{sound_after}
 use Rattle.tql_engine.proofs.engine.Engine.start.Goals as goal
 
 pub begin-requires-clause-closed : goal.begin-requires-clause-closed
-begin-requires-clause-closed c = subst (λ (h : Held). IsNone h.rows.working) (sym c.self.view_is) c.requires.closed
+begin-requires-clause-closed c =
+    subst (λ (h : EngineModel). IsNone h.store.working) (sym c.self.view_is) c.requires.closed
 
 pub begin-requires-clause-later : goal.begin-requires-clause-later
 begin-requires-clause-later c = clock_under _ c.self.invariant.state c.self.invariant.stands
@@ -17,14 +18,14 @@ begin-requires-clause-later c = clock_under _ c.self.invariant.state c.self.inva
 pub begin-requires-clause-below : goal.begin-requires-clause-below
 begin-requires-clause-below c =
     subst (λ m. m <ℤ high) (sym (clock_reads _ c.self.invariant.state c.self.invariant.stands))
-    (subst (λ (h : Held). h.next <ℤ high) (sym c.self.view_is) c.requires.below)
+    (subst (λ (h : EngineModel). h.next <ℤ high) (sym c.self.view_is) c.requires.below)
 
 pub invariant_of-self : goal.invariant_of-self
 invariant_of-self c =
     let s : State = c.self.invariant.state in
     let st = c.self.invariant.stands in
-    let closed = subst (λ (h : Held). IsNone h.rows.working) (sym c.self.view_is) c.requires.closed in
-    let below = subst (λ (h : Held). h.next <ℤ high) (sym c.self.view_is) c.requires.below in
+    let closed = subst (λ (h : EngineModel). IsNone h.store.working) (sym c.self.view_is) c.requires.closed in
+    let below = subst (λ (h : EngineModel). h.next <ℤ high) (sym c.self.view_is) c.requires.below in
     sound_after _ _ c.self.invariant Start _ tt
     (start_does _ s _ st closed below c.begin.ensures.copies
     (c.begin.ensures.working ∙ ap Some (clock_reads _ s st)) (c.begin.ensures.tables))
@@ -32,7 +33,7 @@ invariant_of-self c =
 pub returns : goal.returns
 returns c s st =
     let back = subst (λ h. StandsFor h s) (sym c.self.view_is) st in
-    let closed = subst (λ (h : Held). IsNone h.rows.working) (sym c.self.view_is) c.requires.closed in
-    let below = subst (λ (h : Held). h.next <ℤ high) (sym c.self.view_is) c.requires.below in
+    let closed = subst (λ (h : EngineModel). IsNone h.store.working) (sym c.self.view_is) c.requires.closed in
+    let below = subst (λ (h : EngineModel). h.next <ℤ high) (sym c.self.view_is) c.requires.below in
     start_does _ s _ back closed below c.begin.ensures.copies
     (c.begin.ensures.working ∙ ap Some (clock_reads _ s back)) (c.begin.ensures.tables)

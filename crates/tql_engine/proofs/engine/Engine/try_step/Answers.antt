@@ -1,4 +1,4 @@
-use Rattle.tql_tree.specs.Trees.{tree_of}
+use Rattle.tql_syntax_tree.specs.Trees.{tree_of}
 use Rattle.tql_engine.proofs.Stepping.{result_answered, unread_answered}
 use Rattle.tql_engine.proofs.engine.Engine.try_step.Goals as goal
 

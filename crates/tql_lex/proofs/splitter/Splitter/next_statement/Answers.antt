@@ -15,7 +15,8 @@ returns-then-not-self c =
         (
           c.self.view_is,
           none_whole c.args.self.now c.self.inside.bytes.items c.as_slice-bytes.result.now
-              c.split_at.result.1.now f.before.now f.text.now f.rest.now c.self.inside.start c.self.inside.line f.finished
+              c.split_at.result.1.now f.before.now f.text.now f.rest.now c.self.inside.start c.self.inside.line
+              f.finished
               c.self.inside.ended c.self.view_is c.as_slice-bytes.ensures.value c.split_at.ensures.back
               c.in_ok-found.ensures c.if-not-found.true c.if-not-self.true,
         ),

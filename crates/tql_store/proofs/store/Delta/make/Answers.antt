@@ -1,6 +1,6 @@
 use Rattle.std.proofs.Common.{◌≡◌, map, slice_index_or, Vec, rules, sym, ap, ◌∙◌}
 use Rattle.std.proofs.Math.Facts.{to_z-of_z}
-use Rattle.tql_rows.specs.Held.{versions}
+use Rattle.tql_store_rows.specs.TableModel.{versions}
 use Rattle.tql_value.specs.declared.value.Value.{Value}
 use Rattle.tql_value.specs.Views.{datum_of_value}
 use Rattle.tql_store.proofs.Making.{on_err, kept-versions, kept-rest, ok-versions, ok-judged, noted-at}

@@ -5,17 +5,17 @@ use Rattle.std.proofs.Math.Facts.{to_z-of_z}
 use Rattle.std.proofs.lemmas.List.{with_items_is}
 use Rattle.tql_spec.specs.Bag.{SameBag}
 use Rattle.tql_spec.specs.Definition.{Version}
-use Rattle.tql_rows.specs.Held as rows
-use Rattle.tql_store.specs.Held.{Held}
-use Rattle.tql_store.specs.Places.{place_of, is_kept, is_taken}
+use Rattle.tql_store_rows.specs.TableModel as rows
+use Rattle.tql_store.specs.StoreModel.{StoreModel}
+use Rattle.tql_store.specs.TableSlots.{slot_at, is_kept, is_taken}
 use Rattle.tql_store.specs.Orderly.{table_at, empty}
 use Rattle.tql_store.proofs.Numbers.{element-at, taken-within, kept_taken}
 use Rattle.std.proofs.lemmas.Grind.{common_steps}
 use Rattle.tql_store.specs.Orderly.{IsPut, IsOrderly}
 use Rattle.tql_store.specs.Represents.{Takes}
-use Rattle.tql_store.specs.Places.{place_for}
-use Rattle.tql_store.specs.declared.tables.Place.{Place}
-use Rattle.tql_store.specs.declared.tables.Place.TheVariants.{Free}
+use Rattle.tql_store.specs.TableSlots.{place_for}
+use Rattle.tql_store.specs.declared.tables.TableSlot.{TableSlot}
+use Rattle.tql_store.specs.declared.tables.TableSlot.TheVariants.{Free}
 use Rattle.tql_store.proofs.Storing.{shown, put-orderly, added-versions, kept_for}
 use Rattle.tql_store.proofs.Places.{adds}
 use Rattle.tql_store.proofs.TableLaws.{add-keeps}
@@ -24,20 +24,20 @@ use Rattle.tql_store.proofs.store.Store.add_table.Goals as goal
 pub invariant_of-self-2 : goal.invariant_of-self-2
 invariant_of-self-2 g c =
     let number : c.from.result ≡ c.free_table-table.result = (c.from.ensures ∙ c.number.ensures.value) in
-    let free : place_of c.self.inside.places.items c.free_table-table.result ≡ Free =
+    let free : slot_at c.self.inside.places.items c.free_table-table.result ≡ Free =
     first_of (search rules, grind (arith, common_steps)) in
     let takes : Takes c.free_table-table.result (place_for c.args.versioned) c.self.inside.places.items
     c.put_table.new.places.items = first_of (search rules, grind (arith, common_steps)) in
     let put : IsPut c.free_table-table.result c.new-rows.result c.self.inside.rows.items c.put_rows.new.rows.items =
     subst (λ (n : ℕ). IsPut n c.new-rows.result c.self.inside.rows.items c.put_rows.new.rows.items) number
-    (subst (λ (ts : List rows.Held). IsPut c.from.result c.new-rows.result ts c.put_rows.new.rows.items)
+    (subst (λ (ts : List rows.TableModel). IsPut c.from.result c.new-rows.result ts c.put_rows.new.rows.items)
     c.reserve.ensures.items c.put_rows.ensures.put) in
     let more : length c.self.inside.rows.items ≤ length c.put_rows.new.rows.items =
-    subst (λ (ts : List rows.Held). length ts ≤ length c.put_rows.new.rows.items) c.reserve.ensures.items
+    subst (λ (ts : List rows.TableModel). length ts ≤ length c.put_rows.new.rows.items) c.reserve.ensures.items
     c.put_rows.ensures.grows in
     let size : length c.put_rows.new.rows.items ≡ max (length c.self.inside.rows.items)
     (c.free_table-table.result + 1) = c.put_rows.ensures.len
-    ∙ ap (λ (ts : List rows.Held). max (length ts) (c.from.result + 1)) c.reserve.ensures.items
+    ∙ ap (λ (ts : List rows.TableModel). max (length ts) (c.from.result + 1)) c.reserve.ensures.items
     ∙ ap (λ (n : ℕ). max (length c.self.inside.rows.items) (n + 1)) number in
     put-orderly c.args.versioned (place_for c.args.versioned) c.free_table-table.result c.self.inside.places.items
     c.put_table.new.places.items c.self.inside.rows.items c.put_rows.new.rows.items c.self.inside.touched.items
@@ -48,11 +48,11 @@ invariant_of-self-2 g c =
 pub returns-clause-ok : goal.returns-clause-ok
 returns-clause-ok g c =
     let number : c.from.result ≡ c.free_table-table.result = (c.from.ensures ∙ c.number.ensures.value) in
-    let free : place_of c.self.inside.places.items c.free_table-table.result ≡ Free =
+    let free : slot_at c.self.inside.places.items c.free_table-table.result ≡ Free =
     first_of (search rules, grind (arith, common_steps)) in
     let put : IsPut c.free_table-table.result c.new-rows.result c.self.inside.rows.items c.put_rows.new.rows.items =
     subst (λ (n : ℕ). IsPut n c.new-rows.result c.self.inside.rows.items c.put_rows.new.rows.items) number
-    (subst (λ (ts : List rows.Held). IsPut c.from.result c.new-rows.result ts c.put_rows.new.rows.items)
+    (subst (λ (ts : List rows.TableModel). IsPut c.from.result c.new-rows.result ts c.put_rows.new.rows.items)
     c.reserve.ensures.items c.put_rows.ensures.put) in
     adds c.args.versioned c.free_table-table.result c.args.self.now _
     (first_of (search rules, grind (arith, common_steps)))

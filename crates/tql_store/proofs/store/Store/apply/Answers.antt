@@ -2,18 +2,18 @@ use Rattle.std.proofs.Common.{◌≡◌, map, Vec, Option, None, Some, w64, rule
 use Rattle.std.specs.Vec.{with_items}
 use Rattle.std.proofs.Math.Facts.{to_z-of_z}
 use Rattle.std.proofs.lemmas.List.{with_items_is}
-use Rattle.tql_store.specs.Held.{Held}
+use Rattle.tql_store.specs.StoreModel.{StoreModel}
 use mir.Val.{SFits, to_z, of_z}
 use Rattle.std.specs.Prelude.{Bool, List, ◌++◌, filter}
 use Rattle.tql_spec.specs.Bag.{SameBag}
 use Rattle.tql_spec.specs.Definition.{Stamped}
-use Rattle.tql_rows.specs.Changes.{alive, closing, fresh, replaced}
-use Rattle.tql_rows.specs.Held as rows
-use Rattle.tql_rows.specs.Held.{InTurn, AreRemovable, IsJudged, versions, live}
+use Rattle.tql_store_rows.specs.Changes.{alive, closing, fresh, replaced}
+use Rattle.tql_store_rows.specs.TableModel as rows
+use Rattle.tql_store_rows.specs.TableModel.{InTurn, AreRemovable, IsJudged, versions, live}
 use Rattle.tql_value.specs.declared.value.Value.{Value}
 use Rattle.tql_value.specs.Views.{datum_of_value}
 use Rattle.tql_store.specs.Orderly.{table_at, HasTurned}
-use Rattle.tql_store.specs.Places.{place_of, is_taken}
+use Rattle.tql_store.specs.TableSlots.{slot_at, is_taken}
 use Rattle.tql_store.proofs.Making.{on_err, in-moment, change-store, refused-store}
 use Rattle.tql_store.proofs.Numbers.{taken-within}
 use Rattle.tql_store.proofs.Storing.{shown, in_turn, removable-at, replaces-at}
@@ -24,9 +24,9 @@ pub make-requires-clause-turn : goal.make-requires-clause-turn
 make-requires-clause-turn g c =
     let fits : SFits w64 c.moment-moment.result = search rules in
     let at = in-moment c.self.inside.working c.args.self.now.working (to_z w64 (of_z w64 c.moment-moment.result))
-    c.moment-moment.result (ap (λ (h : Held). h.working) c.self.view_is) c.requires.open_now (to_z-of_z fits)
+    c.moment-moment.result (ap (λ (h : StoreModel). h.working) c.self.view_is) c.requires.open_now (to_z-of_z fits)
     c.moment-moment.ensures in
-    subst (λ (ts : List rows.Held). InTurn (to_z w64 (of_z w64 c.moment-moment.result))
+    subst (λ (ts : List rows.TableModel). InTurn (to_z w64 (of_z w64 c.moment-moment.result))
     (table_at ts c.args.delta.table)) (sym c.deref_mut.ensures.value)
     ((in_turn c.self.inside.working (to_z w64 (of_z w64 c.moment-moment.result)) at c.self.invariant).ready.turn
     c.args.delta.table)
@@ -35,9 +35,9 @@ pub make-requires-clause-removable : goal.make-requires-clause-removable
 make-requires-clause-removable g c =
     let fits : SFits w64 c.moment-moment.result = search rules in
     let at = in-moment c.self.inside.working c.args.self.now.working (to_z w64 (of_z w64 c.moment-moment.result))
-    c.moment-moment.result (ap (λ (h : Held). h.working) c.self.view_is) c.requires.open_now (to_z-of_z fits)
+    c.moment-moment.result (ap (λ (h : StoreModel). h.working) c.self.view_is) c.requires.open_now (to_z-of_z fits)
     c.moment-moment.ensures in
-    subst (λ (ts : List rows.Held). AreRemovable (table_at ts c.args.delta.table) c.args.delta.removed.items)
+    subst (λ (ts : List rows.TableModel). AreRemovable (table_at ts c.args.delta.table) c.args.delta.removed.items)
     (sym c.deref_mut.ensures.value)
     (removable-at (to_z w64 (of_z w64 c.moment-moment.result)) c.self.inside.working c.self.inside.last
     c.self.inside.places.items c.self.inside.rows.items c.self.inside.touched.items c.args.self.now c.args.delta.table
@@ -47,12 +47,12 @@ pub invariant_of-self : goal.invariant_of-self
 invariant_of-self g c =
     let fits : SFits w64 c.moment-moment.result = search rules in
     let at = in-moment c.self.inside.working c.args.self.now.working (to_z w64 (of_z w64 c.moment-moment.result))
-    c.moment-moment.result (ap (λ (h : Held). h.working) c.self.view_is) c.requires.open_now (to_z-of_z fits)
+    c.moment-moment.result (ap (λ (h : StoreModel). h.working) c.self.view_is) c.requires.open_now (to_z-of_z fits)
     c.moment-moment.ensures in
     refused-store (to_z w64 (of_z w64 c.moment-moment.result)) c.self.inside.working c.self.inside.last
     c.args.delta.table c.self.inside.places.items c.self.inside.rows.items c.deref_mut.result.now c.make.new.rows
     _ c.self.inside.touched.items c.make.new.touched.items at c.deref_mut.ensures.value
-    (ap (λ (h : Held). is_taken (place_of h.tables c.args.delta.table)) c.self.view_is
+    (ap (λ (h : StoreModel). is_taken (slot_at h.tables c.args.delta.table)) c.self.view_is
     ∙ c.requires.present) c.self.invariant c.make.ensures.turned c.in_err-make.ensures.err_touched
     c.in_err-make.ensures.err_rest (with_items_is c.self.inside.rows c.make.new.rows (c.make.ensures.turned.even
     ∙ c.deref_mut.ensures.len))
@@ -60,7 +60,7 @@ invariant_of-self g c =
 pub returns-in_err-make-clause-err : goal.returns-in_err-make-clause-err
 returns-in_err-make-clause-err g c =
     on_err c.from_residual.result
-    (ap (λ (ts : List rows.Held). shown c.self.inside.places.items ts c.self.inside.working c.self.inside.last)
+    (ap (λ (ts : List rows.TableModel). shown c.self.inside.places.items ts c.self.inside.working c.self.inside.last)
     (with_items_is c.self.inside.rows c.make.new.rows (c.make.ensures.turned.even ∙ c.deref_mut.ensures.len))
     ∙ ap (λ vss. record {
       tables = c.self.inside.places.items;
@@ -68,21 +68,21 @@ returns-in_err-make-clause-err g c =
       working = c.self.inside.working;
       last = c.self.inside.last;
     }) (c.in_err-make.ensures.err
-    ∙ ap (λ (ts : List rows.Held). map versions ts) c.deref_mut.ensures.value) ∙ c.self.view_is)
+    ∙ ap (λ (ts : List rows.TableModel). map versions ts) c.deref_mut.ensures.value) ∙ c.self.view_is)
 
 pub invariant_of-self-2 : goal.invariant_of-self-2
 invariant_of-self-2 g c =
     let fits : SFits w64 c.moment-moment.result = search rules in
     let at = in-moment c.self.inside.working c.args.self.now.working (to_z w64 (of_z w64 c.moment-moment.result))
-    c.moment-moment.result (ap (λ (h : Held). h.working) c.self.view_is) c.requires.open_now (to_z-of_z fits)
+    c.moment-moment.result (ap (λ (h : StoreModel). h.working) c.self.view_is) c.requires.open_now (to_z-of_z fits)
     c.moment-moment.ensures in
     change-store (to_z w64 (of_z w64 c.moment-moment.result)) c.self.inside.working c.self.inside.last
     c.args.delta.table c.self.inside.places.items c.self.inside.rows.items c.deref_mut.result.now c.make.new.rows
     _ c.self.inside.touched.items c.make.new.touched.items at c.deref_mut.ensures.value
-    (ap (λ (h : Held). is_taken (place_of h.tables c.args.delta.table)) c.self.view_is
+    (ap (λ (h : StoreModel). is_taken (slot_at h.tables c.args.delta.table)) c.self.view_is
     ∙ c.requires.present)
     (taken-within c.self.inside.places.items c.self.inside.rows.items c.args.delta.table c.self.invariant.even
-    (ap (λ (h : Held). is_taken (place_of h.tables c.args.delta.table)) c.self.view_is
+    (ap (λ (h : StoreModel). is_taken (slot_at h.tables c.args.delta.table)) c.self.view_is
     ∙ c.requires.present)) c.self.invariant c.make.ensures.turned c.in_ok-make.ensures.noted
     (with_items_is c.self.inside.rows c.make.new.rows (c.make.ensures.turned.even ∙ c.deref_mut.ensures.len))
 
@@ -90,24 +90,25 @@ pub returns-clause-ok : goal.returns-clause-ok
 returns-clause-ok g c =
     let fits : SFits w64 c.moment-moment.result = search rules in
     let at = in-moment c.self.inside.working c.args.self.now.working (to_z w64 (of_z w64 c.moment-moment.result))
-    c.moment-moment.result (ap (λ (h : Held). h.working) c.self.view_is) c.requires.open_now (to_z-of_z fits)
+    c.moment-moment.result (ap (λ (h : StoreModel). h.working) c.self.view_is) c.requires.open_now (to_z-of_z fits)
     c.moment-moment.ensures in
     let value = c.deref_mut.ensures.value in
     replaces-at (λ (row : Vec Value _). map datum_of_value row.items) c.args.delta.added.items
     (to_z w64 (of_z w64 c.moment-moment.result)) c.self.inside.working c.self.inside.last
     c.self.inside.places.items c.self.inside.rows.items c.make.new.rows c.self.inside.touched.items
     c.args.self.now _ c.args.delta.table c.args.delta.removed.items at c.self.invariant c.self.view_is
-    (sym (ap (λ (ts : List rows.Held). shown c.self.inside.places.items ts c.self.inside.working c.self.inside.last)
+    (sym (ap (λ (ts : List rows.TableModel). shown c.self.inside.places.items ts c.self.inside.working
+        c.self.inside.last)
     (with_items_is c.self.inside.rows c.make.new.rows (c.make.ensures.turned.even ∙ c.deref_mut.ensures.len))))
     c.requires.removable
-    (subst (λ (ts : List rows.Held). HasTurned (to_z w64 (of_z w64 c.moment-moment.result)) c.args.delta.table ts
+    (subst (λ (ts : List rows.TableModel). HasTurned (to_z w64 (of_z w64 c.moment-moment.result)) c.args.delta.table ts
     c.make.new.rows) value c.make.ensures.turned)
-    (subst (λ (ts : List rows.Held). SameBag (live (table_at c.make.new.rows c.args.delta.table))
+    (subst (λ (ts : List rows.TableModel). SameBag (live (table_at c.make.new.rows c.args.delta.table))
     (filter alive (closing (to_z w64 (of_z w64 c.moment-moment.result)) c.args.delta.removed.items
     (table_at ts c.args.delta.table).current ++ (table_at ts c.args.delta.table).closed) ++ map
     (λ (row : Vec Value _). fresh (to_z w64 (of_z w64 c.moment-moment.result)) (map datum_of_value row.items))
     c.args.delta.added.items)) value c.in_ok-make.ensures.versions)
-    (subst (λ (ts : List rows.Held). (gone : Stamped → Bool)
+    (subst (λ (ts : List rows.TableModel). (gone : Stamped → Bool)
     → IsJudged gone c.args.delta.removed.items (table_at ts c.args.delta.table)
     → SameBag (live (table_at c.make.new.rows c.args.delta.table))
     (replaced (to_z w64 (of_z w64 c.moment-moment.result)) gone

@@ -5,23 +5,23 @@ use Rattle.std.proofs.Math.Facts.{to_z-of_z}
 use Rattle.std.proofs.lemmas.List.{with_items_is}
 use Rattle.tql_spec.specs.Bag.{SameBag}
 use Rattle.tql_spec.specs.Definition.{Version}
-use Rattle.tql_rows.specs.Held as rows
-use Rattle.tql_store.specs.Held.{Held}
-use Rattle.tql_store.specs.Places.{place_of, is_kept, is_taken}
+use Rattle.tql_store_rows.specs.TableModel as rows
+use Rattle.tql_store.specs.StoreModel.{StoreModel}
+use Rattle.tql_store.specs.TableSlots.{slot_at, is_kept, is_taken}
 use Rattle.tql_store.specs.Orderly.{table_at, empty}
 use Rattle.tql_store.proofs.Numbers.{element-at, taken-within, kept_taken}
 use Rattle.std.proofs.lemmas.Grind.{common_steps}
-use Rattle.tql_rows.specs.Changes.{alive, holds, is_current}
-use Rattle.tql_rows.specs.Readings.{asked, version_shown, Names, NamesOnce, AreEnded}
-use Rattle.tql_rows.specs.declared.readings.When.TheVariants as when
+use Rattle.tql_store_rows.specs.Changes.{alive, holds, is_current}
+use Rattle.tql_store_rows.specs.Readings.{asked, version_shown, Names, NamesOnce, AreEnded}
+use Rattle.tql_store_rows.specs.declared.readings.When.TheVariants as when
 use Rattle.tql_store.proofs.Storing.{shows, versions-of, indexed-at, ended-at, current-only, same-list, Indexed}
 use Rattle.tql_store.proofs.StoreLaws.{answers-as_of}
 use Rattle.tql_store.proofs.store.Store.as_of.Goals as goal
 
 pub returns-clause-versions : goal.returns-clause-versions
 returns-clause-versions g c =
-    let there : is_taken (place_of c.self.inside.places.items c.args.table) ≡ true =
-    kept_taken _ (ap (λ (h : Held). is_kept (place_of h.tables c.args.table)) c.self.view_is ∙ c.requires) in
+    let there : is_taken (slot_at c.self.inside.places.items c.args.table) ≡ true =
+    kept_taken _ (ap (λ (h : StoreModel). is_kept (slot_at h.tables c.args.table)) c.self.view_is ∙ c.requires) in
     let read : c.index.result.now ≡ slice_index_or c.self.inside.rows.items c.args.table c.index.result.now =
     first_of (search rules, grind (arith, common_steps)) in
     let at : c.index.result.now ≡ table_at c.self.inside.rows.items c.args.table =
@@ -43,8 +43,8 @@ returns-clause-versions g c =
 
 pub returns-clause-ids : goal.returns-clause-ids
 returns-clause-ids g c =
-    let there : is_taken (place_of c.self.inside.places.items c.args.table) ≡ true =
-    kept_taken _ (ap (λ (h : Held). is_kept (place_of h.tables c.args.table)) c.self.view_is ∙ c.requires) in
+    let there : is_taken (slot_at c.self.inside.places.items c.args.table) ≡ true =
+    kept_taken _ (ap (λ (h : StoreModel). is_kept (slot_at h.tables c.args.table)) c.self.view_is ∙ c.requires) in
     let read : c.index.result.now ≡ slice_index_or c.self.inside.rows.items c.args.table c.index.result.now =
     first_of (search rules, grind (arith, common_steps)) in
     let at : c.index.result.now ≡ table_at c.self.inside.rows.items c.args.table =

@@ -5,12 +5,12 @@ use Rattle.std.proofs.Math.Facts.{to_z-of_z}
 use Rattle.std.proofs.lemmas.List.{with_items_is}
 use Rattle.tql_spec.specs.Bag.{SameBag}
 use Rattle.tql_spec.specs.Definition.{Version}
-use Rattle.tql_rows.specs.Held as rows
-use Rattle.tql_store.specs.Held.{Held}
-use Rattle.tql_store.specs.Places.{place_of, is_kept, is_taken}
+use Rattle.tql_store_rows.specs.TableModel as rows
+use Rattle.tql_store.specs.StoreModel.{StoreModel}
+use Rattle.tql_store.specs.TableSlots.{slot_at, is_kept, is_taken}
 use Rattle.tql_store.specs.Orderly.{table_at, empty}
 use Rattle.tql_store.proofs.Numbers.{element-at, taken-within, kept_taken}
-use Rattle.tql_rows.specs.Changes.{Under}
+use Rattle.tql_store_rows.specs.Changes.{Under}
 use Rattle.tql_store.specs.Orderly.{IsOrderly}
 use Rattle.tql_store.proofs.Turning.{begin-orderly}
 use Rattle.tql_store.proofs.StoreLaws.{begin-copies}
@@ -19,14 +19,14 @@ use Rattle.tql_store.proofs.store.Store.begin.Goals as goal
 pub invariant_of-self : goal.invariant_of-self
 invariant_of-self g c =
     let none : c.args.self.now.working ≡ None = search rules in
-    let closed : c.self.inside.working ≡ None = ap (λ (h : Held). h.working) c.self.view_is ∙ none in
+    let closed : c.self.inside.working ≡ None = ap (λ (h : StoreModel). h.working) c.self.view_is ∙ none in
     subst (λ (x : ℤ). IsOrderly c.self.inside.places.items c.self.inside.rows.items c.self.inside.touched.items
     (Some x) c.self.inside.last) (sym (to_z-of_z c.ranges.moment))
     (begin-orderly c.args.moment c.self.inside.last c.self.inside.places.items c.self.inside.rows.items
     c.self.inside.touched.items
     (subst (λ (w : Option ℤ). IsOrderly c.self.inside.places.items c.self.inside.rows.items
     c.self.inside.touched.items w c.self.inside.last) closed c.self.invariant)
-    (subst (λ (h : Held). Under h.last c.args.moment) (sym c.self.view_is) c.requires.later) c.requires.below)
+    (subst (λ (h : StoreModel). Under h.last c.args.moment) (sym c.self.view_is) c.requires.later) c.requires.below)
 
 pub returns-clause-copies : goal.returns-clause-copies
 returns-clause-copies g c =

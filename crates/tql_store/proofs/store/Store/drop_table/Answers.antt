@@ -6,17 +6,17 @@ use Rattle.std.specs.Vec.{with_items}
 use Rattle.std.proofs.lemmas.List.{with_items_is}
 use Rattle.tql_spec.specs.Bag.{SameBag}
 use Rattle.tql_spec.specs.Definition.{Version}
-use Rattle.tql_rows.specs.Held as rows
-use Rattle.tql_store.specs.Held.{Held}
-use Rattle.tql_store.specs.Places.{place_of, is_kept, is_taken}
+use Rattle.tql_store_rows.specs.TableModel as rows
+use Rattle.tql_store.specs.StoreModel.{StoreModel}
+use Rattle.tql_store.specs.TableSlots.{slot_at, is_kept, is_taken}
 use Rattle.tql_store.specs.Orderly.{table_at, empty}
 use Rattle.tql_store.proofs.Numbers.{element-at, taken-within, kept_taken}
 use Rattle.std.specs.Prelude.{nat_eq, if◌then◌else◌}
 use Rattle.std.proofs.lemmas.Grind.{common_steps}
 use Rattle.tql_store.specs.Orderly.{IsPut, IsOrderly}
 use Rattle.tql_store.specs.Represents.{Takes}
-use Rattle.tql_store.specs.declared.tables.Place.{Place}
-use Rattle.tql_store.specs.declared.tables.Place.TheVariants.{Free}
+use Rattle.tql_store.specs.declared.tables.TableSlot.{TableSlot}
+use Rattle.tql_store.specs.declared.tables.TableSlot.TheVariants.{Free}
 use Rattle.tql_store.proofs.Storing.{shown, put-orderly, dropped-versions}
 use Rattle.tql_store.proofs.Places.{drops}
 use Rattle.tql_store.proofs.TableLaws.{drop-empties}
@@ -25,22 +25,22 @@ use Rattle.tql_store.proofs.store.Store.drop_table.Goals as goal
 pub invariant_of-self : goal.invariant_of-self
 invariant_of-self g c =
     let takes : Takes c.args.table Free c.self.inside.places.items c.clear_place.new.places =
-    subst (λ (ps : List Place). Takes c.args.table Free ps c.clear_place.new.places) c.deref_mut.ensures.value
+    subst (λ (ps : List TableSlot). Takes c.args.table Free ps c.clear_place.new.places) c.deref_mut.ensures.value
     c.clear_place.ensures.takes in
     let put : IsPut c.args.table c.new-rows.result c.self.inside.rows.items c.set_rows.new.rows =
     subst (λ (n : ℕ). IsPut n c.new-rows.result c.self.inside.rows.items c.set_rows.new.rows) (c.from.ensures
     ∙ c.number.ensures.value)
-    (subst (λ (ts : List rows.Held). IsPut c.from.result c.new-rows.result ts c.set_rows.new.rows)
+    (subst (λ (ts : List rows.TableModel). IsPut c.from.result c.new-rows.result ts c.set_rows.new.rows)
     c.deref_mut-2.ensures.value c.set_rows.ensures.put) in
     let size : length c.set_rows.new.rows ≡ length c.self.inside.rows.items = c.set_rows.ensures.len
-    ∙ ap (λ (ts : List rows.Held). length ts) c.deref_mut-2.ensures.value in
+    ∙ ap (λ (ts : List rows.TableModel). length ts) c.deref_mut-2.ensures.value in
     let places : length c.clear_place.new.places ≡ length c.self.inside.places.items = c.clear_place.ensures.len
-    ∙ ap (λ (ps : List Place). length ps) c.deref_mut.ensures.value in
-    subst (λ (ps : List Place). IsOrderly ps (with_items c.self.inside.rows c.set_rows.new.rows).items
+    ∙ ap (λ (ps : List TableSlot). length ps) c.deref_mut.ensures.value in
+    subst (λ (ps : List TableSlot). IsOrderly ps (with_items c.self.inside.rows c.set_rows.new.rows).items
     c.self.inside.touched.items c.self.inside.working c.self.inside.last)
     (sym (with_items_is c.self.inside.places c.clear_place.new.places (c.clear_place.ensures.len
     ∙ c.deref_mut.ensures.len)))
-    (subst (λ (ts : List rows.Held). IsOrderly c.clear_place.new.places ts c.self.inside.touched.items
+    (subst (λ (ts : List rows.TableModel). IsOrderly c.clear_place.new.places ts c.self.inside.touched.items
     c.self.inside.working c.self.inside.last)
     (sym (with_items_is c.self.inside.rows c.set_rows.new.rows (c.set_rows.ensures.len ∙ c.deref_mut-2.ensures.len)))
     (put-orderly false Free c.args.table c.self.inside.places.items c.clear_place.new.places c.self.inside.rows.items
@@ -59,14 +59,14 @@ returns-clause-versions g c =
     let put : IsPut c.args.table c.new-rows.result c.self.inside.rows.items c.set_rows.new.rows =
     subst (λ (n : ℕ). IsPut n c.new-rows.result c.self.inside.rows.items c.set_rows.new.rows) (c.from.ensures
     ∙ c.number.ensures.value)
-    (subst (λ (ts : List rows.Held). IsPut c.from.result c.new-rows.result ts c.set_rows.new.rows)
+    (subst (λ (ts : List rows.TableModel). IsPut c.from.result c.new-rows.result ts c.set_rows.new.rows)
     c.deref_mut-2.ensures.value c.set_rows.ensures.put) in
     dropped-versions c.args.table c.self.inside.places.items c.self.inside.working c.self.inside.last
     c.self.inside.rows.items c.set_rows.new.rows c.new-rows.result c.args.self.now
     (shown (with_items c.self.inside.places c.clear_place.new.places).items
     (with_items c.self.inside.rows c.set_rows.new.rows).items c.self.inside.working c.self.inside.last)
     c.self.view_is put c.new-rows.ensures.empty
-    (ap (λ (ts : List rows.Held). map rows.versions ts)
+    (ap (λ (ts : List rows.TableModel). map rows.versions ts)
     (with_items_is c.self.inside.rows c.set_rows.new.rows (c.set_rows.ensures.len ∙ c.deref_mut-2.ensures.len)))
 
 pub returns-clause-copies : goal.returns-clause-copies

@@ -1,8 +1,0 @@
-use Rattle.std.proofs.Common.{◌≡◌, ◌++◌, map, drop}
-use Rattle.tql_rows.specs.declared.version.Version.{Version}
-use Rattle.device_tests.proofs.tests.stores.ids_of.Given as goal
-
--- the ids so far and those of the rest are all ids
-abbrev pub invariant-loop-version : goal.invariant-loop-version
-invariant-loop-version l =
-    l.ids.items ++ map (λ (v : Version). v.id) (drop l.version-index l.found) ≡ map (λ (v : Version). v.id) l.found

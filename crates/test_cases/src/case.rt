@@ -1,0 +1,197 @@
+//! A case: a script `NAME.sql`, and what it prints: run in `NAME.out`, checked in `NAME.check.out`, checked with its
+//! neighbours in `NAME.marks`.
+use crate::compare::text_difference;
+use crate::growths::growth_fault;
+use crate::neighbours::marks;
+use crate::runs::{Answering, answer};
+use std::alloc::{AllocError, Global};
+use std::fs;
+use std::io::{self, ErrorKind};
+
+/// How many letters an `@` stands for in a script that is to be filled: as many as the bytes of the longest statement.
+const FILLING: usize = 1_048_576;
+
+/// What the first line of a script asks for, behind `-- cases:`.
+#[derive(Clone, Copy, PartialEq, Eq, Debug)]
+struct Directives {
+    /// The script is given in pieces of 1, 2, 3 and 7 bytes too.
+    in_pieces: bool,
+    /// Each growth of the run is refused in turn.
+    by_growths: bool,
+    /// An `@` stands for so many letters `x` as the longest statement has bytes.
+    is_filled: bool,
+}
+
+/// The words of the first line, if it begins with `-- cases:`.
+fn asked(script: &[u8]) -> &str {
+    let end = script.iter().position(|byte| *byte == b'\n');
+    let line = script.get(..end.unwrap_or(0)).unwrap_or(b"");
+    let text = str::from_utf8(line).unwrap_or("");
+    text.strip_prefix("-- cases:").unwrap_or("")
+}
+
+/// What the first line of a script asks for.
+fn directives_in(script: &[u8]) -> io::Result<Directives> {
+    let mut found = Directives {
+        in_pieces: false,
+        by_growths: false,
+        is_filled: false,
+    };
+    for word in asked(script).split_ascii_whitespace() {
+        match word {
+            "pieces" => found.in_pieces = true,
+            "growths" => found.by_growths = true,
+            "filled" => found.is_filled = true,
+            _ => return Err(io::Error::from(ErrorKind::InvalidInput)),
+        }
+    }
+    Ok(found)
+}
+
+/// A script with so many letters in the place of each `@`.
+fn filled(alloc: Global, script: &[u8]) -> Result<Vec<u8>, AllocError> {
+    let mut whole = Vec::new(alloc);
+    for byte in script {
+        if *byte == b'@' {
+            let length = whole.len().saturating_add(FILLING);
+            whole.resize(length, b'x')?;
+        } else {
+            whole.push(*byte)?;
+        }
+    }
+    Ok(whole)
+}
+
+/// The bytes of a file; None where it is not there.
+fn bytes_of(rt: &HostRuntime, base: &str, ending: &str) -> io::Result<Option<Vec<u8>>> {
+    let path = format!(in rt.alloc(); "{base}{ending}")?;
+    match fs::read(rt, path.as_str()) {
+        Ok(bytes) => Ok(Some(bytes)),
+        Err(error) if error.kind() == ErrorKind::NotFound => Ok(None),
+        Err(error) => Err(error),
+    }
+}
+
+/// Where the text of a script that is given in pieces of so many bytes is not the listed one.
+fn text_fault(
+    alloc: Global,
+    answering: Answering,
+    script: &[u8],
+    size: usize,
+    listed: &[u8],
+) -> io::Result<Option<String>> {
+    let outcome = answer(alloc, answering, script, size, u64::MAX)?;
+    if outcome.ended_well() {
+        Ok(text_difference(alloc, listed, &outcome.text)?)
+    } else {
+        Ok(Some(String::from_str(alloc, "does not end well")?))
+    }
+}
+
+/// `text_fault` for pieces of each size.
+fn pieces_fault(
+    alloc: Global,
+    answering: Answering,
+    script: &[u8],
+    listed: &[u8],
+) -> io::Result<Option<String>> {
+    for size in [1, 2, 3, 7] {
+        if let Some(fault) = text_fault(alloc, answering, script, size, listed)? {
+            return Ok(Some(format!(in alloc; "in pieces of {size} bytes {fault}")?));
+        }
+    }
+    Ok(None)
+}
+
+/// Where a script differs from what is listed, whole, and by its directives.
+fn listed_fault(
+    alloc: Global,
+    answering: Answering,
+    script: &[u8],
+    directives: Directives,
+    listed: &[u8],
+) -> io::Result<Option<String>> {
+    let mut fault = text_fault(alloc, answering, script, usize::MAX, listed)?;
+    if fault.is_none() && directives.in_pieces {
+        fault = pieces_fault(alloc, answering, script, listed)?;
+    }
+    if fault.is_none() && directives.by_growths {
+        fault = growth_fault(alloc, answering, script, listed)?;
+    }
+    Ok(fault)
+}
+
+/// What is compared with a listed text.
+#[derive(Clone, Copy, PartialEq, Eq, Debug)]
+enum Listing {
+    /// What a run or a check prints.
+    Text(Answering),
+    /// Which neighbours of its statements are statements.
+    Marks,
+}
+
+/// What can be listed, and how the names of the files that list it end.
+const LISTINGS: [(Listing, &str); 3] = [
+    (Listing::Text(Answering::Run), ".out"),
+    (Listing::Text(Answering::Check), ".check.out"),
+    (Listing::Marks, ".marks"),
+];
+
+/// A script, and what its first line asks for.
+#[derive(Drop)]
+struct Script {
+    bytes: Vec<u8>,
+    directives: Directives,
+}
+
+/// The script of a case, which has to be there.
+fn script_of(rt: &HostRuntime, base: &str) -> io::Result<Script> {
+    let path = format!(in rt.alloc(); "{base}.sql")?;
+    let bytes = fs::read(rt, path.as_str())?;
+    let directives = directives_in(&bytes)?;
+    let bytes = if directives.is_filled {
+        filled(rt.alloc(), &bytes)?
+    } else {
+        bytes
+    };
+    Ok(Script { bytes, directives })
+}
+
+/// Where a script differs from what is listed.
+fn fault_in(
+    alloc: Global,
+    script: &Script,
+    listing: Listing,
+    listed: &[u8],
+) -> io::Result<Option<String>> {
+    match listing {
+        Listing::Text(answering) => {
+            listed_fault(alloc, answering, &script.bytes, script.directives, listed)
+        }
+        Listing::Marks => {
+            let marks = marks(alloc, str::from_utf8(&script.bytes).unwrap_or("?"))?;
+            Ok(text_difference(alloc, listed, marks.as_bytes())?)
+        }
+    }
+}
+
+/// Where a case differs from what is listed; None where it does not.
+pub fn fault_of(rt: &HostRuntime, folder: &str, name: &str) -> io::Result<Option<String>> {
+    let alloc = rt.alloc();
+    let base = format!(in alloc; "{folder}/{name}")?;
+    let script = script_of(rt, base.as_str())?;
+    let mut is_compared = false;
+    for (listing, ending) in LISTINGS {
+        if let Some(listed) = bytes_of(rt, base.as_str(), ending)? {
+            is_compared = true;
+            if let Some(fault) = fault_in(alloc, &script, listing, &listed)? {
+                return Ok(Some(format!(in alloc; "{ending} {fault}")?));
+            }
+        }
+    }
+    if is_compared {
+        Ok(None)
+    } else {
+        Ok(Some(String::from_str(alloc, "has nothing to be compared with")?))
+    }
+}

@@ -1,0 +1,102 @@
+//! Runs and checks of a script over bytes in memory.
+use std::alloc::{AllocError, Global};
+use tql_check::check::check_script;
+use tql_engine::engine::Engine;
+use tql_engine::runner::{run, run_bytes};
+use tql_memory::{Memory, memory};
+use tql_result::vec_sink::VecSink;
+use tql_run::runner::{Fault, Summary};
+use tql_run::silence::Silence;
+use tql_run::slice_source::SliceSource;
+
+/// How a run ended, and what it wrote.
+#[derive(Drop)]
+pub struct Outcome {
+    pub end: Result<Summary, Fault>,
+    pub text: Vec<u8, Memory>,
+}
+
+impl Outcome {
+    /// How many lines of the text are refusals.
+    fn refusals(&self) -> u64 {
+        let mut refusals = 0u64;
+        for line in str::from_utf8(&self.text).unwrap_or("").lines() {
+            if line.starts_with("REFUSED ") {
+                refusals = refusals.saturating_add(1);
+            }
+        }
+        refusals
+    }
+
+    /// Whether the run came to its end, and counted the refusals that it wrote.
+    pub fn ended_well(&self) -> bool {
+        match self.end {
+            Ok(summary) => summary.refused == self.refusals(),
+            Err(_) => false,
+        }
+    }
+}
+
+/// Whether a script is run on a new engine, or its statements are only checked.
+#[derive(Clone, Copy, PartialEq, Eq, Debug)]
+pub enum Answering {
+    Run,
+    Check,
+}
+
+/// Runs a script on a new engine, whole and in so many blocks of memory.
+fn run_whole(alloc: Global, script: &[u8], granted: u64) -> Result<Outcome, AllocError> {
+    let mut engine = Engine::new(memory(alloc, granted)?);
+    let mut text = Vec::new(memory(alloc, u64::MAX)?);
+    let end = run_bytes(&mut engine, script, &mut text);
+    Ok(Outcome { end, text })
+}
+
+/// Runs a script on a new engine, in pieces of so many bytes and in so many blocks of memory.
+fn run_pieces(
+    alloc: Global,
+    script: &[u8],
+    size: usize,
+    granted: u64,
+) -> Result<Outcome, AllocError> {
+    let mut engine = Engine::new(memory(alloc, granted)?);
+    let mut source = SliceSource::in_pieces(script, size);
+    let mut sink = VecSink::new(Vec::new(memory(alloc, u64::MAX)?));
+    let end = run(&mut engine, &mut source, &mut sink, &mut Silence);
+    Ok(Outcome {
+        end,
+        text: sink.into_bytes(),
+    })
+}
+
+/// Checks the statements of a script, in pieces of so many bytes and in so many blocks of memory.
+pub fn check_only(
+    alloc: Global,
+    script: &[u8],
+    size: usize,
+    granted: u64,
+) -> Result<Outcome, AllocError> {
+    let mut source = SliceSource::in_pieces(script, size);
+    let mut sink = VecSink::new(Vec::new(memory(alloc, u64::MAX)?));
+    let memory = memory(alloc, granted)?;
+    let end = check_script(memory, &mut source, &mut sink, &mut Silence);
+    Ok(Outcome {
+        end,
+        text: sink.into_bytes(),
+    })
+}
+
+/// Runs or checks a script: in pieces, or whole where a piece may have any size.
+pub fn answer(
+    alloc: Global,
+    answering: Answering,
+    script: &[u8],
+    size: usize,
+    granted: u64,
+) -> Result<Outcome, AllocError> {
+    match answering {
+        Answering::Run if size == usize::MAX => run_whole(alloc, script, granted),
+        Answering::Run => run_pieces(alloc, script, size, granted),
+        Answering::Check => check_only(alloc, script, size, granted),
+    }
+}

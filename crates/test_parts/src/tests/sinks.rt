@@ -1,0 +1,90 @@
+// tql_result: what a sink that fails leaves of a reply, and what it counts.
+use std::alloc::{AllocError, Global};
+use std::test::Fail;
+use test_devices::Kept;
+use tql_memory::{Memory, memory};
+use tql_result::device::DeviceFault;
+use tql_result::print::{is_printable_reply, write_reply};
+use tql_result::reply::{Reply, Verb};
+use tql_result::sink::Sink;
+use tql_result::std_sink::StdSink;
+use tql_value::refusal::Refusal;
+use tql_value::text::Text;
+use tql_value::value::{ResultTable, Value};
+
+/// Whether a reply is pushed to a writer that takes one byte at a time and fails behind so many exactly as this: the
+/// beginning of its text, and one failure unless the text has no more bytes.
+fn is_cut(alloc: Global, reply: &Reply, text: &[u8], taken: usize) -> bool {
+    if !is_printable_reply(reply) {
+        return false;
+    }
+    let mut sink = StdSink::new(Kept {
+        bytes: Vec::new(alloc),
+        size: 1,
+        writes_left: taken as u64,
+        flushes: true,
+    });
+    let is_whole = taken == text.len();
+    let pushed = write_reply(&mut sink, reply).is_ok();
+    let is_counted = sink.faults() == u64::from(!is_whole);
+    let (front, _) = text.split_at(taken.min(text.len()));
+    pushed == is_whole && is_counted && sink.into_writer().bytes.as_slice() == front
+}
+
+/// Whether a reply is cut as it is to be, at each of its bytes, and is whole behind the last.
+fn is_cut_anywhere(alloc: Global, reply: &Reply, text: &str) -> bool {
+    (0..=text.len()).all(|taken| is_cut(alloc, reply, text.as_bytes(), taken))
+}
+
+/// A table of a row.
+fn sample(memory: Memory) -> Result<Reply, AllocError> {
+    let quotes = Value::Text(Text::copy_of(memory, "it's")?);
+    let row = vec![in memory; Value::Null, quotes, Value::Day(-719_162), Value::Moment(1)]?;
+    let names = vec![in memory;
+        String::from_str(memory, "A")?,
+        String::from_str(memory, "b")?,
+    ]?;
+    Ok(Reply::Table(ResultTable {
+        headings: names,
+        rows: vec![in memory; row]?,
+    }))
+}
+
+const SAMPLE: &str = "A|\"b\"\nNULL|'it''s'|0001-01-01|1970-01-01 00:00:00.000001\n(1 rows)\n";
+
+const DELETED: &str = "DELETE 18446744073709551615\n";
+
+const REFUSED: &str = "REFUSED E35 duplicate key\n";
+
+#[test]
+fn a_reply_is_cut_at_any_byte(rt: HostRuntime) -> Result<(), Fail> {
+    let deleted = Reply::Done(Verb::Deleted, Some(u64::MAX));
+    let refused = Reply::Refused(Refusal::DuplicateKey);
+    let sample = sample(memory(rt.alloc(), u64::MAX)?)?;
+    for (reply, text) in [(&deleted, DELETED), (&refused, REFUSED), (&sample, SAMPLE)] {
+        assert!(rt; is_cut_anywhere(rt.alloc(), reply, text), "{text}");
+    }
+    Ok(())
+}
+
+#[test]
+fn pushes_that_take_nothing_are_counted(rt: HostRuntime) {
+    let mut room = [0u8; 3];
+    let mut sink = StdSink::new(&mut room[..]);
+    let pushed = write_reply(&mut sink, &Reply::Done(Verb::Committed, None));
+    let found = (pushed, sink.faults(), sink.flush());
+    let _ = sink;
+    assert_eq!(rt; (found, room), ((Err(DeviceFault), 1, Ok(())), *b"COM"));
+}
+
+#[test]
+fn flushes_that_fail_are_counted(rt: HostRuntime) {
+    let mut sink = StdSink::new(Kept {
+        bytes: Vec::new(rt.alloc()),
+        size: 1,
+        writes_left: 0,
+        flushes: false,
+    });
+    let found = (sink.flush(), sink.faults());
+    assert_eq!(rt; found, (Err(DeviceFault), 1));
+}

@@ -1,8 +1,0 @@
-use Rattle.std.proofs.Common.{◌≡◌, ◌++◌, drop, map}
-use Rattle.std.specs.Prelude.{string_bytes}
-use Rattle.tql_tree.specs.Expressions.{name_of}
-use Rattle.tql_alter.proofs.columns.meant_names.Given as goal
-
--- those that are meant so far and those that the rest mean
-abbrev pub invariant-loop-name : goal.invariant-loop-name
-invariant-loop-name l = map string_bytes l.texts.items ++ map name_of (drop l.name-index l.names) ≡ map name_of l.names

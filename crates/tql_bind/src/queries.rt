@@ -1,0 +1,42 @@
+//! SELECT.
+ghost use Rattle.std.specs.Prelude.{◌≤◌, All, IfOk, IsFalse, length};
+ghost use Rattle.tql_spec.specs.Binding.{bind};
+ghost use Rattle.tql_spec.specs.Machine.{AnswerQuery};
+ghost use Rattle.tql_spec.specs.Syntax.{is_too_wide};
+ghost use Rattle.tql_bound.specs.Queries.{bound_query_of};
+ghost use Rattle.tql_catalog.specs.Tables.{definitions_of};
+ghost use Rattle.tql_syntax_tree.specs.Statements.{query_of};
+ghost use Rattle.tql_bind_expr.specs.Gathered.{Gathers};
+
+use std::alloc::AllocError;
+use tql_bind_expr::faults::Faults;
+use tql_bind_query::query::{TypedQuery, bound_query};
+use tql_bound::query::BoundQuery;
+use tql_catalog::catalog::Catalog;
+use tql_memory::Memory;
+use tql_syntax_tree::statement::Query;
+
+/// SELECT with its names bound. Faults: no table has the name; a name is unknown, ambiguous or repeated; kinds do not
+/// fit; a form that is not allowed, as an aggregate in WHERE, or a column that is not grouped; a literal out of
+/// range. The only error is a refused growth.
+pub(crate) fn bind_query(
+    memory: Memory,
+    tables: &Catalog,
+    query: &Query<'_>,
+    faults: &mut Faults,
+) -> Result<BoundQuery, AllocError>
+    requires narrow { IsFalse (is_too_wide (query_of query.now)) }
+    requires tables { All (λ d. length d.columns ≤ 64) (definitions_of tables.now) }
+    ensures { IfOk result
+        (λ x. Gathers (bind (definitions_of tables.now) (query_of query.now)) faults.old
+        faults.new (AnswerQuery (bound_query_of x))) }
+{
+    let TypedQuery { query, kinds: _ } = bound_query(
+        memory,
+        tables,
+        &query.select,
+        &query.ordering,
+        faults,
+    )?;
+    Ok(query)
+}

@@ -1,0 +1,205 @@
+//! Columns by their names and by their numbers.
+ghost use Rattle.std.specs.Prelude.{◌≡◌, IfOk, map, string_bytes, slice_index_or};
+ghost use Rattle.std.specs.List.{list_any};
+ghost use Rattle.tql_spec.specs.Binding as binding;
+ghost use Rattle.tql_spec.specs.Creation as creation;
+ghost use Rattle.tql_spec.specs.Creation.{names_of, kinds_of};
+ghost use Rattle.tql_spec.specs.Datum.{Ints};
+ghost use Rattle.tql_spec.specs.Names.{check_each};
+ghost use Rattle.tql_syntax_tree.specs.Expressions.{name_of};
+ghost use Rattle.tql_value.specs.Views.{plain_kind};
+ghost use Rattle.tql_bind_expr.specs.Gathered.{Gathers};
+
+use std::alloc::AllocError;
+use tql_bind_expr::faults::Faults;
+use tql_bind_expr::texts::{is_same_text, meant};
+use tql_catalog::table_def::TableDef;
+use tql_memory::Memory;
+use tql_syntax_tree::expression::Name;
+use tql_value::refusal::Refusal;
+use tql_value::value::Kind;
+
+/// The number of the column of this name.
+fn column_place(definition: &TableDef, name: &str) -> Option<usize>
+    ensures { result ≡ creation.number_in name.now (names_of definition.now) }
+{
+    definition
+        .columns()
+        .iter()
+        .position(|column| column.is_named(name))
+}
+
+/// The number of the column of this name. A fault where there is none.
+pub(crate) fn column_number(definition: &TableDef, name: &str, faults: &mut Faults) -> usize
+    ensures { Gathers (creation.column_number (names_of definition.now) name.now) faults.old faults.new result }
+{
+    faults.or_first(column_place(definition, name))
+}
+
+/// The number of the column that a name means. A fault where there is none.
+pub(crate) fn named_column(
+    memory: Memory,
+    definition: &TableDef,
+    name: Name<'_>,
+    faults: &mut Faults,
+) -> Result<usize, AllocError>
+    ensures { IfOk result
+        (λ number. Gathers (creation.column_number (names_of definition.now) (name_of name.entry))
+        faults.old faults.new number) }
+{
+    let name = meant(memory, name)?;
+    Ok(column_number(definition, &name, faults))
+}
+
+/// The names that are meant.
+fn meant_names(
+    memory: Memory,
+    names: &[Name<'_>],
+) -> Result<Vec<String<Memory>, Memory>, AllocError>
+    ensures { IfOk result (λ texts. map string_bytes texts.items ≡ map name_of names.now) }
+{
+    let mut texts = Vec::with_capacity(memory, names.len())?;
+    for name in names {
+        texts.push(meant(memory, *name)?)?;
+    }
+    Ok(texts)
+}
+
+/// Whether the name is in the list.
+fn has_name(names: &[String<Memory>], name: &str) -> bool
+    ensures { result ≡ creation.has_name name.now (map string_bytes names.now) }
+{
+    for other in names {
+        if is_same_text(name, other.as_str()) {
+            return true;
+        }
+    }
+    false
+}
+
+/// Whether some name stands twice.
+fn has_repeated(names: &[String<Memory>]) -> bool
+    ensures { result ≡ creation.repeats (map string_bytes names.now) }
+{
+    let mut left = names;
+    while let [name, others @ ..] = left {
+        if has_name(others, name.as_str()) {
+            return true;
+        }
+        left = others;
+    }
+    false
+}
+
+/// The numbers of the columns of these names. A fault for each that is no column's.
+fn listed_columns(
+    memory: Memory,
+    definition: &TableDef,
+    names: &[String<Memory>],
+    faults: &mut Faults,
+) -> Result<Vec<usize, Memory>, AllocError>
+    ensures { IfOk result
+        (λ numbers. Gathers (check_each (creation.column_number (names_of definition.now))
+        (map string_bytes names.now)) faults.old faults.new numbers.items) }
+{
+    let mut numbers = Vec::with_capacity(memory, names.len())?;
+    for name in names {
+        numbers.push(column_number(definition, name.as_str(), faults))?;
+    }
+    Ok(numbers)
+}
+
+/// The numbers of the columns of these names. A fault where one is no column's, and where one stands twice.
+#[tactic(auto, using(tql_bind_expr::proofs::Gathering::gathering))]
+fn column_numbers(
+    memory: Memory,
+    definition: &TableDef,
+    names: &[String<Memory>],
+    faults: &mut Faults,
+) -> Result<Vec<usize, Memory>, AllocError>
+    ensures { IfOk result
+        (λ numbers. Gathers (creation.column_numbers (names_of definition.now) (map string_bytes names.now))
+        faults.old faults.new numbers.items) }
+{
+    let numbers = listed_columns(memory, definition, names, faults)?;
+    faults.refuse_if(has_repeated(names), Refusal::NameUnknownAmbiguousOrRepeated);
+    Ok(numbers)
+}
+
+/// Whether one of the columns is generated.
+fn has_generated(definition: &TableDef, numbers: &[usize]) -> bool
+    ensures { result ≡ list_any (binding.is_generated definition.now) numbers.now }
+{
+    for number in numbers {
+        if definition.is_generated(*number) {
+            return true;
+        }
+    }
+    false
+}
+
+/// The numbers of the columns of these names, which a user may assign. A fault where one is no column's, where one
+/// stands twice, and where one is generated.
+#[tactic(auto, using(tql_bind_expr::proofs::Gathering::gathering))]
+pub fn assigned_columns(
+    memory: Memory,
+    definition: &TableDef,
+    names: &[String<Memory>],
+    faults: &mut Faults,
+) -> Result<Vec<usize, Memory>, AllocError>
+    ensures { IfOk result
+        (λ numbers. Gathers (binding.assigned_columns definition.now (map string_bytes names.now))
+        faults.old faults.new numbers.items) }
+{
+    let numbers = column_numbers(memory, definition, names, faults)?;
+    faults.refuse_if(
+        has_generated(definition, &numbers),
+        Refusal::FormNotAllowedHere,
+    );
+    Ok(numbers)
+}
+
+/// The numbers of the columns that an INSERT fills: those of its list, or all that are not generated where it has
+/// none. A fault as in `assigned_columns`.
+#[tactic(auto, using(tql_bind_expr::proofs::Gathering::gathering))]
+pub fn insert_columns(
+    memory: Memory,
+    definition: &TableDef,
+    names: &[Name<'_>],
+    faults: &mut Faults,
+) -> Result<Vec<usize, Memory>, AllocError>
+    ensures { IfOk result
+        (λ numbers. Gathers (binding.insert_columns definition.now (map name_of names.now))
+        faults.old faults.new numbers.items) }
+{
+    if names.is_empty() {
+        return Ok(Vec::from_slice(memory, definition.assignable())?);
+    }
+    let texts = meant_names(memory, names)?;
+    assigned_columns(memory, definition, &texts, faults)
+}
+
+/// The kind of the column with this number.
+pub(crate) fn column_kind(definition: &TableDef, number: usize) -> Kind
+    ensures { plain_kind result ≡ slice_index_or (kinds_of definition.now) number Ints }
+{
+    match definition.columns().get(number) {
+        Some(column) => column.kind,
+        None => Kind::Int,
+    }
+}
+
+/// The kinds of the columns with these numbers.
+pub fn kinds_for(
+    memory: Memory,
+    definition: &TableDef,
+    numbers: &[usize],
+) -> Result<Vec<Kind, Memory>, AllocError>
+    ensures { IfOk result (λ kinds. map plain_kind kinds.items ≡ binding.kinds_for definition.now numbers.now) }
+{
+    let mut kinds = Vec::with_capacity(memory, numbers.len())?;
+    for number in numbers {
+        kinds.push(column_kind(definition, *number))?;
+    }
+    Ok(kinds)
+}

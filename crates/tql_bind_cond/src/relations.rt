@@ -1,0 +1,198 @@
+//! Tests of periods: the relations of two, and CONTAINS.
+ghost use Rattle.std.specs.Prelude.{IfOk};
+ghost use Rattle.tql_spec.specs.Names as names;
+ghost use Rattle.tql_spec.specs.Period.{Includes};
+ghost use Rattle.tql_spec.specs.Syntax as tree;
+ghost use Rattle.tql_expr.specs.Meaning.{cond, HasCond, Stays};
+ghost use Rattle.tql_period.specs.Relations.{plain_relation};
+ghost use Rattle.tql_syntax_tree.specs.Conditions.{marked_of, operand_of, relation_of};
+ghost use Rattle.tql_syntax_tree.specs.Expressions.{expr_of, named_of};
+ghost use Rattle.tql_value.specs.Views.{plain_kind};
+ghost use Rattle.tql_bind_expr.specs.Gathered.{Gathers};
+ghost use Rattle.tql_bind_expr.specs.Scopes.{scope_of};
+ghost use Rattle.tql_bind_cond.specs.Ends.{ends_of, HasEnds};
+
+use crate::periods::{Ends, ends_at, marked, named_period, operand};
+use crate::signs::relation;
+use crate::sole_names::sole_name;
+use std::alloc::AllocError;
+use tql_bind_expr::expressions::sum;
+use tql_bind_expr::faults::Faults;
+use tql_bind_expr::kinds::differ;
+use tql_bind_expr::scope::Known;
+use tql_expr::terms::{CondId, Terms};
+use tql_memory::Memory;
+use tql_period::predicates::Relation;
+use tql_syntax_tree::condition as written;
+use tql_syntax_tree::condition::{Marked, Operand};
+use tql_syntax_tree::expression::{Expr, Named};
+use tql_value::refusal::Refusal;
+use tql_value::value::Kind;
+
+/// Two periods of one kind in a relation.
+fn related(
+    which: Relation,
+    left: Ends,
+    right: Ends,
+    terms: &mut Terms,
+    faults: &mut Faults,
+) -> Result<CondId, AllocError>
+    requires left { HasEnds terms.old left }
+    requires right { HasEnds terms.old right }
+    ensures bound { IfOk result
+        (λ c. Gathers (names.related (plain_relation which) (ends_of terms.old left) (ends_of terms.old right))
+        faults.old faults.new (cond terms.new c)) }
+    ensures stays { Stays terms.old terms.new }
+    ensures held { IfOk result (λ c. HasCond terms.new c) }
+{
+    faults.refuse_if(differ(left.kind, right.kind), Refusal::TypesDoNotFit);
+    terms.push_related(which, (left.start, left.end), (right.start, right.end))
+}
+
+/// A relation of two periods that is written as a word.
+pub(crate) fn relation_test(
+    memory: Memory,
+    scope: &[Known<'_>],
+    left: &Operand<'_>,
+    which: written::Relation,
+    right: &Operand<'_>,
+    terms: &mut Terms,
+    faults: &mut Faults,
+) -> Result<CondId, AllocError>
+    ensures bound { IfOk result
+        (λ c. Gathers (names.test (scope_of scope.now)
+        (tree.RelationTest (operand_of left.now) (relation_of which) (operand_of right.now)))
+        faults.old faults.new (cond terms.new c)) }
+    ensures stays { Stays terms.old terms.new }
+    ensures held { IfOk result (λ c. HasCond terms.new c) }
+{
+    let left = operand(memory, scope, left, terms, faults)?;
+    let right = operand(memory, scope, right, terms, faults)?;
+    related(relation(which), left, right, terms, faults)
+}
+
+/// CONTAINS with PERIOD (..) or a system period.
+pub(crate) fn contains_period(
+    memory: Memory,
+    scope: &[Known<'_>],
+    left: &Operand<'_>,
+    right: &Marked<'_>,
+    terms: &mut Terms,
+    faults: &mut Faults,
+) -> Result<CondId, AllocError>
+    ensures bound { IfOk result
+        (λ c. Gathers (names.test (scope_of scope.now)
+        (tree.ContainsPeriod (operand_of left.now) (marked_of right.now))) faults.old faults.new (cond terms.new c)) }
+    ensures stays { Stays terms.old terms.new }
+    ensures held { IfOk result (λ c. HasCond terms.new c) }
+{
+    let left = operand(memory, scope, left, terms, faults)?;
+    let right = marked(memory, scope, right, terms, faults)?;
+    related(Relation::Contains, left, right, terms, faults)
+}
+
+/// CONTAINS with a point, of the kind of the period's points.
+fn contained_point(
+    memory: Memory,
+    scope: &[Known<'_>],
+    period: Ends,
+    point: &Expr<'_>,
+    terms: &mut Terms,
+    faults: &mut Faults,
+) -> Result<CondId, AllocError>
+    requires { HasEnds terms.old period }
+    ensures bound { IfOk result
+        (λ c. Gathers (names.contained_point (scope_of scope.now) (ends_of terms.old period) (expr_of point.now))
+        faults.old faults.new (cond terms.new c)) }
+    ensures stays { Stays terms.old terms.new }
+    ensures held { IfOk result (λ c. HasCond terms.new c) }
+{
+    let point = sum(memory, scope, point, terms, faults)?;
+    faults.refuse_if(differ(period.kind, point.kind), Refusal::TypesDoNotFit);
+    terms.push_contains_point((period.start, period.end), point.expr)
+}
+
+/// CONTAINS with the application period of these two columns.
+fn contained_period(
+    period: Ends,
+    start: usize,
+    end: usize,
+    kind: Kind,
+    terms: &mut Terms,
+    faults: &mut Faults,
+) -> Result<CondId, AllocError>
+    requires { HasEnds terms.old period }
+    ensures bound { IfOk result
+        (λ c. Gathers (names.related Includes (ends_of terms.old period) (names.ends_at start end (plain_kind kind)))
+        faults.old faults.new (cond terms.new c)) }
+    ensures stays { Stays terms.old terms.new }
+    ensures held { IfOk result (λ c. HasCond terms.new c) }
+{
+    let right = ends_at(start, end, kind, terms)?;
+    related(Relation::Contains, period, right, terms, faults)
+}
+
+/// CONTAINS with a name: an application period's, or a point's.
+fn contained_named(
+    memory: Memory,
+    scope: &[Known<'_>],
+    period: Ends,
+    right: &Expr<'_>,
+    named: Named<'_>,
+    terms: &mut Terms,
+    faults: &mut Faults,
+) -> Result<CondId, AllocError>
+    requires { HasEnds terms.old period }
+    ensures bound { IfOk result
+        (λ c. Gathers (names.contained_named (scope_of scope.now) (ends_of terms.old period) (expr_of right.now)
+        (names.things (scope_of scope.now) (named_of named.entry))) faults.old faults.new (cond terms.new c)) }
+    ensures stays { Stays terms.old terms.new }
+    ensures held { IfOk result (λ c. HasCond terms.new c) }
+{
+    let found = named_period(memory, scope, named)?;
+    match found {
+        Some((start, end, kind)) => contained_period(period, start, end, kind, terms, faults),
+        None => contained_point(memory, scope, period, right, terms, faults),
+    }
+}
+
+/// CONTAINS with an expression: a period where it is the name of one, and else a point.
+fn contained(
+    memory: Memory,
+    scope: &[Known<'_>],
+    period: Ends,
+    right: &Expr<'_>,
+    terms: &mut Terms,
+    faults: &mut Faults,
+) -> Result<CondId, AllocError>
+    requires { HasEnds terms.old period }
+    ensures bound { IfOk result
+        (λ c. Gathers (names.contained (scope_of scope.now) (ends_of terms.old period) (expr_of right.now)
+        (names.sole_name (expr_of right.now))) faults.old faults.new (cond terms.new c)) }
+    ensures stays { Stays terms.old terms.new }
+    ensures held { IfOk result (λ c. HasCond terms.new c) }
+{
+    match sole_name(right) {
+        None => contained_point(memory, scope, period, right, terms, faults),
+        Some(named) => contained_named(memory, scope, period, right, named, terms, faults),
+    }
+}
+
+/// CONTAINS with an expression behind it.
+pub(crate) fn contains_point(
+    memory: Memory,
+    scope: &[Known<'_>],
+    left: &Operand<'_>,
+    right: &Expr<'_>,
+    terms: &mut Terms,
+    faults: &mut Faults,
+) -> Result<CondId, AllocError>
+    ensures bound { IfOk result
+        (λ c. Gathers (names.test (scope_of scope.now) (tree.ContainsPoint (operand_of left.now) (expr_of right.now)))
+        faults.old faults.new (cond terms.new c)) }
+    ensures stays { Stays terms.old terms.new }
+    ensures held { IfOk result (λ c. HasCond terms.new c) }
+{
+    let left = operand(memory, scope, left, terms, faults)?;
+    contained(memory, scope, left, right, terms, faults)
+}

@@ -1,0 +1,76 @@
+//! Operations that are written one behind another. Their operands are bound first, so that the operations become one
+//! run of terms.
+ghost use Rattle.std.specs.Prelude.{◌≡◌, IfOk};
+ghost use Rattle.tql_spec.specs.Names as names;
+ghost use Rattle.tql_expr.specs.Meaning.{HasExpr, Stays};
+ghost use Rattle.tql_expr.specs.Trees.{plain_operation};
+ghost use Rattle.tql_expr.specs.declared.terms.Terms as arena;
+ghost use Rattle.tql_bind_expr.specs.Gathered.{Gathers};
+ghost use Rattle.tql_bind_expr.specs.Bounds.{typed_of};
+ghost use Rattle.tql_bind_expr.specs.Chains.{chain_of, HoldsChain};
+
+use crate::faults::Faults;
+use crate::kinds::is_no_number;
+use crate::scope::Typed;
+use std::alloc::AllocError;
+use tql_expr::node::Operation;
+use tql_expr::terms::{ExprId, Terms};
+use tql_memory::Memory;
+use tql_value::refusal::Refusal;
+use tql_value::value::Kind;
+
+/// The first operand, and each operation on what stands before it with its right operand; the kind of what they give.
+#[derive(Drop)]
+pub(crate) struct Chain {
+    first: ExprId,
+    rest: Vec<(Operation, ExprId), Memory>,
+    kind: Option<Kind>,
+}
+
+impl Chain {
+    /// The first operand alone.
+    pub(crate) fn new(memory: Memory, first: Typed) -> Chain
+        ensures bound { (t : arena.Terms) → chain_of t result ≡ typed_of t first }
+        ensures held { (t : arena.Terms) → HasExpr t first.expr → HoldsChain t result }
+    {
+        Chain {
+            first: first.expr,
+            rest: Vec::new(memory),
+            kind: first.kind,
+        }
+    }
+
+    /// One more operation, which wants whole numbers.
+    #[tactic(auto, using(crate::proofs::Gathering::gathering))]
+    pub(crate) fn add(
+        &mut self,
+        operation: Operation,
+        right: Typed,
+        faults: &mut Faults,
+    ) -> Result<(), AllocError>
+        ensures bound { IfOk result (λ _. (t : arena.Terms)
+            → Gathers (names.arithmetic (plain_operation operation) (chain_of t self.old) (typed_of t right))
+            faults.old faults.new (chain_of t self.new)) }
+        ensures held { IfOk result (λ _. (t : arena.Terms) → HoldsChain t self.old
+            → HasExpr t right.expr → HoldsChain t self.new) }
+    {
+        faults.refuse_if(is_no_number(self.kind, right.kind), Refusal::TypesDoNotFit);
+        self.rest.push((operation, right.expr))?;
+        self.kind = Some(Kind::Int);
+        Ok(())
+    }
+
+    /// The operations among the terms.
+    pub(crate) fn push(&self, terms: &mut Terms) -> Result<Typed, AllocError>
+        requires { HoldsChain terms.old self.now }
+        ensures bound { IfOk result (λ t. typed_of terms.new t ≡ chain_of terms.old self.now) }
+        ensures stays { Stays terms.old terms.new }
+        ensures held { IfOk result (λ t. HasExpr terms.new t.expr) }
+    {
+        let expr = terms.push_chain(self.first, &self.rest)?;
+        Ok(Typed {
+            expr,
+            kind: self.kind,
+        })
+    }
+}

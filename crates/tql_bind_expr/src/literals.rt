@@ -1,0 +1,205 @@
+//! Literals and columns.
+ghost use Rattle.std.specs.Prelude.{◌≡◌, ◌∷◌, [], IfOk, option_map, Some, true};
+ghost use Rattle.tql_spec.specs.Calendar as calendar;
+ghost use Rattle.tql_spec.specs.Datum as datum;
+ghost use Rattle.tql_spec.specs.Expression as bound;
+ghost use Rattle.tql_spec.specs.FirstToken.{content};
+ghost use Rattle.tql_spec.specs.Names as names;
+ghost use Rattle.tql_spec.specs.Refusal.{ValueOutOfRange};
+ghost use Rattle.tql_expr.specs.Meaning.{HasExpr, Stays};
+ghost use Rattle.tql_syntax_tree.specs.Expressions.{named_of};
+ghost use Rattle.tql_value.specs.Points.{IsPrintable};
+ghost use Rattle.tql_value.specs.Views.{plain_kind, datum_of_value};
+ghost use Rattle.tql_bind_expr.specs.Gathered.{Gathers};
+ghost use Rattle.tql_bind_expr.specs.Bounds.{typed_of, literal_of};
+ghost use Rattle.tql_bind_expr.specs.Numbers.{number_literal};
+ghost use Rattle.tql_bind_expr.specs.Scopes.{scope_of, thing_of, things_of};
+
+use crate::faults::Faults;
+use crate::names::things;
+use crate::number::signed;
+use crate::scope::{Known, Thing, Typed};
+use crate::texts::unquoted;
+use std::alloc::AllocError;
+use tql_expr::terms::Terms;
+use tql_memory::Memory;
+use tql_syntax_tree::expression::Named;
+use tql_value::literal::{read_date, read_timestamp};
+use tql_value::refusal::Refusal;
+use tql_value::text::Text;
+use tql_value::value::{Kind, Value};
+
+/// A literal of this kind.
+fn literal(terms: &mut Terms, value: Value, kind: Option<Kind>) -> Result<Typed, AllocError>
+    requires { IsPrintable (datum_of_value value) }
+    ensures bound { IfOk result
+        (λ t. typed_of terms.new t ≡ literal_of (datum_of_value value) (option_map plain_kind kind)) }
+    ensures stays { Stays terms.old terms.new }
+    ensures held { IfOk result (λ t. HasExpr terms.new t.expr) }
+{
+    let expr = terms.push_literal(value)?;
+    Ok(Typed { expr, kind })
+}
+
+/// NULL, of no known kind.
+pub(crate) fn null(terms: &mut Terms) -> Result<Typed, AllocError>
+    ensures bound { IfOk result (λ t. typed_of terms.new t ≡ names.nothing) }
+    ensures stays { Stays terms.old terms.new }
+    ensures held { IfOk result (λ t. HasExpr terms.new t.expr) }
+{
+    literal(terms, Value::Null, None)
+}
+
+/// The column with this number.
+fn column_at(terms: &mut Terms, number: usize, kind: Kind) -> Result<Typed, AllocError>
+    ensures bound { IfOk result (λ t. typed_of terms.new t ≡ names.typed (bound.Column number) (plain_kind kind)) }
+    ensures stays { Stays terms.old terms.new }
+    ensures held { IfOk result (λ t. HasExpr terms.new t.expr) }
+{
+    let expr = terms.push_column(number)?;
+    Ok(Typed {
+        expr,
+        kind: Some(kind),
+    })
+}
+
+/// The column that a thing is.
+#[tactic(auto, using(crate::proofs::Gathering::gathering))]
+fn as_column(thing: Thing<'_>, terms: &mut Terms, faults: &mut Faults) -> Result<Typed, AllocError>
+    ensures bound { IfOk result
+        (λ t. Gathers (names.one_column (thing_of thing.entry ∷ [])) faults.old faults.new (typed_of terms.new t)) }
+    ensures stays { Stays terms.old terms.new }
+    ensures held { IfOk result (λ t. HasExpr terms.new t.expr) }
+{
+    match thing {
+        Thing::Column(number, column) => column_at(terms, number, column.kind),
+        Thing::Period(_, _, _) => {
+            faults.refuse_if(true, Refusal::NameUnknownAmbiguousOrRepeated);
+            literal(terms, Value::Null, None)
+        }
+    }
+}
+
+/// Exactly one column.
+#[tactic(auto, using(crate::proofs::Gathering::gathering))]
+fn one_column(
+    things: &[Thing<'_>],
+    terms: &mut Terms,
+    faults: &mut Faults,
+) -> Result<Typed, AllocError>
+    ensures bound { IfOk result
+        (λ t. Gathers (names.one_column (things_of things.now)) faults.old faults.new (typed_of terms.new t)) }
+    ensures stays { Stays terms.old terms.new }
+    ensures held { IfOk result (λ t. HasExpr terms.new t.expr) }
+{
+    match things {
+        [thing] => as_column(*thing, terms, faults),
+        _ => {
+            faults.refuse_if(true, Refusal::NameUnknownAmbiguousOrRepeated);
+            literal(terms, Value::Null, None)
+        }
+    }
+}
+
+/// A column by its name.
+pub(crate) fn column(
+    memory: Memory,
+    scope: &[Known<'_>],
+    named: Named<'_>,
+    terms: &mut Terms,
+    faults: &mut Faults,
+) -> Result<Typed, AllocError>
+    ensures bound { IfOk result
+        (λ t. Gathers (names.one_column (names.things (scope_of scope.now) (named_of named.entry))) faults.old
+        faults.new (typed_of terms.new t)) }
+    ensures stays { Stays terms.old terms.new }
+    ensures held { IfOk result (λ t. HasExpr terms.new t.expr) }
+{
+    let found = things(memory, scope, named)?;
+    one_column(&found, terms, faults)
+}
+
+/// What stands in the place of a literal that is out of range.
+#[tactic(auto, using(crate::proofs::Gathering::gathering))]
+fn out_of_range(kind: Kind, terms: &mut Terms, faults: &mut Faults) -> Result<Typed, AllocError>
+    ensures bound { IfOk result
+        (λ t. Gathers (names.unless true ValueOutOfRange (literal_of datum.Null (Some (plain_kind kind)))) faults.old
+        faults.new (typed_of terms.new t)) }
+    ensures stays { Stays terms.old terms.new }
+    ensures held { IfOk result (λ t. HasExpr terms.new t.expr) }
+{
+    faults.refuse_if(true, Refusal::ValueOutOfRange);
+    literal(terms, Value::Null, Some(kind))
+}
+
+/// A number, with `-` before it or without.
+#[tactic(auto, using(crate::proofs::Gathering::gathering))]
+pub(crate) fn number(
+    is_negative: bool,
+    digits: &str,
+    terms: &mut Terms,
+    faults: &mut Faults,
+) -> Result<Typed, AllocError>
+    ensures bound { IfOk result
+        (λ t. Gathers (number_literal is_negative digits.now) faults.old faults.new (typed_of terms.new t)) }
+    ensures stays { Stays terms.old terms.new }
+    ensures held { IfOk result (λ t. HasExpr terms.new t.expr) }
+{
+    match signed(digits.as_bytes(), is_negative) {
+        Some(number) => literal(terms, Value::Int(number), Some(Kind::Int)),
+        None => out_of_range(Kind::Int, terms, faults),
+    }
+}
+
+/// A text.
+pub(crate) fn text(memory: Memory, quoted: &str, terms: &mut Terms) -> Result<Typed, AllocError>
+    ensures bound { IfOk result
+        (λ t. typed_of terms.new t ≡ names.typed (bound.Literal (datum.Text (content 39 quoted.now))) datum.Texts) }
+    ensures stays { Stays terms.old terms.new }
+    ensures held { IfOk result (λ t. HasExpr terms.new t.expr) }
+{
+    let text = Text::from(unquoted(memory, quoted)?);
+    literal(terms, Value::Text(text), Some(Kind::Text))
+}
+
+/// A date.
+#[tactic(auto, using(crate::proofs::Gathering::gathering))]
+pub(crate) fn date(
+    memory: Memory,
+    quoted: &str,
+    terms: &mut Terms,
+    faults: &mut Faults,
+) -> Result<Typed, AllocError>
+    ensures bound { IfOk result
+        (λ t. Gathers (names.literal datum.Days datum.Day (calendar.read_date (content 39 quoted.now))) faults.old
+        faults.new (typed_of terms.new t)) }
+    ensures stays { Stays terms.old terms.new }
+    ensures held { IfOk result (λ t. HasExpr terms.new t.expr) }
+{
+    let text = unquoted(memory, quoted)?;
+    match read_date(&text) {
+        Some(day) => literal(terms, Value::Day(day), Some(Kind::Day)),
+        None => out_of_range(Kind::Day, terms, faults),
+    }
+}
+
+/// A moment.
+#[tactic(auto, using(crate::proofs::Gathering::gathering))]
+pub(crate) fn timestamp(
+    memory: Memory,
+    quoted: &str,
+    terms: &mut Terms,
+    faults: &mut Faults,
+) -> Result<Typed, AllocError>
+    ensures bound { IfOk result
+        (λ t. Gathers (names.literal datum.Moments datum.Moment (calendar.read_timestamp (content 39 quoted.now)))
+        faults.old faults.new (typed_of terms.new t)) }
+    ensures stays { Stays terms.old terms.new }
+    ensures held { IfOk result (λ t. HasExpr terms.new t.expr) }
+{
+    let text = unquoted(memory, quoted)?;
+    match read_timestamp(&text) {
+        Some(moment) => literal(terms, Value::Moment(moment), Some(Kind::Moment)),
+        None => out_of_range(Kind::Moment, terms, faults),
+    }
+}

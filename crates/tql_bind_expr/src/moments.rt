@@ -1,0 +1,40 @@
+//! Moments by their literals.
+ghost use Rattle.std.specs.Prelude.{IfOk, IfSome};
+ghost use Rattle.tql_spec.specs.Binding as binding;
+ghost use Rattle.tql_spec.specs.FirstToken.{content};
+ghost use Rattle.tql_value.specs.Points.{IsMoment};
+ghost use Rattle.tql_bind_expr.specs.Gathered.{Gathers};
+
+use crate::faults::Faults;
+use crate::texts::unquoted;
+use std::alloc::AllocError;
+use tql_memory::Memory;
+use tql_value::calendar::HIGH;
+use tql_value::literal::read_timestamp;
+use tql_value::refusal::Refusal;
+
+/// The moment that a literal reads as; where it reads as none, a fault, and the last moment stands for it.
+#[tactic(auto, using(crate::proofs::Gathering::gathering))]
+fn or_bad_moment(moment: Option<i64>, faults: &mut Faults) -> i64
+    requires { IfSome moment IsMoment }
+    ensures bound { Gathers (binding.or_bad_moment moment) faults.old faults.new result }
+    ensures within { IsMoment result }
+{
+    match moment {
+        Some(moment) => moment,
+        None => {
+            faults.refuse_if(true, Refusal::ValueOutOfRange);
+            HIGH
+        }
+    }
+}
+
+/// The moment of a TIMESTAMP literal by its quoted text, in microseconds since 1970-01-01. A fault where it reads as
+/// none. The only error is a refused growth.
+pub fn moment(memory: Memory, quoted: &str, faults: &mut Faults) -> Result<i64, AllocError>
+    ensures bound { IfOk result (λ m. Gathers (binding.moment (content 39 quoted.now)) faults.old faults.new m) }
+    ensures within { IfOk result IsMoment }
+{
+    let text = unquoted(memory, quoted)?;
+    Ok(or_bad_moment(read_timestamp(&text), faults))
+}

@@ -1,0 +1,137 @@
+//! Names in a scope.
+ghost use Rattle.std.specs.Prelude.{◌≡◌, ◌++◌, map, option_map, IfOk, string_bytes};
+ghost use Rattle.tql_spec.specs.Names as names;
+ghost use Rattle.tql_spec.specs.Words.{same_text, listed};
+ghost use Rattle.tql_catalog.specs.Definitions.{column_of};
+ghost use Rattle.tql_syntax_tree.specs.Expressions.{named_of};
+ghost use Rattle.tql_value.specs.Views.{plain_kind};
+ghost use Rattle.tql_bind_expr.specs.Scopes.{text_of, known_of, scope_of, things_of};
+
+use crate::scope::{Known, Thing};
+use crate::texts::meant;
+use std::alloc::AllocError;
+use tql_catalog::definition::{Application, Column};
+use tql_memory::Memory;
+use tql_syntax_tree::expression::Named;
+use tql_value::value::Kind;
+
+/// Whether a reference is the one that a qualifier names.
+pub fn is_meant(qualifier: Option<&str>, known: &Known<'_>) -> bool
+    ensures { result ≡ names.is_meant (option_map text_of qualifier.entry) (known_of known.now) }
+{
+    match qualifier {
+        None => true,
+        Some(name) => name == known.name,
+    }
+}
+
+/// Adds the columns of this name in one reference.
+fn columns_named<'a>(
+    name: &str,
+    known: &Known<'a>,
+    found: &mut Vec<Thing<'a>, Memory>,
+) -> Result<(), AllocError>
+    ensures { IfOk result (λ _. things_of found.new.items
+        ≡ things_of found.old.items ++ names.columns_named name.now known.now.offset known.now.table.now.columns) }
+{
+    let columns: &'a [Column] = known.table.columns();
+    for (index, column) in columns.iter().enumerate() {
+        if column.is_named(name) {
+            found.push(Thing::Column(known.offset + index, column))?;
+        }
+    }
+    Ok(())
+}
+
+/// The kind of the column with this number.
+fn kind_at(columns: &[Column], number: usize) -> Kind
+    ensures { plain_kind result ≡ names.kind_at (map column_of columns.now) number }
+{
+    match columns.get(number) {
+        Some(column) => column.kind,
+        None => Kind::Int,
+    }
+}
+
+/// Whether this is the name of the period.
+fn is_called(application: &Application, name: &str) -> bool
+    ensures { result ≡ same_text name.now (string_bytes application.now.name) }
+{
+    name == application.name.as_str()
+}
+
+/// Adds the application period of one reference, if it has one of this name.
+fn periods_named<'a>(
+    name: &str,
+    known: &Known<'a>,
+    found: &mut Vec<Thing<'a>, Memory>,
+) -> Result<(), AllocError>
+    ensures { IfOk result (λ _. things_of found.new.items ≡ things_of found.old.items
+        ++ names.periods_named name.now known.now.offset known.now.table.now.columns
+        (listed known.now.table.now.application)) }
+{
+    if let Some(application) = known.table.application() {
+        if is_called(application, name) {
+            let kind = kind_at(known.table.columns(), application.start);
+            found.push(Thing::Period(
+                known.offset + application.start,
+                known.offset + application.end,
+                kind,
+            ))?;
+        }
+    }
+    Ok(())
+}
+
+/// Adds what this name stands for in one reference: its columns and its application period.
+fn things_in<'a>(
+    name: &str,
+    known: &Known<'a>,
+    found: &mut Vec<Thing<'a>, Memory>,
+) -> Result<(), AllocError>
+    ensures { IfOk result
+        (λ _. things_of found.new.items ≡ things_of found.old.items
+        ++ names.things_in name.now (known_of known.now)) }
+{
+    columns_named(name, known, found)?;
+    periods_named(name, known, found)
+}
+
+/// What a name stands for, in every reference that its qualifier names.
+fn things_called<'a>(
+    memory: Memory,
+    scope: &[Known<'a>],
+    qualifier: Option<&str>,
+    name: &str,
+) -> Result<Vec<Thing<'a>, Memory>, AllocError>
+    ensures { IfOk result
+        (λ v. things_of v.items
+        ≡ names.things (scope_of scope.now)
+        (record { qualifier = option_map text_of qualifier.entry; name = name.now })) }
+{
+    let mut found = Vec::new(memory);
+    for known in scope {
+        if is_meant(qualifier, known) {
+            things_in(name, known, &mut found)?;
+        }
+    }
+    Ok(found)
+}
+
+/// What a name stands for.
+pub fn things<'a>(
+    memory: Memory,
+    scope: &[Known<'a>],
+    named: Named<'_>,
+) -> Result<Vec<Thing<'a>, Memory>, AllocError>
+    ensures { IfOk result (λ v. things_of v.items ≡ names.things (scope_of scope.now) (named_of named.entry)) }
+{
+    let name = meant(memory, named.name)?;
+    match named.qualifier {
+        None => things_called(memory, scope, None, name.as_str()),
+        Some(qualifier) => {
+            let qualifier = meant(memory, qualifier)?;
+            things_called(memory, scope, Some(qualifier.as_str()), name.as_str())
+        }
+    }
+}

@@ -1,0 +1,37 @@
+//! Names and texts as they are meant.
+ghost use Rattle.std.specs.Prelude.{◌≡◌, IfOk, string_bytes};
+ghost use Rattle.tql_spec.specs.FirstToken.{content};
+ghost use Rattle.tql_spec.specs.Words.{same_text};
+ghost use Rattle.tql_syntax_tree.specs.Expressions.{name_of};
+
+use std::alloc::AllocError;
+use tql_memory::Memory;
+use tql_syntax_tree::expression::Name;
+use tql_syntax_tree::name::quoted_text;
+
+/// Whether two texts are one.
+pub fn is_same_text(name: &str, other: &str) -> bool
+    ensures { result ≡ same_text name.now other.now }
+{
+    name == other
+}
+
+/// The name that is meant. The only error is a refused growth.
+pub fn meant(memory: Memory, name: Name<'_>) -> Result<String<Memory>, AllocError>
+    ensures { IfOk result (λ text. string_bytes text ≡ name_of name.entry) }
+{
+    match name.meant(memory) {
+        Ok(text) => Ok(text),
+        Err(_) => Err(AllocError),
+    }
+}
+
+/// What stands in the quotes of a literal. The only error is a refused growth.
+pub fn unquoted(memory: Memory, quoted: &str) -> Result<String<Memory>, AllocError>
+    ensures { IfOk result (λ text. string_bytes text ≡ content 39 quoted.now) }
+{
+    match quoted_text(memory, quoted) {
+        Ok(text) => Ok(text),
+        Err(_) => Err(AllocError),
+    }
+}

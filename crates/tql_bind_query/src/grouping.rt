@@ -1,0 +1,178 @@
+//! The columns of GROUP BY, and what may stand in a grouped query.
+ghost use Rattle.std.specs.Prelude.{◌≡◌, [], ◌∷◌, ◌||◌, All, IfOk, map};
+ghost use Rattle.std.specs.List.{list_any};
+ghost use Rattle.tql_spec.specs.Binding as binding;
+ghost use Rattle.tql_spec.specs.Creation.{has_expr, nests_aggregates};
+ghost use Rattle.tql_spec.specs.Names as names;
+ghost use Rattle.tql_spec.specs.Names.{check_each};
+ghost use Rattle.tql_expr.specs.Meaning.{cond, expr, HasCond, HasExpr};
+ghost use Rattle.tql_expr.specs.Searches.{sought};
+ghost use Rattle.tql_syntax_tree.specs.Expressions.{named_of};
+ghost use Rattle.tql_syntax_tree.specs.Statements.{items_of, select_of};
+ghost use Rattle.tql_bind_expr.specs.Gathered.{Gathers};
+ghost use Rattle.tql_bind_expr.specs.Scopes.{scope_of, thing_of, things_of};
+ghost use Rattle.tql_bind_query.specs.Grouped.{number_in};
+
+use std::alloc::AllocError;
+use tql_bind_expr::faults::Faults;
+use tql_bind_expr::names::things;
+use tql_bind_expr::scope::{Known, Thing};
+use tql_expr::search::Search;
+use tql_expr::terms::{CondId, ExprId, Terms};
+use tql_memory::Memory;
+use tql_syntax_tree::expression::Named;
+use tql_syntax_tree::statement::{Items, SelectTree};
+use tql_value::refusal::Refusal;
+
+/// The number of the column that a thing is.
+#[tactic(auto, using(tql_bind_expr::proofs::Gathering::gathering))]
+fn as_column(thing: Thing<'_>, faults: &mut Faults) -> usize
+    ensures { Gathers (number_in (names.one_column (thing_of thing.entry ∷ []))) faults.old faults.new result }
+{
+    match thing {
+        Thing::Column(number, _) => number,
+        Thing::Period(_, _, _) => {
+            faults.refuse_if(true, Refusal::NameUnknownAmbiguousOrRepeated);
+            0
+        }
+    }
+}
+
+/// The number of the column, where there is exactly one.
+#[tactic(auto, using(tql_bind_expr::proofs::Gathering::gathering))]
+fn only_column(things: &[Thing<'_>], faults: &mut Faults) -> usize
+    ensures { Gathers (number_in (names.one_column (things_of things.now))) faults.old faults.new result }
+{
+    match things {
+        [thing] => as_column(*thing, faults),
+        _ => {
+            faults.refuse_if(true, Refusal::NameUnknownAmbiguousOrRepeated);
+            0
+        }
+    }
+}
+
+/// The number of a column of GROUP BY.
+fn group_column(
+    memory: Memory,
+    scope: &[Known<'_>],
+    named: &Named<'_>,
+    faults: &mut Faults,
+) -> Result<usize, AllocError>
+    ensures { IfOk result
+        (λ n. Gathers (binding.group_column (scope_of scope.now) (named_of named.now)) faults.old faults.new n) }
+{
+    let found = things(memory, scope, *named)?;
+    Ok(only_column(&found, faults))
+}
+
+/// The numbers of the columns of GROUP BY (ISO/IEC 9075-2:2011, 7.9). A fault where a name is not that of exactly one
+/// column. The only error is a refused growth.
+pub fn group_columns(
+    memory: Memory,
+    scope: &[Known<'_>],
+    written: &[Named<'_>],
+    faults: &mut Faults,
+) -> Result<Vec<usize, Memory>, AllocError>
+    ensures { IfOk result
+        (λ v. Gathers (check_each (binding.group_column (scope_of scope.now)) (map named_of written.now))
+        faults.old faults.new v.items) }
+{
+    let mut numbers = Vec::with_capacity(memory, written.len())?;
+    for index in 0..written.len() {
+        let named = written[index];
+        let number = group_column(memory, scope, &named, faults)?;
+        numbers.push(number)?;
+    }
+    Ok(numbers)
+}
+
+/// Whether it stands in one of the expressions.
+fn finds_any(terms: &Terms, search: Search<'_>, items: &[ExprId]) -> bool
+    requires { All (HasExpr terms.now) items.now }
+    ensures { result ≡ list_any (sought search.entry) (map (expr terms.now) items.now) }
+{
+    for item in items {
+        if terms.finds(search, *item) {
+            return true;
+        }
+    }
+    false
+}
+
+/// Whether it stands in one of the conjuncts.
+fn finds_any_in(terms: &Terms, search: Search<'_>, conjuncts: &[CondId]) -> bool
+    requires { All (HasCond terms.now) conjuncts.now }
+    ensures { result ≡ list_any (has_expr (sought search.entry)) (map (cond terms.now) conjuncts.now) }
+{
+    for conjunct in conjuncts {
+        if terms.finds_in(search, *conjunct) {
+            return true;
+        }
+    }
+    false
+}
+
+/// Whether a query is grouped: it has GROUP BY, HAVING or an aggregate.
+pub fn is_grouped(
+    select: &SelectTree<'_>,
+    terms: &Terms,
+    items: &[ExprId],
+    having: &[CondId],
+) -> bool
+    requires items { All (HasExpr terms.now) items.now }
+    requires having { All (HasCond terms.now) having.now }
+    ensures { result ≡ binding.is_grouped (select_of select.now) (map (expr terms.now) items.now)
+        (map (cond terms.now) having.now) }
+{
+    !select.grouping.is_empty()
+        || select.having.is_some()
+        || finds_any(terms, Search::Aggregate, items)
+        || finds_any_in(terms, Search::Aggregate, having)
+}
+
+/// Whether the select list is `*`.
+fn is_star(items: &Items<'_>) -> bool
+    ensures { result ≡ binding.is_star (items_of items.now) }
+{
+    matches!(items, Items::All)
+}
+
+/// Whether a column that is none of these stands outside the aggregates, or `*` does.
+fn has_loose(
+    groups: &[usize],
+    select: &SelectTree<'_>,
+    terms: &Terms,
+    items: &[ExprId],
+    having: &[CondId],
+) -> bool
+    requires items { All (HasExpr terms.now) items.now }
+    requires having { All (HasCond terms.now) having.now }
+    ensures { result ≡ (binding.is_star (select_of select.now).items
+        || list_any (binding.is_loose groups.now) (map (expr terms.now) items.now)
+        || list_any (has_expr (binding.is_loose groups.now)) (map (cond terms.now) having.now)) }
+{
+    is_star(&select.items)
+        || finds_any(terms, Search::Loose(groups), items)
+        || finds_any_in(terms, Search::Loose(groups), having)
+}
+
+/// Whether an aggregate stands inside an aggregate, or in a grouped query `*` or a column that is none of the
+/// grouping ones stands outside the aggregates (ISO/IEC 9075-2:2011, 7.12).
+pub fn has_grouping_fault(
+    is_grouped: bool,
+    groups: &[usize],
+    select: &SelectTree<'_>,
+    terms: &Terms,
+    items: &[ExprId],
+    having: &[CondId],
+) -> bool
+    requires items { All (HasExpr terms.now) items.now }
+    requires having { All (HasCond terms.now) having.now }
+    ensures { result ≡ binding.grouping_faults is_grouped groups.now (select_of select.now)
+        (map (expr terms.now) items.now) (map (cond terms.now) having.now) }
+{
+    finds_any(terms, Search::Nested, items)
+        || finds_any_in(terms, Search::Nested, having)
+        || (is_grouped && has_loose(groups, select, terms, items, having))
+}

@@ -1,0 +1,69 @@
+//! A table reference: which versions it asks for, and how it is known.
+ghost use Rattle.std.specs.Prelude.{◌≡◌, IfOk, is_none, string_bytes};
+ghost use Rattle.tql_spec.specs.Binding as binding;
+ghost use Rattle.tql_spec.specs.Names.{refuse_if};
+ghost use Rattle.tql_spec.specs.Refusal.{FormNotAllowedHere};
+ghost use Rattle.tql_bound.specs.References.{when_of};
+ghost use Rattle.tql_syntax_tree.specs.Statements.{ref_of, span_of};
+ghost use Rattle.tql_bind_expr.specs.Gathered.{Gathers};
+
+use std::alloc::AllocError;
+use tql_bind_expr::faults::Faults;
+use tql_bind_expr::moments::moment;
+use tql_bind_expr::texts::meant;
+use tql_bound::reference::When;
+use tql_catalog::table_def::TableDef;
+use tql_memory::Memory;
+use tql_syntax_tree::statement::{RefTree, SpanTree};
+use tql_value::refusal::Refusal;
+
+/// A fault where the table is not system-versioned.
+fn refuse_unversioned(definition: &TableDef, faults: &mut Faults)
+    ensures { Gathers (refuse_if (is_none definition.now.system) FormNotAllowedHere) faults.old faults.new tt }
+{
+    faults.refuse_if(!definition.is_versioned(), Refusal::FormNotAllowedHere);
+}
+
+/// Which versions a FOR SYSTEM_TIME clause asks for (ISO/IEC 9075-2:2011, 7.6). Faults: the table is not
+/// system-versioned; a literal reads as no moment. The only error is a refused growth.
+pub fn when(
+    memory: Memory,
+    definition: &TableDef,
+    span: SpanTree<'_>,
+    faults: &mut Faults,
+) -> Result<When, AllocError>
+    ensures { IfOk result
+        (λ w. Gathers (binding.when definition.now (span_of span.entry)) faults.old faults.new (when_of w)) }
+{
+    match span {
+        SpanTree::None => Ok(When::Now),
+        SpanTree::AsOf(point) => {
+            refuse_unversioned(definition, faults);
+            let point = moment(memory, point, faults)?;
+            Ok(When::AsOf(point))
+        }
+        SpanTree::FromTo(from, to) => {
+            refuse_unversioned(definition, faults);
+            let from = moment(memory, from, faults)?;
+            let to = moment(memory, to, faults)?;
+            Ok(When::FromTo(from, to))
+        }
+        SpanTree::Between(from, to) => {
+            refuse_unversioned(definition, faults);
+            let from = moment(memory, from, faults)?;
+            let to = moment(memory, to, faults)?;
+            Ok(When::Between(from, to))
+        }
+    }
+}
+
+/// The name by which a reference is known: its alias, or its table's name. The only error is a refused growth.
+pub fn known_as(memory: Memory, reference: RefTree<'_>) -> Result<String<Memory>, AllocError>
+    ensures { IfOk result
+        (λ name. string_bytes name ≡ binding.known_as (ref_of reference.entry) (ref_of reference.entry).alias) }
+{
+    match reference.alias {
+        Some(alias) => meant(memory, alias),
+        None => meant(memory, reference.table),
+    }
+}

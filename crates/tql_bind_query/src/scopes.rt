@@ -1,0 +1,87 @@
+//! The references of all chains of a query in scope.
+ghost use Rattle.std.specs.Prelude.{◌≡◌, ◌<◌, ◌≤◌, ◌+◌, ◌++◌, ◌^◌, All, IfOk, length, map, string_bytes, sum_by};
+ghost use Rattle.tql_spec.specs.Binding as binding;
+ghost use Rattle.tql_spec.specs.Creation as creation;
+ghost use Rattle.tql_spec.specs.Names as names;
+ghost use Rattle.tql_bind_expr.specs.Scopes.{known_of, scope_of};
+ghost use Rattle.tql_bind_query.specs.From.{IsPlaced, IsWhole};
+
+use crate::from::Linked;
+use std::alloc::AllocError;
+use tql_bind_expr::scope::Known;
+use tql_bind_expr::texts::is_same_text;
+use tql_memory::Memory;
+
+/// A reference whose columns stand behind so many more.
+fn moved<'a>(known: &Known<'a>, before: usize) -> Known<'a>
+    requires { before + (known.now.offset + length known.now.table.now.columns) < 2 ^ 64 }
+    ensures { known_of result ≡ binding.moved before (known_of known.now) }
+{
+    Known {
+        name: known.name,
+        table: known.table,
+        offset: before + known.offset,
+    }
+}
+
+/// More references, whose columns stand behind so many others.
+fn push_moved<'a>(
+    known: &[Known<'a>],
+    before: usize,
+    scope: &mut Vec<Known<'a>, Memory>,
+) -> Result<(), AllocError>
+    requires { All (λ k. before + (k.offset + length k.table.now.columns) < 2 ^ 64) known.now }
+    ensures { IfOk result
+        (λ _. scope_of scope.new.items ≡ scope_of scope.old.items
+        ++ map (binding.moved before) (scope_of known.now)) }
+{
+    for reference in known {
+        scope.push(moved(reference, before))?;
+    }
+    Ok(())
+}
+
+/// All references of a query in scope: those of each chain, whose columns stand behind those of the chains before it.
+/// The only error is a refused growth.
+pub fn whole_scope<'a>(
+    memory: Memory,
+    linked: &[Linked<'a>],
+) -> Result<Vec<Known<'a>, Memory>, AllocError>
+    requires placed { All IsPlaced linked.now }
+    requires narrow { sum_by (λ l. l.width) linked.now ≤ 512 }
+    ensures { IfOk result (λ v. IsWhole linked.now v.items) }
+{
+    let mut scope: Vec<Known<'a>, Memory> = Vec::new(memory);
+    let mut width = 0;
+    for chain in linked {
+        push_moved(&chain.scope, width, &mut scope)?;
+        width += chain.width;
+    }
+    Ok(scope)
+}
+
+/// Whether a reference is known by this name.
+fn has_name(scope: &[Known<'_>], name: &str) -> bool
+    ensures { result ≡ creation.has_name name.now (map (λ (k : names.Known). k.name) (scope_of scope.now)) }
+{
+    for known in scope {
+        if is_same_text(name, known.name) {
+            return true;
+        }
+    }
+    false
+}
+
+/// Whether two references are known by one name.
+pub fn repeats_names(scope: &[Known<'_>]) -> bool
+    ensures { result ≡ creation.repeats (map (λ (k : names.Known). k.name) (scope_of scope.now)) }
+{
+    let mut left = scope;
+    while let [known, others @ ..] = left {
+        if has_name(others, known.name) {
+            return true;
+        }
+        left = others;
+    }
+    false
+}

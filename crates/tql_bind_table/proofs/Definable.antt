@@ -1,0 +1,296 @@
+-- Columns and periods that show no fault can be those of a table.
+use Rattle.std.specs.Prelude.{◌≡◌, refl, ℕ, suc, Bool, true, false, not, ◌&&◌, ◌||◌, ◌==◌, nat_le, nat_lt, IsTrue}
+use Rattle.std.specs.Prelude.{List, [], ◌∷◌, ◌++◌, map, length, Option, Some, None, is_some, slice_index_or}
+use Rattle.std.specs.Prelude.{if◌then◌else◌}
+use Rattle.std.specs.List.{list_any, list_all}
+use Rattle.std.proofs.Common.{ap, ◌∙◌, sym, arith}
+use Rattle.std.proofs.lemmas.Bool.Decides.{nat_tests}
+use Rattle.std.proofs.lemmas.List.{length-map}
+use Rattle.tql_spec.specs.Words.{same_text}
+use Rattle.tql_spec.specs.Datum.{Kind, Ints, Moments, same_kind}
+use Rattle.tql_spec.specs.Refusal.{Refusal, TooManyTablesOrReaders, TableUnknownOrAlreadyThere}
+use Rattle.tql_spec.specs.Refusal.{NameUnknownAmbiguousOrRepeated, TypesDoNotFit, FormNotAllowedHere, fault_if, first}
+use Rattle.tql_spec.specs.Definition as definition
+use Rattle.tql_spec.specs.Definition.{Name, TableDef, Application, System, place_of}
+use Rattle.tql_spec.specs.Names.{Checked, check_each}
+use Rattle.tql_spec.specs.Syntax.{ColumnTree}
+use Rattle.tql_spec.specs.Creation.{PeriodPart, number_in, or_first, column_number, has_name, has_number, are_ends}
+use Rattle.tql_spec.specs.Creation.{application_name, kind_of_type, has_bad_number, repeats, several, column}
+use Rattle.tql_spec.specs.Creation.{first_of}
+use Rattle.tql_spec.specs.Binding.{generated_columns}
+use Rattle.tql_spec.proofs.Constraints.{same_text-self}
+use Rattle.tql_catalog.specs.Defined.{is_definable, is_system_period, is_application_period}
+use Rattle.tql_bind_table.specs.NewTables.{application_part, names_in, kinds_in, kind_in, starts_in, stops_in}
+use Rattle.tql_bind_table.specs.NewTables.{is_generated_in, application_in, system_in, names_of_periods, implied_in}
+use Rattle.tql_bind_table.specs.NewTables.{whole_in, create_in}
+use Rattle.tql_bind_table.specs.declared.draft.NewApplication.{NewApplication}
+use Rattle.tql_bind_table.proofs.ColumnNumbers.{within, apart, other_number, required_at, there}
+
+-- ---- no fault
+
+nothing_first : (fs : List Refusal) → first fs ≡ None → fs ≡ []
+nothing_first [] e = refl
+nothing_first (f ∷ fs) e = cc
+
+front_none : (xs ys : List Refusal) → xs ++ ys ≡ [] → xs ≡ []
+front_none [] ys e = refl
+front_none (x ∷ xs) ys e = cc
+
+behind_none : (xs ys : List Refusal) → xs ++ ys ≡ [] → ys ≡ []
+behind_none [] ys e = e
+behind_none (x ∷ xs) ys e = cc
+
+never : (f : Refusal) (fs : List Refusal) → f ∷ fs ≡ [] → ⊥
+never f fs e = cc
+
+not_present : (b : Bool) (f : Refusal) → fault_if b f ≡ [] → b ≡ false
+not_present true f e = absurd (never f [] e)
+not_present false f e = refl
+
+or_none : (a b : Bool) → a || b ≡ false → (a ≡ false) × (b ≡ false)
+or_none true b e = cc
+or_none false b e = (refl, e)
+
+not_none : (b : Bool) → not b ≡ false → b ≡ true
+not_none true e = refl
+not_none false e = cc
+
+found : (o : Option ℕ) → (or_first o).faults ≡ [] → o ≡ Some (or_first o).value
+found None e = absurd (never NameUnknownAmbiguousOrRepeated [] e)
+found (Some i) e = refl
+
+-- ---- the columns of the definition
+
+names_same : (implied : List Name) (cs : List ColumnTree)
+    → map (λ (c : definition.Column). c.name) (map (column implied) cs) ≡ names_in cs
+names_same implied [] = refl
+names_same implied (c ∷ cs) = ap {B = List Name} (λ ns. c.name ∷ ns) (names_same implied cs)
+
+kinds_same : (implied : List Name) (cs : List ColumnTree)
+    → map (λ (c : definition.Column). c.kind) (map (column implied) cs) ≡ kinds_in cs
+kinds_same implied [] = refl
+kinds_same implied (c ∷ cs) = ap {B = List Kind} (λ ks. kind_of_type c.type_name ∷ ks) (kinds_same implied cs)
+
+kind_count : (cs : List ColumnTree) → length (kinds_in cs) ≡ length (names_in cs)
+kind_count cs = length-map cs (λ (c : ColumnTree). kind_of_type c.type_name)
+    ∙ sym (length-map cs (λ (c : ColumnTree). c.name))
+
+required_count : (implied : List Name) (cs : List ColumnTree)
+    → length (map (λ (c : definition.Column). c.required) (map (column implied) cs)) ≡ length (names_in cs)
+required_count implied cs =
+    length-map (map (column implied) cs) (λ (c : definition.Column). c.required) ∙ length-map cs (column implied)
+    ∙ sym (length-map cs (λ (c : ColumnTree). c.name))
+
+-- ---- a period without a fault
+
+-- what is true of its columns
+record IsSound (names : List Name) (p : PeriodPart) (misfit wrong : ℕ → ℕ → Bool) (s e : ℕ) : Type 0 where
+  start : number_in p.start names ≡ Some s
+  end : number_in p.end names ≡ Some e
+  fitting : misfit s e ≡ false
+  right : wrong s e ≡ false
+
+sound_parts : (names : List Name) (p : PeriodPart) (misfit wrong : ℕ → ℕ → Bool)
+    → (column_number names p.start).faults ++ ((column_number names p.end).faults
+    ++ (fault_if (misfit (column_number names p.start).value (column_number names p.end).value) TypesDoNotFit
+    ++ (fault_if (wrong (column_number names p.start).value (column_number names p.end).value) FormNotAllowedHere ++
+    []))) ≡ []
+    → IsSound names p misfit wrong (column_number names p.start).value (column_number names p.end).value
+sound_parts names p misfit wrong none =
+    let s = (column_number names p.start).value in
+    let e = (column_number names p.end).value in
+    let rest = behind_none (column_number names p.start).faults _ none in
+    let forms = behind_none (column_number names p.end).faults _ rest in
+    let last = behind_none (fault_if (misfit s e) TypesDoNotFit) _ forms in
+    record {
+      start = found (number_in p.start names) (front_none (column_number names p.start).faults _ none);
+      end = found (number_in p.end names) (front_none (column_number names p.end).faults _ rest);
+      fitting = not_present (misfit s e) TypesDoNotFit (front_none (fault_if (misfit s e) TypesDoNotFit) _ forms);
+      right = not_present (wrong s e) FormNotAllowedHere (front_none (fault_if (wrong s e) FormNotAllowedHere) [] last);
+    }
+
+-- the first of several checks has no fault where they have none
+first_each : {A B : Type 0} (f : A → Checked B) (x : A) (xs : List A) → (check_each f (x ∷ xs)).faults ≡ []
+    → (f x).faults ≡ []
+first_each f x xs none = front_none (f x).faults _ none
+
+-- ---- the system period
+
+abbrev no_moments : List ColumnTree → ℕ → ℕ → Bool
+no_moments cs s e = not (same_kind (kind_in cs s) Moments) || not (same_kind (kind_in cs e) Moments)
+
+abbrev no_system : List ColumnTree → PeriodPart → ℕ → ℕ → Bool
+no_system cs p s e = same_text p.start p.end || not (has_number s (starts_in cs)) || not (has_number e (stops_in cs))
+
+system_sound : (cs : List ColumnTree) (p : PeriodPart) → (system_in cs p).faults ≡ []
+    → IsSound (names_in cs) p (no_moments cs) (no_system cs p) (system_in cs p).value.start (system_in cs p).value.end
+system_sound cs p none = sound_parts (names_in cs) p (no_moments cs) (no_system cs p) none
+
+system_right : (implied : List Name) (cs : List ColumnTree) (ps : List PeriodPart)
+    → (check_each (system_in cs) ps).faults ≡ []
+    → IsTrue (is_system_period (map (λ (c : definition.Column). c.kind) (map (column implied) cs))
+    (first_of (check_each (system_in cs) ps).value))
+system_right implied cs [] none = refl
+system_right implied cs (p ∷ ps) none =
+    let w = system_sound cs p (first_each (system_in cs) p ps none) in
+    let s = (system_in cs p).value.start in
+    let e = (system_in cs p).value.end in
+    let moments = or_none (not (same_kind (kind_in cs s) Moments)) (not (same_kind (kind_in cs e) Moments)) w.fitting in
+    let first = not_none (same_kind (kind_in cs s) Moments) moments.0 in
+    let second = not_none (same_kind (kind_in cs e) Moments) moments.1 in
+    let forms = or_none (same_text p.start p.end || not (has_number s (starts_in cs)))
+    (not (has_number e (stops_in cs))) w.right in
+    let same = (or_none (same_text p.start p.end) (not (has_number s (starts_in cs))) forms.0).0 in
+    let from = there s (length (kinds_in cs)) (length (names_in cs)) (within p.start (names_in cs) s w.start)
+    (kind_count cs) in
+    let to = there e (length (kinds_in cs)) (length (names_in cs)) (within p.end (names_in cs) e w.end)
+    (kind_count cs) in
+    let differ = apart p.start p.end (names_in cs) s e w.start w.end same in
+    ap (λ (ks : List Kind). is_system_period ks (Some (record { start = s; end = e }))) (kinds_same implied cs)
+    ∙ (λ i. (from i && first i) && (to i && second i) && not (differ i))
+
+-- a column that is not generated is none of its columns
+not_of_system : (cs : List ColumnTree) (ps : List PeriodPart) → (check_each (system_in cs) ps).faults ≡ [] → (k : ℕ)
+    → is_generated_in cs k ≡ false
+    → has_number k (generated_columns (first_of (check_each (system_in cs) ps).value)) ≡ false
+not_of_system cs [] none k free = refl
+not_of_system cs (p ∷ ps) none k free =
+    let w = system_sound cs p (first_each (system_in cs) p ps none) in
+    let s = (system_in cs p).value.start in
+    let e = (system_in cs p).value.end in
+    let forms = or_none (same_text p.start p.end || not (has_number s (starts_in cs)))
+    (not (has_number e (stops_in cs))) w.right in
+    let first = not_none (has_number s (starts_in cs))
+    (or_none (same_text p.start p.end) (not (has_number s (starts_in cs))) forms.0).1 in
+    let second = not_none (has_number e (stops_in cs)) forms.1 in
+    let out = or_none (has_number k (starts_in cs)) (has_number k (stops_in cs)) free in
+    let left = other_number k s (starts_in cs) out.0 first in
+    let right = other_number k e (stops_in cs) out.1 second in
+    λ i. left i || (right i || false)
+
+-- ---- the application period
+
+abbrev no_ends : List ColumnTree → ℕ → ℕ → Bool
+no_ends cs s e = not (are_ends (kind_in cs s) (kind_in cs e))
+
+abbrev no_application : List ColumnTree → PeriodPart → ℕ → ℕ → Bool
+no_application cs p s e = same_text p.start p.end || is_generated_in cs s || is_generated_in cs e
+
+or_true : (b : Bool) → b || true ≡ true
+or_true true = refl
+or_true false = refl
+
+implies_start : (p : PeriodPart) (ps : List PeriodPart) → has_name p.start (implied_in (p ∷ ps)) ≡ true
+implies_start p ps = ap (λ (b : Bool). b || has_name p.start (p.end ∷ implied_in ps)) (same_text-self p.start)
+
+implies_end : (p : PeriodPart) (ps : List PeriodPart) → has_name p.end (implied_in (p ∷ ps)) ≡ true
+implies_end p ps = ap (λ (b : Bool). same_text p.end p.start || (b || has_name p.end (implied_in ps)))
+    (same_text-self p.end) ∙ or_true (same_text p.end p.start)
+
+application_right : (cs : List ColumnTree) (ps qs : List PeriodPart)
+    → (check_each (application_in cs) ps).faults ≡ [] → (check_each (system_in cs) qs).faults ≡ []
+    → IsTrue (is_application_period (map (column (implied_in ps)) cs) (first_of (check_each (system_in cs) qs).value)
+    (first_of (check_each (application_in cs) ps).value))
+application_right cs [] qs none sound = refl
+application_right cs (p ∷ ps) qs none sound =
+    let none_here : (application_in cs p).faults ≡ [] = first_each (application_in cs) p ps none in
+    let w = sound_parts (names_in cs) p (no_ends cs) (no_application cs p) none_here in
+    let s = (application_in cs p).value.start in
+    let e = (application_in cs p).value.end in
+    let implied = implied_in (p ∷ ps) in
+    let columns = map (column implied) cs in
+    let required = map (λ (c : definition.Column). c.required) columns in
+    let points : are_ends (slice_index_or (map (λ (c : definition.Column). c.kind) columns) s Ints)
+    (slice_index_or (map (λ (c : definition.Column). c.kind) columns) e Ints) ≡ true =
+    ap (λ (ks : List Kind). are_ends (slice_index_or ks s Ints) (slice_index_or ks e Ints)) (kinds_same implied cs)
+    ∙ not_none (are_ends (kind_in cs s) (kind_in cs e)) w.fitting in
+    let forms = or_none (same_text p.start p.end || is_generated_in cs s) (is_generated_in cs e) w.right in
+    let front = or_none (same_text p.start p.end) (is_generated_in cs s) forms.0 in
+    let from = there s (length required) (length (names_in cs)) (within p.start (names_in cs) s w.start)
+    (required_count implied cs) in
+    let to = there e (length required) (length (names_in cs)) (within p.end (names_in cs) e w.end)
+    (required_count implied cs) in
+    let first = required_at implied p.start cs s w.start (implies_start p ps) in
+    let second = required_at implied p.end cs e w.end (implies_end p ps) in
+    let left = not_of_system cs qs sound s front.1 in
+    let right = not_of_system cs qs sound e forms.1 in
+    let differ = apart p.start p.end (names_in cs) s e w.start w.end front.0 in
+    λ i. ((from i && first i) && not (left i)) && ((to i && second i) && not (right i)) && points i && not (differ i)
+
+-- ---- the names
+
+many : (n : ℕ) → nat_lt 1 (suc (suc n)) ≡ true
+many n = grind (arith, nat_tests)
+
+no_many : (n : ℕ) → nat_lt 1 (suc (suc n)) ≡ false → ⊥
+no_many n e = false_true (sym e ∙ many n)
+  where
+    false_true : false ≡ true → ⊥
+    false_true h = cc
+
+-- the name of the first application period is that of all where they are not several
+names_first : (cs : List ColumnTree) (as' : List NewApplication) → several (map application_part as') ≡ false
+    → application_name (first_of (check_each (application_in cs) (map application_part as')).value) ≡
+    names_of_periods (map application_part as')
+names_first cs [] one = refl
+names_first cs (a ∷ []) one = refl
+names_first cs (a ∷ b ∷ as') one = absurd (no_many (length (map application_part as')) one)
+
+-- ---- the table
+
+-- what is true of a table without a fault as a whole
+record IsWhole (defs : List TableDef) (cs : List ColumnTree) (applications : List PeriodPart) : Type 0 where
+  once : repeats (names_in cs ++ names_of_periods applications) ≡ false
+  one : several applications ≡ false
+
+whole_right : (defs : List TableDef) (n : Name) (cs : List ColumnTree) (applications systems : List PeriodPart)
+    (v : Bool) → whole_in defs n cs applications systems v ≡ [] → IsWhole defs cs applications
+whole_right defs n cs applications systems v none =
+    let w = if v then 1 else 0 in
+    let f1 = fault_if (is_some (place_of n defs)) TableUnknownOrAlreadyThere in
+    let repeated = repeats (names_in cs ++ names_of_periods applications) in
+    let f2 = fault_if repeated NameUnknownAmbiguousOrRepeated in
+    let f3 = fault_if (list_any (λ (c : ColumnTree). has_bad_number c.type_name) cs) TypesDoNotFit in
+    let f4 = fault_if (list_all (λ (c : ColumnTree). is_some c.generated) cs) FormNotAllowedHere in
+    let f5 = fault_if (several applications || several systems) FormNotAllowedHere in
+    let f6 = fault_if (not (length systems == w)) FormNotAllowedHere in
+    let f7 = fault_if (not (length (starts_in cs) == length systems) || not (length (stops_in cs) == length systems))
+    FormNotAllowedHere in
+    let f8 = fault_if (nat_le 1000 (length defs)) TooManyTablesOrReaders in
+    let n7 = front_none (f1 ++ f2 ++ f3 ++ f4 ++ f5 ++ f6 ++ f7) f8 none in
+    let n6 = front_none (f1 ++ f2 ++ f3 ++ f4 ++ f5 ++ f6) f7 n7 in
+    let n5 = front_none (f1 ++ f2 ++ f3 ++ f4 ++ f5) f6 n6 in
+    let n4 = front_none (f1 ++ f2 ++ f3 ++ f4) f5 n5 in
+    let n3 = front_none (f1 ++ f2 ++ f3) f4 n4 in
+    let n2 = front_none (f1 ++ f2) f3 n3 in
+    record {
+      once = not_present repeated NameUnknownAmbiguousOrRepeated (behind_none f1 f2 n2);
+      one = (or_none (several applications) (several systems)
+          (not_present (several applications || several systems) FormNotAllowedHere
+          (behind_none (f1 ++ f2 ++ f3 ++ f4) f5 n5))).0;
+    }
+
+-- without a fault the columns and the periods can be those of a table
+pub definable : (defs : List TableDef) (n : Name) (cs : List ColumnTree) (as' : List NewApplication)
+    (systems : List PeriodPart) (v : Bool) (t : TableDef)
+    → first (create_in defs n cs (map application_part as') systems v).faults ≡ None
+    → t ≡ (create_in defs n cs (map application_part as') systems v).value
+    → IsTrue (is_definable t.columns t.system t.application)
+definable defs n cs as' systems v t none is =
+    let applications = map application_part as' in
+    let all = create_in defs n cs applications systems v in
+    let empty = nothing_first all.faults none in
+    let whole = whole_right defs n cs applications systems v
+    (front_none (whole_in defs n cs applications systems v) _ empty) in
+    let rest = behind_none (whole_in defs n cs applications systems v) _ empty in
+    let applied = front_none (check_each (application_in cs) applications).faults _ rest in
+    let last = behind_none (check_each (application_in cs) applications).faults _ rest in
+    let versioned = front_none (check_each (system_in cs) systems).faults [] last in
+    let implied = implied_in applications in
+    let names : repeats (map (λ (c : definition.Column). c.name) (map (column implied) cs) ++ application_name
+    (first_of (check_each (application_in cs) applications).value)) ≡ false =
+    (λ i. repeats (names_same implied cs i ++ names_first cs as' whole.one i)) ∙ whole.once in
+    let system = system_right implied cs systems versioned in
+    let application = application_right cs applications systems applied versioned in
+    ap (λ (d : TableDef). is_definable d.columns d.system d.application) is
+    ∙ (λ i. not (names i) && system i && application i)

@@ -1,0 +1,205 @@
+//! New tables: the faults that a CREATE TABLE shows, and the definition that it gives.
+ghost use Rattle.std.specs.Prelude.{◌≡◌, ◌||◌, ◌==◌, IsTrue, map, not, IfOk, string_bytes, length, nat_le, is_some};
+ghost use Rattle.std.specs.Prelude.{if◌then◌else◌};
+ghost use Rattle.tql_spec.specs.Binding.{bind};
+ghost use Rattle.tql_spec.specs.Creation as spec;
+ghost use Rattle.tql_spec.specs.Creation.{several};
+ghost use Rattle.tql_spec.specs.Definition.{place_of};
+ghost use Rattle.tql_spec.specs.Machine.{CreateTable};
+ghost use Rattle.tql_spec.specs.Names.{refuse_for};
+ghost use Rattle.tql_spec.specs.Running.{does_run};
+ghost use Rattle.tql_catalog.specs.Defined.{is_definable};
+ghost use Rattle.tql_catalog.specs.Definitions as catalog;
+ghost use Rattle.tql_catalog.specs.Tables.{definitions_of};
+ghost use Rattle.tql_bind_expr.specs.Gathered.{Gathers};
+ghost use Rattle.tql_syntax_tree.specs.Statements.{create_of};
+ghost use Rattle.tql_bind_table.specs.Binds.{Binds};
+ghost use Rattle.tql_bind_table.specs.NewTables.{column_of, application_part, columns_in, applications_in, systems_in};
+ghost use Rattle.tql_bind_table.specs.NewTables.{implied_in, starts_in, stops_in, whole_in, create_in, table_of};
+
+use crate::columns::{are_all_generated, end_count, has_misfit, kind_of, limit_of, start_count};
+use crate::draft::{Draft, NewApplication, NewColumn, draft_of};
+use crate::names::{has_repeated_name, is_implied};
+use crate::periods::{
+    Periods, application_periods, first_application, first_system, system_periods,
+};
+use std::alloc::AllocError;
+use tql_bind_expr::faults::Faults;
+use tql_bind_expr::texts::meant;
+use tql_catalog::catalog::Catalog;
+use tql_catalog::definition::Column;
+use tql_catalog::table_def::TableDef;
+use tql_memory::Memory;
+use tql_syntax_tree::statement::CreateTree;
+use tql_value::refusal::Refusal;
+
+/// Whether there are several periods of one sort.
+fn has_several(draft: &Draft<'_>) -> bool
+    ensures { result ≡ (several (applications_in draft.now) || several (systems_in draft.now)) }
+{
+    1 < draft.applications.len() || 1 < draft.systems.len()
+}
+
+/// Whether there are not as many system periods as WITH SYSTEM VERSIONING, or its absence, wants.
+fn has_wrong_systems(draft: &Draft<'_>, is_versioned: bool) -> bool
+    ensures { result ≡ not (length (systems_in draft.now) == (if is_versioned then 1 else 0)) }
+{
+    draft.systems.len() != usize::from(is_versioned)
+}
+
+/// Whether there are not as many columns of ROW START, or of ROW END, as system periods.
+fn has_wrong_ends(draft: &Draft<'_>) -> bool
+    ensures { result ≡ (not (length (starts_in (columns_in draft.now)) == length (systems_in draft.now))
+        || not (length (stops_in (columns_in draft.now)) == length (systems_in draft.now))) }
+{
+    start_count(&draft.columns) != draft.systems.len()
+        || end_count(&draft.columns) != draft.systems.len()
+}
+
+/// Whether a thousand tables are there.
+fn is_full(tables: &Catalog) -> bool
+    ensures { result ≡ nat_le 1000 (length (definitions_of tables.now)) }
+{
+    1000 <= tables.len()
+}
+
+/// Whether a table of this name is there.
+fn is_there(tables: &Catalog, name: &str) -> bool
+    ensures { result ≡ is_some (place_of name.now (definitions_of tables.now)) }
+{
+    tables.place_of(name).is_some()
+}
+
+/// The faults of the table as a whole.
+fn whole_faults(
+    tables: &Catalog,
+    name: &str,
+    draft: &Draft<'_>,
+    is_versioned: bool,
+    faults: &mut Faults,
+)
+    ensures { Gathers (refuse_for
+        (whole_in (definitions_of tables.now) name.now (columns_in draft.now) (applications_in draft.now)
+        (systems_in draft.now) is_versioned))
+        faults.old faults.new tt }
+{
+    faults.refuse_if(is_there(tables, name), Refusal::TableUnknownOrAlreadyThere);
+    faults.refuse_if(
+        has_repeated_name(draft),
+        Refusal::NameUnknownAmbiguousOrRepeated,
+    );
+    faults.refuse_if(has_misfit(&draft.columns), Refusal::TypesDoNotFit);
+    faults.refuse_if(
+        are_all_generated(&draft.columns),
+        Refusal::FormNotAllowedHere,
+    );
+    faults.refuse_if(has_several(draft), Refusal::FormNotAllowedHere);
+    faults.refuse_if(
+        has_wrong_systems(draft, is_versioned),
+        Refusal::FormNotAllowedHere,
+    );
+    faults.refuse_if(has_wrong_ends(draft), Refusal::FormNotAllowedHere);
+    faults.refuse_if(is_full(tables), Refusal::TooManyTablesOrReaders);
+}
+
+/// The column of the definition: it takes no null where it is NOT NULL or a column of an application period.
+fn definition_column(
+    memory: Memory,
+    column: &NewColumn<'_>,
+    periods: &[NewApplication],
+) -> Result<Column, AllocError>
+    ensures { IfOk result
+        (λ c. catalog.column_of c
+        ≡ spec.column (implied_in (map application_part periods.now)) (column_of column.now)) }
+{
+    Ok(Column {
+        name: column.name.clone()?,
+        kind: kind_of(column.type_name),
+        limit: limit_of(column.type_name),
+        is_required: column.is_required || is_implied(periods, &column.name),
+    })
+}
+
+/// The columns of the definition.
+fn definitions(
+    memory: Memory,
+    columns: &[NewColumn<'_>],
+    periods: &[NewApplication],
+) -> Result<Vec<Column, Memory>, AllocError>
+    ensures { IfOk result
+        (λ cs. map catalog.column_of cs.items
+        ≡ map (spec.column (implied_in (map application_part periods.now))) (map column_of columns.now)) }
+{
+    let mut definitions = Vec::with_capacity(memory, columns.len())?;
+    for column in columns {
+        definitions.push(definition_column(memory, column, periods)?)?;
+    }
+    Ok(definitions)
+}
+
+/// The periods of a new table, with every fault of its definition.
+fn periods_of(
+    memory: Memory,
+    tables: &Catalog,
+    name: &str,
+    draft: &Draft<'_>,
+    is_versioned: bool,
+    faults: &mut Faults,
+) -> Result<Periods, AllocError>
+    ensures { IfOk result
+        (λ p. Gathers (create_in (definitions_of tables.now) name.now (columns_in draft.now)
+        (applications_in draft.now) (systems_in draft.now) is_versioned)
+        faults.old faults.new (table_of name.now draft.now p)) }
+{
+    whole_faults(tables, name, draft, is_versioned, faults);
+    let applications = application_periods(memory, &draft.columns, &draft.applications, faults)?;
+    let systems = system_periods(memory, &draft.columns, &draft.systems, faults)?;
+    Ok(Periods {
+        applications,
+        systems,
+    })
+}
+
+/// The definition of columns and periods that can be those of a table. The only error is a refused growth.
+fn definition(
+    memory: Memory,
+    name: String<Memory>,
+    draft: &Draft<'_>,
+    periods: &Periods,
+) -> Result<TableDef, AllocError>
+    requires { let t = table_of (string_bytes name) draft.now periods.now in IsTrue
+        (is_definable t.columns t.system t.application) }
+    ensures { IfOk result (λ d. d ≡ table_of (string_bytes name.entry) draft.now periods.now) }
+{
+    let columns = definitions(memory, &draft.columns, &draft.applications)?;
+    let system = first_system(&periods.systems);
+    let application = first_application(memory, &periods.applications)?;
+    TableDef::new(memory, name, columns, system, application)
+}
+
+/// The definition that a CREATE TABLE of columns and periods gives. Refused are, the first of them: a table of that
+/// name is there; a name that stands twice among those of the columns and of the application periods, or a column of
+/// a period unknown; a length or a precision that is not allowed, columns of an application period that are not both
+/// DATE and not both TIMESTAMP, or a column of the system period that is no TIMESTAMP; a form not allowed (no column
+/// that a user can assign, several application periods or system periods, a period that names one column twice, an
+/// application period that names a generated column, a system period without WITH SYSTEM VERSIONING or the reverse,
+/// generated columns other than one ROW START and one ROW END that the system period names in that order); a thousand
+/// tables. Where memory runs out, that is the refusal.
+pub fn new_table(
+    memory: Memory,
+    tables: &Catalog,
+    create: &CreateTree<'_>,
+) -> Result<TableDef, Refusal>
+    requires { IsTrue (does_run (create_of create.now)) }
+    ensures { Binds CreateTable (bind (definitions_of tables.now) (create_of create.now)) result }
+{
+    let name = meant(memory, create.table)?;
+    let draft = draft_of(memory, create)?;
+    let mut faults = Faults::none();
+    let is_versioned = create.is_versioned;
+    let periods = periods_of(memory, tables, &name, &draft, is_versioned, &mut faults)?;
+    match faults.least() {
+        Some(fault) => Err(fault),
+        None => Ok(definition(memory, name, &draft, &periods)?),
+    }
+}

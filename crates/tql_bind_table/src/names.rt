@@ -1,0 +1,69 @@
+//! The names of a new table: those of its columns and of its application periods.
+ghost use Rattle.std.specs.Prelude.{◌≡◌, ◌++◌, map};
+ghost use Rattle.tql_spec.specs.Creation as spec;
+ghost use Rattle.tql_bind_table.specs.NewTables.{column_of, application_part, names_in, names_of_periods, implied_in};
+ghost use Rattle.tql_bind_table.specs.NewTables.{columns_in, applications_in};
+
+use crate::columns::has_column;
+use crate::draft::{Draft, NewApplication, NewColumn};
+use tql_bind_expr::texts::is_same_text;
+
+/// Whether an application period has this name.
+fn has_period(periods: &[NewApplication], name: &str) -> bool
+    ensures { result ≡ spec.has_name name.now (names_of_periods (map application_part periods.now)) }
+{
+    for period in periods {
+        if is_same_text(name, &period.name) {
+            return true;
+        }
+    }
+    false
+}
+
+/// Whether two application periods have one name.
+fn has_repeated_period(periods: &[NewApplication]) -> bool
+    ensures { result ≡ spec.repeats (names_of_periods (map application_part periods.now)) }
+{
+    let mut left = periods;
+    while let [period, others @ ..] = left {
+        if has_period(others, &period.name) {
+            return true;
+        }
+        left = others;
+    }
+    false
+}
+
+/// Whether a column or an application period has this name.
+fn is_taken(columns: &[NewColumn<'_>], periods: &[NewApplication], name: &str) -> bool
+    ensures { result ≡ spec.has_name name.now
+        (names_in (map column_of columns.now) ++ names_of_periods (map application_part periods.now)) }
+{
+    has_column(columns, name) || has_period(periods, name)
+}
+
+/// Whether a name stands twice among those of the columns and of the application periods.
+pub fn has_repeated_name(draft: &Draft<'_>) -> bool
+    ensures { result ≡ spec.repeats (names_in (columns_in draft.now) ++ names_of_periods (applications_in draft.now)) }
+{
+    let mut left = draft.columns.as_slice();
+    while let [column, others @ ..] = left {
+        if is_taken(others, &draft.applications, &column.name) {
+            return true;
+        }
+        left = others;
+    }
+    has_repeated_period(&draft.applications)
+}
+
+/// Whether a column of this name is one of an application period.
+pub fn is_implied(periods: &[NewApplication], name: &str) -> bool
+    ensures { result ≡ spec.has_name name.now (implied_in (map application_part periods.now)) }
+{
+    for period in periods {
+        if is_same_text(name, &period.start) || is_same_text(name, &period.end) {
+            return true;
+        }
+    }
+    false
+}

@@ -1,0 +1,52 @@
+-- The bound statements that those of the code stand for, and what is true of each.
+use Rattle.std.specs.Prelude.{◌≡◌, ◌<◌, ◌≤◌, List, length, None}
+use Rattle.tql_spec.specs.Definition.{TableDef, place_of}
+use Rattle.tql_spec.specs.Machine as machine
+use Rattle.tql_bound.specs.Changes.{insertion_of, modification_of, query_insertion_of}
+use Rattle.tql_bound.specs.Queries.{bound_query_of}
+use Rattle.tql_value.specs.Points.{IsMoment}
+use Rattle.tql_bound.specs.Placed.{IsPlacedQuery}
+use Rattle.tql_bound.specs.declared.bound.Bound.{Bound}
+use Rattle.tql_bound.specs.declared.bound.Bound.TheVariants.{CreateTable, DropTable, Insert as Inserts, InsertFrom}
+use Rattle.tql_bound.specs.declared.bound.Bound.TheVariants.{Modify, AnswerQuery, SetClock, Start, Commit, Rollback}
+
+-- ---- what they stand for
+
+-- the statement
+abbrev pub bound_of : Bound → machine.Bound
+bound_of (CreateTable d) = machine.CreateTable d
+bound_of (DropTable t) = machine.DropTable t
+bound_of (Inserts x) = machine.ChangeRows (insertion_of x)
+bound_of (InsertFrom x) = machine.ChangeRows (query_insertion_of x)
+bound_of (Modify x) = machine.ChangeRows (modification_of x)
+bound_of (AnswerQuery x) = machine.AnswerQuery (bound_query_of x)
+bound_of (SetClock m) = machine.SetClock m
+bound_of Start = machine.Start
+bound_of Commit = machine.Commit
+bound_of Rollback = machine.Rollback
+
+-- ---- what is true of them
+
+-- no table has the name, there is room for one more, and it has at most 64 columns
+pub record IsSoundTable (defs : List TableDef) (d : TableDef) : Type 0 where
+  pub free : place_of d.name defs ≡ None
+  pub room : length defs < 1000
+  pub narrow : length d.columns ≤ 64
+
+-- a moment that the clock is set to has a text
+abbrev pub HasMoment : Bound → Type 0
+HasMoment (SetClock m) = IsMoment m
+HasMoment _ = Unit {0}
+
+-- over these tables
+abbrev pub IsSound : List TableDef → Bound → Type 0
+IsSound defs (CreateTable d) = IsSoundTable defs d
+IsSound defs (DropTable t) = t < length defs
+IsSound defs (Inserts x) = x.table < length defs
+IsSound defs (InsertFrom x) = (x.table < length defs) × IsPlacedQuery defs (bound_query_of x.query)
+IsSound defs (Modify x) = x.table < length defs
+IsSound defs (AnswerQuery x) = IsPlacedQuery defs (bound_query_of x)
+IsSound defs (SetClock m) = IsMoment m
+IsSound defs Start = Unit {0}
+IsSound defs Commit = Unit {0}
+IsSound defs Rollback = Unit {0}

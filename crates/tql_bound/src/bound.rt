@@ -1,0 +1,29 @@
+//! Statements whose names are bound.
+use crate::change::{Insertion, Modification, QueryInsertion};
+use crate::query::BoundQuery;
+use tql_catalog::table_def::TableDef;
+
+/// A statement whose names are bound.
+#[derive(Drop)]
+pub enum Bound {
+    /// CREATE TABLE.
+    CreateTable(TableDef),
+    /// DROP TABLE of the table at this place.
+    DropTable(usize),
+    /// INSERT of tuples.
+    Insert(Insertion),
+    /// INSERT from a query.
+    InsertFrom(QueryInsertion),
+    /// UPDATE and DELETE.
+    Modify(Modification),
+    /// SELECT.
+    AnswerQuery(BoundQuery),
+    /// AT, with the moment in microseconds since 1970-01-01.
+    SetClock(i64),
+    /// START TRANSACTION.
+    Start,
+    /// COMMIT.
+    Commit,
+    /// ROLLBACK.
+    Rollback,
+}

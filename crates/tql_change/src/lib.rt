@@ -1,4 +1,0 @@
-//! Reading INSERT, UPDATE and DELETE.
-#![tactic(auto)]
-
-pub mod changes;

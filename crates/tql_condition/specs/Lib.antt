@@ -1,3 +1,0 @@
-pub mod Mixtures
-pub mod TestEnds
-pub mod TestWords

@@ -1,4 +1,0 @@
-//! Reading CREATE TABLE and DROP TABLE.
-#![tactic(auto)]
-
-pub mod creates;

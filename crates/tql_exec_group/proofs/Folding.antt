@@ -1,0 +1,82 @@
+-- Values taken one after another: what is met so far, and what is left.
+use Rattle.std.specs.Prelude.{◌≡◌, refl, ℕ, ◌+◌, ◌<◌, ◌≤◌, List, [], ◌∷◌, map, length, slice_index_or, Option, Some}
+use Rattle.std.specs.Prelude.{None}
+use Rattle.std.proofs.Common.{sym, ap, ◌∙◌, drop}
+use Rattle.std.proofs.lemmas.List.{drop_more, drop_all}
+use Rattle.tql_spec.specs.Words.{◌>>=◌, with_front, map_all}
+use Rattle.tql_spec.specs.Datum.{Datum, Row}
+use Rattle.tql_spec.specs.Expression.{Expr, eval, present}
+use Rattle.tql_exec_group.specs.Folds.{of_present}
+
+front_first : {A B : Type 0} (v : A) (rest : Option (List A)) (h : List A → Option B)
+    → with_front (Some v) rest >>= h ≡ rest >>= λ vs. h (v ∷ vs)
+front_first v None h = refl
+front_first v (Some vs) h = refl
+
+none_first : {A B : Type 0} (rest : Option (List A)) (h : List A → Option B) → with_front None rest >>= h ≡ None
+none_first None h = refl
+none_first (Some vs) h = refl
+
+by_each : {A B : Type 0} (o : Option A) (h k : A → Option B) → ((x : A) → h x ≡ k x) → o >>= h ≡ o >>= k
+by_each None h k e = refl
+by_each (Some x) h k e = e x
+
+-- what is left at an index
+left_at : {X Y A : Type 0} (f : Y → Option A) (k : X → Y) (xs : List X) (i : ℕ) (x : X) → i < length xs
+    → x ≡ slice_index_or xs i x
+    → map_all f (map k (drop i xs)) ≡ with_front (f (k x)) (map_all f (map k (drop (i + 1) xs)))
+left_at f k xs i x l is = ap (λ ys. map_all f (map k ys)) (drop_more xs i x l)
+    ∙ ap (λ y. with_front (f (k y)) (map_all f (map k (drop (i + 1) xs)))) (sym is)
+
+module _ {X Y A B : Type 0} (f : Y → Option A) (k : X → Y) where
+  -- one more has its value
+  pub one_more : (h h' : List A → Option B) (xs : List X) (i : ℕ) (x : X) (v : A) (all : Option B) → i < length xs
+      → x ≡ slice_index_or xs i x
+      → f (k x) ≡ Some v → ((vs : List A) → h' vs ≡ h (v ∷ vs))
+      → map_all f (map k (drop i xs)) >>= h ≡ all → map_all f (map k (drop (i + 1) xs)) >>= h' ≡ all
+  one_more h h' xs i x v all l is value next so_far =
+      let rest = map_all f (map k (drop (i + 1) xs)) in
+      by_each rest h' (λ vs. h (v ∷ vs)) next ∙ sym (front_first v rest h) ∙ (λ j. with_front (sym value j) rest >>= h)
+      ∙ sym (ap (λ o. o >>= h) (left_at f k xs i x l is)) ∙ so_far
+
+  -- one has no value
+  pub one_lacks : (h : List A → Option B) (xs : List X) (i : ℕ) (x : X) (all : Option B) → i < length xs
+      → x ≡ slice_index_or xs i x
+      → f (k x) ≡ None → map_all f (map k (drop i xs)) >>= h ≡ all → all ≡ None
+  one_lacks h xs i x all l is none so_far =
+      let rest = map_all f (map k (drop (i + 1) xs)) in
+      sym so_far ∙ ap (λ o. o >>= h) (left_at f k xs i x l is) ∙ (λ j. with_front (none j) rest >>= h)
+      ∙ none_first rest h
+
+  -- none is left
+  pub all_met : (h : List A → Option B) (xs : List X) (i : ℕ) (all : Option B) → length xs ≤ i
+      → map_all f (map k (drop i xs)) >>= h ≡ all → all ≡ h []
+  all_met h xs i all past so_far = sym so_far ∙ (λ j. map_all f (map k (drop_all i xs past j)) >>= h)
+
+-- ---- the values of an expression on rows
+
+module _ {X A : Type 0} (values : X → Row) (e : Expr) where
+  pub more_present : (h h' : List Datum → Option A) (xs : List X) (i : ℕ) (x : X) (v : Datum) (all : Option A)
+      → i < length xs → x ≡ slice_index_or xs i x
+      → Some v ≡ eval [] (values x) e → ((vs : List Datum) → h' (present vs) ≡ h (present (v ∷ vs)))
+      → of_present h e (map values (drop i xs)) ≡ all → of_present h' e (map values (drop (i + 1) xs)) ≡ all
+  more_present h h' xs i x v all l is value next so_far =
+      one_more (λ r. eval [] r e) values (λ vs. h (present vs)) (λ vs. h' (present vs)) xs i x v all l is (sym value)
+      next so_far
+
+  pub lacks_present : (h : List Datum → Option A) (xs : List X) (i : ℕ) (x : X) (all : Option A) → i < length xs
+      → x ≡ slice_index_or xs i x
+      → None ≡ eval [] (values x) e → of_present h e (map values (drop i xs)) ≡ all → None ≡ all
+  lacks_present h xs i x all l is none so_far =
+      sym (one_lacks (λ r. eval [] r e) values (λ vs. h (present vs)) xs i x all l is (sym none) so_far)
+
+  pub all_present : (h : List Datum → Option A) (xs : List X) (i : ℕ) (all : Option A) → length xs ≤ i
+      → of_present h e (map values (drop i xs)) ≡ all → h [] ≡ all
+  all_present h xs i all past so_far =
+      sym (all_met (λ r. eval [] r e) values (λ vs. h (present vs)) xs i all past so_far)
+
+-- functions that agree
+pub of_present_same : {A : Type 0} (h k : List Datum → Option A) (e : Expr) (rows : List Row)
+    → ((vs : List Datum) → h vs ≡ k vs) → of_present h e rows ≡ of_present k e rows
+of_present_same h k e rows same =
+    by_each (map_all (λ r. eval [] r e) rows) (λ vs. h (present vs)) (λ vs. k (present vs)) (λ vs. same (present vs))

@@ -1,0 +1,53 @@
+-- The first run of what is left is its first group.
+use Rattle.std.proofs.Common.{rules, ap, map, ◌∷◌, [], take, drop, length, ◌≡◌, ◌-◌}
+use Rattle.std.specs.Prelude.{◌+◌}
+use Rattle.tql_spec.specs.Query.{groups_by, of_group}
+use Rattle.tql_spec.specs.QueryLaws.{shown}
+use Rattle.tql_expr.specs.Evaluated.{Fails, behind}
+use Rattle.tql_expr.specs.Meaning.{cond, expr}
+use Rattle.tql_expr.proofs.Evaluations.{fails_with}
+use Rattle.tql_value.specs.Views.{rows_of}
+use Rattle.tql_exec_group.proofs.Groups.{next_group, next_within_rows}
+use Rattle.tql_exec_group.proofs.Scopes.{one_more_shown, one_not_shown}
+use Rattle.tql_exec_group.proofs.showing.show_runs.Goals as goal
+
+pub returns-in_err-add_group : goal.returns-in_err-add_group
+returns-in_err-add_group c =
+    let conds = map (cond c.args.terms.now) c.args.having.now in
+    let exprs = map (expr c.args.terms.now) c.args.items.now in
+    let columns = c.args.columns.now in
+    let rows = c.args.rows.now in
+    let start = c.loop-start.start in
+    let run = take c.run_length.result (take (length rows - start) (drop start rows)) in
+    let next = next_group columns rows start c.run_length.result c.loop-start-test.true c.requires.sorted
+    c.run_length.ensures in
+    let done = rows_of c.loop-start.made.items in
+    let all = shown conds exprs (map of_group (groups_by columns rows)) in
+    let left : map of_group (groups_by columns (drop start rows)) ≡ of_group run ∷ map of_group
+    (groups_by columns (drop (start + length run) rows)) = ap (map of_group) next in
+    let fails : Fails all c.in_err-add_group.field-0.0 =
+    fails_with (behind done (shown conds exprs (of_group run ∷ []))) all _
+    (one_not_shown conds exprs (of_group run) (map of_group (groups_by columns (drop (start + length run) rows)))
+    (map of_group (groups_by columns (drop start rows))) done all left c.loop-start.invariant.0)
+    c.in_err-add_group.ensures in
+    search rules
+
+pub loop-start-preserved : goal.loop-start-preserved
+loop-start-preserved c =
+    let conds = map (cond c.args.terms.now) c.args.having.now in
+    let exprs = map (expr c.args.terms.now) c.args.items.now in
+    let columns = c.args.columns.now in
+    let rows = c.args.rows.now in
+    let start = c.loop-start.start in
+    let run = take c.run_length.result (take (length rows - start) (drop start rows)) in
+    let next = next_group columns rows start c.run_length.result c.loop-start-test.true c.requires.sorted
+    c.run_length.ensures in
+    let done = rows_of c.loop-start.made.items in
+    let all = shown conds exprs (map of_group (groups_by columns rows)) in
+    let left : map of_group (groups_by columns (drop start rows)) ≡ of_group run ∷ map of_group
+    (groups_by columns (drop (start + length run) rows)) = ap (map of_group) next in (
+      one_more_shown conds exprs (of_group run) (map of_group (groups_by columns (drop (start + length run) rows)))
+          (map of_group (groups_by columns (drop start rows)))
+          done (rows_of c.add_group.new.made.items) all left c.in_ok-add_group.ensures c.loop-start.invariant.0,
+      next_within_rows columns rows start c.run_length.result c.loop-start-test.true,
+    )

@@ -1,0 +1,161 @@
+//! Aggregates over the rows of a group: ISO/IEC 9075-2:2011, 10.9 `<aggregate function>`.
+ghost use Rattle.std.specs.Prelude.{◌≡◌, ℕ, ◌<◌, ◌^◌, ◌+◌, [], All, length, map, Some};
+ghost use Rattle.tql_spec.specs.Datum as pure;
+ghost use Rattle.tql_spec.specs.Expression as bound;
+ghost use Rattle.tql_value.specs.Views.{datum_of_view, outcome};
+ghost use Rattle.tql_expr.specs.Meaning.{expr, HasExpr, HasOperand, aggregate as tree_of};
+ghost use Rattle.tql_expr.specs.Trees.{plain_function};
+ghost use Rattle.tql_exec_group.specs.Folds.{added, is_better, IsWithin, of_present, the_better};
+
+use tql_expr::columns::Columns;
+use tql_expr::node::Function;
+use tql_expr::terms::{Aggregate, ExprId, Terms};
+use tql_value::arithmetic::Range;
+use tql_value::comparison::order;
+use tql_value::value::View;
+
+/// The value of an expression on a row that is in no group.
+fn value_alone<'a, C: Columns>(terms: &'a Terms, x: ExprId, row: &'a C) -> Result<View<'a>, Range>
+    requires there { HasExpr terms.now x }
+    requires alone { C.group row.now ≡ [] }
+    ensures { outcome result ≡ bound.eval [] (C.values row.now) (expr terms.now x) }
+{
+    terms.eval(x, row)
+}
+
+/// How many rows give a value that is not NULL.
+fn count<'a, C: Columns>(terms: &'a Terms, x: ExprId, rows: &'a [C]) -> Result<View<'a>, Range>
+    requires there { HasExpr terms.now x }
+    requires alone { All (λ r. C.group r ≡ []) rows.now }
+    requires countable { length rows.now < 2 ^ 63 }
+    ensures { outcome result ≡ of_present (bound.aggregate bound.Count) (expr terms.now x) (map C.values rows.now) }
+{
+    let mut found: usize = 0;
+    for row in rows {
+        if !value_alone(terms, x, row)?.is_null() {
+            found += 1;
+        }
+    }
+    Ok(View::Int(found as i64))
+}
+
+/// The sum with one more value; none where there were no values but NULL.
+fn with_value(sum: Option<i128>, value: View<'_>) -> Option<i128>
+    requires { IsWithin (2 ^ 63) sum }
+    ensures is { result ≡ added sum (datum_of_view value.entry) }
+    ensures within { (n : ℕ) → IsWithin n sum → IsWithin (n + 1) result }
+{
+    let so_far = sum.unwrap_or(0);
+    match value {
+        View::Null => sum,
+        View::Int(number) => Some(so_far + i128::from(number)),
+        _ => Some(so_far),
+    }
+}
+
+/// The exact sum, `Range` where it leaves 64 bits; NULL where there are no values.
+fn sum<'a, C: Columns>(terms: &'a Terms, x: ExprId, rows: &'a [C]) -> Result<View<'a>, Range>
+    requires there { HasExpr terms.now x }
+    requires alone { All (λ r. C.group r ≡ []) rows.now }
+    requires countable { length rows.now < 2 ^ 63 }
+    ensures { outcome result ≡ of_present (bound.aggregate bound.Sum) (expr terms.now x) (map C.values rows.now) }
+{
+    let mut sum = None;
+    for row in rows {
+        sum = with_value(sum, value_alone(terms, x, row)?);
+    }
+    match sum {
+        None => Ok(View::Null),
+        Some(sum) => exact(sum),
+    }
+}
+
+/// A number that fits as a value.
+fn exact<'a>(number: i128) -> Result<View<'a>, Range>
+    ensures { outcome result ≡ pure.exact number }
+{
+    match i64::try_from(number) {
+        Ok(number) => Ok(View::Int(number)),
+        Err(_) => Err(Range),
+    }
+}
+
+/// The better of two values, any value before NULL, and of equal ones the first.
+fn better<'a>(greatest: bool, a: View<'a>, b: View<'a>) -> View<'a>
+    ensures { datum_of_view result ≡ the_better greatest (datum_of_view a.entry) (datum_of_view b.entry) }
+{
+    let order = order(b, a);
+    let is_better = if greatest {
+        order.is_gt()
+    } else {
+        order.is_lt()
+    };
+    if b.is_null() {
+        a
+    } else if a.is_null() || is_better {
+        b
+    } else {
+        a
+    }
+}
+
+/// The least value or the greatest one; NULL where there is none.
+fn best<'a, C: Columns>(
+    terms: &'a Terms,
+    x: ExprId,
+    greatest: bool,
+    rows: &'a [C],
+) -> Result<View<'a>, Range>
+    requires there { HasExpr terms.now x }
+    requires alone { All (λ r. C.group r ≡ []) rows.now }
+    ensures { outcome result ≡ of_present (λ vs. Some (bound.best (is_better greatest) vs))
+        (expr terms.now x) (map C.values rows.now) }
+{
+    let mut found = View::Null;
+    for row in rows {
+        found = better(greatest, found, value_alone(terms, x, row)?);
+    }
+    Ok(found)
+}
+
+/// What a function gives of the values of an expression on these rows.
+fn over_values<'a, C: Columns>(
+    terms: &'a Terms,
+    function: Function,
+    x: ExprId,
+    rows: &'a [C],
+) -> Result<View<'a>, Range>
+    requires there { HasExpr terms.now x }
+    requires alone { All (λ r. C.group r ≡ []) rows.now }
+    requires countable { length rows.now < 2 ^ 63 }
+    ensures { outcome result ≡ of_present (bound.aggregate (plain_function function))
+        (expr terms.now x) (map C.values rows.now) }
+{
+    match function {
+        Function::Count => count(terms, x, rows),
+        Function::Sum => sum(terms, x, rows),
+        Function::Min => best(terms, x, false, rows),
+        Function::Max => best(terms, x, true, rows),
+    }
+}
+
+/// What an aggregate of the terms gives over these rows: COUNT(*) counts them, the others take the values of their
+/// operand that are not NULL (ISO/IEC 9075-2:2011, 10.9). `Range` where a sum, the count of the rows or a number
+/// inside an operand leaves 64 bits. It takes no memory.
+pub fn over_rows<'a, C: Columns>(
+    terms: &'a Terms,
+    which: Aggregate,
+    rows: &'a [C],
+) -> Result<View<'a>, Range>
+    requires there { HasOperand terms.now which }
+    requires alone { All (λ r. C.group r ≡ []) rows.now }
+    ensures { (row : pure.Row) → outcome result ≡ bound.eval (map C.values rows.now) row (tree_of terms.now which) }
+{
+    let Ok(all) = i64::try_from(rows.len()) else {
+        return Err(Range);
+    };
+    match which {
+        Aggregate::Rows => Ok(View::Int(all)),
+        Aggregate::Over(function, x) => over_values(terms, function, x, rows),
+    }
+}

@@ -1,0 +1,157 @@
+//! What a query shows of its rows, or of their groups.
+ghost use Rattle.std.specs.Prelude.{◌≡◌, ◌∷◌, [], All, map, option_map};
+ghost use Rattle.tql_spec.specs.Query.{alone, groups_by, of_group, scopes};
+ghost use Rattle.tql_spec.specs.QueryLaws.{NamesGroups, shown};
+ghost use Rattle.tql_expr.specs.Evaluated.{Evaluated, behind};
+ghost use Rattle.tql_expr.specs.Meaning.{cond, expr, HasCond, HasExpr};
+ghost use Rattle.tql_exec_join.specs.Bags.{GivesBag};
+ghost use Rattle.tql_value.specs.Views.{rows_of};
+ghost use Rattle.tql_exec_group.specs.Runs.{AreSorted};
+
+use crate::group::Group;
+use crate::runs::{run_length, sort_by_columns};
+use tql_exec_join::joined::Joined;
+use tql_expr::terms::{CondId, ExprId, Terms};
+use tql_expr::values::values_on;
+use tql_memory::Memory;
+use tql_value::refusal::Refusal;
+use tql_value::value::Value;
+
+/// Adds the values of the items where the row passes the conjuncts.
+fn add_row(
+    memory: Memory,
+    terms: &Terms,
+    having: &[CondId],
+    items: &[ExprId],
+    row: &Joined<'_>,
+    made: &mut Vec<Vec<Value, Memory>, Memory>,
+) -> Result<(), Refusal>
+    requires having { All (HasCond terms.now) having.now }
+    requires items { All (HasExpr terms.now) items.now }
+    ensures { Evaluated (λ _. rows_of made.new.items) (behind (rows_of made.old.items)
+        (shown (map (cond terms.now) having.now) (map (expr terms.now) items.now) (alone row.now ∷ []))) result }
+{
+    if terms.passes(having, row)? {
+        let values = values_on(memory, terms, items, row)?;
+        made.push(values)?;
+    }
+    Ok(())
+}
+
+/// Adds the values of the items where the group of these rows passes the conjuncts.
+fn add_group(
+    memory: Memory,
+    terms: &Terms,
+    having: &[CondId],
+    items: &[ExprId],
+    rows: &[Joined<'_>],
+    made: &mut Vec<Vec<Value, Memory>, Memory>,
+) -> Result<(), Refusal>
+    requires having { All (HasCond terms.now) having.now }
+    requires items { All (HasExpr terms.now) items.now }
+    ensures { Evaluated (λ _. rows_of made.new.items) (behind (rows_of made.old.items)
+        (shown (map (cond terms.now) having.now) (map (expr terms.now) items.now) (of_group rows.now ∷ []))) result }
+{
+    let group = Group { rows };
+    if terms.passes(having, &group)? {
+        let values = values_on(memory, terms, items, &group)?;
+        made.push(values)?;
+    }
+    Ok(())
+}
+
+/// The values for each row by itself.
+fn show_rows(
+    memory: Memory,
+    terms: &Terms,
+    having: &[CondId],
+    items: &[ExprId],
+    rows: &[Joined<'_>],
+) -> Result<Vec<Vec<Value, Memory>, Memory>, Refusal>
+    requires having { All (HasCond terms.now) having.now }
+    requires items { All (HasExpr terms.now) items.now }
+    ensures { Evaluated (λ v. rows_of v.items)
+        (shown (map (cond terms.now) having.now) (map (expr terms.now) items.now) (map alone rows.now)) result }
+{
+    let mut made = Vec::new(memory);
+    for row in rows {
+        add_row(memory, terms, having, items, row, &mut made)?;
+    }
+    Ok(made)
+}
+
+/// The values for all rows as one group.
+fn show_all(
+    memory: Memory,
+    terms: &Terms,
+    having: &[CondId],
+    items: &[ExprId],
+    rows: &[Joined<'_>],
+) -> Result<Vec<Vec<Value, Memory>, Memory>, Refusal>
+    requires having { All (HasCond terms.now) having.now }
+    requires items { All (HasExpr terms.now) items.now }
+    ensures { Evaluated (λ v. rows_of v.items)
+        (shown (map (cond terms.now) having.now) (map (expr terms.now) items.now) (of_group rows.now ∷ [])) result }
+{
+    let mut made: Vec<Vec<Value, Memory>, Memory> = Vec::new(memory);
+    add_group(memory, terms, having, items, rows, &mut made)?;
+    Ok(made)
+}
+
+/// The values for each run of rows that have one tuple in these columns.
+fn show_runs(
+    memory: Memory,
+    terms: &Terms,
+    columns: &[usize],
+    having: &[CondId],
+    items: &[ExprId],
+    rows: &[Joined<'_>],
+) -> Result<Vec<Vec<Value, Memory>, Memory>, Refusal>
+    requires having { All (HasCond terms.now) having.now }
+    requires items { All (HasExpr terms.now) items.now }
+    requires sorted { AreSorted columns.now rows.now }
+    ensures { Evaluated (λ v. rows_of v.items)
+        (shown (map (cond terms.now) having.now) (map (expr terms.now) items.now)
+        (map of_group (groups_by columns.now rows.now))) result }
+{
+    let mut made = Vec::new(memory);
+    let mut start = 0;
+    while start < rows.len() {
+        let left = &rows[start..];
+        let run = &left[..run_length(columns, left)];
+        add_group(memory, terms, having, items, run, &mut made)?;
+        start += run.len();
+    }
+    Ok(made)
+}
+
+/// The values of the items for each row that passes the conjuncts of HAVING; in a grouped query for each group: of
+/// the rows that have one tuple in the grouping columns, NULL like NULL, or of all rows where no column is named
+/// (ISO/IEC 9075-2:2011, 7.9, 7.10, 7.12). The rows change their places: they are sorted by the grouping columns.
+/// Refused where an evaluation that is reached leaves 64 bits, or for memory.
+pub fn show(
+    memory: Memory,
+    terms: &Terms,
+    grouping: Option<&[usize]>,
+    having: &[CondId],
+    items: &[ExprId],
+    rows: &mut [Joined<'_>],
+) -> Result<Vec<Vec<Value, Memory>, Memory>, Refusal>
+    requires having { All (HasCond terms.now) having.now }
+    requires items { All (HasExpr terms.now) items.now }
+    requires grouped { NamesGroups (option_map (λ g. g.now) grouping)
+        (map (cond terms.now) having.now) (map (expr terms.now) items.now) }
+    ensures { GivesBag (λ v. rows_of v.items)
+        (shown (map (cond terms.now) having.now) (map (expr terms.now) items.now)
+        (scopes (option_map (λ g. g.now) grouping.entry) rows.old)) result }
+{
+    tql_spec::groups_keep_no_order();
+    let Some(columns) = grouping else {
+        return show_rows(memory, terms, having, items, rows);
+    };
+    if columns.is_empty() {
+        return show_all(memory, terms, having, items, rows);
+    }
+    sort_by_columns(columns, rows);
+    show_runs(memory, terms, columns, having, items, rows)
+}

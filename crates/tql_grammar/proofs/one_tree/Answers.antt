@@ -1,5 +1,0 @@
-use Rattle.tql_grammar.proofs.StatementLaws.{spells_once}
-use Rattle.tql_grammar.proofs.one_tree.Goals as goal
-
-pub returns : goal.returns
-returns c = spells_once

@@ -1,0 +1,46 @@
+//! Where in a script a byte stands.
+ghost use Rattle.std.specs.Prelude.{◌≡◌};
+ghost use Rattle.tql_spec.specs.Script as script;
+ghost use Rattle.tql_lex.specs.Cutting.{state_of};
+
+/// Where a byte stands, told by the bytes before it.
+#[derive(Clone, Copy)]
+pub(crate) enum ScanState {
+    Outside,
+    AfterDash,
+    InText,
+    InName,
+    InComment,
+}
+
+/// The place behind a byte that opens or closes nothing but a text or a quoted name.
+fn opened_by(byte: u8) -> ScanState
+    ensures { state_of result ≡ script.opened_by byte }
+{
+    match byte {
+        b'\'' => ScanState::InText,
+        b'"' => ScanState::InName,
+        _ => ScanState::Outside,
+    }
+}
+
+/// The place behind this byte.
+pub(crate) fn state_after(place: ScanState, byte: u8) -> ScanState
+    ensures { state_of result ≡ script.state_after (state_of place) byte }
+{
+    match (place, byte) {
+        (ScanState::Outside, b'-') => ScanState::AfterDash,
+        (ScanState::AfterDash, b'-') => ScanState::InComment,
+        (ScanState::Outside | ScanState::AfterDash, _) => opened_by(byte),
+        (ScanState::InText, b'\'') | (ScanState::InName, b'"') | (ScanState::InComment, b'\n') =>
+            ScanState::Outside,
+        (ScanState::InText | ScanState::InName | ScanState::InComment, _) => place,
+    }
+}
+
+/// Whether a `;` at this place ends a statement.
+pub(crate) fn can_end(place: ScanState) -> bool
+    ensures { result ≡ script.can_end (state_of place) }
+{
+    matches!(place, ScanState::Outside | ScanState::AfterDash)
+}

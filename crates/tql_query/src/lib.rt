@@ -1,4 +1,0 @@
-//! Reading queries.
-#![tactic(auto)]
-
-pub mod queries;

@@ -1,6 +1,0 @@
-pub mod Changes
-pub mod Views
-pub mod Marks
-pub mod Held
-pub mod Entries
-pub mod Readings

@@ -1,9 +1,0 @@
-// The versions of one table: current rows side by side, closed ones behind them, and what the open transaction did.
-#![tactic(auto)]
-
-mod entries;
-mod kept;
-mod readings;
-pub mod rows;
-mod rows_readings;
-pub mod version;

@@ -1,4 +1,0 @@
-// Which statements run so far.
-#![tactic(auto)]
-
-pub mod running;

@@ -1,7 +1,0 @@
-pub mod ChainLaws
-pub mod FromLaws
-pub mod QuestionLaws
-pub mod ReferenceLaws
-pub mod ScopeLaws
-pub mod Sequences
-pub mod ShownLaws

@@ -1,0 +1,239 @@
+-- Which versions the answers of a reading name.
+use Rattle.std.proofs.Common.{◌≡◌, ◌<◌, ℕ, zero, suc, ◌+◌, Bool, true, false, cond, List, [], ◌∷◌, ◌++◌, map, filter}
+use Rattle.std.proofs.Common.{get_or, length, append-nil, refl, sym, ap, subst, ◌∙◌, arith, inl, inr}
+use Rattle.std.specs.Prelude.{All, nat_lt, nat_eq, slice_get, Some, if◌then◌else◌}
+use Rattle.std.specs.List.{sum_by}
+use Rattle.std.proofs.lemmas.Bool.Decides.{nat_tests}
+use Rattle.std.proofs.lemmas.List.{length-map}
+use Rattle.std.proofs.lemmas.List.Sums.{sum_by-cons}
+use Rattle.tql_spec.proofs.Bags.{sum-map, sum-filter, same-trans, same-map}
+use Rattle.tql_spec.proofs.MemberLists.{in_either, in_image, in_kept, in_map}
+use Rattle.tql_spec.proofs.Members.{by_bool}
+use Rattle.tql_spec.specs.Bag.{SameBag, In}
+use Rattle.tql_spec.specs.Definition as definition
+use Rattle.tql_index.specs.Entry.{Entry}
+use Rattle.tql_store_rows.specs.Changes.{alive, nothing}
+use Rattle.tql_store_rows.specs.TableModel.{TableModel, versions}
+use Rattle.tql_store_rows.specs.Readings.{Answer, Names, NamesOnce, IsReading, AreEnded, asked, is_answer, ids_sought}
+use Rattle.tql_store_rows.specs.Readings.{answer_of, version_shown, answers_from, numbered, placed}
+use Rattle.tql_store_rows.specs.Views.{versions_of}
+use Rattle.tql_store_rows.specs.declared.kept.Kept.{Kept}
+use Rattle.tql_store_rows.specs.declared.readings.When.{When}
+use Rattle.tql_store_rows.specs.declared.readings.When.TheVariants.{Now}
+use Rattle.tql_store_rows.specs.declared.version.Version.{Version}
+use Rattle.tql_store_rows.proofs.Answering.{all_answers, answers-append}
+use Rattle.tql_store_rows.proofs.Sought.{same-list, none_current}
+
+-- ---- the versions
+
+asked-alive : (when : When) (n : ℕ) (vs : List definition.Version)
+    → map (λ (a : Answer). a.version) (answers_from n when vs) ≡ filter (asked when) (filter alive vs)
+asked-alive when n [] = refl
+asked-alive when n (v ∷ vs) = by_bool (alive v)
+    (λ e. rw e (chosen (asked when v) (asked-alive when (n + 1) vs)))
+    (λ e. rw e (asked-alive when (n + 1) vs))
+  where
+    chosen : (b : Bool) → map (λ (a : Answer). a.version) (answers_from (n + 1) when vs) ≡ filter (asked when)
+        (filter alive vs)
+        → map (λ (a : Answer). a.version) (cond b (record {
+          id = n;
+          version = v;
+        } ∷ answers_from (n + 1) when vs) (answers_from (n + 1) when vs)) ≡ cond b
+        (v ∷ filter (asked when) (filter alive vs)) (filter (asked when) (filter alive vs))
+    chosen true later = ap (λ us. v ∷ us) later
+    chosen false later = later
+
+versions-shown : (found : List Version)
+    → map version_shown found ≡ map (λ (a : Answer). a.version) (map answer_of found)
+versions-shown [] = refl
+versions-shown (s ∷ found) = ap (λ us. version_shown s ∷ us) (versions-shown found)
+
+pub shown-now : (when : When) (vs : List definition.Version) (found : List Version)
+    → map answer_of found ≡ answers_from 0 when vs → map version_shown found ≡ filter (asked when) (filter alive vs)
+shown-now when vs found e = versions-shown found ∙ ap (map (λ (a : Answer). a.version)) e ∙ asked-alive when 0 vs
+
+shown-bag : (when : When) (vs : List definition.Version) (found : List Version)
+    → SameBag (map answer_of found) (answers_from 0 when vs)
+    → SameBag (map version_shown found) (filter (asked when) (filter alive vs))
+shown-bag when vs found h =
+    same-trans (same-list (versions-shown found))
+    (same-trans (same-map (λ (a : Answer). a.version) h) (same-list (asked-alive when 0 vs)))
+
+-- ---- their ids
+
+abbrev NamesAnswer : List definition.Version → Answer → Type 0
+NamesAnswer vs a = slice_get vs a.id ≡ Some a.version
+
+in_at : {X : Type 0} (xs : List X) (k : ℕ) (d : X) → k < length xs → In (get_or xs k d) xs
+in_at [] k d l = absurd (omega (arith, l))
+in_at (x ∷ xs) zero d l = inl refl
+in_at (x ∷ xs) (suc k) d l = inr (in_at xs k d (omega (arith, l)))
+
+all_named : (vs : List definition.Version) (found : List Version)
+    → ((a : Answer) → In a (map answer_of found) → NamesAnswer vs a) → All (Names vs) found
+all_named vs found h =
+    λ k d l. h (answer_of (get_or found k d)) (in_map answer_of (get_or found k d) found (in_at found k d l))
+
+numbered_named : (all vs : List definition.Version) (n : ℕ)
+    → ((k : ℕ) (v : definition.Version) → slice_get vs k ≡ Some v → slice_get all (n + k) ≡ Some v) → (a : Answer)
+    → In a (numbered n vs) → NamesAnswer all a
+numbered_named all [] n at a m = absurd m
+numbered_named all (v ∷ vs) n at a (inl e) = subst (λ x. NamesAnswer all x) (sym e) (ap (slice_get all) (omega arith)
+    ∙ at 0 v refl)
+numbered_named all (v ∷ vs) n at a (inr m) = numbered_named all vs (n + 1) (λ k u g. ap (slice_get all) (omega arith)
+    ∙ at (suc k) u g) a m
+
+get_left : (us vs : List definition.Version) (k : ℕ) (v : definition.Version) → slice_get us k ≡ Some v
+    → slice_get (us ++ vs) k ≡ Some v
+get_left [] vs k v e = cc
+get_left (u ∷ us) vs zero v e = e
+get_left (u ∷ us) vs (suc k) v e = get_left us vs k v e
+
+get_here : (vs : List definition.Version) (k : ℕ) (d : definition.Version) → k < length vs
+    → slice_get vs k ≡ Some (get_or vs k d)
+get_here [] k d l = absurd (omega (arith, l))
+get_here (v ∷ vs) zero d l = refl
+get_here (v ∷ vs) (suc k) d l = get_here vs k d (omega (arith, l))
+
+get_right : (us vs : List definition.Version) (k : ℕ) (d : definition.Version) → k < length vs
+    → slice_get (us ++ vs) (length us + k) ≡ Some (get_or vs k d)
+get_right [] vs k d l = let e : 0 + k ≡ k = omega arith in ap (slice_get vs) e ∙ get_here vs k d l
+get_right (u ∷ us) vs k d l = let e : suc (length us) + k ≡ suc (length us + k) =
+    omega arith in ap (slice_get (u ∷ (us ++ vs))) e ∙ get_right us vs k d l
+
+current_named : (when : When) (us vs : List definition.Version) (a : Answer) → In a (answers_from 0 when us)
+    → NamesAnswer (us ++ vs) a
+current_named when us vs a m = numbered_named (us ++ vs) us 0 (λ k v e. ap (slice_get (us ++ vs)) (omega arith)
+    ∙ get_left us vs k v e) a
+    (in_kept (λ (x : Answer). is_answer when x.version) a (numbered 0 us) m).0
+
+placed_named : (us vs : List definition.Version) (numbers : List ℕ) (a : Answer) → In a (placed (length us) vs numbers)
+    → NamesAnswer (us ++ vs) a
+placed_named us vs numbers a m =
+    let i = in_image (λ n. record {
+      id = length us + n;
+      version = get_or vs n nothing;
+    }) a (filter (λ n. nat_lt n (length vs)) numbers) m in
+    let p = in_kept (λ n. nat_lt n (length vs)) i.0 numbers i.1 in
+    subst (λ x. NamesAnswer (us ++ vs) x) (sym i.2) (get_right us vs i.0 nothing (within i.0 (length vs) p.1))
+  where
+    within : (n l : ℕ) → nat_lt n l ≡ true → n < l
+    within n l e = grind (arith, nat_tests)
+
+-- what stands in the list of the current answers names a version of the table
+pub names-now : (when : When) (us vs : List definition.Version) (found : List Version)
+    → map answer_of found ≡ answers_from 0 when us → All (Names (us ++ vs)) found
+names-now when us vs found e =
+    all_named (us ++ vs) found (λ a m. current_named when us vs a (subst (λ as'. In a as') e m))
+
+names-all : (when : When) (us vs : List definition.Version) (numbers : List ℕ) (found : List Version)
+    → map answer_of found ≡ answers_from 0 when us ++ placed (length us) vs numbers → All (Names (us ++ vs)) found
+names-all when us vs numbers found e =
+    all_named (us ++ vs) found
+    (λ a m. elim (in_either a (answers_from 0 when us) (placed (length us) vs numbers) (subst (λ as'. In a as') e m)) [
+      | inl x ↦ current_named when us vs a x
+      | inr x ↦ placed_named us vs numbers a x
+    ])
+
+-- ---- each once
+
+abbrev weight_at : When → ℕ → Answer → ℕ
+weight_at when k a = cond (is_answer when a.version) (cond (nat_eq a.id k) 1 0) 0
+
+weight_other : (b c : Bool) → c ≡ false → cond b (cond {A = ℕ} c 1 0) 0 ≡ 0
+weight_other true c e = ap (λ (x : Bool). cond {A = ℕ} x 1 0) e
+weight_other false c e = refl
+
+none_lower : (when : When) (k n : ℕ) (vs : List definition.Version) → k < n
+    → sum_by (weight_at when k) (numbered n vs) ≡ 0
+none_lower when k n [] l = refl
+none_lower when k n (v ∷ vs) l = omega (
+  arith,
+  sum_by-cons (weight_at when k) (record { id = n; version = v }) (numbered (n + 1) vs),
+  weight_other (is_answer when v) (nat_eq n k) (apart n k l),
+  none_lower when k (n + 1) vs (omega (arith, l)),
+)
+  where
+    apart : (n k : ℕ) → k < n → nat_eq n k ≡ false
+    apart n k l = grind (arith, nat_tests)
+
+once : (when : When) (n i k : ℕ) (vs : List definition.Version) (v : definition.Version) → slice_get vs i ≡ Some v
+    → k ≡ n + i
+    → sum_by (weight_at when k) (numbered n vs) ≡ (if is_answer when v then 1 else 0)
+once when n i k [] v at e = cc
+once when n zero k (x ∷ vs) v at e =
+    omega (
+      arith,
+      sum_by-cons (weight_at when k) (record {
+        id = n;
+        version = x;
+      }) (numbered (n + 1) vs),
+      first,
+      none_lower when k (n + 1) vs (omega (arith, e)),
+    )
+  where
+    same : {x v : definition.Version} → Some x ≡ Some v → x ≡ v
+    same {x} {v} e = cc
+
+    itself : (n k : ℕ) → k ≡ n + 0 → nat_eq n k ≡ true
+    itself n k e = grind (arith, nat_tests)
+
+    first : weight_at when k (record { id = n; version = x }) ≡ (if is_answer when v then 1 else 0)
+    first = ap (λ b. cond (is_answer when x) (cond {A = ℕ} b 1 0) 0) (itself n k e)
+        ∙ ap (λ (u : definition.Version). cond {A = ℕ} (is_answer when u) 1 0) (same at)
+once when n (suc i) k (x ∷ vs) v at e = omega (
+  arith,
+  sum_by-cons (weight_at when k) (record { id = n; version = x }) (numbered (n + 1) vs),
+  weight_other (is_answer when x) (nat_eq n k) (apart n k (omega (arith, e))),
+  once when (n + 1) i k vs v at (omega (arith, e)),
+)
+  where
+    apart : (n k : ℕ) → n < k → nat_eq n k ≡ false
+    apart n k l = grind (arith, nat_tests)
+
+pub names-once : (when : When) (vs : List definition.Version) (found : List Version)
+    → SameBag (map answer_of found) (answers_from 0 when vs) → NamesOnce (asked when) vs found
+names-once when vs found h = λ i v at.
+    sym (sum-map answer_of (λ (a : Answer). cond {A = ℕ} (nat_eq a.id i) 1 0) found)
+    ∙ h.totals (λ (a : Answer). cond {A = ℕ} (nat_eq a.id i) 1 0)
+    ∙ sum-filter (λ (a : Answer). is_answer when a.version) (λ (a : Answer). cond {A = ℕ} (nat_eq a.id i) 1 0)
+    (numbered 0 vs)
+    ∙ once when 0 i i vs v at (omega arith)
+
+none_among : (when : When) (n : ℕ) (vs : List definition.Version)
+    → ((v : definition.Version) → In v vs → is_answer when v ≡ false) → answers_from n when vs ≡ []
+none_among when n [] h = refl
+none_among when n (v ∷ vs) h =
+    ap (λ b. cond b (record { id = n; version = v } ∷ answers_from (n + 1) when vs) (answers_from (n + 1) when vs))
+    (h v (inl refl)) ∙ none_among when (n + 1) vs (λ u m. h u (inr m))
+
+-- the current versions are those of the table, where no closed one is current
+pub once-now : (h : TableModel) (found : List Version) → AreEnded h → map answer_of found ≡ answers_from 0 Now h.current
+    → NamesOnce (asked Now) (versions h) found
+once-now h found l e =
+    names-once Now (versions h) found (same-list (e ∙ sym (append-nil (answers_from 0 Now h.current))
+    ∙ ap (λ as'. answers_from 0 Now h.current ++ as')
+    (sym (none_among Now (length h.current) h.closed (none_current h l))) ∙ answers-append Now h.current h.closed))
+
+-- ---- a reading
+
+reading : (when : When) (h : TableModel) (numbers : List ℕ) (found : List Version)
+    → map answer_of found ≡ answers_from 0 when h.current ++ placed (length h.current) h.closed numbers
+    → SameBag numbers (ids_sought when h.entries) → IsReading when h found
+reading when h numbers found e n = record {
+  bag = λ rest i s. shown-bag when (versions h) found (all_answers when h rest numbers (map answer_of found) e n i s);
+  ids = names-all when h.current h.closed numbers found e;
+  once = λ rest i s. names-once when (versions h) found (all_answers when h rest numbers (map answer_of found) e n i s);
+}
+
+-- a reading from the parts of a table
+pub reading_done : (when : When) (h : TableModel) (cs ks : List Kept) (es : List Entry) (numbers : List ℕ)
+    (first found : List Version) → map answer_of first ≡ answers_from 0 when (versions_of cs)
+    → map answer_of found ≡ map answer_of first ++ placed (length cs) (versions_of ks) numbers
+    → SameBag numbers (ids_sought when es) → h.current ≡ versions_of cs → h.closed ≡ versions_of ks → h.entries ≡ es
+    → IsReading when h found
+reading_done when h cs ks es numbers first found a b n p q r = reading when h numbers found
+    (b ∙ ap (λ xs. xs ++ placed (length cs) (versions_of ks) numbers) (a ∙ ap (answers_from 0 when) (sym p))
+    ∙ ap (λ l. answers_from 0 when h.current ++ placed l (versions_of ks) numbers) (sym (ap length p ∙ simp length-map))
+    ∙ ap (λ vs. answers_from 0 when h.current ++ placed (length h.current) vs numbers) (sym q))
+    (subst (λ xs. SameBag numbers (ids_sought when xs)) (sym r) n)

@@ -1,0 +1,15 @@
+use Rattle.std.proofs.Common.{◌≡◌, ◌≤◌, ◌<◌, ℕ, length, filter, get_or}
+use Rattle.tql_spec.specs.Bag.{SameBag}
+use Rattle.tql_store_rows.specs.Changes.{is_current}
+use Rattle.tql_store_rows.specs.Views.{versions_of, open_at}
+use Rattle.tql_store_rows.proofs.kept.sweep.Given as goal
+
+abbrev pub invariant-loop-place : goal.invariant-loop-place
+invariant-loop-place l = record {
+  bag : SameBag (filter is_current (versions_of l.versions.items))
+      (filter is_current (versions_of l.initial.versions.items));
+  shorter : length l.versions.items ≤ length l.initial.versions.items;
+  listed : (k : ℕ) → k < length l.versions.items → (j : ℕ) → j < l.place-index → get_or l.places j 0 ≡ k
+      → open_at l.versions.items k;
+  kept : (k : ℕ) → k < length l.versions.items → open_at l.initial.versions.items k → open_at l.versions.items k;
+}

@@ -1,0 +1,49 @@
+use Rattle.std.proofs.Common.{vec_capacity, rules, arith, ap, ◌∙◌}
+use Rattle.std.proofs.Math.Facts.{to_z-of_z}
+use Rattle.std.proofs.lemmas.List.{with_items_is}
+use Rattle.std.specs.Vec.{with_items}
+use Rattle.tql_store_rows.specs.TableModel.{TableModel}
+use Rattle.tql_store_rows.specs.Views.{versions_of}
+use Rattle.tql_store_rows.proofs.Done.{commit_done}
+use Rattle.tql_store_rows.proofs.Resting.{commit-rest, commit-versions}
+use Rattle.tql_store_rows.proofs.versions.Versions.commit.Goals as goal
+
+pub returns-clause-rest : goal.returns-clause-rest
+returns-clause-rest g c =
+    let all = with_items_is c.self.inside.current c.retire_kept.new.versions (search rules) in
+    commit-rest c.args.moment c.args.self.now _ c.requires
+    (commit_done c.args.moment _ c.args.self.now c.self.inside.keeps _ _ _ _ _ c.deref_mut.result.now
+    (with_items c.self.inside.current c.retire_kept.new.versions).items c.sweep.new.versions.items
+    c.sweep-2.new.versions.items c.retire_kept.new.closed.items c.deref.result.now c.deref-2.result.now
+    c.deref-3.result.now c.requires
+    (to_z-of_z c.ranges.moment) (search rules) (search rules) (search rules) (search rules) (search rules)
+    (ap (λ ks. versions_of ks) all ∙ c.retire_kept.ensures.left) (search rules)
+    (record { bag = c.sweep.ensures.bag; shorter = c.sweep.ensures.shorter; left = c.sweep.ensures.left })
+    (record { bag = c.sweep-2.ensures.bag; shorter = c.sweep-2.ensures.shorter; left = c.sweep-2.ensures.left })
+    (search rules) (let k = c.retire_kept.new.closed.ok in omega (arith, k.0, k.1)) (search rules) (search rules)
+    (search rules))
+
+pub returns-clause-versions : goal.returns-clause-versions
+returns-clause-versions g c =
+    let after : TableModel = record {
+      keeps = c.self.inside.keeps;
+      current = versions_of c.sweep-2.new.versions.items;
+      base = c.len-self-inside.result;
+      ended = c.clear.new.self.items;
+      dead = c.clear-2.new.self.items;
+      closed = versions_of c.retire_kept.new.closed.items;
+      room = vec_capacity c.retire_kept.new.closed;
+      entries = g.I.IntervalIndex.entries c.self.inside.index;
+    } in
+    let all = with_items_is c.self.inside.current c.retire_kept.new.versions (search rules) in
+    commit-versions c.args.moment c.args.self.now after c.requires
+    (commit_done c.args.moment _ c.args.self.now after.keeps after.base after.room after.ended after.dead
+    after.entries c.deref_mut.result.now (with_items c.self.inside.current c.retire_kept.new.versions).items
+    c.sweep.new.versions.items c.sweep-2.new.versions.items c.retire_kept.new.closed.items c.deref.result.now
+    c.deref-2.result.now c.deref-3.result.now c.requires
+    (to_z-of_z c.ranges.moment) (search rules) (search rules) (search rules) (search rules) (search rules)
+    (ap (λ ks. versions_of ks) all ∙ c.retire_kept.ensures.left) (search rules)
+    (record { bag = c.sweep.ensures.bag; shorter = c.sweep.ensures.shorter; left = c.sweep.ensures.left })
+    (record { bag = c.sweep-2.ensures.bag; shorter = c.sweep-2.ensures.shorter; left = c.sweep-2.ensures.left })
+    (search rules) (let k = c.retire_kept.new.closed.ok in omega (arith, k.0, k.1)) (search rules) (search rules)
+    (search rules))

@@ -1,0 +1,6 @@
+pub mod Changes
+pub mod Views
+pub mod Marks
+pub mod TableModel
+pub mod Entries
+pub mod Readings

@@ -1,0 +1,109 @@
+-- What a reading answers: which versions it asks for, and their ids.
+use Rattle.std.specs.Prelude.{◌≡◌, ℕ, ◌+◌, Bool, false, ◌&&◌, List, [], ◌∷◌, map, filter, length, ℤ, pos, ◌+ℤ◌}
+use Rattle.std.specs.Prelude.{int_le, int_lt, nat_lt, nat_eq, count_by, slice_get, slice_index_or, Some, All, ◌<ℤ◌}
+use Rattle.std.specs.Prelude.{if◌then◌else◌}
+use Rattle.std.specs.Int.{int_min}
+use Rattle.tql_spec.specs.Bag.{SameBag, In}
+use Rattle.tql_spec.specs.Calendar.{high}
+use Rattle.tql_spec.specs.Definition as definition
+use Rattle.tql_spec.specs.Period.{Period, holds as held, share_a_point}
+use Rattle.tql_value.specs.Views.{datum_of_value}
+use Rattle.tql_index.specs.Entry.{Entry}
+use Rattle.tql_store_rows.specs.declared.readings.When.{When}
+use Rattle.tql_store_rows.specs.declared.readings.When.TheVariants.{Now, AsOf, FromTo, Between}
+use Rattle.tql_store_rows.specs.declared.version.Version.{Version}
+use Rattle.tql_store_rows.specs.Changes.{alive, is_current, holds, nothing}
+use Rattle.tql_store_rows.specs.TableModel.{TableModel, IsIndexed, live, versions}
+
+-- ---- questions
+
+-- whether a question asks for a version
+abbrev pub asked : When → definition.Version → Bool
+asked Now v = is_current v
+asked (AsOf t) v = holds t v
+asked (FromTo a b) v = int_lt a b && (int_lt v.row.start b && int_lt a v.end)
+asked (Between a b) v = int_le a b && (int_le v.row.start b && int_lt a v.end)
+
+-- whether a version holds a moment and is asked for
+abbrev pub is_answer : When → definition.Version → Bool
+is_answer when v = alive v && asked when v
+
+-- whether a period shares a point with the one between two ends, if these rise
+abbrev pub meets : ℤ → ℤ → Period → Bool
+meets a b x = int_lt a b && share_a_point x (record { start = a; end = b })
+
+-- whether a question asks the index for a period; of closed versions it asks for those of the periods that it asks for
+abbrev pub sought : When → Period → Bool
+sought Now x = false
+sought (AsOf t) x = held x t
+sought (FromTo a b) x = meets a b x
+sought (Between a b) x = meets a (int_min b high +ℤ pos 1) x
+
+-- the period of a version
+abbrev pub period_of : definition.Version → Period
+period_of v = record { start = v.row.start; end = v.end }
+
+-- the numbers of the entries of these periods
+abbrev pub ids_sought : When → List Entry → List ℕ
+ids_sought when es = map (λ (e : Entry). e.id) (filter (λ e. sought when e.period) es)
+
+-- the numbers of those that share a point with the period between two ends, if these rise
+abbrev pub ids_between : ℤ → ℤ → List Entry → List ℕ
+ids_between a b es = map (λ (e : Entry). e.id) (filter (λ e. meets a b e.period) es)
+
+-- ---- answers
+
+-- a version and its id
+pub record Answer : Type 0 where
+  pub id : ℕ
+  pub version : definition.Version
+
+-- the version that a reading shows
+abbrev pub version_shown : Version → definition.Version
+version_shown s = record { row = record { cells = map datum_of_value s.row.now; start = s.start }; end = s.end }
+
+-- and its id with it
+abbrev pub answer_of : Version → Answer
+answer_of s = record { id = s.id; version = version_shown s }
+
+-- versions with their ids, the first under a number
+abbrev pub numbered : ℕ → List definition.Version → List Answer
+numbered n [] = []
+numbered n (v ∷ vs) = record { id = n; version = v } ∷ numbered (n + 1) vs
+
+-- those that are asked for
+abbrev pub answers_from : ℕ → When → List definition.Version → List Answer
+answers_from n when vs = filter (λ (a : Answer). is_answer when a.version) (numbered n vs)
+
+-- the versions at these places, each with the id that is so much higher; numbers beyond are no places
+abbrev pub placed : ℕ → List definition.Version → List ℕ → List Answer
+placed base vs numbers = map (λ n. record {
+  id = base + n;
+  version = slice_index_or vs n nothing;
+}) (filter (λ n. nat_lt n (length vs)) numbers)
+
+-- an answer's id names its version
+abbrev pub Names : List definition.Version → Version → Type 0
+Names vs s = slice_get vs s.id ≡ Some (version_shown s)
+
+-- each version that is asked for is named once, no other at all
+abbrev pub NamesOnce : (definition.Version → Bool) → List definition.Version → List Version → Type 0
+NamesOnce test vs found = (i : ℕ) (v : definition.Version) → slice_get vs i ≡ Some v
+    → count_by (λ (s : Version). nat_eq s.id i) found ≡ (if alive v && test v then 1 else 0)
+
+-- ---- readings of a table
+
+-- a question asks for a closed version where it seeks its period in the index
+abbrev pub Seeks : When → List definition.Version → Type 0
+Seeks when vs = (v : definition.Version) → In v vs → sought when (period_of v) ≡ is_answer when v
+
+-- the closed versions of a table ended before the highest moment
+abbrev pub AreEnded : TableModel → Type 0
+AreEnded h = (v : definition.Version) → In v h.closed → v.end <ℤ high
+
+-- a reading answers what a question asks for, where the index holds the closed versions
+pub record IsReading (when : When) (h : TableModel) (found : List Version) : Type 0 where
+  pub bag : (rest : List Entry) → IsIndexed h rest → Seeks when h.closed
+      → SameBag (map version_shown found) (filter (asked when) (live h))
+  pub ids : All (Names (versions h)) found
+  pub once : (rest : List Entry) → IsIndexed h rest → Seeks when h.closed → NamesOnce (asked when) (versions h) found

@@ -1,0 +1,4 @@
+pub mod Mixtures
+pub mod Tails
+pub mod TestEnds
+pub mod TestWords

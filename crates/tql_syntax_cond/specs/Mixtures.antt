@@ -1,0 +1,50 @@
+-- What the code's tests or expressions, and conditions or expressions, stand for.
+use Rattle.std.specs.Prelude.{Bool, true, false, ◌&&◌, Option, Some, None}
+use Rattle.tql_spec.specs.Syntax as tree
+use Rattle.tql_syntax_grammar.specs.ReadingExpressions as reading
+use Rattle.tql_syntax_tree.specs.Expressions.{boxed_expr_of}
+use Rattle.tql_syntax_tree.specs.Conditions.{boxed_test_of, boxed_cond_of}
+use Rattle.tql_syntax_cond.specs.declared.conditions.Tested.{Tested}
+use Rattle.tql_syntax_cond.specs.declared.conditions.Tested.TheVariants as tested
+use Rattle.tql_syntax_cond.specs.declared.conditions.Mixed.{Mixed}
+use Rattle.tql_syntax_cond.specs.declared.conditions.Mixed.TheVariants as mixed
+
+-- a primary without a sign
+abbrev pub is_unsigned : tree.Signed → Bool
+is_unsigned (tree.Unsigned p) = true
+is_unsigned (tree.Positive p) = false
+is_unsigned (tree.Negative p) = false
+
+-- no factor
+abbrev pub has_no_factor : tree.MoreFactors → Bool
+has_no_factor tree.NoFactor = true
+has_no_factor (tree.TimesFactor s fs) = false
+
+-- no term
+abbrev pub has_no_term : tree.MoreTerms → Bool
+has_no_term tree.NoTerm = true
+has_no_term (tree.PlusTerm t ts) = false
+has_no_term (tree.MinusTerm t ts) = false
+
+-- one primary without a sign
+abbrev pub is_lone : tree.Sum → Bool
+is_lone (tree.Terms (tree.Factors s fs) ts) = has_no_term ts && (has_no_factor fs && is_unsigned s)
+
+-- the name of a primary that is a column reference
+abbrev pub column_in : tree.Primary → Option tree.Named
+column_in (tree.ColumnNamed r) = Some r
+column_in (tree.NumberLiteral ds) = None
+column_in (tree.TextLiteral t) = None
+column_in (tree.DateLiteral t) = None
+column_in (tree.TimestampLiteral t) = None
+column_in (tree.Enclosed e) = None
+column_in tree.CountStar = None
+column_in (tree.Over f e) = None
+
+abbrev pub tested_of : Tested → reading.Tested
+tested_of (tested.Test t) = reading.WholeTest (boxed_test_of t)
+tested_of (tested.Expr e) = reading.BareExpr (boxed_expr_of e)
+
+abbrev pub mixed_of : Mixed → reading.Mixed
+mixed_of (mixed.Cond c) = reading.WholeCondition (boxed_cond_of c)
+mixed_of (mixed.Expr e) = reading.WholeExpr (boxed_expr_of e)

@@ -1,0 +1,30 @@
+-- The word that begins a test behind its expression, and what stands behind the word.
+use Rattle.std.specs.Prelude.{false, codes, Option, Some, None}
+use Rattle.tql_spec.specs.Token.{Word}
+use Rattle.tql_spec.specs.Syntax.{Sum, Test}
+use Rattle.tql_syntax_grammar.specs.Outcome.{Parser, found, into, if_front}
+use Rattle.tql_syntax_grammar.specs.ReadingExpressions.{Tested, WholeTest, null_test_at, denied_over, between_over}
+use Rattle.tql_syntax_grammar.specs.ReadingExpressions.{in_over}
+use Rattle.tql_syntax_grammar.specs.ReadingExpressions.{period_test_over, as_named}
+use Rattle.tql_syntax_cond.specs.declared.conditions.TestWord.{TestWord}
+use Rattle.tql_syntax_cond.specs.declared.conditions.TestWord.TheVariants as word
+
+-- the word, or none
+abbrev pub test_word_at : Parser (Option TestWord)
+test_word_at =
+    if_front (Word (codes "IS")) (found (Some word.Is))
+    (if_front (Word (codes "NOT")) (found (Some word.Not))
+    (if_front (Word (codes "BETWEEN")) (found (Some word.Between))
+    (if_front (Word (codes "IN")) (found (Some word.In)) (found None))))
+
+-- what stands behind the word, which this expression stands before
+abbrev pub worded_over : Parser Sum → TestWord → Sum → Parser Test
+worded_over inner word.Is e ts = null_test_at e ts
+worded_over inner word.Not e ts = denied_over inner e ts
+worded_over inner word.Between e ts = between_over inner false e ts
+worded_over inner word.In e ts = in_over inner false e ts
+
+-- behind this expression and the word: its test; a relation or CONTAINS, or nothing, where there is no word
+abbrev pub behind_word_over : Parser Sum → Sum → Option TestWord → Parser Tested
+behind_word_over inner e (Some w) ts = into WholeTest (worded_over inner w e ts)
+behind_word_over inner e None ts = period_test_over inner e (as_named e) ts

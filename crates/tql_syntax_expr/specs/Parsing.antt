@@ -1,0 +1,26 @@
+-- What a rule of the parser reads.
+use Rattle.std.specs.Prelude.{◌≡◌, ◌≢◌, List, Result, Ok, Err}
+use Rattle.tql_spec.specs.Token.{Token}
+use Rattle.tql_syntax_grammar.specs.Outcome.{Outcome, Failed, Read}
+use Rattle.tql_syntax_expr.specs.declared.cursor.ParseError.{ParseError}
+use Rattle.tql_syntax_expr.specs.declared.cursor.ParseError.TheVariants.{OutOfMemory, NotInGrammar}
+use Rattle.tql_value.specs.declared.refusal.Refusal.{Refusal}
+use Rattle.tql_value.specs.declared.refusal.Refusal.TheVariants as refusal
+
+-- the refusal for an error
+abbrev pub refusal_for : ParseError → Refusal
+refusal_for OutOfMemory = refusal.OutOfMemory
+refusal_for NotInGrammar = refusal.NotAStatement
+
+-- the rule reads what the result shows; an error that is not of memory says that it reads nothing
+abbrev pub Reads : {A B : Type 0} → (A → B) → Outcome B → Result A ParseError → List Token → Type 0
+Reads view outcome (Ok a) new = outcome ≡ Read (view a) new
+Reads view outcome (Err e) new = e ≢ OutOfMemory → outcome ≡ Failed
+
+-- a result that shows nothing
+abbrev pub nothing : Unit {0} → Unit {0}
+nothing u = u
+
+-- a result that shows itself
+abbrev pub itself : {A : Type 0} → A → A
+itself a = a

@@ -1,0 +1,288 @@
+//! Reading tokens from the front.
+ghost use Rattle.std.specs.Prelude.{◌≡◌, map, length, option_map};
+ghost use Rattle.tql_spec.specs.Token as spec;
+ghost use Rattle.tql_lex.specs.Tokens.{token_of, symbol_of};
+ghost use Rattle.tql_syntax_grammar.specs.Outcome.{eat, expect, name_at, number_at, quote_at, eat_number, eat_quote};
+ghost use Rattle.tql_syntax_expr.specs.Parsing.{Reads, nothing};
+ghost use Rattle.tql_syntax_tree.specs.Expressions.{name_of, digits_of, content_of};
+ghost use Rattle.tql_syntax_grammar.specs.Outcome as spec_of;
+
+use std::alloc::{AllocError, AllocFailed};
+use std::marker::Model;
+use tql_lex::token::{Symbol, Token, TokenKind};
+use tql_syntax_tree::expression::Name;
+use tql_value::refusal::Refusal;
+
+/// Why a rule reads nothing.
+#[derive(Debug, Drop)]
+pub enum ParseError {
+    OutOfMemory,
+    NotInGrammar,
+}
+
+impl From<AllocError> for ParseError {
+    ghost use Rattle.std.specs.Prelude.{◌≡◌};
+    ghost use Rattle.tql_syntax_expr.specs.declared.cursor.ParseError.TheVariants.{OutOfMemory};
+
+    ghost from_gives = { λ _ e. e ≡ OutOfMemory };
+
+    fn from(_error: AllocError) -> ParseError {
+        ParseError::OutOfMemory
+    }
+}
+
+impl<T: Drop> From<AllocFailed<T>> for ParseError {
+    ghost use Rattle.std.specs.Prelude.{◌≡◌};
+    ghost use Rattle.tql_syntax_expr.specs.declared.cursor.ParseError.TheVariants.{OutOfMemory};
+
+    ghost from_gives = { λ _ e. e ≡ OutOfMemory };
+
+    fn from(_failed: AllocFailed<T>) -> ParseError {
+        ParseError::OutOfMemory
+    }
+}
+
+impl From<ParseError> for Refusal {
+    ghost use Rattle.std.specs.Prelude.{◌≡◌};
+    ghost use Rattle.tql_syntax_expr.specs.Parsing.{refusal_for};
+
+    ghost from_gives = { λ e r. r ≡ refusal_for e };
+
+    fn from(error: ParseError) -> Refusal {
+        match error {
+            ParseError::OutOfMemory => Refusal::OutOfMemory,
+            ParseError::NotInGrammar => Refusal::NotAStatement,
+        }
+    }
+}
+
+/// Whether a token is a name: a word that is not reserved, or a quoted name.
+fn is_name(token: &Token<'_>) -> bool
+    ensures { result ≡ spec_of.is_name (token_of token.now) }
+{
+    match token.kind {
+        TokenKind::Word => !token.is_reserved(),
+        TokenKind::QuotedName => true,
+        _ => false,
+    }
+}
+
+/// The tokens that are not read yet.
+#[derive(Drop)]
+pub struct Cursor<'t, 'a> {
+    rest: &'t [Token<'a>],
+}
+
+impl<'t, 'a> Model for Cursor<'t, 'a> {
+    ghost use Rattle.std.specs.Prelude.{List, map};
+    ghost use Rattle.tql_spec.specs.Token.{Token};
+    ghost use Rattle.tql_lex.specs.Tokens.{token_of};
+
+    ghost Value = { List Token };
+
+    ghost view = { λ c. map token_of c.rest.now };
+}
+
+impl<'t, 'a> Cursor<'t, 'a> {
+    /// A cursor before the first of these tokens.
+    pub fn new(rest: &'t [Token<'a>]) -> Cursor<'t, 'a>
+        ensures { result ≡ map token_of rest.now }
+    {
+        Cursor { rest }
+    }
+
+    /// How many tokens are left.
+    pub fn left(&self) -> usize
+        ensures { result ≡ length self.now }
+    {
+        self.rest.len()
+    }
+
+    /// Goes past the word, where it is in front; its letters are given in upper case.
+    pub fn eat_word(&mut self, word: &str) -> bool
+        ensures { eat (spec.Word word.now) self.old ≡ (result, self.new) }
+    {
+        match self.rest {
+            [first, rest @ ..] if first.is_word(word) => {
+                self.rest = rest;
+                true
+            }
+            _ => false,
+        }
+    }
+
+    /// Goes past the symbol, where it is in front.
+    pub fn eat_symbol(&mut self, symbol: Symbol) -> bool
+        ensures { eat (spec.Sign (symbol_of symbol)) self.old ≡ (result, self.new) }
+    {
+        match self.rest {
+            [first, rest @ ..] if first.is_sign(symbol) => {
+                self.rest = rest;
+                true
+            }
+            _ => false,
+        }
+    }
+
+    /// Goes past the word, which has to be in front; its letters are given in upper case.
+    #[tactic(auto, unfolding(tql_syntax_grammar::specs::Outcome::expect))]
+    pub fn expect_word(&mut self, word: &str) -> Result<(), ParseError>
+        ensures { Reads nothing (expect (spec.Word word.now) self.old) result self.new }
+    {
+        if self.eat_word(word) {
+            Ok(())
+        } else {
+            Err(ParseError::NotInGrammar)
+        }
+    }
+
+    /// Goes past the symbol, which has to be in front.
+    #[tactic(auto, unfolding(tql_syntax_grammar::specs::Outcome::expect))]
+    pub fn expect_symbol(&mut self, symbol: Symbol) -> Result<(), ParseError>
+        ensures { Reads nothing (expect (spec.Sign (symbol_of symbol)) self.old) result self.new }
+    {
+        if self.eat_symbol(symbol) {
+            Ok(())
+        } else {
+            Err(ParseError::NotInGrammar)
+        }
+    }
+
+    /// The name in front: a word that is not reserved, or a quoted name.
+    #[tactic(auto, unfolding(tql_syntax_grammar::specs::Outcome::name_at))]
+    pub fn name(&mut self) -> Result<Name<'a>, ParseError>
+        ensures { Reads name_of (name_at self.old) result self.new }
+    {
+        match self.rest {
+            [first, rest @ ..] if matches!(first.kind, TokenKind::Word) && !first.is_reserved() => {
+                self.rest = rest;
+                Ok(Name {
+                    text: first.text,
+                    is_quoted: false,
+                })
+            }
+            [first, rest @ ..] if matches!(first.kind, TokenKind::QuotedName) => {
+                self.rest = rest;
+                Ok(Name {
+                    text: first.text,
+                    is_quoted: true,
+                })
+            }
+            _ => Err(ParseError::NotInGrammar),
+        }
+    }
+
+    /// The digits of the number in front.
+    #[tactic(auto, unfolding(tql_syntax_grammar::specs::Outcome::number_at))]
+    pub fn number(&mut self) -> Result<&'a str, ParseError>
+        ensures { Reads digits_of (number_at self.old) result self.new }
+    {
+        match self.rest {
+            [first, rest @ ..] if matches!(first.kind, TokenKind::Number) => {
+                self.rest = rest;
+                Ok(first.text)
+            }
+            _ => Err(ParseError::NotInGrammar),
+        }
+    }
+
+    /// The text in front, in its quotes.
+    #[tactic(auto, unfolding(tql_syntax_grammar::specs::Outcome::quote_at))]
+    pub fn quote(&mut self) -> Result<&'a str, ParseError>
+        ensures { Reads content_of (quote_at self.old) result self.new }
+    {
+        match self.rest {
+            [first, rest @ ..] if matches!(first.kind, TokenKind::Quote) => {
+                self.rest = rest;
+                Ok(first.text)
+            }
+            _ => Err(ParseError::NotInGrammar),
+        }
+    }
+
+    /// Whether the word is in front; its letters are given in upper case.
+    pub fn begins_word(&self, word: &str) -> bool
+        ensures { result ≡ spec_of.begins (spec.Word word.now) self.now }
+    {
+        match self.rest {
+            [first, ..] => first.is_word(word),
+            [] => false,
+        }
+    }
+
+    /// Whether the symbol is in front.
+    pub fn begins_symbol(&self, symbol: Symbol) -> bool
+        ensures { result ≡ spec_of.begins (spec.Sign (symbol_of symbol)) self.now }
+    {
+        match self.rest {
+            [first, ..] => first.is_sign(symbol),
+            [] => false,
+        }
+    }
+
+    /// Whether the word stands in the second place; its letters are given in upper case.
+    pub fn second_is_word(&self, word: &str) -> bool
+        ensures { result ≡ spec_of.begins_second (spec.Word word.now) self.now }
+    {
+        match self.rest {
+            [_, second, ..] => second.is_word(word),
+            _ => false,
+        }
+    }
+
+    /// Whether the symbol stands in the second place.
+    pub fn second_is_symbol(&self, symbol: Symbol) -> bool
+        ensures { result ≡ spec_of.begins_second (spec.Sign (symbol_of symbol)) self.now }
+    {
+        match self.rest {
+            [_, second, ..] => second.is_sign(symbol),
+            _ => false,
+        }
+    }
+
+    /// Whether the word stands in the third place; its letters are given in upper case.
+    pub fn third_is_word(&self, word: &str) -> bool
+        ensures { result ≡ spec_of.begins_third (spec.Word word.now) self.now }
+    {
+        match self.rest {
+            [_, _, third, ..] => third.is_word(word),
+            _ => false,
+        }
+    }
+
+    /// Whether a name is in front.
+    pub fn begins_name(&self) -> bool
+        ensures { result ≡ spec_of.begins_name self.now }
+    {
+        match self.rest {
+            [first, ..] => is_name(first),
+            [] => false,
+        }
+    }
+
+    /// The digits of the number in front, where one is; goes past it.
+    pub fn eat_number(&mut self) -> Option<&'a str>
+        ensures { eat_number self.old ≡ (option_map digits_of result, self.new) }
+    {
+        match self.rest {
+            [first, rest @ ..] if matches!(first.kind, TokenKind::Number) => {
+                self.rest = rest;
+                Some(first.text)
+            }
+            _ => None,
+        }
+    }
+
+    /// The text in front in its quotes, where one is; goes past it.
+    pub fn eat_quote(&mut self) -> Option<&'a str>
+        ensures { eat_quote self.old ≡ (option_map content_of result, self.new) }
+    {
+        match self.rest {
+            [first, rest @ ..] if matches!(first.kind, TokenKind::Quote) => {
+                self.rest = rest;
+                Some(first.text)
+            }
+            _ => None,
+        }
+    }
+}

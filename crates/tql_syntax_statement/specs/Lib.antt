@@ -1,0 +1,3 @@
+pub mod CreateEnds
+pub mod SelectEnds
+pub mod ChangeEnds

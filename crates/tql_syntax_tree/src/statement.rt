@@ -1,0 +1,438 @@
+//! The trees of statements.
+ghost use Rattle.std.specs.Prelude.{◌≡◌, IfOk};
+
+use crate::condition::Cond;
+use crate::expression::{Expr, Name, Named};
+use std::alloc::AllocError;
+use tql_memory::Memory;
+
+/// A type as written; numbers by their digits.
+#[derive(Clone, Copy)]
+pub enum TypeName<'a> {
+    Integer,
+    Varchar(&'a str),
+    Date,
+    Timestamp(Option<&'a str>),
+}
+
+/// What a generated column holds.
+#[derive(Clone, Copy)]
+pub enum Generated {
+    RowStart,
+    RowEnd,
+}
+
+/// A column of CREATE.
+#[derive(Clone, Copy)]
+pub struct ColumnTree<'a> {
+    pub name: Name<'a>,
+    pub type_name: TypeName<'a>,
+    pub is_required: bool,
+    pub generated: Option<Generated>,
+}
+
+/// The list of a reference, and its period.
+#[derive(Drop)]
+pub struct RefList<'a> {
+    pub first: Name<'a>,
+    pub more: Vec<Name<'a>, Memory>,
+    pub period: Option<Name<'a>>,
+}
+
+/// A key: its columns, and the period that is WITHOUT OVERLAPS.
+#[derive(Drop)]
+pub struct KeyTree<'a> {
+    pub is_primary: bool,
+    pub first: Name<'a>,
+    pub more: Vec<Name<'a>, Memory>,
+    pub period: Option<Name<'a>>,
+}
+
+/// A reference: its columns, the table it refers to, and the columns there.
+#[derive(Drop)]
+pub struct ForeignTree<'a> {
+    pub child: RefList<'a>,
+    pub table: Name<'a>,
+    pub parent: RefList<'a>,
+}
+
+/// Keys, references and checks. The name of a constraint is not kept.
+pub enum Constraint<'a> {
+    Key(KeyTree<'a>),
+    Foreign(ForeignTree<'a>),
+    Check(Box<Cond<'a>, Memory>),
+}
+
+impl<'a> Drop for Constraint<'a> {
+    fn drop(self) {
+        match self {
+            Constraint::Key(key) => drop(key),
+            Constraint::Foreign(foreign) => drop(foreign),
+            Constraint::Check(condition) => drop(condition),
+        }
+    }
+}
+
+/// A period of CREATE; it has no name where it is SYSTEM_TIME.
+#[derive(Clone, Copy)]
+pub struct PeriodTree<'a> {
+    pub name: Option<Name<'a>>,
+    pub start: Name<'a>,
+    pub end: Name<'a>,
+}
+
+/// An element of CREATE.
+pub enum Element<'a> {
+    Column(ColumnTree<'a>),
+    Period(PeriodTree<'a>),
+    Constraint(Box<Constraint<'a>, Memory>),
+}
+
+impl<'a> Drop for Element<'a> {
+    fn drop(self) {
+        match self {
+            Element::Column(_) | Element::Period(_) => {}
+            Element::Constraint(constraint) => drop(constraint),
+        }
+    }
+}
+
+/// CREATE TABLE.
+#[derive(Drop)]
+pub struct CreateTree<'a> {
+    pub table: Name<'a>,
+    pub first: Element<'a>,
+    pub more: Vec<Element<'a>, Memory>,
+    pub is_versioned: bool,
+}
+
+/// A FOR SYSTEM_TIME clause, or none. Moments are kept by their quoted text.
+#[derive(Clone, Copy)]
+pub enum SpanTree<'a> {
+    None,
+    AsOf(&'a str),
+    FromTo(&'a str, &'a str),
+    Between(&'a str, &'a str),
+}
+
+/// A table reference.
+#[derive(Clone, Copy)]
+pub struct RefTree<'a> {
+    pub table: Name<'a>,
+    pub span: SpanTree<'a>,
+    pub alias: Option<Name<'a>>,
+}
+
+/// A table reference joined on a condition.
+#[derive(Drop)]
+pub struct Joined<'a> {
+    pub reference: RefTree<'a>,
+    pub condition: Box<Cond<'a>, Memory>,
+}
+
+/// A join.
+#[derive(Drop)]
+pub enum JoinTree<'a> {
+    Inner(Box<Joined<'a>, Memory>),
+    Left(Box<Joined<'a>, Memory>),
+    Cross(Box<RefTree<'a>, Memory>),
+}
+
+/// A chain of FROM.
+#[derive(Drop)]
+pub struct ChainTree<'a> {
+    pub first: RefTree<'a>,
+    pub joins: Vec<JoinTree<'a>, Memory>,
+}
+
+/// An item of the select list.
+#[derive(Drop)]
+pub struct Item<'a> {
+    pub value: Box<Expr<'a>, Memory>,
+    pub alias: Option<Name<'a>>,
+}
+
+/// A select list: `*`, or items.
+pub enum Items<'a> {
+    All,
+    These(Item<'a>, Vec<Item<'a>, Memory>),
+}
+
+impl<'a> Drop for Items<'a> {
+    fn drop(self) {
+        match self {
+            Items::All => {}
+            Items::These(first, more) => {
+                drop(first);
+                drop(more);
+            }
+        }
+    }
+}
+
+/// A select.
+pub struct SelectTree<'a> {
+    pub is_distinct: bool,
+    pub items: Items<'a>,
+    pub first: ChainTree<'a>,
+    pub more: Vec<ChainTree<'a>, Memory>,
+    pub filter: Option<Box<Cond<'a>, Memory>>,
+    pub grouping: Vec<Named<'a>, Memory>,
+    pub having: Option<Box<Cond<'a>, Memory>>,
+}
+
+impl<'a> Drop for SelectTree<'a> {
+    fn drop(self) {
+        let SelectTree {
+            is_distinct: _,
+            items,
+            first,
+            more,
+            filter,
+            grouping,
+            having,
+        } = self;
+        drop(items);
+        drop(first);
+        drop(more);
+        drop(filter);
+        drop(grouping);
+        drop(having);
+    }
+}
+
+/// A heading, or a position by its digits.
+#[derive(Clone, Copy)]
+pub enum KeyName<'a> {
+    Heading(Name<'a>),
+    Position(&'a str),
+}
+
+/// A key of ORDER BY, and whether it falls.
+#[derive(Clone, Copy)]
+pub struct OrderTree<'a> {
+    pub key: KeyName<'a>,
+    pub falls: bool,
+}
+
+/// A query.
+#[derive(Drop)]
+pub struct Query<'a> {
+    pub select: Box<SelectTree<'a>, Memory>,
+    pub ordering: Vec<OrderTree<'a>, Memory>,
+}
+
+/// A cell of VALUES or SET.
+pub enum CellTree<'a> {
+    Null,
+    Value(Box<Expr<'a>, Memory>),
+}
+
+impl<'a> Drop for CellTree<'a> {
+    fn drop(self) {
+        match self {
+            CellTree::Null => {}
+            CellTree::Value(value) => drop(value),
+        }
+    }
+}
+
+/// A tuple of VALUES.
+pub struct Tuple<'a> {
+    pub first: CellTree<'a>,
+    pub more: Vec<CellTree<'a>, Memory>,
+}
+
+impl<'a> Drop for Tuple<'a> {
+    fn drop(self) {
+        let Tuple { first, more } = self;
+        drop(first);
+        drop(more);
+    }
+}
+
+/// Where the rows of INSERT come from.
+pub enum RowSource<'a> {
+    Values(Tuple<'a>, Vec<Tuple<'a>, Memory>),
+    Select(Box<SelectTree<'a>, Memory>),
+}
+
+impl<'a> Drop for RowSource<'a> {
+    fn drop(self) {
+        match self {
+            RowSource::Values(first, more) => {
+                drop(first);
+                drop(more);
+            }
+            RowSource::Select(select) => drop(select),
+        }
+    }
+}
+
+/// INSERT; no columns where it names none.
+#[derive(Drop)]
+pub struct Insert<'a> {
+    pub table: Name<'a>,
+    pub columns: Vec<Name<'a>, Memory>,
+    pub rows: RowSource<'a>,
+}
+
+/// An assignment of SET.
+#[derive(Drop)]
+pub struct SetTree<'a> {
+    pub column: Name<'a>,
+    pub value: CellTree<'a>,
+}
+
+/// A point of a portion: the quoted text of a DATE or a TIMESTAMP literal.
+#[derive(Clone, Copy)]
+pub enum PointTree<'a> {
+    Date(&'a str),
+    Moment(&'a str),
+}
+
+/// FOR PORTION OF; the period has no name where it is SYSTEM_TIME.
+#[derive(Clone, Copy)]
+pub struct PortionTree<'a> {
+    pub period: Option<Name<'a>>,
+    pub from: PointTree<'a>,
+    pub to: PointTree<'a>,
+}
+
+/// UPDATE.
+pub struct Update<'a> {
+    pub table: Name<'a>,
+    pub portion: Option<PortionTree<'a>>,
+    pub first: SetTree<'a>,
+    pub more: Vec<SetTree<'a>, Memory>,
+    pub filter: Option<Box<Cond<'a>, Memory>>,
+}
+
+impl<'a> Drop for Update<'a> {
+    fn drop(self) {
+        let Update {
+            table: _,
+            portion: _,
+            first,
+            more,
+            filter,
+        } = self;
+        drop(first);
+        drop(more);
+        drop(filter);
+    }
+}
+
+/// DELETE.
+#[derive(Drop)]
+pub struct Delete<'a> {
+    pub table: Name<'a>,
+    pub portion: Option<PortionTree<'a>>,
+    pub filter: Option<Box<Cond<'a>, Memory>>,
+}
+
+/// The statements.
+#[derive(Drop)]
+pub enum Statement<'a> {
+    Create(Box<CreateTree<'a>, Memory>),
+    DropTable(Name<'a>),
+    Insert(Box<Insert<'a>, Memory>),
+    Update(Box<Update<'a>, Memory>),
+    Delete(Box<Delete<'a>, Memory>),
+    Query(Box<Query<'a>, Memory>),
+    StartTransaction,
+    Commit,
+    Rollback,
+    /// AT, with the quoted text of its moment.
+    At(&'a str),
+}
+
+/// The joined reference in a box.
+pub fn boxed_joined<'a>(
+    memory: Memory,
+    joined: Joined<'a>,
+) -> Result<Box<Joined<'a>, Memory>, AllocError>
+    ensures { IfOk result (λ b. b.value ≡ joined.entry) }
+{
+    Ok(Box::new(memory, joined)?)
+}
+
+/// The table reference in a box.
+pub fn boxed_reference<'a>(
+    memory: Memory,
+    reference: RefTree<'a>,
+) -> Result<Box<RefTree<'a>, Memory>, AllocError>
+    ensures { IfOk result (λ b. b.value ≡ reference.entry) }
+{
+    Ok(Box::new(memory, reference)?)
+}
+
+/// The select in a box.
+pub fn boxed_select<'a>(
+    memory: Memory,
+    select: SelectTree<'a>,
+) -> Result<Box<SelectTree<'a>, Memory>, AllocError>
+    ensures { IfOk result (λ b. b.value ≡ select.entry) }
+{
+    Ok(Box::new(memory, select)?)
+}
+
+/// The query in a box.
+pub fn boxed_query<'a>(
+    memory: Memory,
+    query: Query<'a>,
+) -> Result<Box<Query<'a>, Memory>, AllocError>
+    ensures { IfOk result (λ b. b.value ≡ query.entry) }
+{
+    Ok(Box::new(memory, query)?)
+}
+
+/// The constraint in a box.
+pub fn boxed_constraint<'a>(
+    memory: Memory,
+    constraint: Constraint<'a>,
+) -> Result<Box<Constraint<'a>, Memory>, AllocError>
+    ensures { IfOk result (λ b. b.value ≡ constraint.entry) }
+{
+    Ok(Box::new(memory, constraint)?)
+}
+
+/// The CREATE TABLE in a box.
+pub fn boxed_create<'a>(
+    memory: Memory,
+    create: CreateTree<'a>,
+) -> Result<Box<CreateTree<'a>, Memory>, AllocError>
+    ensures { IfOk result (λ b. b.value ≡ create.entry) }
+{
+    Ok(Box::new(memory, create)?)
+}
+
+/// The INSERT in a box.
+pub fn boxed_insert<'a>(
+    memory: Memory,
+    insert: Insert<'a>,
+) -> Result<Box<Insert<'a>, Memory>, AllocError>
+    ensures { IfOk result (λ b. b.value ≡ insert.entry) }
+{
+    Ok(Box::new(memory, insert)?)
+}
+
+/// The UPDATE in a box.
+pub fn boxed_update<'a>(
+    memory: Memory,
+    update: Update<'a>,
+) -> Result<Box<Update<'a>, Memory>, AllocError>
+    ensures { IfOk result (λ b. b.value ≡ update.entry) }
+{
+    Ok(Box::new(memory, update)?)
+}
+
+/// The DELETE in a box.
+pub fn boxed_delete<'a>(
+    memory: Memory,
+    delete: Delete<'a>,
+) -> Result<Box<Delete<'a>, Memory>, AllocError>
+    ensures { IfOk result (λ b. b.value ≡ delete.entry) }
+{
+    Ok(Box::new(memory, delete)?)
+}

@@ -1,7 +1,0 @@
--- The pure tree that a whole statement stands for.
-use Rattle.tql_spec.specs.Syntax as tree
-use Rattle.tql_tree.specs.Statements.{statement_of}
-use Rattle.tql_tree.specs.declared.tree.Tree.{Tree}
-
-abbrev pub tree_of : Tree → tree.Statement
-tree_of t = statement_of t.statement
