@@ -1,12 +1,15 @@
 # make run      runs crates/test_cases/data/cases/examples/march.sql, or SCRIPT=path, in a minute or two and without a proof (or by ./tql, where it is there and new)
 # make build    proves what the program needs, and leaves it as ./tql
-# make test     the gate: every proof and every test, from nothing
+# make test     the gate: tools/earned.py, the program's command lines (make lines), and then every proof and every test, from nothing
 # make edits    tries the edits that the prover must refuse: all, or CRATE=name, or EDIT=name too
 # make lines    tries the program's command lines, in a minute or two and without a proof
+# make earned   looks whether errors of memory are made in tql_memory alone, in a second
 # make bench-index   proves and runs the program that times the two indexes; COUNTS="1000 10000" are its numbers of entries
 # make copies   looks whether the scripts of crates/test_cases/data/cases/copies are what tools/copies.py writes
 # make cost     what each crate weighs in the gate, and which are over a bound
-.PHONY: run build test edits lines bench-index copies cost
+# make documents   whether the documents name what is there, and which lines are too long, in seconds
+.PHONY: run build test edits lines earned bench-index copies cost documents
+.NOTPARALLEL:
 SCRIPT ?= crates/test_cases/data/cases/examples/march.sql
 
 run:
@@ -15,8 +18,11 @@ run:
 build:
 	@tools/build.sh
 
-test:
+test: earned lines
 	@rt ci
+
+earned:
+	@tools/earned.py
 
 edits:
 	@tools/edits.py "$(CRATE)" "$(EDIT)"
@@ -32,3 +38,6 @@ copies:
 
 cost:
 	@tools/cost.py
+
+documents:
+	@tools/documents.py

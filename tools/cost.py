@@ -4,10 +4,11 @@
 Usage: tools/cost.py        (make cost)
 
 By crate of crates.txt, the lowest first: functions (the fn lines of src/), lines of code (.rt) and of .antt (specs/ and proofs/), lines of
-both in all crates below it, the edits in must-fail/ and the tests. 'memory' is what 'rt ci' takes a proof to need, in GB: 1 + code / 1,000 +
-.antt / 5,000 + code below / 12,500; and 'kit' what it adds for the kit's crates that it and those below it list. The gate starts a task
-only where that much is free, so a crate of a high figure waits for the others and then ends last. 'weight' is 1,000 + code + .antt / 5. The
-status is 1 where a bound is broken.
+both in all crates below it, the edits in must-fail/ and the tests. 'weight' is what a proof of the crate is taken to need of its own memory,
+in MB: 1,000 + code + .antt / 5. 'memory' is all that 'rt ci' takes it to need, in GB: the weight, and the code below / 12,500; and 'kit' what
+it adds for the kit's crates that it and those below it list. The gate starts a task only where that much is free, so a crate of a high figure
+waits for the others and then ends last. The bound is on the weight, without the code below: that grows with every step of the crates below, and
+no crate can mend its own. The status is 1 where a bound is broken.
 """
 import re
 import shutil
@@ -23,9 +24,10 @@ UNDER_TEST = re.compile(r"#\[cfg\(test\)\]")
 ONLY_TESTS = re.compile(r"(?:\s*(?://[^\n]*|#!\[[^\n]*\]|#\[cfg\(test\)\]\s*(?:pub\s+)?mod\s+\w+;))+\s*")
 # The libraries of the kit, and those of them that the gate does not count.
 LIBRARIES, UNCOUNTED = Path(shutil.which("rt") or "rt").resolve().parent.parent / "rlibs", {"core", "std", "io", "libc", "os"}
-FUNCTIONS, MEMORY, WEIGHT, EDITS, LINES = 60, 4.0, 4000, 6, 800
-# (crate, bound): why the bound is broken on purpose. The bounds: functions, memory, weight, edits, tests, file.
-EXCEPTIONS: dict[tuple[str, str], str] = {}
+FUNCTIONS, WEIGHT, EDITS, LINES = 90, 4000, 6, 800
+# (crate, bound): why the bound is broken on purpose. The bounds: functions, weight, edits, tests, file.
+LAWS = "definitions and their laws, which have no code to walk: a proof takes 14 seconds, and nothing is below it"
+EXCEPTIONS: dict[tuple[str, str], str] = {("tql_spec", "weight"): LAWS}
 
 
 class Crate:
@@ -41,10 +43,10 @@ class Crate:
         self.code_below, self.antt_below = sum(it.lines for it in below), sum(it.antt for it in below)
         self.functions, self.tests = (sum(len(word.findall(it)) for it in self.code.values()) for word in (FUNCTION, TEST))
         self.edits = len([*(self.folder / "must-fail").glob("*.edit")])
-        self.memory = 1 + self.lines / 1000 + self.antt / 5000 + self.code_below / 12500
         loaded = [LIBRARIES / f"{it}.rlib" / "toolchain" / "checked.a" for it in self.kit]
         self.loaded = min(5 * sum(it.stat().st_size for it in loaded if it.is_file()) / 1e9, 2.5)
         self.weight = 1000 + self.lines + self.antt / 5
+        self.memory = self.weight / 1000 + self.code_below / 12500
         only_tests = ONLY_TESTS.fullmatch(self.code.get(self.folder / "src" / "lib.rt", "")) is not None
         self.is_tests = only_tests or (self.folder / "data").is_dir()
 
@@ -53,8 +55,6 @@ class Crate:
         found = []
         if self.functions > FUNCTIONS and not self.is_tests:
             found.append(("functions", f"{self.functions} functions, at most {FUNCTIONS}"))
-        if self.memory > MEMORY:
-            found.append(("memory", f"a proof is taken to need {self.memory:.1f} GB, at most {MEMORY:.1f}"))
         if self.weight >= WEIGHT:
             found.append(("weight", f"1,000 + code + .antt / 5 is {self.weight:.0f}, to be below {WEIGHT}"))
         if self.edits == 1 or self.edits > EDITS:
@@ -87,11 +87,12 @@ def crates() -> list[Crate]:
 
 
 def main() -> int:
-    print(f"{'crate':14} functions   code  .antt  code below  .antt below  memory  kit  weight  edits  tests")
     failed, unneeded, found = 0, {*EXCEPTIONS}, crates()
+    wide = max(len(it.name) for it in found)
+    print(f"{'crate':{wide}} functions   code  .antt  code below  .antt below  memory  kit  weight  edits  tests")
     for it in found:
-        print(f"{it.name:14} {it.functions:9} {it.lines:6} {it.antt:6} {it.code_below:11} {it.antt_below:12} {it.memory:7.1f} {it.loaded:4.1f} "
-              f"{it.weight:7.0f} {it.edits:6} {it.tests:6}")
+        print(f"{it.name:{wide}} {it.functions:9} {it.lines:6} {it.antt:6} {it.code_below:11} {it.antt_below:12} {it.memory:7.1f} "
+              f"{it.loaded:4.1f} {it.weight:7.0f} {it.edits:6} {it.tests:6}")
     print()
     for it in found:
         for bound, said in it.broken():

@@ -8,8 +8,9 @@
 //! let memory = memory(rt.alloc(), u64::MAX)?;
 //! let mut engine = Engine::new(memory);
 //! let mut output = Vec::new(memory);
-//! let end = run_bytes(&mut engine, b"CREATE TABLE pay (cents INTEGER); INSERT INTO pay VALUES (300000);", &mut
-//! output); if let Reply::Table(rows) = &engine.step(b"SELECT * FROM pay") {
+//! let script = b"CREATE TABLE pay (cents INTEGER); INSERT INTO pay VALUES (300000);";
+//! let end = run_bytes(&mut engine, script, &mut output);
+//! if let Reply::Table(rows) = &engine.step(b"SELECT * FROM pay") {
 //!     // rows.headings, and rows.rows: for each row a value for each column
 //! }
 //! ```
@@ -30,6 +31,7 @@ pub use tql_run::device::Source;
 pub use tql_run::listener::Listener;
 pub use tql_run::note::Note;
 pub use tql_run::notes::Notes;
+pub use tql_run::pushed::Pushed;
 pub use tql_run::runner::{Fault, Summary};
 pub use tql_run::silence::Silence;
 pub use tql_run::slice_source::SliceSource;

@@ -19,7 +19,7 @@ use Rattle.tql_spec.specs.Refusal.{Refusal, FormNotAllowedHere, NameUnknownAmbig
 use Rattle.tql_spec.specs.Syntax.{AsOfTree, BetweenTree, ChainTree, CrossJoin, FromToTree, InnerJoin, JoinTree}
 use Rattle.tql_spec.specs.Syntax.{LeftJoin, NoSpan, OrderTree, RefTree, SelectTree, SpanTree}
 use Rattle.tql_spec.specs.Words.{same_text}
-use Rattle.tql_bound.specs.References.{is_now}
+use Rattle.tql_value.specs.When.{is_now}
 use Rattle.tql_bound.specs.Placed.{AreChainsPlaced, AreJoinsPlaced, IsPlacedQuery, IsPlacedRef, ref_of}
 
 -- ---- no fault

@@ -1,4 +1,4 @@
-// Names, kinds and forms: from the tree of a statement to what it does.
+//! Names, kinds and forms: from the tree of a statement to what it does.
 #![tactic(auto)]
 
 pub mod binder;

@@ -2,11 +2,11 @@
 //! kept.
 #![tactic(auto)]
 
-pub mod columns;
+mod columns;
 pub mod delete;
 pub mod insert;
 pub mod insert_query;
-pub mod portion;
-pub mod sets;
+mod portion;
+mod sets;
 mod tuples;
 pub mod update;

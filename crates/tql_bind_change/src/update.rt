@@ -38,7 +38,7 @@ pub struct Head {
 /// What an UPDATE says before its WHERE. Faults: no table has the name; those of `portion`; a column of SET is unknown,
 /// repeated or generated, or of the period whose portion is changed; a cell has a fault of its own, or is of another
 /// kind than its column.
-pub fn update_head(
+pub(crate) fn update_head(
     memory: Memory,
     catalog: &Catalog,
     update: &Update<'_>,

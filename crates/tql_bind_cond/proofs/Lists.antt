@@ -1,24 +1,23 @@
 -- Conditions that are bound one behind another, and what joins them.
-use Rattle.std.proofs.Common.{Bool, true, false, ◌≡◌, refl, ℕ, ◌+◌, ◌<◌, ◌≤◌, List, [], ◌∷◌, ◌++◌, length, map, drop}
+use Rattle.std.proofs.Common.{◌≡◌, refl, ℕ, ◌+◌, ◌<◌, ◌≤◌, List, [], ◌∷◌, ◌++◌, length, map, drop}
 use Rattle.std.proofs.Common.{get_or, All, Option, Result, Ok, Err, IfOk, sym, ap, subst, ◌∙◌, append-nil}
 use Rattle.std.proofs.lemmas.List.{map-append}
 use Rattle.std.proofs.lemmas.List.Elements.{All-nil, All-cons, All-head, All-tail, All-push}
 use Rattle.std.specs.declared.alloc.AllocError.{AllocError}
 use Rattle.tql_spec.specs.Datum.{Null, Equals}
-use Rattle.tql_spec.specs.Expression.{Cond, Compare, IsNull, Not, And, Or, Literal}
-use Rattle.tql_spec.specs.Names.{Checked, sound, check_each, Known, Typed, compared, in_list, negated_if, condition}
-use Rattle.tql_spec.specs.Names.{more_conjs, conj, more_tests, factor, test}
+use Rattle.tql_spec.specs.Expression.{Cond, Compare, IsNull, And, Or, Literal}
+use Rattle.tql_spec.specs.Names.{Checked, check_each, Known, Typed, compared, in_list, condition}
+use Rattle.tql_spec.specs.Names.{more_conjs, conj, more_tests, factor}
 use Rattle.tql_spec.specs.Parts.{tests_of, conjs_of}
 use Rattle.tql_spec.specs.Refusal.{Refusal}
 use Rattle.tql_spec.specs.Syntax as tree
-use Rattle.tql_syntax_tree.specs.Conditions.{cond_of, conj_of, factor_of, factor_by, test_of}
+use Rattle.tql_syntax_tree.specs.Conditions.{cond_of, conj_of, factor_of}
 use Rattle.tql_syntax_tree.specs.Expressions.{expr_of}
 use Rattle.tql_syntax_tree.specs.declared.expression.ExprIn.{ExprIn}
 use Rattle.tql_syntax_tree.specs.declared.condition.CondIn.{CondIn}
 use Rattle.tql_syntax_tree.specs.declared.condition.ConjIn.{ConjIn}
 use Rattle.tql_syntax_tree.specs.declared.condition.FactorIn.{FactorIn}
-use Rattle.tql_syntax_tree.specs.declared.condition.TestIn.{TestIn}
-use Rattle.tql_syntax_tree.specs.declared.condition.TestIn.TheViews.{out-CondIn, out-ConjIn, out-FactorIn}
+use Rattle.tql_syntax_tree.specs.declared.condition.TestIn.TheViews.{out-CondIn, out-ConjIn}
 use Rattle.tql_expr.specs.Meaning.{cond, HasExpr, HasCond, Stays, BuildsCond, all_of, any_of, one_of}
 use Rattle.tql_expr.specs.declared.terms.Terms.{Terms}
 use Rattle.tql_expr.specs.declared.terms.CondId.{CondId}
@@ -26,8 +25,8 @@ use Rattle.tql_bind_expr.specs.Bounds.{typed_of}
 use Rattle.tql_bind_expr.specs.declared.scope.Typed as code
 use Rattle.tql_bind_expr.specs.Gathered.{after, Gathers}
 use Rattle.tql_bind_expr.proofs.Arena.{stays_along, cond_there, cond_kept, typed_kept}
-use Rattle.tql_bind_expr.proofs.Gathering.{EachLeads, each_on, each_item, each_done, bound, after_nil}
-use Rattle.tql_bind_cond.proofs.Views.{cond_out, conj_out, factor_out}
+use Rattle.tql_bind_expr.proofs.Gathering.{EachLeads, each_on, each_item, each_done, bound}
+use Rattle.tql_bind_cond.proofs.Views.{cond_out, conj_out}
 
 -- ---- conditions that are there
 
@@ -293,19 +292,3 @@ condition_done {A} s c start t u old now xs i first rest items r more past same 
     (condition_joined s f (map conj_of xs) old now (cond t first) (map (cond t) rest) done)))
 
 -- ---- NOT
-
-factor_by_is : (s : List Known) (b : Bool) (t : tree.Test) (old now : Option Refusal) (x : Cond)
-    → Gathers (test s t) old now x → Gathers (factor s (factor_by b t)) old now (negated_if b x)
-factor_by_is s true t old now x g =
-    bound (test s t) (λ c. sound (Not c)) old now now x (Not x) g (record { value = refl; least = sym (after_nil now) })
-factor_by_is s false t old now x g = g
-
--- a test, with NOT or without
-pub factor_is : {A : Type 0} (s : List Known) (f : FactorIn A) (t : TestIn A) (old now : Option Refusal) (x : Cond)
-    → t ≡ (out-FactorIn A f).test.value → Gathers (test s (test_of t)) old now x
-    → Gathers (factor s (factor_of f)) old now (negated_if (out-FactorIn A f).is_negated x)
-factor_is {A} s f t old now x is g =
-    let negated = (out-FactorIn A f).is_negated in
-    subst (λ (w : tree.Factor). Gathers (factor s w) old now (negated_if negated x)) (sym (factor_out f
-    ∙ ap (λ (u : TestIn A). factor_by negated (test_of u)) (sym is)))
-    (factor_by_is s negated (test_of t) old now x g)

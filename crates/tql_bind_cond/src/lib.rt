@@ -2,12 +2,12 @@
 //! kept.
 #![tactic(auto)]
 
-pub mod aggregates;
+mod aggregates;
 mod comparisons;
-pub mod conditions;
+mod conditions;
 pub mod conjuncts;
 mod membership;
-pub mod periods;
+mod periods;
 mod relations;
 mod signs;
 pub mod sole_names;

@@ -105,14 +105,6 @@ each_on f all old bound x left mid now y l g =
           ∙ ap (λ es. after mid ((f x).faults ++ es)) (sym more) ∙ l.least;
     }
 
--- the first element is checked, and its value pushed
-pub each_begun : {X Y A B : Type 0} (f : A → Checked B) (g : X → A) (h : Y
-    → B) (x : X) (xs : List X) (old now : Option Refusal) (zs : List Y) (y : Y)
-    → zs ≡ y ∷ [] → Gathers (f (g x)) old now (h y) → EachLeads f (g x ∷ map g xs) old (map h zs) (map g xs) now
-each_begun f g h x xs old now zs y pushed checked =
-    subst (λ ys. EachLeads f (g x ∷ map g xs) old (map h ys) (map g xs) now) (sym pushed)
-    (each_on f (g x ∷ map g xs) old [] (g x) (map g xs) old now (h y) (record { value = refl; least = refl }) checked)
-
 -- no element is left
 pub each_ended : {A B : Type 0} (f : A
     → Checked B) (all : List A) (old : Option Refusal) (bound : List B) (now : Option Refusal)

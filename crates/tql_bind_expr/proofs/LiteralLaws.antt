@@ -4,10 +4,10 @@ use Rattle.std.specs.Prelude.{None, if◌then◌else◌}
 use Rattle.std.proofs.Common.{sym, ap, ◌∙◌}
 use Rattle.tql_spec.specs.Calendar.{number_of}
 use Rattle.tql_spec.specs.Datum.{Datum, Null, Int, Ints, Kind}
-use Rattle.tql_spec.specs.Expression.{Literal, Function, Count, Sum, Min, Max, Aggregate}
-use Rattle.tql_spec.specs.Names.{Checked, Typed, typed, sound, unless, literal, aggregate}
-use Rattle.tql_spec.specs.Refusal.{ValueOutOfRange, TypesDoNotFit}
-use Rattle.tql_bind_expr.specs.Bounds.{literal_of, is_no_sum, aggregate_kind}
+use Rattle.tql_spec.specs.Expression.{Literal}
+use Rattle.tql_spec.specs.Names.{Checked, Typed, typed, sound, unless, literal}
+use Rattle.tql_spec.specs.Refusal.{ValueOutOfRange}
+use Rattle.tql_bind_expr.specs.Bounds.{literal_of}
 use Rattle.tql_bind_expr.specs.Numbers.{number_literal, signed_value}
 
 -- a number where it is there
@@ -30,14 +30,3 @@ number_is false ds = number_by (nat_le (number_of ds) 9223372036854775807) (Int 
 pub literal_at : (k : Kind) (f : ℤ → Datum) (o : Option ℤ) (p q : ℤ) → o ≡ Some p → q ≡ p
     → literal k f o ≡ sound (literal_of (f q) (Some k))
 literal_at k f o p q is same = ap (literal k f) is ∙ ap (λ (z : ℤ). sound (literal_of (f z) (Some k))) (sym same)
-
--- an aggregate by its test of kinds
-pub aggregate_is : (f : Function) (a : Typed)
-    → aggregate f a ≡ unless (is_no_sum f a.kind) TypesDoNotFit (record {
-      expr = Aggregate f a.expr;
-      kind = aggregate_kind f a.kind;
-    })
-aggregate_is Count a = refl
-aggregate_is Sum a = refl
-aggregate_is Min a = refl
-aggregate_is Max a = refl

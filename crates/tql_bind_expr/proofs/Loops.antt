@@ -1,6 +1,6 @@
 -- The loops over the terms of a sum and the factors of a product, and the signs before a primary.
-use Rattle.std.specs.Prelude.{◌≡◌, refl, ℕ, ◌+◌, ◌<◌, ◌≤◌, true, false, List, [], ◌∷◌, length, map, Option, Some}
-use Rattle.std.specs.Prelude.{None, Bool, Result, Ok, Err, IfOk, if◌then◌else◌}
+use Rattle.std.specs.Prelude.{◌≡◌, refl, ℕ, ◌+◌, ◌<◌, ◌≤◌, true, false, List, [], ◌∷◌, length, map, Option}
+use Rattle.std.specs.Prelude.{None, Bool, Result, Ok, Err, IfOk}
 use Rattle.std.specs.declared.alloc.AllocError.{AllocError}
 use Rattle.std.proofs.Common.{drop, get_or, arith, sym, ap, subst, ◌∙◌}
 use Rattle.tql_spec.specs.Datum as datum
@@ -17,7 +17,6 @@ use Rattle.tql_syntax_tree.specs.declared.expression.ExprIn.{ExprIn}
 use Rattle.tql_syntax_tree.specs.declared.expression.AddedTermIn.{AddedTermIn}
 use Rattle.tql_syntax_tree.specs.declared.expression.TermIn.{TermIn}
 use Rattle.tql_syntax_tree.specs.declared.expression.SignedIn.{SignedIn}
-use Rattle.tql_syntax_tree.specs.declared.expression.PrimaryIn.{PrimaryIn}
 use Rattle.tql_syntax_tree.specs.declared.expression.PrimaryIn.TheViews.{out-ExprIn, out-AddedTermIn, out-TermIn}
 use Rattle.tql_syntax_tree.specs.declared.expression.PrimaryIn.TheViews.{out-SignedIn}
 use Rattle.tql_syntax_tree.specs.declared.expression.Sign.{Sign}
@@ -236,18 +235,6 @@ negative_other (ColumnNamed r) c is = refl
 negative_other (Enclosed e) c is = refl
 negative_other CountStar c is = refl
 negative_other (Over f e) c is = refl
-
--- `-` before a number
-pub negative_number : (p : tree.Primary) (c : Checked Typed) (ds : List ℕ) → digits_in p ≡ Some ds
-    → p ≡ NumberLiteral ds
-negative_number (NumberLiteral es) c ds is = cc
-negative_number (TextLiteral t) c ds is = absurd (cc)
-negative_number (DateLiteral t) c ds is = absurd (cc)
-negative_number (TimestampLiteral t) c ds is = absurd (cc)
-negative_number (ColumnNamed r) c ds is = absurd (cc)
-negative_number (Enclosed e) c ds is = absurd (cc)
-negative_number CountStar c ds is = absurd (cc)
-negative_number (Over f e) c ds is = absurd (cc)
 
 -- `+` before a primary
 pub positive_bound : {A : Type 0} (s : List Known) (x : SignedIn A) (old mid now : Option Refusal) (a : Typed)

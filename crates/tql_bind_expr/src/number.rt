@@ -24,7 +24,7 @@ pub fn unsigned(digits: &[u8]) -> Option<u64>
 }
 
 /// The number that digits spell, negative or not, if it lies within 64 bits.
-pub fn signed(digits: &[u8], negative: bool) -> Option<i64>
+pub(crate) fn signed(digits: &[u8], negative: bool) -> Option<i64>
     ensures { option_map Int result ≡ signed_value negative digits.now }
 {
     let number = unsigned(digits)?;

@@ -20,18 +20,12 @@ pub fn is_same_text(name: &str, other: &str) -> bool
 pub fn meant(memory: Memory, name: Name<'_>) -> Result<String<Memory>, AllocError>
     ensures { IfOk result (λ text. string_bytes text ≡ name_of name.entry) }
 {
-    match name.meant(memory) {
-        Ok(text) => Ok(text),
-        Err(_) => Err(AllocError),
-    }
+    name.meant(memory)
 }
 
 /// What stands in the quotes of a literal. The only error is a refused growth.
 pub fn unquoted(memory: Memory, quoted: &str) -> Result<String<Memory>, AllocError>
     ensures { IfOk result (λ text. string_bytes text ≡ content 39 quoted.now) }
 {
-    match quoted_text(memory, quoted) {
-        Ok(text) => Ok(text),
-        Err(_) => Err(AllocError),
-    }
+    quoted_text(memory, quoted)
 }

@@ -1,10 +1,10 @@
 -- The chains of FROM, from their parts.
-use Rattle.std.specs.Prelude.{◌≡◌, refl, ℕ, zero, suc, ◌+◌, ◌≤◌, List, [], ◌∷◌, ◌++◌, map, length, All, Option}
+use Rattle.std.specs.Prelude.{◌≡◌, refl, ℕ, suc, ◌+◌, ◌≤◌, List, [], ◌∷◌, ◌++◌, map, length, All, Option}
 use Rattle.std.proofs.Common.{sym, ap, ◌∙◌, subst, arith}
 use Rattle.std.proofs.lemmas.List.{map-append, length-append}
 use Rattle.std.proofs.lemmas.List.Elements.{All-nil, All-cons, All-head, All-tail, All-push}
 use Rattle.tql_spec.specs.Binding as binding
-use Rattle.tql_spec.specs.Binding.{Joined, BoundReference, known_as, add_join, table_number, when, width_of}
+use Rattle.tql_spec.specs.Binding.{Joined, BoundReference, known_as, add_join, table_number, when}
 use Rattle.tql_spec.specs.Definition.{TableDef, table_at}
 use Rattle.tql_spec.specs.Expression.{Cond}
 use Rattle.tql_spec.specs.History.{When}
@@ -31,13 +31,6 @@ use Rattle.tql_bind_query.specs.declared.from.Linked.{Linked}
 use Rattle.tql_bind_query.specs.declared.sources.BoundReference as code
 
 -- ---- a reference
-
--- where all tables are narrow, so is the one at a place
-pub narrow_at : (defs : List TableDef) (t : ℕ) → All (λ (d : TableDef). length d.columns ≤ 64) defs
-    → length (table_at defs t).columns ≤ 64
-narrow_at [] t h = omega arith
-narrow_at (d ∷ ds) zero h = All-head (λ (d : TableDef). length d.columns ≤ 64) d ds h
-narrow_at (d ∷ ds) (suc t) h = narrow_at ds t (All-tail (λ (d : TableDef). length d.columns ≤ 64) d ds h)
 
 -- a reference, from its table and its versions
 pub source_bound : (defs : List TableDef) (r : RefTree) (offset : ℕ) (old a new : Option Refusal) (t : ℕ)
@@ -85,7 +78,7 @@ join_bound : (defs : List TableDef) (so : Joined) (j : JoinTree) (old mid new : 
     → Gathers (binding.join defs so j) old new (add_join so s (join_by (kind_in j) s.ref on))
 join_bound defs so j old mid new s on source conjuncts =
     let last : BoundReference → List Cond → Checked Joined =
-        λ s on. sound (add_join so s (join_by (kind_in j) s.ref on)) in
+    λ s on. sound (add_join so s (join_by (kind_in j) s.ref on)) in
     let rest : BoundReference → Checked Joined = λ s. on_in (so.scope ++ s.known ∷ []) j >>= last s in
     let x : Joined = add_join so s (join_by (kind_in j) s.ref on) in
     subst (λ (c : Checked Joined). Gathers c old new x) (sym (join_parts defs so j))

@@ -46,7 +46,7 @@ impl Drop for Clauses {
 }
 
 impl Clauses {
-    /// The question that they make with these chains and these keys.
+    /// The bound query that they make with these chains and these keys.
     pub(crate) fn into_query(
         self,
         terms: Terms,

@@ -1,15 +1,15 @@
 //! SELECT with its names bound. Every fault is gathered, and the first in the order of report is kept.
 #![tactic(auto)]
 
-pub mod clauses;
-pub mod from;
-pub mod grouping;
-pub mod headings;
-pub mod joins;
-pub mod ordering;
-pub mod outputs;
+mod clauses;
+mod from;
+mod grouping;
+mod headings;
+mod joins;
+mod ordering;
+mod outputs;
 pub mod query;
-pub mod reference_names;
-pub mod references;
-pub mod scopes;
-pub mod sources;
+mod reference_names;
+mod references;
+mod scopes;
+mod sources;

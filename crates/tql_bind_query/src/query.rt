@@ -25,7 +25,7 @@ use tql_syntax_tree::statement::{OrderTree, SelectTree};
 use tql_value::refusal::Refusal;
 use tql_value::value::Kind;
 
-/// A question, and the kinds of its output columns, each missing where it is not known.
+/// A bound query, and the kinds of its output columns, each missing where it is not known.
 #[derive(Drop)]
 pub struct TypedQuery {
     pub query: BoundQuery,
@@ -46,7 +46,7 @@ fn without_scopes(
     Ok(chains)
 }
 
-/// The question of a query whose references are known by these names.
+/// The bound query of a SELECT whose references are known by these names.
 fn query_over(
     memory: Memory,
     catalog: &Catalog,
@@ -86,7 +86,7 @@ fn query_over(
     Ok(clauses.into_query(terms, chains, select.is_distinct, ordering))
 }
 
-/// The question of a query with its names bound (ISO/IEC 9075-2:2011, 7.16 and 14.3). Faults: no table has the name;
+/// The bound query of a SELECT (ISO/IEC 9075-2:2011, 7.16 and 14.3). Faults: no table has the name;
 /// FOR SYSTEM_TIME on a table that is not system-versioned; a literal that reads as no moment or is out of range; a
 /// name that is unknown, ambiguous or repeated; kinds that do not fit; an aggregate in WHERE, in an ON or inside an
 /// aggregate; in a grouped query `*`, or outside the aggregates a column that is none of the grouping ones. The only

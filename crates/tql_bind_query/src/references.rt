@@ -3,7 +3,7 @@ ghost use Rattle.std.specs.Prelude.{◌≡◌, IfOk, is_none, string_bytes};
 ghost use Rattle.tql_spec.specs.Binding as binding;
 ghost use Rattle.tql_spec.specs.Names.{refuse_if};
 ghost use Rattle.tql_spec.specs.Refusal.{FormNotAllowedHere};
-ghost use Rattle.tql_bound.specs.References.{when_of};
+ghost use Rattle.tql_value.specs.When.{when_of};
 ghost use Rattle.tql_syntax_tree.specs.Statements.{ref_of, span_of};
 ghost use Rattle.tql_bind_expr.specs.Gathered.{Gathers};
 
@@ -11,11 +11,11 @@ use std::alloc::AllocError;
 use tql_bind_expr::faults::Faults;
 use tql_bind_expr::moments::moment;
 use tql_bind_expr::texts::meant;
-use tql_bound::reference::When;
 use tql_catalog::table_def::TableDef;
 use tql_memory::Memory;
 use tql_syntax_tree::statement::{RefTree, SpanTree};
 use tql_value::refusal::Refusal;
+use tql_value::when::When;
 
 /// A fault where the table is not system-versioned.
 fn refuse_unversioned(definition: &TableDef, faults: &mut Faults)

@@ -1,4 +1,4 @@
-// New tables: from the tree of a CREATE TABLE to the definition that it gives, or its first fault.
+//! New tables: from the tree of a CREATE TABLE to the definition that it gives, or its first fault.
 #![tactic(auto)]
 
 mod columns;

@@ -3,7 +3,7 @@ use Rattle.std.specs.Prelude.{ℕ, ◌<◌, ◌||◌, IsTrue, List, [], ◌∷�
 use Rattle.tql_spec.specs.Definition.{TableDef, table_at}
 use Rattle.tql_spec.specs.Query.{Chain, Cross, Inner, Join, Left, Query, Ref}
 use Rattle.tql_spec.specs.QueryLaws.{NamesGroups}
-use Rattle.tql_bound.specs.References.{is_now}
+use Rattle.tql_value.specs.When.{is_now}
 
 -- a reference to a table that is there, system-versioned where its past is asked for
 pub record IsPlacedRef (defs : List TableDef) (r : Ref) : Type 0 where

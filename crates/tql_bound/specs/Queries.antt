@@ -1,4 +1,4 @@
--- The machine's queries that questions stand for.
+-- The machine's queries that bound queries stand for.
 use Rattle.std.specs.Prelude.{List, ◌∷◌, map, Option, option_map, string_bytes}
 use Rattle.std.specs.List.{flat_map}
 use Rattle.tql_spec.specs.Expression.{Cond}
@@ -46,7 +46,7 @@ bound_query_of x = record {
   ordering = map order_of x.ordering.items;
 }
 
--- the references of a chain, and those of a question, from the left
+-- the references of a chain, and those of a bound query, from the left
 abbrev pub references_in : Chain → List Reference
 references_in c = c.first ∷ map (λ (j : Join). j.reference) c.joins.items
 

@@ -1,4 +1,4 @@
-// Statements whose names are bound: what the binder gives, and what is run.
+//! Statements whose names are bound: what the binder gives, and what is run.
 #![tactic(auto)]
 
 pub mod bound;

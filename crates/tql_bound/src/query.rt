@@ -1,4 +1,4 @@
-//! Questions whose names are bound. Each has terms of its own, among which its expressions and conditions are.
+//! Queries whose names are bound. Each has terms of its own, among which its expressions and conditions are.
 ghost use Rattle.std.specs.Prelude.{All};
 ghost use Rattle.tql_expr.specs.Meaning.{HasExpr, HasCond};
 

@@ -108,7 +108,7 @@ impl Catalog {
         }
     }
 
-    /// Whether no table has this number.
+    /// Whether no table has this number: it tests what `create` requires, for hosts whose store does not prove it.
     pub fn is_free(&self, id: TableId) -> bool
         ensures { IsTrue result ↔ IsFree id self.now }
     {

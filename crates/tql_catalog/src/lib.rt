@@ -1,4 +1,4 @@
-// The tables that are there, and their definitions.
+//! The tables that are there, and their definitions.
 #![tactic(auto)]
 
 mod assignable;

@@ -2,10 +2,8 @@
 ghost use Rattle.std.specs.Prelude.{◌≡◌, ◌++◌, map, option_map, is_some, string_bytes, IsTrue, IfOk};
 ghost use Rattle.std.specs.List.{list_any};
 ghost use Rattle.tql_spec.specs.Binding as binding;
-ghost use Rattle.tql_spec.specs.Creation.{names_of};
 ghost use Rattle.tql_spec.specs.Definition.{no_table};
 ghost use Rattle.tql_spec.specs.Words.{same_text};
-ghost use Rattle.tql_catalog.specs.Columns.{names_in};
 ghost use Rattle.tql_catalog.specs.Defined as defined;
 ghost use Rattle.tql_catalog.specs.Defined.{IsDefinition, table_of_parts};
 ghost use Rattle.tql_catalog.specs.Definitions.{column_of, system_of, application_of};
@@ -68,21 +66,11 @@ impl Model for TableDef {
         IsDefinition table × (d.assignable.items ≡ all_assignable table) };
 }
 
-/// The names of columns, in order.
-fn names(memory: Memory, columns: &[Column]) -> Result<Vec<String<Memory>, Memory>, AllocError>
-    ensures { IfOk result (λ names. map string_bytes names.items ≡ names_in columns.now) }
-{
-    let mut names = Vec::with_capacity(memory, columns.len())?;
-    for column in columns {
-        names.push(column.name.clone()?)?;
-    }
-    Ok(names)
-}
-
 impl TableDef {
     /// Whether columns and periods can be those of one table: no name stands twice among those of the columns and
     /// that of the application period, the generated columns are two of the columns and hold moments, and those of
-    /// the application period are two others that take no null and hold days, or moments.
+    /// the application period are two others that take no null and hold days, or moments. It tests what `new` requires,
+    /// for hosts whose own binder does not prove it.
     pub fn is_definable(
         columns: &[Column],
         system: Option<System>,
@@ -164,6 +152,16 @@ impl TableDef {
         self.system
     }
 
+    /// The columns of ROW START and ROW END, by their numbers from 0; none where the table is not system-versioned.
+    pub fn generated(&self) -> Option<(usize, usize)>
+        ensures { option_map (λ p. record { start = p.0; end = p.1 }) result ≡ self.now.system }
+    {
+        match self.system {
+            Some(system) => Some((system.start, system.end)),
+            None => None,
+        }
+    }
+
     /// The application period; none where the table has none.
     pub fn application(&self) -> Option<&Application>
         ensures application { option_map (λ a. application_of a.now) result ≡ self.now.application }
@@ -201,12 +199,5 @@ impl TableDef {
         ensures { result ≡ rows.are_assignable self.now numbers.now }
     {
         are_open(self.columns.len(), self.system, numbers) && !has_repeated(numbers)
-    }
-
-    /// The names of all columns, in order.
-    pub fn headings(&self, memory: Memory) -> Result<Vec<String<Memory>, Memory>, AllocError>
-        ensures { IfOk result (λ headings. map string_bytes headings.items ≡ names_of self.now) }
-    {
-        names(memory, &self.columns)
     }
 }

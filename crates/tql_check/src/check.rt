@@ -68,7 +68,7 @@ pub fn check_script<I: Source, O: Sink, L: Listener>(
 ) -> Result<Summary, Fault>
     ensures { (s : State) → Runs Checks s (λ _. ⊤)
         (source_change I.left I.failures I.ended source.old source.new)
-        (sink_change O.written O.failures O.flushed sink.old sink.new)
+        (sink_change O.written O.failures O.flushed O.flushes_fail sink.old sink.new)
         (hearing_change L.heard listener.old listener.new) result }
 {
     let mut checker = Checker { memory };

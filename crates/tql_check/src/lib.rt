@@ -1,4 +1,4 @@
-// Checks of scripts over the whole grammar: nothing is run.
+//! Checks of scripts over the whole grammar: nothing is run.
 #![tactic(auto)]
 
 pub mod check;

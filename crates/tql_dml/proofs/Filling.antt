@@ -1,6 +1,6 @@
 -- The cells of a new row: their number, their values, and the row whose values are given in order.
 use Rattle.std.specs.Prelude.{◌≡◌, refl, ℕ, ◌<◌, Bool, true, false, not, ◌&&◌, ◌||◌, ◌==◌, nat_lt, List, [], ◌∷◌, map}
-use Rattle.std.specs.Prelude.{filter, length, replicate, slice_set, slice_index_or, All, Vec, nat_eq, IsTrue, Option}
+use Rattle.std.specs.Prelude.{filter, length, replicate, slice_set, slice_index_or, All, Vec, nat_eq, Option}
 use Rattle.std.specs.Prelude.{Some, None}
 use Rattle.std.specs.List.{list_all, range_with_len}
 use Rattle.std.proofs.Common.{sym, ap, subst, ◌∙◌, arith}
@@ -100,11 +100,6 @@ usual_row d js vs s e a k =
 pub length-stored : (d : TableDef) (js : List ℕ) (vs : Row) → IsDefinition d
     → length (stored_cells d js vs) ≡ length (all_assignable d)
 length-stored d js vs s = ap length (stored_law d js vs s) ∙ length-map (all_assignable d) (cell (new_row d js vs))
-
--- the generated columns are two of a row of all columns
-pub system_fits : (d : TableDef) (s : Option System) (n : ℕ) → IsDefinition d → s ≡ d.system → n ≡ length d.columns
-    → IsTrue (has_system s n)
-system_fits d s n right e w = (λ i. has_system (e i) (w i)) ∙ has_its_system d right
 
 -- ---- values that have texts
 

@@ -129,10 +129,6 @@ kept_of s xs false e w =
     (told_end s (0 + s.end) (omega arith)) (told_start s (0 + s.start) (omega arith))
     (λ k p q. not_told s (0 + k) (λ r. q (omega arith)) (λ r. p (omega arith)))
 
-all_filtered : (xs : List ℕ) → filter (λ i. not (has_number i [])) xs ≡ xs
-all_filtered [] = refl
-all_filtered (x ∷ xs) = ap {B = List ℕ} (λ ys. x ∷ ys) (all_filtered xs)
-
 -- what is kept stands at the numbers that are not generated
 pub kept_law : {X : Type 0} (z : X) (s : Option System) (xs : List X) → has_system s (length xs) ≡ true
     → kept s xs ≡ map (λ i. slice_index_or xs i z)

@@ -1,11 +1,11 @@
 -- Values taken out of a row, told of their data; and values that are added one by one.
 use Rattle.std.specs.Prelude.{◌≡◌, refl, min, ℕ, suc, ◌+◌, ◌<◌, ◌≤◌, List, [], ◌∷◌, ◌++◌, map, take, drop, remove}
-use Rattle.std.specs.Prelude.{length, replicate, Option, Some, option_map, Vec, slice_set, slice_index_or}
+use Rattle.std.specs.Prelude.{length, Option, Some, option_map, Vec, slice_set, slice_index_or}
 use Rattle.std.proofs.Common.{sym, ap, append_assoc, ◌∙◌, arith, lt-ltb}
-use Rattle.std.proofs.lemmas.List.{drop_more, drop-set-lt, map-append, take-map, drop-map, map_push, replicate_more}
+use Rattle.std.proofs.lemmas.List.{drop_more, drop-set-lt, map-append, take-map, drop-map, map_push}
 use Rattle.std.proofs.lemmas.List.{length-drop}
 use borrow.Author.Tests.{le-ltb}
-use Rattle.tql_spec.specs.Datum.{Row, Null}
+use Rattle.tql_spec.specs.Datum.{Row}
 use Rattle.tql_spec.specs.Definition.{without_generated}
 use Rattle.tql_spec.specs.Change.{filled}
 use Rattle.tql_catalog.specs.Definitions.{system_of}
@@ -34,11 +34,6 @@ pub start_removed_first : (o : Option System) (s : System) (old mid new : List V
     → row_of new ≡ remove (row_of mid) s.end → row_of new ≡ without_generated (option_map system_of o) (row_of old)
 start_removed_first o s old mid new e l f g =
     rw (e, le-ltb s.start s.end l) (both_removed old mid new s.start s.end f g)
-
--- one more null
-pub one_more_null : (row : List Value) (v : Value) (n : ℕ) → datum_of_value v ≡ Null → row_of row ≡ replicate n Null
-    → row_of (row ++ v ∷ []) ≡ replicate (n + 1) Null
-one_more_null row v n e f = map_push datum_of_value row v ∙ (λ i. f i ++ e i ∷ []) ∙ replicate_more n Null
 
 -- one more value in its column
 pub one_more_filled : (row new : List Value) (js : List ℕ) (values : List Value) (p : ℕ) (v w : Value) (all : Row)

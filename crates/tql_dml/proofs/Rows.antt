@@ -1,6 +1,5 @@
 -- The widths of rows: as they are stored, as they are shown, and of those that replace others; and the faults of rows
--- of
--- their width.
+-- of their width.
 use Rattle.std.specs.Prelude.{◌≡◌, refl, ℕ, ◌+◌, ◌<◌, ◌≤◌, ◌≢◌, ℤ, Bool, true, false, nat_lt, List, [], ◌∷◌, ◌++◌}
 use Rattle.std.specs.Prelude.{map, length, insert, slice_set, All, Option, Some, None, ⊤, if◌then◌else◌}
 use Rattle.std.specs.List.{flat_map, AllByRecursion}

@@ -37,8 +37,7 @@ made_cells d part work row =
     made_of work row >>= λ made. Some (map (without_generated d.system) (map (within d part) made))
 
 -- a row that can be touched: what replaces it are its old values before the portion, what it becomes within, and its
--- old
--- values after
+-- old values after
 pub record IsCut (d : TableDef) (portion : Option Period) (row : Row) (cut : Pieces) : Type 0 where
   pub reached : reaches d portion row ≡ true
   pub replaced : (made : List Row)

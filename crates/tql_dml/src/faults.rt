@@ -14,7 +14,6 @@ ghost use Rattle.tql_dml.specs.Cells.{no_column, columns_at, rows_faults, has_lo
 ghost use Rattle.tql_dml.specs.Cells.{lacks_a_value as lacking_in};
 ghost use Rattle.tql_dml.specs.Cells.{falls as falling, falls_by, has_falling_period as falling_in};
 
-use crate::generated::generated_places;
 use crate::periods::point;
 use tql_catalog::definition::{Application, Column};
 use tql_catalog::table_def::TableDef;
@@ -100,7 +99,7 @@ fn has_falling_period(definition: &TableDef, application: &Application, cells: &
 {
     let row = StoredRow {
         cells,
-        system: generated_places(definition),
+        system: definition.generated(),
         start: 0,
         end: HIGH,
     };

@@ -1,9 +1,8 @@
-// Changes of a table: what is added and taken away, with the tests of each new row.
+//! Changes of a table: what is added and taken away, with the tests of each new row.
 #![tactic(auto)]
 
 mod assignment;
 mod faults;
-mod generated;
 pub mod insertion;
 pub mod modification;
 mod periods;

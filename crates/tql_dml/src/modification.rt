@@ -14,7 +14,6 @@ ghost use Rattle.tql_dml.specs.Parts.{before, with_rows, touched_part, part_of, 
 
 use crate::assignment::{changed_row, left_row};
 use crate::faults::first_fault;
-use crate::generated::generated_places;
 use crate::periods::cut;
 use tql_bound::change::{Modification, Work};
 use tql_catalog::catalog::Table;
@@ -68,7 +67,7 @@ fn shown_row<'a>(definition: &TableDef, version: Version<'a>) -> StoredRow<'a>
 {
     StoredRow {
         cells: version.row,
-        system: generated_places(definition),
+        system: definition.generated(),
         start: version.start,
         end: HIGH,
     }

@@ -1,3 +1,4 @@
+//! The cells of new rows: the values given, each in its column, NULL in the others, and none for the generated columns.
 ghost use Rattle.std.specs.Prelude.{◌≡◌, IsTrue, nat_eq, replicate, remove, slice_set, length, map, option_map, IfOk};
 ghost use Rattle.std.specs.Prelude.{IfErr};
 ghost use Rattle.std.specs.List.{list_all};

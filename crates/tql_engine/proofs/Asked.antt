@@ -1,4 +1,4 @@
--- What a question finds: the versions of the store, as rows that can be printed.
+-- What a query finds: the versions of the store, as rows that can be printed.
 use Rattle.std.proofs.Common.{◌≡◌, ℕ, zero, suc, Bool, true, false, cond, List, [], ◌∷◌, ◌++◌, map, filter, length}
 use Rattle.std.proofs.Common.{refl, sym, ap, subst, ◌∙◌, arith}
 use Rattle.std.specs.Prelude.{ℤ, pos, ◌+ℤ◌, ◌≤ℤ◌, ◌&&◌, not, int_le, int_lt, nat_lt, insert, slice_get, All, Option}
@@ -166,7 +166,7 @@ entries_fit_by h s (Some x) f e =
 entries_fit : (h : EngineModel) (s : State) → StandsFor h s → EntriesFit (definitions_of h.tables) (entries s)
 entries_fit h s f = entries_fit_by h s s.transaction f refl
 
--- the versions that a question finds
+-- the versions that a query finds
 abbrev versions_found : State → ℕ → When → List Version
 versions_found s t when = found when (table_history t (entries s))
 
@@ -175,7 +175,7 @@ versions_fit : (h : EngineModel) (s : State) (t : ℕ) (p : Table) (when : When)
 versions_fit h s t p when f e =
     found_fit p.definition (definitions_of h.tables) t (rows_fit h.tables t p e) when (entries s) (entries_fit h s f)
 
--- the rows of a table that a question finds; an open transaction counts as the last commit
+-- the rows of a table that a query finds; an open transaction counts as the last commit
 abbrev pub rows_when : State → ℕ → When → List Row
 rows_when s t when = versions (table_at s.definitions t) t when (entries s)
 
@@ -191,7 +191,7 @@ seen_copies : (tables : List Table) (es : List Entry) (o : Option Entry) (id : �
 seen_copies tables es None id = refl
 seen_copies tables es (Some e) id = refl
 
--- the copies of a table that questions see
+-- the copies of a table that queries see
 pub seen_law : (h : EngineModel) (s : State) (t : ℕ) (p : Table) → StandsFor h s → slice_get h.tables t ≡ Some p
     → seen_by h.store.working (copies_of h.tables s.history) (working_of h.tables s.transaction) p.id ≡ table_history
     t (entries s)
@@ -235,7 +235,7 @@ ordered_prints keys rows h =
     All-from_recursion (All IsPrintable) (in_order keys rows)
     (ordered_all (All IsPrintable) keys rows (recursion_from_All (All IsPrintable) rows h))
 
--- the rows that a question finds have texts
+-- the rows that a query finds have texts
 pub found_print : (h : EngineModel) (s : State) (t : ℕ) (p : Table) (when : When) → StandsFor h s
     → slice_get h.tables t ≡ Some p → All (All IsPrintable) (rows_when s t when)
 found_print h s t p when f e =

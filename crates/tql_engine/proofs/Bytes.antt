@@ -1,7 +1,7 @@
 -- From a run over a source and a sink to one over bytes in memory.
 use Rattle.std.proofs.Common.{◌≡◌, refl, sym, ◌∙◌, ap, subst, ℕ, arith, Bool, true, false, List, [], ◌∷◌, ◌++◌}
 use Rattle.std.proofs.Common.{length, map, Some, Ok, Err, inl, inr, append-nil, length-append, ◌<◌, ◌≤◌}
-use Rattle.std.specs.Prelude.{◌⊎◌, ◌^◌, ◌-◌, Result, MatchBool}
+use Rattle.std.specs.Prelude.{◌⊎◌, ◌^◌, ◌-◌, Result, MatchBool, IsFalse, IsTrue}
 use Rattle.tql_spec.specs.Machine.{State, Reply}
 use Rattle.tql_spec.specs.Answer.{Answer, Replied, Accepted}
 use Rattle.tql_spec.specs.Script.{Piece, statements}
@@ -82,6 +82,11 @@ ended script read source m g e = by_cause e.cause
         let s = m.short in
         omega (arith, long, parts, s)
 
+-- a flush that never fails has not failed
+no_flush_fails : (b : Bool) → IsFalse b → IsTrue b → ⊥
+no_flush_fails true never fails = cc
+no_flush_fails false never fails = cc
+
 -- the output is what the sink holds
 grown : (old new text : List ℕ) (sink : SinkChange) → sink.held_old ≡ Some old → sink.held_new ≡ Some new
     → Appends sink.held_old text sink.held_new → new ≡ old ++ text
@@ -91,7 +96,8 @@ grown old new text sink before now a = some_inj new (old ++ text) (sym now ∙ a
 
 module _ (s : State) (after : Standing) (script old new : List ℕ) (source : SourceChange) (sink : SinkChange)
     (hearing : HearingChange)
-    (m : InMemory script source) (before : sink.held_old ≡ Some old) (now : sink.held_new ≡ Some new) where
+    (m : InMemory script source) (never : IsFalse sink.flushes_fail)
+    (before : sink.held_old ≡ Some old) (now : sink.held_new ≡ Some new) where
   whole : (summary : Summary) → RunsWhole Replies s after source sink hearing summary
       → WritesWhole s after script old new summary
   whole summary r =
@@ -126,15 +132,15 @@ module _ (s : State) (after : Standing) (script old new : List ℕ) (source : So
         ran = p.ran;
         stands = r.stands;
         pushed = r.text;
-        reached = reached p.replies p.all r.reached;
+        cut = cut p.replies p.all r.reached;
         behind = grown old new r.text sink before now r.written;
       }
     where
-      reached : (replies : List Reply) → r.answers ≡ map Replied replies
-          → CutsLast r.answers r.text ⊎ ((r.rest ≡ []) × (r.text ≡ answers_text r.answers))
-          → CutsLast (map Replied replies) r.text ⊎ ((r.rest ≡ []) × (r.text ≡ replies_text replies))
-      reached replies all (inl cut) = inl (subst (λ (x : List Answer). CutsLast x r.text) all cut)
-      reached replies all (inr (none, is)) = inr (none, is ∙ ap answers_text all ∙ texts_are replies)
+      cut : (replies : List Reply) → r.answers ≡ map Replied replies
+          → CutsLast r.answers r.text ⊎ ((r.rest ≡ []) × (r.text ≡ answers_text r.answers) × IsTrue sink.flushes_fail)
+          → CutsLast (map Replied replies) r.text
+      cut replies all (inl c) = subst (λ (x : List Answer). CutsLast x r.text) all c
+      cut replies all (inr (none, is, fails)) = absurd (no_flush_fails sink.flushes_fail never fails)
   stopped_at r false e =
       let misses = subst (λ (b : Bool). MatchBool b (MeetsEnd source) (MissesEnd source r.script)) e r.read in
       absurd (ended script r.script source m r.given misses)
@@ -144,5 +150,5 @@ module _ (s : State) (after : Standing) (script old new : List ℕ) (source : So
       → RunsBytes s after script old new result
   runs_bytes (Ok summary) r = whole summary r
   runs_bytes (Err Write) r = stopped_at r source.ended refl
-  runs_bytes (Err Memory) r = (r.stands, grown old new [] sink before now r.written ∙ append-nil old)
-  runs_bytes (Err Read) r = ended script r.script source m r.given r.cut
+  runs_bytes (Err Memory) r = (m.short, r.stands, grown old new [] sink before now r.written ∙ append-nil old)
+  runs_bytes (Err Read) r = absurd (ended script r.script source m r.given r.cut)

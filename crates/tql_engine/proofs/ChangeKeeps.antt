@@ -16,7 +16,7 @@ use Rattle.tql_store_rows.specs.Changes.{is_current}
 use Rattle.tql_store_rows.specs.Changes.{alive}
 use Rattle.tql_store.specs.Changes.{last_rows, rows_after}
 use Rattle.tql_store.specs.Represents as represents
-use Rattle.tql_store.specs.Represents.{Copies, Working, Represents, BeginCopies, ChangeReplaces, RollbackRestores}
+use Rattle.tql_store.specs.Represents.{Copies, Represents, BeginCopies, ChangeReplaces}
 use Rattle.tql_store.specs.Represents.{Judged}
 use Rattle.tql_store.specs.declared.tables.TableSlot.{TableSlot}
 use Rattle.tql_store.proofs.Judging.{still-judged}
@@ -358,18 +358,10 @@ all_stay : (xs : List Stamped) → filter (λ (r : Stamped). not false) xs ≡ x
 all_stay [] = refl
 all_stay (x ∷ xs) = ap {B = List Stamped} (λ ys. x ∷ ys) (all_stay xs)
 
-none_stays : (xs : List Stamped) → filter (λ (r : Stamped). not true) xs ≡ []
-none_stays [] = refl
-none_stays (x ∷ xs) = none_stays xs
-
 -- rows that only come
 pub only_added : (m : ℤ) (added : List Row) (rows : List Stamped)
     → rows_after m (λ (r : Stamped). false) added rows ≡ rows ++ begun_at m added
 only_added m added rows = ap (λ (xs : List Stamped). xs ++ begun_at m added) (all_stay rows)
-
--- rows that all go
-pub all_removed : (m : ℤ) (rows : List Stamped) → rows_after m (λ (r : Stamped). true) [] rows ≡ []
-all_removed m rows = ap (λ (xs : List Stamped). xs ++ begun_at m []) (none_stays rows)
 
 -- no version is taken away
 none_goes : (b c : Bool) → false ≡ (b && (c && false))

@@ -68,6 +68,6 @@ rollback_step s = one_fault (is_none s.transaction) NotInThisTransactionState s 
 
 pub alter_step : (s : State) (c : Change)
     → step s (ChangeRows c)
-        ≡ if is_none s.transaction && is_clock_at_end s then refused MomentNotAllowed s else changed s c
+    ≡ if is_none s.transaction && is_clock_at_end s then refused MomentNotAllowed s else changed s c
 alter_step s c = one_fault (is_none s.transaction && is_clock_at_end s) MomentNotAllowed s (changed s c).0
     (changed s c).1

@@ -15,7 +15,8 @@ use Rattle.tql_spec.specs.Query.{joined_with, joins_from, keep, left_join, pairs
 use Rattle.tql_spec.specs.Words.{◌>>=◌, filter_all, map_all, with_front}
 use Rattle.tql_bound.specs.Placed.{AreChainsPlaced, AreJoinsPlaced, IsPlacedQuery, IsPlacedRef, ref_of}
 use Rattle.tql_bound.specs.Queries.{chain_of, join_by, join_of, bound_query_of, references_in, references_of}
-use Rattle.tql_bound.specs.References.{is_now, reference_of}
+use Rattle.tql_bound.specs.References.{reference_of}
+use Rattle.tql_value.specs.When.{is_now}
 use Rattle.tql_bound.specs.declared.query.Chain as code
 use Rattle.tql_bound.specs.declared.query.Join as joined
 use Rattle.tql_bound.specs.declared.query.JoinKind.{JoinKind}
@@ -63,7 +64,7 @@ defined_as (q ∷ ps) (suc t) p e = defined_as ps t p e
 
 -- ---- the bag of a reference
 
--- what each source gives in the copies of a state
+-- what each scan gives in the copies of a state
 abbrev pub bags_of : EngineModel → State → Bags
 bags_of h s = bags_in h.store (copies_of h.tables s.history) (working_of h.tables s.transaction)
 
@@ -172,7 +173,7 @@ pub references_there : (defs : List TableDef) (x : BoundQuery) → IsPlacedQuery
     → All (IsThere defs) (references_of x)
 references_there defs x placed = chains_there defs x.terms x.chains.items placed.references
 
--- a source that can be read
+-- a scan that can be read
 readable : (h : EngineModel) (s : State) → StandsFor h s → (r : Reference) → IsThere (definitions_of h.tables) r
     → IsReadable h.store (source_for h.tables (reference_of r))
 readable h s st r placed =

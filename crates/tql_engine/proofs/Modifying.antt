@@ -10,7 +10,7 @@ use Rattle.tql_spec.proofs.Bags.{same-map, same-sym}
 use Rattle.tql_spec.specs.Calendar.{first_moment, high}
 use Rattle.tql_spec.specs.Datum.{Row}
 use Rattle.tql_spec.specs.Definition.{Stamped, TableDef, Version}
-use Rattle.tql_spec.specs.History.{Entry, current, still, completed, table_history, rows_in}
+use Rattle.tql_spec.specs.History.{Entry, Now, current, still, completed, table_history, rows_in}
 use Rattle.tql_spec.specs.Change as change
 use Rattle.tql_spec.specs.Change.{Outcome, modify}
 use Rattle.tql_spec.specs.ChangeLaws.{SameOutcome, ChangesKeepNoOrder, ChangesByParts}
@@ -27,7 +27,7 @@ use Rattle.tql_dml.specs.Alters.{Alters, Gives, gone, fates, coming, modified, p
 use Rattle.tql_dml.specs.Alters as dml
 use Rattle.tql_store.specs.StoreModel.{StoreModel, AreRemovable}
 use Rattle.tql_store.specs.Changes.{rows_after}
-use Rattle.tql_store.specs.Represents.{AnswersNow, Judged}
+use Rattle.tql_store.specs.Represents.{Answers, Judged}
 use Rattle.tql_store_rows.specs.Readings.{version_shown as version_of}
 use Rattle.tql_store.specs.declared.store.Delta.{Delta}
 use Rattle.tql_store_rows.specs.declared.version.Version as code
@@ -74,7 +74,7 @@ rows_read (v ∷ vs) = ap {B = List Stamped} (λ xs. (version_of v).row ∷ xs) 
 
 -- the rows that were read are those that the change sees
 pub same_rows : (h : EngineModel) (s : State) (t : ℕ) (p : Table) (found : List code.Version) → StandsFor h s
-    → slice_get h.tables t ≡ Some p → AnswersNow h.store p.id (map version_of found)
+    → slice_get h.tables t ≡ Some p → Answers h.store p.id Now (map version_of found)
     → SameBag (dml.rows_in found) (working_rows s t)
 same_rows h s t p found st e answers =
     let now : current (table_history t (entries s)) ≡ completed still (working_rows s t) =
@@ -121,7 +121,7 @@ versions_of d (v ∷ vs) f =
     (record { cells = f.0.cells; start = (low, omega (arith, ints)) }, versions_of d vs f.1)
 
 pub read_fit : (h : EngineModel) (s : State) (t : ℕ) (p : Table) (found : List code.Version) → StandsFor h s
-    → slice_get h.tables t ≡ Some p → AnswersNow h.store p.id (map version_of found)
+    → slice_get h.tables t ≡ Some p → Answers h.store p.id Now (map version_of found)
     → All (IsVersionOf p.definition) found
 read_fit h s t p found st e answers =
     All-from_recursion (IsVersionOf p.definition) found
@@ -156,7 +156,7 @@ module _ (no_order : ChangesKeepNoOrder) (by_parts : ChangesByParts) (h : Engine
       (ap {B = Outcome} (λ d. modify d moment rows (portion_in x) work (conds_in x))
       (definition_law h s x.table p st there))
 
-  module _ (found : List code.Version) (answers : AnswersNow h.store p.id (map version_of found)) where
+  module _ (found : List code.Version) (answers : Answers h.store p.id Now (map version_of found)) where
     same : SameOutcome (modified p.definition found x moment) outcome
     same = no_order p.definition moment (dml.rows_in found) rows (portion_in x) work (conds_in x)
         (same_rows h s x.table p found st there answers)

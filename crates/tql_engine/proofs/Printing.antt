@@ -102,7 +102,7 @@ rows_print keys (Some bag) rows k e = subst ArePrintable (inside (in_order keys 
     inside : (xs ys : List Row) → Some xs ≡ Some ys → xs ≡ ys
     inside xs ys e = cc
 
--- what a question answers has one
+-- what a query answers has one
 asked_prints : (s : State) (q : Query) (o : Option (List Row)) → RowsPrint o → Prints (asked s q o)
 asked_prints s q None k = tt
 asked_prints s q (Some rows) k = ordered_prints q.ordering rows k

@@ -1,10 +1,9 @@
 -- From what a text spells in the whole grammar to what it says to the engine.
-use Rattle.std.proofs.Common.{◌≡◌, refl, sym, subst, ap, ◌∙◌, ℕ, Bool, true, false, List, Result, Ok, Err}
-use Rattle.std.specs.Prelude.{IsTrue}
+use Rattle.std.proofs.Common.{◌≡◌, sym, ap, ◌∙◌, ℕ, true, false, List, Ok, Err}
 use Rattle.tql_spec.specs.Syntax.{Statement, is_too_wide}
 use Rattle.tql_spec.specs.Grammar.{IsStatement}
 use Rattle.tql_spec.specs.Running.{Runs, does_run}
-use Rattle.tql_spec.specs.Run.{IsWhole, IsTextOf, finished}
+use Rattle.tql_spec.specs.Run.{IsTextOf}
 use Rattle.tql_value.specs.declared.refusal.Refusal.{Refusal}
 use Rattle.tql_value.specs.declared.refusal.Refusal.TheVariants as r
 use Rattle.tql_syntax_tree.specs.Trees.{tree_of}
@@ -34,12 +33,6 @@ not_running text s (whole, spelled) e =
 
 running : (text : List ℕ) (s : Statement) → IsTextOf IsStatement text s → does_run s ≡ true → IsTextOf Runs text s
 running text s (ts, shallow, spelled) e = (ts, shallow, record { spelled = spelled; running = e })
-
--- one that runs and is too wide
-pub too_wide : (text : List ℕ) (s : code.Tree) → ReadsText text (Ok s) → does_run (tree_of s) ≡ true
-    → is_too_wide (tree_of s) ≡ true
-    → ReadsAs text (Err r.TooManyColumnsOrTables)
-too_wide text s (whole, spelled) e wide = (whole, (tree_of s, running text (tree_of s) spelled e, wide))
 
 -- one that runs
 pub says : (text : List ℕ) (s : code.Tree) → ReadsText text (Ok s) → does_run (tree_of s) ≡ true

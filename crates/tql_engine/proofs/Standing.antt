@@ -145,6 +145,3 @@ versioned_law h s t p f e = (kept_of h.store h.tables t p f.placed e).versioned
 pub there_law : (h : EngineModel) (s : State) (t : ℕ) (p : Table) → StandsFor h s → slice_get h.tables t ≡ Some p
     → IsTrue (has_table h.store p.id)
 there_law h s t p f e = (kept_of h.store h.tables t p f.placed e).there
-
-pub count_law : (h : EngineModel) (s : State) → StandsFor h s → length s.definitions ≡ table_count h.store
-count_law h s f = ap length f.fits.definitions ∙ length-map h.tables (λ (t : Table). t.definition) ∙ sym f.count

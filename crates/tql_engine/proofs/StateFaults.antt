@@ -1,7 +1,7 @@
 -- The faults of the transaction and the clock, by what the engine holds.
-use Rattle.std.proofs.Common.{◌≡◌, refl, sym, ap, ◌∙◌, Bool, true, false, Option, Some, None, List, [], ◌∷◌, ◌++◌}
+use Rattle.std.proofs.Common.{◌≡◌, refl, sym, ap, ◌∙◌, Bool, true, false, Option, Some, None, ◌++◌}
 use Rattle.std.proofs.Common.{arith}
-use Rattle.std.specs.Prelude.{ℤ, ◌&&◌, ◌<ℤ◌, not, int_le, is_some, is_none, if◌then◌else◌}
+use Rattle.std.specs.Prelude.{ℤ, ◌&&◌, ◌<ℤ◌, not, int_le, is_some, is_none}
 use Rattle.std.proofs.lemmas.Int.{ints}
 use Rattle.tql_spec.specs.Calendar.{high}
 use Rattle.tql_spec.specs.Refusal.{Refusal, NotInThisTransactionState, MomentNotAllowed, first, fault_if}
@@ -17,10 +17,6 @@ use Rattle.tql_engine.proofs.Standing.{open_law}
 none_is : {A : Type 0} (o : Option A) → is_none o ≡ not (is_some o)
 none_is None = refl
 none_is (Some x) = refl
-
--- a transaction is open
-pub open_is : (h : EngineModel) (s : State) → StandsFor h s → is_some s.transaction ≡ is_some h.store.working
-open_is = open_law
 
 -- none is open
 pub closed_is : (h : EngineModel) (s : State) → StandsFor h s → is_none s.transaction ≡ not (is_some h.store.working)

@@ -1,6 +1,5 @@
--- An engine that does a step of the machine is sound, since the step keeps the kinds of values; and what a change
--- reads is
--- of its table's kinds.
+-- An engine that does a step of the machine is sound, since the step keeps the kinds of values; and what a change reads
+-- is of its table's kinds.
 use Rattle.std.proofs.Common.{◌≡◌, refl, sym, ap, subst, ◌∙◌, ℕ, List, [], ◌∷◌, length, All, map, Option, Some, None}
 use Rattle.std.proofs.Common.{inl, inr}
 use Rattle.std.specs.Prelude.{ℤ, slice_get}
@@ -9,7 +8,7 @@ use Rattle.std.proofs.lemmas.List.Elements.{All-from_recursion}
 use Rattle.tql_spec.specs.Bag.{In, SameBag}
 use Rattle.tql_spec.specs.Creation.{kinds_of}
 use Rattle.tql_spec.specs.Definition.{Stamped, TableDef, shown, table_at}
-use Rattle.tql_spec.specs.History.{Entry, rows_in}
+use Rattle.tql_spec.specs.History.{Entry, Now, rows_in}
 use Rattle.tql_spec.specs.Machine.{State, Bound, Reply, step, newest_copy}
 use Rattle.tql_spec.specs.Typing.{AreOfKinds, IsTyped, IsTypedDefinition, IsTypedState}
 use Rattle.tql_spec.specs.TypingLaws.{IsTypedBound, IsTypedChange, IsTypedWork}
@@ -22,7 +21,7 @@ use Rattle.tql_dml.specs.Alters as dml
 use Rattle.tql_dml.specs.Alters.{AreTyped, portion_in, work_in}
 use Rattle.tql_store_rows.specs.Readings.{version_shown as version_of}
 use Rattle.tql_store_rows.specs.declared.version.Version as code
-use Rattle.tql_store.specs.Represents.{AnswersNow}
+use Rattle.tql_store.specs.Represents.{Answers}
 use Rattle.tql_engine.specs.Effects.{Does}
 use Rattle.tql_engine.specs.Stands.{EngineModel, StandsFor, IsSound}
 use Rattle.tql_engine.proofs.ChangeKeeps.{working_rows}
@@ -64,7 +63,7 @@ pub read_typed : (h : EngineModel) (s : State) (p : Table) (x : Modification) (f
     → StandsFor h s
     → IsTypedState s
     → IsTypedChange (definitions_of h.tables) (modification_of x) → slice_get h.tables x.table ≡ Some p
-    → AnswersNow h.store p.id (map version_of found)
+    → Answers h.store p.id Now (map version_of found)
     → AreTyped p.definition found x
 read_typed h s p x found st typed bound there answers portion =
     let here : table_at s.definitions x.table ≡ p.definition = definition_law h s x.table p st there in

@@ -15,7 +15,7 @@ IsIdle h = IsNone h.store.working
 abbrev pub HasTimeLeft : EngineModel → Type 0
 HasTimeLeft h = h.next <ℤ high
 
--- a bound statement, but for the moment of AT; COMMIT and ROLLBACK answer_query for themselves
+-- a bound statement, but for the moment of AT; COMMIT and ROLLBACK answer for themselves
 abbrev pub IsAllowed : EngineModel → Bound → Type 0
 IsAllowed h (CreateTable d) = IsIdle h
 IsAllowed h (DropTable t) = IsIdle h

@@ -1,12 +1,11 @@
 -- What a run over bytes in memory leaves: the output, and the state that the engine stands for.
-use Rattle.std.specs.Prelude.{◌≡◌, ◌⊎◌, ℕ, List, [], ◌++◌, map, Result, Ok, Err}
+use Rattle.std.specs.Prelude.{◌≡◌, ◌<◌, ◌≤◌, ℕ, List, ◌++◌, length, map, Result, Ok, Err}
 use Rattle.tql_spec.specs.Machine.{State, Reply}
 use Rattle.tql_spec.specs.Answer.{Replied}
 use Rattle.tql_spec.specs.Script.{Piece, statements}
-use Rattle.tql_spec.specs.Text.{replies_text}
 use Rattle.tql_spec.specs.Run.{Run, Writes}
 use Rattle.tql_run.specs.Responding.{Standing}
-use Rattle.tql_run.specs.Runs.{Counts, CutsLast}
+use Rattle.tql_run.specs.Runs.{Counts, CutsLast, most_pulls}
 use Rattle.tql_run.specs.declared.runner.Summary.{Summary}
 use Rattle.tql_run.specs.declared.runner.Fault.{Fault}
 use Rattle.tql_run.specs.declared.runner.Fault.TheVariants.{Read, Write, Memory}
@@ -20,9 +19,8 @@ pub record WritesWhole (s : State) (after : Standing) (script old new : List ℕ
   pub behind : new ≡ old ++ pushed
   pub counts : Counts summary (map Replied writes.0)
 
--- the output could not grow: the statement of the reply that it did not take is the last that ran, and a beginning of
--- the
--- replies stands behind what the output was
+-- the output could not grow: the statement of the reply that it did not take whole is the last that ran; behind what
+-- the output was stand the replies before that one, and a beginning of it that is not all of it
 pub record StopsWriting (s : State) (after : Standing) (script old new : List ℕ) : Type 0 where
   pub done : List Piece
   pub rest : List Piece
@@ -32,12 +30,12 @@ pub record StopsWriting (s : State) (after : Standing) (script old new : List �
   pub ran : Run s done replies state
   pub stands : after state
   pub pushed : List ℕ
-  pub reached : CutsLast (map Replied replies) pushed ⊎ ((rest ≡ []) × (pushed ≡ replies_text replies))
+  pub cut : CutsLast (map Replied replies) pushed
   pub behind : new ≡ old ++ pushed
 
--- by its result; a script in memory is read to its end
+-- by its result; a script in memory is read to its end, unless it has 2^48 - 1 bytes or more: then nothing ran
 abbrev pub RunsBytes : State → Standing → (script old new : List ℕ) → Result Summary Fault → Type 0
 RunsBytes s after script old new (Ok summary) = WritesWhole s after script old new summary
 RunsBytes s after script old new (Err Write) = StopsWriting s after script old new
-RunsBytes s after script old new (Err Memory) = after s × (new ≡ old)
-RunsBytes s after script old new (Err Read) = ⊥
+RunsBytes s after script old new (Err Memory) = (length script < most_pulls) × after s × (new ≡ old)
+RunsBytes s after script old new (Err Read) = (most_pulls ≤ length script) × after s × (new ≡ old)

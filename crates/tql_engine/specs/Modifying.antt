@@ -1,11 +1,12 @@
 -- What a modification gives, from the versions that its table has now.
 use Rattle.std.specs.Prelude.{List, map, All, Result, Ok, Err, IfOk, ⊤}
+use Rattle.tql_spec.specs.History.{Now}
 use Rattle.tql_bound.specs.declared.change.Modification.{Modification}
 use Rattle.tql_catalog.specs.Rows.{IsRowOf}
 use Rattle.tql_catalog.specs.declared.catalog.Table.{Table}
 use Rattle.tql_dml.specs.Alters.{Alters, gone, fates, coming, modified, IsVersionOf, AreTyped}
 use Rattle.tql_value.specs.Views.{rows_of}
-use Rattle.tql_store.specs.Represents.{AnswersNow}
+use Rattle.tql_store.specs.Represents.{Answers}
 use Rattle.tql_store.specs.StoreModel.{StoreModel}
 use Rattle.tql_store_rows.specs.Changes.{is_current}
 use Rattle.tql_store_rows.specs.Readings.{version_shown as version_of}
@@ -20,7 +21,7 @@ pub record Made (h : StoreModel) (p : Table) (x : Modification) (result : Result
   pub found : List Version
   pub names : All (Names h p.id) found
   pub once : NamesOnce h p.id is_current found
-  pub answers : AnswersNow h p.id (map version_of found)
+  pub answers : Answers h p.id Now (map version_of found)
   pub alters : Alters p.id (gone p.definition x found) (λ m. coming (fates p.definition found x m))
       (modified p.definition found x) result
   pub fits : All (IsVersionOf p.definition) found → AreTyped p.definition found x

@@ -89,8 +89,7 @@ pub record StandsFor (h : EngineModel) (s : State) : Type 0 where
   pub count : table_count h.store ≡ length h.tables
 
 -- what is true of every engine: it stands for some state of the machine, and in each copy of it, the working one too,
--- values are of their
--- columns' kinds, so that the ends of a row's application period are points of its kind
+-- values are of their columns' kinds, so that the ends of a row's application period are points of its kind
 pub record IsSound (h : EngineModel) : Type 0 where
   pub state : State
   pub stands : StandsFor h state

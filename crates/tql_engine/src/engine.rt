@@ -1,3 +1,4 @@
+//! The engine and its steps: what it holds, how it begins, and what it replies to a statement.
 ghost use Rattle.std.specs.Prelude.{◌≡◌, ◌<◌, length, slice_get, IfOk, IsFalse, IsTrue, Some};
 
 mod changes;

@@ -1,4 +1,4 @@
-// The engine: statements in, replies out.
+//! The engine: statements in, replies out.
 #![tactic(auto)]
 
 mod committing;

@@ -18,7 +18,7 @@ use tql_run::runner::{Fault, Summary};
 use tql_run::silence::Silence;
 use tql_run::slice_source::SliceSource;
 
-/// From so many bytes on a script in memory is not taken: no memory holds it a second time.
+/// From so many bytes on a script in memory is not read, as a source of so many is not: `run` says `Read` of both.
 const TOO_MANY_BYTES: usize = 281_474_976_710_655;
 
 /// Reads a script from the source to its end, then answers its statements one after another, writes each reply to the
@@ -33,16 +33,17 @@ pub fn run<I: Source, O: Sink, L: Listener>(
 ) -> Result<Summary, Fault>
     ensures { (s : State) → StandsFor engine.old s → Runs Replies s (StandsFor engine.new)
         (source_change I.left I.failures I.ended source.old source.new)
-        (sink_change O.written O.failures O.flushed sink.old sink.new)
+        (sink_change O.written O.failures O.flushed O.flushes_fail sink.old sink.new)
         (hearing_change L.heard listener.old listener.new) result }
 {
     tql_run::runner::run(engine, source, sink, listener)
 }
 
 /// Runs a script that is in memory, and puts its replies behind the output. Where the output finds no memory, no
-/// statement runs behind the one whose reply it did not take whole, and the run says `Write`. Where there is no memory
-/// for what a run takes at its start, or the script has 2^48 - 1 bytes or more, nothing runs, and the run says
-/// `Memory`. It never says `Read`. A refused statement does not stop the run.
+/// statement runs behind the one whose reply it did not take whole, and the run says `Write`; it never says that where
+/// the output has all replies whole. Where there is no memory for what a run takes at its start, nothing runs, and the
+/// run says `Memory`. Where the script has 2^48 - 1 bytes or more, nothing runs, and the run says `Read`; it says that
+/// of no shorter script. A refused statement does not stop the run.
 pub fn run_bytes(
     engine: &mut Engine,
     script: &[u8],
@@ -52,7 +53,7 @@ pub fn run_bytes(
         → RunsBytes s (StandsFor engine.new) script.now output.old.items output.new.items result }
 {
     if script.len() >= TOO_MANY_BYTES {
-        return Err(Fault::Memory);
+        return Err(Fault::Read);
     }
     let mut source = SliceSource::new(script);
     let mut sink = VecSink::new(mem::replace(output, Vec::new(engine.memory())));

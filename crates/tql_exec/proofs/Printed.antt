@@ -61,10 +61,6 @@ sorted_stays keys (x ∷ y ∷ rest) s =
 
 -- ---- rows without their repeats
 
--- each row is unlike the one
-unlike : Row → Row → Bool
-unlike r s = not (same_row r s)
-
 twice_filtered : {A : Type 0} (p : A → Bool) (xs : List A) → filter p (filter p xs) ≡ filter p xs
 twice_filtered p [] = refl
 twice_filtered p (x ∷ xs) = by_bool (p x)

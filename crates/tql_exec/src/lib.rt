@@ -1,8 +1,8 @@
-// Plans run over the store.
+//! Plans run over the store.
 #![tactic(auto)]
 
-pub mod headings;
-pub mod joining;
-pub mod reading;
+mod headings;
+mod joining;
+mod reading;
 pub mod running;
-pub mod sorting;
+mod sorting;

@@ -10,9 +10,9 @@ use Rattle.std.specs.Ordering.{is_lt, is_gt, ordering_reverse}
 use Rattle.std.specs.declared.cmp.Ordering.{Ordering}
 use Rattle.std.specs.declared.cmp.Ordering.TheVariants.{Less, Equal, Greater}
 use Rattle.std.proofs.lemmas.List.Sorted.{ranks_by}
-use Rattle.std.proofs.Math.IntN.{+ℤ_assoc, +ℤ_idl, +ℤ_idr}
+use Rattle.std.proofs.Math.IntN.{+ℤ_assoc, +ℤ_idl}
 use Rattle.tql_spec.specs.Datum.{Datum, Null, Int, Text, Day, Moment, order, is_null, exact, fits, Row}
-use Rattle.tql_spec.specs.Expression.{Expr, Function, Aggregate, eval, best, present, total, aggregate, Sum}
+use Rattle.tql_spec.specs.Expression.{Expr, Function, Aggregate, eval, best, present, total, aggregate}
 use Rattle.tql_spec.proofs.Orders.{order-total}
 use Rattle.tql_exec_group.specs.Folds.{is_better, the_better, sum_behind, so_far, added, IsWithin, of_present}
 
@@ -73,20 +73,7 @@ one_better greatest a b vs = by_null (is_null a) (is_null b) (is_better greatest
         simp (e, f, g) (ap (λ d. best (is_better greatest) (d ∷ present vs)) (sym (simp g))
         ∙ first_two (is_better greatest) (ranks greatest) a b (present vs))
 
--- the best of one value
-pub best_of_one : (greatest : Bool) (a : Datum) → best (is_better greatest) (present (a ∷ [])) ≡ a
-best_of_one greatest Null = refl
-best_of_one greatest (Int n) = refl
-best_of_one greatest (Text t) = refl
-best_of_one greatest (Day d) = refl
-best_of_one greatest (Moment m) = refl
-
 -- ---- sums
-
--- nothing was met
-pub sum_from_none : (vs : List Datum) → sum_behind None vs ≡ aggregate Sum vs
-sum_from_none [] = refl
-sum_from_none (v ∷ vs) = refl
 
 -- one more value
 pub one_summed : (s : Option ℤ) (v : Datum) (vs : List Datum)
@@ -101,10 +88,6 @@ one_summed None (Day t) vs = ap exact (+ℤ_idl (total (present vs)))
 one_summed (Some m) (Day t) vs = refl
 one_summed None (Moment t) vs = ap exact (+ℤ_idl (total (present vs)))
 one_summed (Some m) (Moment t) vs = refl
-
--- no more values
-pub sum_at_end : (n : ℤ) → sum_behind (Some n) [] ≡ exact n
-sum_at_end n = ap exact (+ℤ_idr n)
 
 -- a number of 64 bits is added
 pub next_within : (n : ℕ) (s : Option ℤ) (m r : ℤ) → IsWithin n s → neg_ℤ (pos (2 ^ 63)) ≤ℤ m → m <ℤ pos (2 ^ 63)

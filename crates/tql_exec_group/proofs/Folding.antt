@@ -1,8 +1,8 @@
 -- Values taken one after another: what is met so far, and what is left.
-use Rattle.std.specs.Prelude.{◌≡◌, refl, ℕ, ◌+◌, ◌<◌, ◌≤◌, List, [], ◌∷◌, map, length, slice_index_or, Option, Some}
+use Rattle.std.specs.Prelude.{◌≡◌, refl, ℕ, ◌+◌, ◌<◌, List, [], ◌∷◌, map, length, slice_index_or, Option, Some}
 use Rattle.std.specs.Prelude.{None}
 use Rattle.std.proofs.Common.{sym, ap, ◌∙◌, drop}
-use Rattle.std.proofs.lemmas.List.{drop_more, drop_all}
+use Rattle.std.proofs.lemmas.List.{drop_more}
 use Rattle.tql_spec.specs.Words.{◌>>=◌, with_front, map_all}
 use Rattle.tql_spec.specs.Datum.{Datum, Row}
 use Rattle.tql_spec.specs.Expression.{Expr, eval, present}
@@ -48,11 +48,6 @@ module _ {X Y A B : Type 0} (f : Y → Option A) (k : X → Y) where
       sym so_far ∙ ap (λ o. o >>= h) (left_at f k xs i x l is) ∙ (λ j. with_front (none j) rest >>= h)
       ∙ none_first rest h
 
-  -- none is left
-  pub all_met : (h : List A → Option B) (xs : List X) (i : ℕ) (all : Option B) → length xs ≤ i
-      → map_all f (map k (drop i xs)) >>= h ≡ all → all ≡ h []
-  all_met h xs i all past so_far = sym so_far ∙ (λ j. map_all f (map k (drop_all i xs past j)) >>= h)
-
 -- ---- the values of an expression on rows
 
 module _ {X A : Type 0} (values : X → Row) (e : Expr) where
@@ -63,20 +58,3 @@ module _ {X A : Type 0} (values : X → Row) (e : Expr) where
   more_present h h' xs i x v all l is value next so_far =
       one_more (λ r. eval [] r e) values (λ vs. h (present vs)) (λ vs. h' (present vs)) xs i x v all l is (sym value)
       next so_far
-
-  pub lacks_present : (h : List Datum → Option A) (xs : List X) (i : ℕ) (x : X) (all : Option A) → i < length xs
-      → x ≡ slice_index_or xs i x
-      → None ≡ eval [] (values x) e → of_present h e (map values (drop i xs)) ≡ all → None ≡ all
-  lacks_present h xs i x all l is none so_far =
-      sym (one_lacks (λ r. eval [] r e) values (λ vs. h (present vs)) xs i x all l is (sym none) so_far)
-
-  pub all_present : (h : List Datum → Option A) (xs : List X) (i : ℕ) (all : Option A) → length xs ≤ i
-      → of_present h e (map values (drop i xs)) ≡ all → h [] ≡ all
-  all_present h xs i all past so_far =
-      sym (all_met (λ r. eval [] r e) values (λ vs. h (present vs)) xs i all past so_far)
-
--- functions that agree
-pub of_present_same : {A : Type 0} (h k : List Datum → Option A) (e : Expr) (rows : List Row)
-    → ((vs : List Datum) → h vs ≡ k vs) → of_present h e rows ≡ of_present k e rows
-of_present_same h k e rows same =
-    by_each (map_all (λ r. eval [] r e) rows) (λ vs. h (present vs)) (λ vs. k (present vs)) (λ vs. same (present vs))

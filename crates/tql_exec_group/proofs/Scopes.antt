@@ -1,8 +1,7 @@
 -- What is shown of scopes, one after another.
-use Rattle.std.specs.Prelude.{◌≡◌, refl, ℕ, ◌+◌, ◌<◌, ◌≤◌, Bool, true, false, List, [], ◌∷◌, map, length}
-use Rattle.std.specs.Prelude.{slice_index_or, Option, Some, None}
-use Rattle.std.proofs.Common.{sym, ap, append_assoc, ◌∙◌, drop}
-use Rattle.std.proofs.lemmas.List.{drop_more, drop_all, append-nil}
+use Rattle.std.specs.Prelude.{◌≡◌, refl, Bool, true, false, List, [], ◌∷◌}
+use Rattle.std.specs.Prelude.{Option, Some, None}
+use Rattle.std.proofs.Common.{sym, ap, append_assoc, ◌∙◌}
 use Rattle.tql_spec.specs.Words.{◌>>=◌, with_front, map_all, kept_if, filter_all}
 use Rattle.tql_spec.specs.Datum.{Row}
 use Rattle.tql_spec.specs.Expression.{Expr, Cond, eval, passes}
@@ -69,19 +68,3 @@ module _ (having : List Cond) (items : List Expr) where
       → behind done (shown having items left) ≡ all → behind done (shown having items (s ∷ [])) ≡ None → all ≡ None
   one_not_shown s ss left done all is h none = sym h ∙ first_shown s ss left done is
       ∙ ap (λ o. o >>= λ xs. behind xs (shown having items ss)) none
-
-  -- none is left
-  pub all_shown : (left : List Scope) (done : List Row) (all : Option (List Row)) → left ≡ []
-      → behind done (shown having items left) ≡ all → all ≡ Some done
-  all_shown left done all none h = sym h ∙ ap (λ ws. behind done (shown having items ws)) none
-      ∙ ap {B = Option (List Row)} (λ ys. Some ys) (append-nil done)
-
--- what is left at an index
-pub left_from : {X : Type 0} (view : X → Scope) (xs : List X) (i : ℕ) (x : X) → i < length xs
-    → x ≡ slice_index_or xs i x
-    → map view (drop i xs) ≡ view x ∷ map view (drop (i + 1) xs)
-left_from {X} view xs i x l is =
-    ap (map view) (drop_more xs i x l) ∙ ap {B = List Scope} (λ y. view y ∷ map view (drop (i + 1) xs)) (sym is)
-
-pub none_from : {X : Type 0} (view : X → Scope) (xs : List X) (i : ℕ) → length xs ≤ i → map view (drop i xs) ≡ []
-none_from view xs i past = ap (map view) (drop_all i xs past)

@@ -21,13 +21,6 @@ impl Columns for Group<'_> {
 
     ghost group = { λ g. g.rows.now };
 
-    fn width(&self) -> usize {
-        match self.rows.first() {
-            Some(row) => row.width(),
-            None => 0,
-        }
-    }
-
     fn column(&self, place: usize) -> View<'_> {
         match self.rows.first() {
             Some(row) => row.column(place),

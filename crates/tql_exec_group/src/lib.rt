@@ -1,7 +1,7 @@
-// Groups of joined rows: their aggregates, what passes HAVING, and the values of the select list.
+//! Groups of joined rows: their aggregates, what passes HAVING, and the values of the select list.
 #![tactic(auto)]
 
-pub mod aggregates;
-pub mod group;
-pub mod runs;
+mod aggregates;
+mod group;
+mod runs;
 pub mod showing;

@@ -1,4 +1,4 @@
-// Conditions and expressions that are written as lists.
+//! Conditions and expressions that are written as lists.
 ghost use Rattle.std.specs.Prelude.{All, map};
 ghost use Rattle.tql_expr.specs.Trees.{plain_operation};
 ghost use Rattle.tql_expr.specs.Meaning.{expr, cond, HasExpr, HasCond, chain, all_of, any_of, one_of, BuildsExpr};

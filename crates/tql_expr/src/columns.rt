@@ -1,5 +1,5 @@
-// What expressions are evaluated on.
-ghost use Rattle.std.specs.Prelude.{◌≡◌, List, [], length, slice_index_or};
+//! What expressions are evaluated on.
+ghost use Rattle.std.specs.Prelude.{◌≡◌, List, [], slice_index_or};
 ghost use Rattle.tql_spec.specs.Datum as pure;
 ghost use Rattle.tql_spec.specs.Expression as bound;
 ghost use Rattle.tql_value.specs.Views.{datum_of_view, outcome};
@@ -17,10 +17,6 @@ pub trait Columns {
 
     /// The rows of the row's group, over which aggregates are taken; none where there is no group.
     ghost group: { Self → List pure.Row };
-
-    /// How many columns there are.
-    fn width(&self) -> usize
-        ensures { result ≡ length (values self.now) };
 
     /// The value of a column; NULL past the last one.
     fn column(&self, place: usize) -> View<'_>

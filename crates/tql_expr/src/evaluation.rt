@@ -1,4 +1,4 @@
-// The value of an expression and the truth of a condition, on a row.
+//! The value of an expression and the truth of a condition, on a row.
 ghost use Rattle.std.specs.Prelude.{◌≡◌, ◌<◌, ◌≤◌, ◌-◌, IsTrue, IsOk, All, map};
 ghost use Rattle.tql_spec.specs.Datum.{Day, Moment};
 ghost use Rattle.tql_spec.specs.Expression as bound;

@@ -2,13 +2,13 @@
 //! their evaluation.
 #![tactic(auto)]
 
-pub mod chains;
+mod chains;
 pub mod columns;
-pub mod evaluation;
+mod evaluation;
 pub mod node;
 pub mod row;
-pub mod safety;
-pub mod scalar;
+mod safety;
+mod scalar;
 pub mod search;
 pub mod stored;
 pub mod terms;

@@ -1,4 +1,4 @@
-// The kinds of nodes.
+//! The kinds of nodes.
 use tql_period::predicates::Relation;
 use tql_value::comparison::Comparison;
 

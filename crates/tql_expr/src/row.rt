@@ -28,10 +28,6 @@ impl Columns for EmptyRow {
 
     ghost group = { λ r. [] };
 
-    fn width(&self) -> usize {
-        0
-    }
-
     fn column(&self, _place: usize) -> View<'_> {
         View::Null
     }

@@ -1,4 +1,4 @@
-// Which conditions no evaluation can take out of range.
+//! Which conditions no evaluation can take out of range.
 ghost use Rattle.std.specs.Prelude.{◌≡◌, ◌<◌, ◌&&◌, IfSome};
 ghost use Rattle.tql_expr.specs.Trees.{expr_of, cond_of, term_in};
 ghost use Rattle.tql_spec.specs.Expression.{is_plain as plain, is_safe as safe};

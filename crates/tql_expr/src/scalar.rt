@@ -1,4 +1,4 @@
-// The steps of an evaluation, on what each operand gave.
+//! The steps of an evaluation, on what each operand gave.
 ghost use Rattle.std.specs.Prelude.{◌≡◌};
 ghost use Rattle.tql_value.specs.Views.{outcome};
 ghost use Rattle.tql_spec.specs.Truth.{and, or};

@@ -1,4 +1,4 @@
-// What stands somewhere in an expression or a condition.
+//! What stands somewhere in an expression or a condition.
 ghost use Rattle.std.specs.Prelude.{◌≡◌, ◌<◌, ◌||◌, IfSome, not};
 ghost use Rattle.tql_spec.specs.Binding.{is_loose};
 ghost use Rattle.tql_spec.specs.Creation.{has_expr, has_number};

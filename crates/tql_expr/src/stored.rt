@@ -1,9 +1,9 @@
 //! Rows as they are stored, shown as their table has them.
 ghost use Rattle.std.specs.Prelude.{◌≡◌, length, map, insert};
 ghost use Rattle.tql_spec.specs.Datum as pure;
-ghost use Rattle.tql_spec.specs.Definition.{cell};
+ghost use Rattle.tql_spec.specs.Definition.{cell, with_generated};
 ghost use Rattle.tql_value.specs.Views.{datum_of_value, datum_of_view};
-ghost use Rattle.tql_expr.specs.Generated.{read_or};
+ghost use Rattle.tql_expr.specs.Generated.{generated, read_or};
 
 use crate::columns::{Columns, over_no_rows};
 use crate::row::cell_at;
@@ -46,6 +46,19 @@ fn place_among_others(added: usize, width: usize, place: usize) -> Option<usize>
 }
 
 impl<'a> StoredRow<'a> {
+    /// How many columns its table has.
+    pub fn width(&self) -> usize
+        ensures { result ≡ length (with_generated (generated self.now.system) (map datum_of_value self.now.cells.now)
+            self.now.start self.now.end) }
+    {
+        let stored = self.cells.len();
+        if self.system.is_some() {
+            stored + 2
+        } else {
+            stored
+        }
+    }
+
     /// The value of a column where two stamps are added to the cells, one after the other.
     fn with_stamps(&self, first: Stamp, second: Stamp, place: usize) -> View<'a>
         ensures { datum_of_view result
@@ -72,15 +85,6 @@ impl Columns for StoredRow<'_> {
     ghost values = { λ r. with_generated (generated r.system) (map datum_of_value r.cells.now) r.start r.end };
 
     ghost group = { λ r. [] };
-
-    fn width(&self) -> usize {
-        let stored = self.cells.len();
-        if self.system.is_some() {
-            stored + 2
-        } else {
-            stored
-        }
-    }
 
     fn column(&self, place: usize) -> View<'_> {
         let Some((start, end)) = self.system else {

@@ -1,4 +1,4 @@
-// The terms of a statement: its expressions and conditions as nodes in one list.
+//! The terms of a statement: its expressions and conditions as nodes in one list.
 ghost use Rattle.std.specs.Prelude.{IsTrue, All, length};
 ghost use Rattle.tql_value.specs.Points.{IsPrintable};
 ghost use Rattle.tql_value.specs.Views.{datum_of_value};

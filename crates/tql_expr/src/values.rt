@@ -1,4 +1,4 @@
-// The values that expressions have on a row, in memory of their own.
+//! The values that expressions have on a row, in memory of their own.
 ghost use Rattle.std.specs.Prelude.{All, map};
 ghost use Rattle.tql_spec.specs.Expression as bound;
 ghost use Rattle.tql_spec.specs.Words.{map_all};

@@ -55,13 +55,6 @@ not_both a b o p h f = by_lt_z a b
     let t : b ≡ a = omega (arith, ints, l, m) in
     rw (int_same b a t) (f (rw (int_same a b s) at h))))
 
-not_both_nat : (a b : ℕ) → is_lt (nat_cmp a b) ≡ true → is_lt (nat_cmp b a) ≡ false
-not_both_nat a b h = grind arith
-
-pub not_back : (a b : Entry) → is_before a b ≡ true → is_before b a ≡ false
-not_back a b h = not_both a.period.start b.period.start _ _ h
-    (λ s. not_both a.period.end b.period.end _ _ s (λ t. not_both_nat a.id b.id t))
-
 pub not_itself : (a : Entry) → is_before a a ≡ false
 not_itself a = rw (int_same a.period.start a.period.start refl, int_same a.period.end a.period.end refl) (grind arith)
 

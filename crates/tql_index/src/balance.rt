@@ -1,4 +1,4 @@
-// Trees from sides whose heights differ by at most two.
+//! Trees from sides whose heights differ by at most two.
 ghost use Rattle.std.specs.Prelude.{◌≡◌, ◌+◌, ◌^◌, ◌≤◌, max, ◌∷◌, ◌++◌};
 ghost use Rattle.tql_index.specs.Tree.{DifferByAtMost, IsAround, IsHeightAfterBalance};
 ghost use Rattle.tql_index.specs.Nodes.{entry_of};

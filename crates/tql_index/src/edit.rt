@@ -1,4 +1,4 @@
-// One entry more, and one less.
+//! One entry more, and one less.
 ghost use Rattle.std.specs.Prelude.{◌≡◌, ◌+◌, ◌^◌, ◌<◌, ◌≤◌, max, [], ◌∷◌, ◌++◌, IfSome, IfNone};
 ghost use Rattle.tql_spec.specs.Bag.{SameBag};
 ghost use Rattle.tql_period.specs.Points.{points_of};

@@ -1,4 +1,4 @@
-// Indexes of periods: which entries hold a point, and which share one with a period.
+//! Indexes of periods: which entries hold a point, and which share one with a period.
 #![tactic(auto)]
 
 mod balance;

@@ -1,13 +1,13 @@
-// The index as a plain list.
+//! The index as a plain list.
 ghost use Rattle.std.specs.Prelude.{◌≡◌, ◌↔◌, ◌<◌, [], length, map, slice_index_or, Contains, IsTrue, IfSome, IfNone};
 ghost use Rattle.tql_index.specs.ListEntries.{entry_held};
 
 use crate::index::{Id, IntervalIndex};
 use crate::search::push_if;
+use std::alloc::AllocError;
 use std::marker::Model;
 use tql_memory::Memory;
 use tql_period::period::Period;
-use tql_value::refusal::Refusal;
 
 // An entry of the list.
 #[derive(Clone, Copy, PartialEq, Eq)]
@@ -74,7 +74,7 @@ impl IntervalIndex for ListIndex {
         }
     }
 
-    fn add(&mut self, period: Period, id: Id) -> Result<(), Refusal> {
+    fn add(&mut self, period: Period, id: Id) -> Result<(), AllocError> {
         self.held.push(ListEntry { period, id })?;
         Ok(())
     }
@@ -87,7 +87,7 @@ impl IntervalIndex for ListIndex {
         true
     }
 
-    fn stab(&self, point: i64) -> Result<Vec<Id, Memory>, Refusal> {
+    fn stab(&self, point: i64) -> Result<Vec<Id, Memory>, AllocError> {
         let mut found = Vec::new(self.memory);
         for held in &self.held {
             push_if(&mut found, held.period.holds(point), held.id)?;
@@ -95,7 +95,7 @@ impl IntervalIndex for ListIndex {
         Ok(found)
     }
 
-    fn overlapping(&self, period: Period) -> Result<Vec<Id, Memory>, Refusal> {
+    fn overlapping(&self, period: Period) -> Result<Vec<Id, Memory>, AllocError> {
         let mut found = Vec::new(self.memory);
         for held in &self.held {
             push_if(&mut found, held.period.shares_a_point(period), held.id)?;

@@ -1,19 +1,17 @@
-// What a tree answers: the numbers of the entries at a point, and of those that share one with a period.
-ghost use Rattle.std.specs.Prelude.{◌≡◌, ◌++◌, OnOk, OnErr, IfErr};
+//! What a tree answers: the numbers of the entries at a point, and of those that share one with a period.
+ghost use Rattle.std.specs.Prelude.{◌≡◌, ◌++◌, OnOk, OnErr};
 ghost use Rattle.tql_period.specs.Points.{points_of};
 ghost use Rattle.tql_index.specs.Entry.{id_if, ids_at, ids_sharing};
 
 use crate::tree::Tree;
-use std::alloc::Allocator;
+use std::alloc::{AllocError, Allocator};
 use tql_memory::Memory;
 use tql_period::period::Period;
-use tql_value::refusal::Refusal;
 
 // Adds the number where it is asked for.
-pub fn push_if(found: &mut Vec<usize, Memory>, wanted: bool, id: usize) -> Result<(), Refusal>
+pub fn push_if(found: &mut Vec<usize, Memory>, wanted: bool, id: usize) -> Result<(), AllocError>
     ensures ok { OnOk result (found.new.items ≡ found.old.items ++ id_if wanted id) }
     ensures err { OnErr result (found.new.items ≡ found.old.items) }
-    ensures memory { IfErr result (λ e. e ≡ Refusal.OutOfMemory) }
 {
     if wanted {
         found.push(id)?;
@@ -27,9 +25,8 @@ pub fn stab<A: Allocator>(
     tree: &Tree<A>,
     point: i64,
     found: &mut Vec<usize, Memory>,
-) -> Result<(), Refusal>
-    ensures ok { OnOk result (found.new.items ≡ found.old.items ++ ids_at point tree.now.entries) }
-    ensures err { IfErr result (λ e. e ≡ Refusal.OutOfMemory) }
+) -> Result<(), AllocError>
+    ensures { OnOk result (found.new.items ≡ found.old.items ++ ids_at point tree.now.entries) }
 {
     let Some(top) = tree.top() else {
         return Ok(());
@@ -50,9 +47,8 @@ pub fn overlapping<A: Allocator>(
     tree: &Tree<A>,
     period: Period,
     found: &mut Vec<usize, Memory>,
-) -> Result<(), Refusal>
-    ensures ok { OnOk result (found.new.items ≡ found.old.items ++ ids_sharing (points_of period) tree.now.entries) }
-    ensures err { IfErr result (λ e. e ≡ Refusal.OutOfMemory) }
+) -> Result<(), AllocError>
+    ensures { OnOk result (found.new.items ≡ found.old.items ++ ids_sharing (points_of period) tree.now.entries) }
 {
     let Some(top) = tree.top() else {
         return Ok(());

@@ -1,5 +1,5 @@
-// A balanced tree of entries, seen as its entries in order and its height. Only `link` and `unlink` put a
-// branch together and take one apart.
+//! A balanced tree of entries, seen as its entries in order and its height. Only `link` and `unlink` put a
+//! branch together and take one apart.
 ghost use Rattle.std.specs.Prelude.{◌≡◌, ◌+◌, ◌^◌, ◌<◌, max, [], ◌∷◌, ◌++◌, length, IfSome, IfNone};
 ghost use Rattle.tql_period.specs.Points.{points_of};
 ghost use Rattle.tql_index.specs.Tree.{entry_cmp, greatest_end, DifferByAtMost, IsAround, IsShallow};

@@ -1,4 +1,4 @@
-// The index as a balanced tree.
+//! The index as a balanced tree.
 ghost use Rattle.std.specs.Prelude.{◌≡◌, ◌↔◌, ◌^◌, ◌<◌, ◌≤◌, [], length, IsTrue};
 ghost use Rattle.tql_index.specs.Tree.{IsShallow};
 
@@ -6,12 +6,11 @@ use crate::edit::{Removed, insert, remove};
 use crate::index::{Id, IntervalIndex};
 use crate::search::{overlapping, stab};
 use crate::tree::{Branch, Tree};
-use std::alloc::Allocator;
+use std::alloc::{AllocError, Allocator};
 use std::marker::Model;
 use std::mem;
-use tql_memory::Memory;
+use tql_memory::{Memory, one_more};
 use tql_period::period::Period;
-use tql_value::refusal::Refusal;
 
 /// An index whose search passes by each part of its entries that ends too early or starts too late.
 ///
@@ -84,19 +83,16 @@ impl IntervalIndex for TreeIndex {
         }
     }
 
-    fn add(&mut self, period: Period, id: Id) -> Result<(), Refusal> {
+    fn add(&mut self, period: Period, id: Id) -> Result<(), AllocError> {
         let TreeIndex {
             memory,
             tree,
             count,
         } = self;
-        // No memory has room for so many branches.
-        if *count == usize::MAX {
-            return Err(Refusal::OutOfMemory);
-        }
+        let counted = one_more(*count)?;
         let entry = Box::new(*memory, Branch::new(period, id))?;
         *tree = insert(take(tree), entry);
-        *count += 1;
+        *count = counted;
         Ok(())
     }
 
@@ -113,13 +109,13 @@ impl IntervalIndex for TreeIndex {
         found
     }
 
-    fn stab(&self, point: i64) -> Result<Vec<Id, Memory>, Refusal> {
+    fn stab(&self, point: i64) -> Result<Vec<Id, Memory>, AllocError> {
         let mut found = Vec::new(self.memory);
         stab(&self.tree, point, &mut found)?;
         Ok(found)
     }
 
-    fn overlapping(&self, period: Period) -> Result<Vec<Id, Memory>, Refusal> {
+    fn overlapping(&self, period: Period) -> Result<Vec<Id, Memory>, AllocError> {
         let mut found = Vec::new(self.memory);
         overlapping(&self.tree, period, &mut found)?;
         Ok(found)

@@ -23,9 +23,6 @@ quote_doubled whole q bs i lt e h = h ∙ ap (λ (z : List ℕ). plus i (quote_e
 
 -- ---- what stands in quotes
 
-pub without_first : (q : ℕ) (bs rest : List ℕ) → bs ≡ q ∷ rest → rest ≡ without_quote q bs
-without_first q bs rest e = rw (e, eq-eqb q q refl) refl
-
 pub without_none : (q : ℕ) (bs : List ℕ) → ((rest : List ℕ) → bs ≡ q ∷ rest → ⊥) → bs ≡ without_quote q bs
 without_none q [] h = refl
 without_none q (b ∷ bs) h = rw (ne_eqb b q (λ e. h bs (ap (λ (z : ℕ). z ∷ bs) e))) refl

@@ -8,7 +8,7 @@ use Rattle.tql_lex.specs.declared.scan_state.ScanState as code
 use Rattle.tql_lex.specs.declared.scan_state.ScanState.TheVariants as c
 use Rattle.tql_lex.specs.declared.scan.Found.{Found}
 
--- the place that a value of the code stands for
+-- the state that a value of the code stands for
 abbrev pub state_of : code.ScanState → script.ScanState
 state_of c.Outside = script.Outside
 state_of c.AfterDash = script.AfterDash

@@ -1,11 +1,11 @@
 //! Words in upper case, and quotes taken off.
-ghost use Rattle.std.specs.Prelude.{◌≡◌, ◌<◌, map, false, IfOk, IfErr, string_bytes};
+ghost use Rattle.std.specs.Prelude.{◌≡◌, ◌<◌, map, false, IfOk, string_bytes};
 ghost use Rattle.tql_spec.specs.Token as token;
 ghost use Rattle.tql_spec.specs.FirstToken as spec;
 ghost use Rattle.tql_spec.specs.Words.{same_text};
 
+use std::alloc::AllocError;
 use tql_memory::Memory;
-use tql_value::refusal::Refusal;
 
 /// A letter in upper case, any other byte as it is.
 fn upper(byte: u8) -> u8
@@ -20,7 +20,7 @@ fn upper(byte: u8) -> u8
 
 /// Whether bytes are these in upper case.
 #[tactic(auto, using(crate::proofs::WordLemmas::same_bytes))]
-pub fn is_folded(bytes: &[u8], wanted: &[u8]) -> bool
+pub(crate) fn is_folded(bytes: &[u8], wanted: &[u8]) -> bool
     ensures { result ≡ same_text (map token.upper bytes.now) wanted.now }
 {
     let mut left = bytes;
@@ -36,9 +36,8 @@ pub fn is_folded(bytes: &[u8], wanted: &[u8]) -> bool
 }
 
 /// A word in upper case.
-pub fn folded(memory: Memory, word: &str) -> Result<String<Memory>, Refusal>
-    ensures value { IfOk result (λ s. string_bytes s ≡ map token.upper word.now) }
-    ensures reason { IfErr result (λ e. e ≡ Refusal.OutOfMemory) }
+pub fn folded(memory: Memory, word: &str) -> Result<String<Memory>, AllocError>
+    ensures { IfOk result (λ s. string_bytes s ≡ map token.upper word.now) }
 {
     let mut folded = String::from_str(memory, word)?;
     folded.make_ascii_uppercase();
@@ -57,10 +56,9 @@ fn without_quote(quote: char, text: &str) -> &str
 }
 
 /// What stands in these quotes, each doubled quote once.
-pub fn unquoted(memory: Memory, quote: char, text: &str) -> Result<String<Memory>, Refusal>
+pub fn unquoted(memory: Memory, quote: char, text: &str) -> Result<String<Memory>, AllocError>
     requires { quote < 128 }
-    ensures value { IfOk result (λ s. string_bytes s ≡ spec.content quote text.now) }
-    ensures reason { IfErr result (λ e. e ≡ Refusal.OutOfMemory) }
+    ensures { IfOk result (λ s. string_bytes s ≡ spec.content quote text.now) }
 {
     let mut content = String::new(memory);
     let mut rest = without_quote(quote, text);

@@ -1,4 +1,4 @@
-// The statements of a script, and the tokens of a statement.
+//! The statements of a script, and the tokens of a statement.
 #![tactic(auto)]
 
 mod extent;

@@ -13,7 +13,7 @@ pub(crate) enum ScanState {
     InComment,
 }
 
-/// The place behind a byte that opens or closes nothing but a text or a quoted name.
+/// The state behind a byte that opens or closes nothing but a text or a quoted name.
 fn opened_by(byte: u8) -> ScanState
     ensures { state_of result ≡ script.opened_by byte }
 {
@@ -24,7 +24,7 @@ fn opened_by(byte: u8) -> ScanState
     }
 }
 
-/// The place behind this byte.
+/// The state behind this byte.
 pub(crate) fn state_after(place: ScanState, byte: u8) -> ScanState
     ensures { state_of result ≡ script.state_after (state_of place) byte }
 {
@@ -38,7 +38,7 @@ pub(crate) fn state_after(place: ScanState, byte: u8) -> ScanState
     }
 }
 
-/// Whether a `;` at this place ends a statement.
+/// Whether a `;` in this state ends a statement.
 pub(crate) fn can_end(place: ScanState) -> bool
     ensures { result ≡ script.can_end (state_of place) }
 {

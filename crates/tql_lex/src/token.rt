@@ -1,13 +1,13 @@
 //! Tokens.
-ghost use Rattle.std.specs.Prelude.{◌≡◌, ◌↔◌, IsTrue, IfOk, IfErr, string_bytes};
+ghost use Rattle.std.specs.Prelude.{◌≡◌, ◌↔◌, IsTrue, IfOk, string_bytes};
 ghost use Rattle.tql_spec.specs.Token as token;
 ghost use Rattle.tql_lex.specs.Tests as tests_of;
 ghost use Rattle.tql_lex.specs.Tokens.{symbol_of, token_of};
 
 use crate::folding::{folded, is_folded, unquoted};
 use crate::reserved;
+use std::alloc::AllocError;
 use tql_memory::Memory;
-use tql_value::refusal::Refusal;
 
 /// A symbol.
 #[derive(Clone, Copy, Debug)]
@@ -122,9 +122,8 @@ impl<'a> Token<'a> {
 
     /// What the token says: a word in upper case, a name or a text without its quotes, the digits of a number, a
     /// symbol. Doubled quotes stand once. The only error is a refused growth.
-    pub fn content(&self, memory: Memory) -> Result<String<Memory>, Refusal>
-        ensures value { IfOk result (λ s. string_bytes s ≡ tests_of.content_of (token_of self.now)) }
-        ensures reason { IfErr result (λ e. e ≡ Refusal.OutOfMemory) }
+    pub fn content(&self, memory: Memory) -> Result<String<Memory>, AllocError>
+        ensures { IfOk result (λ s. string_bytes s ≡ tests_of.content_of (token_of self.now)) }
     {
         match self.kind {
             TokenKind::Word => folded(memory, self.text),

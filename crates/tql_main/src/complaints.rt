@@ -2,6 +2,7 @@
 ghost use Rattle.std.specs.Prelude.{None};
 
 use tql_run::listener::Listener;
+use tql_run::pushed::Pushed;
 use tql_value::refusal::Refusal;
 
 /// Writes a line to the standard error for each refused statement, unless it is to be quiet. A line that cannot be
@@ -22,7 +23,7 @@ impl<'a, E: Eprint> Complaints<'a, E> {
 impl<E: Eprint> Listener for Complaints<'_, E> {
     ghost heard = { λ _. None };
 
-    fn refused(&mut self, statement: u64, line: u64, refusal: Refusal) {
+    fn refused(&mut self, statement: u64, line: u64, refusal: Refusal, _pushed: &Pushed) {
         if !self.quiet {
             let text = refusal.text();
             let _ = eprintln!(self.rt; "tql: statement {statement}, line {line}: {text}");

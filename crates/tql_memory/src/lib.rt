@@ -1,9 +1,9 @@
-// The memory of the whole engine: one handle, which passes each call on and counts what it grants.
-// It is proved that a block is only granted, resized and freed as the inner allocator says. No contract can say what a
-// cell holds, so how many blocks are granted is tested.
+//! The memory of the whole engine: one handle, which passes each call on and counts what it grants.
+//! It is proved that a block is only granted, resized and freed as the inner allocator says. No contract can say what a
+//! cell holds, so how many blocks are granted is tested.
 #![tactic(auto)]
 
-ghost use Rattle.std.specs.Prelude.{◌≡◌};
+ghost use Rattle.std.specs.Prelude.{◌≡◌, ◌+◌, IfOk};
 
 use std::alloc::{AllocError, Allocator, Global};
 use std::cell::Cell;
@@ -104,4 +104,12 @@ pub type Memory = &'static Counting<Global>;
 pub fn memory(alloc: Global, granted: u64) -> Result<Memory, AllocError> {
     let heap = Box::new(alloc, Counting::new(alloc, granted))?;
     Ok(Box::leak(heap))
+}
+
+/// One more than a count of what lies in memory. Refused where the count fills its 64 bits: no memory has room for
+/// more.
+pub fn one_more(count: usize) -> Result<usize, AllocError>
+    ensures { IfOk result (λ next. next ≡ count + 1) }
+{
+    count.checked_add(1).ok_or(AllocError)
 }

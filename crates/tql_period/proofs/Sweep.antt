@@ -69,9 +69,6 @@ through e f = (λ a. f.0 (e.0 a), λ c. e.1 (f.1 c))
 pub record Swept (parts : List code.Period) (whole : Period) (i : ℕ) (reach : ℤ) : Type 0 where
   pub is : Covers (map points_of parts) whole ↔ Covers (map points_of (drop i parts)) (rest_from reach whole)
 
-pub swept_none : (parts : List code.Period) (whole : Period) → Swept parts whole 0 whole.start
-swept_none parts whole = record { is = (λ h. h, λ h. h) }
-
 -- what is left of the parts, at the next part
 opened : (parts : List code.Period) (i : ℕ) (x : code.Period) → i < length parts → x ≡ get_or parts i x
     → map points_of (drop i parts) ≡ points_of x ∷ map points_of (drop (suc i) parts)

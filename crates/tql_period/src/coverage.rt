@@ -1,3 +1,4 @@
+//! Coverage: whether parts, by rising starts, leave no point of a whole out.
 ghost use Rattle.std.specs.Prelude.{◌↔◌, IsTrue, map};
 ghost use Rattle.tql_spec.specs.Period.{Covers};
 ghost use Rattle.tql_period.specs.Points.{points_of, StartsRise};

@@ -1,3 +1,4 @@
+//! A period: the points from its start on and before its end.
 ghost use Rattle.std.specs.Prelude.{◌<ℤ◌};
 
 /// A period: the points from its start on and before its end. It always rises, so it holds a point.

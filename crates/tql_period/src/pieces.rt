@@ -1,3 +1,4 @@
+//! The parts into which FOR PORTION OF cuts a period.
 ghost use Rattle.std.specs.Prelude.{◌≡◌, ◌<ℤ◌, ◌≤ℤ◌};
 ghost use Rattle.tql_spec.specs.Period.{Holds, before as part_before, inside as part_inside, after as part_after};
 ghost use Rattle.tql_spec.specs.Period.{if_any};

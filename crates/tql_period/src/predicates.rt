@@ -1,3 +1,4 @@
+//! The predicates on periods, by three-valued comparisons of their ends.
 ghost use Rattle.std.specs.Prelude.{◌≡◌};
 ghost use Rattle.tql_spec.specs.Datum.{Day, Moment};
 ghost use Rattle.tql_spec.specs.Period.{predicate as predicate_of, contains_point as point_formula};

@@ -1,4 +1,4 @@
-// How a query is answered: which versions are read, and how they are joined. A plan says nothing of the store.
+//! How a query is answered: which versions are read, and how they are joined. A plan says nothing of the store.
 #![tactic(auto)]
 
 pub mod plan;

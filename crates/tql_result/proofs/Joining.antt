@@ -32,8 +32,3 @@ joined_parts f v c all x xs piece e p = ap (λ l. join_with_byte c (map f (map v
 -- what holds of all that elements stand for holds of what each stands for
 pub all_unmapped : {X Y : Type 0} (P : Y → Type 0) (v : X → Y) (xs : List X) → All P (map v xs) → All (λ x. P (v x)) xs
 all_unmapped P v xs all = λ k d h. subst P (get_or-map v xs k d (v d) h) (all k (v d) (rw length-map h))
-
--- the same of one element
-pub all_at : {X : Type 0} (P : X → Type 0) (xs : List X) (i : ℕ) (x : X) → i < length xs → x ≡ get_or xs i x
-    → All P xs → P x
-all_at P xs i x h e all = subst P (sym e) (all i x h)

@@ -1,6 +1,6 @@
 -- One push after another.
 use Rattle.std.proofs.Common.{◌≡◌, ℕ, ◌<◌, List, [], ◌++◌, refl, sym, ◌∙◌, ap, subst, arith, length, take, ◌∷◌}
-use Rattle.std.proofs.Common.{append_assoc, Option, Some}
+use Rattle.std.proofs.Common.{append_assoc, length-append, Option, Some}
 use Rattle.std.proofs.lemmas.List.{append-nil}
 use Rattle.std.proofs.lemmas.Bool.Decides.{nat_tests}
 use Rattle.std.specs.Prelude.{Result, Ok, Err, IsOk, IsErr, Bool, true, false, ◌==◌, ◌&&◌, not}
@@ -61,6 +61,7 @@ pushed_cut (Err x) a others err s e p failed = record {
   cut = record {
     front = s.front ++ p.front;
     back = p.back ++ others;
+    lacks = let sum = length-append p.back others in let some = p.lacks in omega (arith, sum, some);
     parts = s.parts ∙ ap (λ l. s.front ++ l) (e ∙ ap (λ l. l ++ others) p.parts ∙ append_assoc p.front p.back others)
         ∙ sym (append_assoc s.front p.front (p.back ++ others));
     appends = Appends-append s.appends p.appends;
@@ -85,9 +86,10 @@ pub last : {T E : Type 0} {text rest a : List ℕ} {o m n : Option (List ℕ)} {
 last {a = a} (Ok x) s e p = pushed_whole (Ok x) refl (step [] s (e ∙ sym (append-nil a)) p)
 last {a = a} (Err x) s e p = stop (Err x) [] refl s (e ∙ sym (append-nil a)) p
 
--- nothing is a beginning
-pub beginning_none : {o n : Option (List ℕ)} → Appends o [] n → AppendsBeginning o [] n
-beginning_none p = record { front = []; back = []; parts = refl; appends = p }
+-- nothing is a beginning of some bytes
+pub beginning_none : {o n : Option (List ℕ)} (bytes : List ℕ) → 0 < length bytes → Appends o [] n
+    → AppendsBeginning o bytes n
+beginning_none bytes some p = record { front = []; back = bytes; parts = refl; lacks = some; appends = p }
 
 -- none taken of some bytes
 pub failed_at_none : {b k : ℕ} (taken len : ℕ) → taken ≡ 0 → 0 < len → Counts ((taken == 0) && not (len == 0)) b k

@@ -1,16 +1,17 @@
 -- What a device holds, and how its failures are counted.
-use Rattle.std.specs.Prelude.{◌≡◌, ℕ, ◌-◌, ◌^◌, ◌<◌, ◌≤◌, ◌⊎◌, Bool, true, ◌&&◌, ◌==◌, not, List, ◌++◌, Option, Some}
-use Rattle.std.specs.Prelude.{Result, Ok, Err, OnOk, OnErr, MatchBool}
+use Rattle.std.specs.Prelude.{◌≡◌, ℕ, ◌-◌, ◌^◌, ◌<◌, ◌≤◌, ◌⊎◌, Bool, true, ◌&&◌, ◌==◌, not, List, ◌++◌, length}
+use Rattle.std.specs.Prelude.{Option, Some, Result, Ok, Err, OnOk, OnErr, MatchBool}
 
 -- where the device told what it held, it holds that, and these bytes behind it
 pub record Appends (old : Option (List ℕ)) (bytes : List ℕ) (new : Option (List ℕ)) : Type 0 where
   pub holds : (xs : List ℕ) → old ≡ Some xs → new ≡ Some (xs ++ bytes)
 
--- the same for a beginning of these bytes
+-- the same for a beginning of these bytes that is not all of them
 pub record AppendsBeginning (old : Option (List ℕ)) (bytes : List ℕ) (new : Option (List ℕ)) : Type 0 where
   pub front : List ℕ
   pub back : List ℕ
   pub parts : bytes ≡ front ++ back
+  pub lacks : 0 < length back
   pub appends : Appends old front new
 
 -- a failure was counted: the count rose, or it stood at its end, which a u64 gives it
@@ -27,7 +28,7 @@ abbrev pub is_failed_push : {E : Type 0} → Result ℕ E → ℕ → Bool
 is_failed_push (Ok n) len = (n == 0) && not (len == 0)
 is_failed_push (Err e) len = true
 
--- a text was pushed: whole and without a failure, or a beginning of it and then something failed
+-- a text was pushed: whole and without a failure, or a beginning of it, not all, and then something failed
 pub record Pushes {T E : Type 0} (text : List ℕ) (result : Result T E) (old new : Option (List ℕ)) (before now : ℕ) :
     Type 0 where
   pub whole : OnOk result (Appends old text new)

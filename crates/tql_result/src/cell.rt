@@ -1,3 +1,4 @@
+//! The text of a value, and which values have one.
 ghost use Rattle.std.specs.Prelude.{◌↔◌, IsTrue};
 ghost use Rattle.tql_spec.specs.Text.{cell_text};
 ghost use Rattle.tql_value.specs.Views.{datum_of_view};

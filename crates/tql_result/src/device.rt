@@ -1,3 +1,4 @@
+//! The failure of a device.
 use thiserror::Error;
 
 /// A device failed: what it was asked for is not done, or not done whole.

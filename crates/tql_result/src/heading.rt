@@ -1,3 +1,4 @@
+//! The text of headings: bare where it can be, or in quotes, parted by bars.
 ghost use Rattle.std.specs.Prelude.{◌≡◌, ◌||◌, ◌∷◌, ◌++◌, map, string_bytes};
 ghost use Rattle.std.specs.List.{flat_map, join_with_byte, list_all};
 ghost use Rattle.tql_spec.specs.Calendar.{is_digit as digit_of};

@@ -1,4 +1,4 @@
-// The printed text of replies and answers, pushed into a sink.
+//! The printed text of replies and answers, pushed into a sink.
 #![tactic(auto)]
 
 pub mod answer;

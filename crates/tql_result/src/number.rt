@@ -1,3 +1,4 @@
+//! The digits of numbers, dates and times of day.
 ghost use Rattle.std.specs.Prelude.{◌≡◌, ◌+◌, ◌%◌, ◌<◌, ◌∷◌, ◌++◌};
 ghost use Rattle.std.specs.Fmt.{decimal, signed_decimal};
 ghost use Rattle.tql_spec.specs.Text.{padded, date_text};

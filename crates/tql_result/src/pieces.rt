@@ -1,3 +1,4 @@
+//! Bytes pushed whole, in as many pushes as a sink asks for.
 ghost use Rattle.tql_result.specs.Devices.{Pushes};
 
 use crate::device::DeviceFault;

@@ -1,3 +1,4 @@
+//! The text of days and moments.
 ghost use Rattle.std.specs.Prelude.{◌<◌};
 ghost use Rattle.tql_spec.specs.Datum.{Day, Moment};
 ghost use Rattle.tql_spec.specs.Text.{cell_text, fraction_text};

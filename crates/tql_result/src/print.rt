@@ -1,3 +1,4 @@
+//! The text of a reply, and which replies have one.
 ghost use Rattle.std.specs.Prelude.{◌++◌, ◌↔◌, IsTrue, codes};
 ghost use Rattle.tql_spec.specs.Text.{verb_text, count_text, line, reply_text, wording};
 ghost use Rattle.tql_value.specs.Refusals.{refusal_of};

@@ -1,3 +1,4 @@
+//! Texts in quotes, each quote in them doubled.
 ghost use Rattle.std.specs.Prelude.{◌≡◌, ◌<◌, ◌==◌, ◌∷◌, ◌++◌, IfSome, MatchOption, length, position};
 ghost use Rattle.tql_spec.specs.Text.{doubled, quoted};
 ghost use Rattle.tql_result.specs.Devices.{Pushes};

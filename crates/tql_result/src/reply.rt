@@ -1,3 +1,4 @@
+//! What a statement is answered: done, a table, or a refusal.
 use tql_value::refusal::Refusal;
 use tql_value::value::ResultTable;
 
@@ -28,7 +29,7 @@ pub enum Verb {
 pub enum Reply {
     /// It is done, with the count of rows where it counts them.
     Done(Verb, Option<u64>),
-    /// The rows that a question asked for.
+    /// The rows that a query asked for.
     Table(ResultTable),
     /// It is refused, and nothing has changed.
     Refused(Refusal),

@@ -1,6 +1,6 @@
 //! What takes the bytes of replies.
 ghost use Rattle.std.specs.Prelude.{◌≡◌, ◌≤◌, ℕ, Bool, List, [], Option, length, take};
-ghost use Rattle.std.specs.Prelude.{IfOk, OnErr, IsFalse, is_ok, is_err};
+ghost use Rattle.std.specs.Prelude.{IfOk, OnErr, IsFalse, IsTrue, is_ok, is_err};
 ghost use Rattle.tql_result.specs.Devices.{Appends, Counts, is_failed_push};
 
 use crate::device::DeviceFault;
@@ -17,6 +17,9 @@ pub trait Sink {
     /// well.
     ghost flushed: { Self → Bool };
 
+    /// Whether a flush may fail.
+    ghost flushes_fail: { Bool };
+
     /// Takes bytes from the front on, and answers how many. To take none of some bytes is a failure, and
     /// so is an error, which takes none.
     fn push(&mut self, bytes: &[u8]) -> Result<usize, DeviceFault>
@@ -32,7 +35,8 @@ pub trait Sink {
     fn flush(&mut self) -> Result<(), DeviceFault>
         ensures kept { Appends (written self.old) [] (written self.new) }
         ensures counted { Counts (is_err result) (failures self.old) (failures self.new) }
-        ensures passed_on { flushed self.new ≡ is_ok result };
+        ensures passed_on { flushed self.new ≡ is_ok result }
+        ensures allowed { OnErr result (IsTrue flushes_fail) };
 
     /// How many pushes and flushes have failed; the count stays at 2^64 - 1.
     fn faults(&self) -> u64

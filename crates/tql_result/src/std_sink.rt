@@ -1,5 +1,5 @@
 //! A sink over a writer of the standard library.
-ghost use Rattle.std.specs.Prelude.{◌≡◌, IsFalse};
+ghost use Rattle.std.specs.Prelude.{◌≡◌, IsFalse, true};
 ghost use Rattle.tql_result.specs.Devices.{HasFailed};
 
 use crate::device::DeviceFault;
@@ -52,6 +52,8 @@ impl<W: Write + Drop> Sink for StdSink<W> {
     ghost failures = { λ s. s.failures };
 
     ghost flushed = { λ s. s.flushed };
+
+    ghost flushes_fail = { true };
 
     fn push(&mut self, bytes: &[u8]) -> Result<usize, DeviceFault> {
         self.flushed = false;

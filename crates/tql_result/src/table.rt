@@ -1,3 +1,4 @@
+//! The text of a table: its headings, a line for each row, and how many rows there are.
 ghost use Rattle.std.specs.Prelude.{◌∷◌, ◌++◌, ◌↔◌, All, IsTrue, codes, decimal, length, map};
 ghost use Rattle.std.specs.List.{flat_map, join_with_byte};
 ghost use Rattle.tql_spec.specs.Machine.{Table};

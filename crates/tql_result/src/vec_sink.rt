@@ -1,17 +1,22 @@
 //! A sink into a vector of bytes.
-ghost use Rattle.std.specs.Prelude.{◌≡◌, Some, IsFalse};
+ghost use Rattle.std.specs.Prelude.{◌≡◌, ◌≤◌, Some, [], length, take, IfOk, OnErr, IsErr, IsFalse, false};
+ghost use Rattle.tql_result.specs.Devices.{Appends, Counts, is_failed_push};
 
 use crate::device::DeviceFault;
 use crate::sink::Sink;
+use std::alloc::AllocError;
 use tql_memory::Memory;
 
-/// A sink into a vector of bytes. A push is taken whole; where the vector finds no memory for it, none of it is, and
-/// that is counted. A flush has nothing to pass on, and does well.
+/// A sink into a vector of bytes. A push is taken whole; where the vector finds no memory for it, none of it is, that
+/// is counted, and the allocator's error is kept: a push fails only with one. A flush has nothing to pass on, and does
+/// well.
 #[derive(Drop)]
 pub struct VecSink {
     bytes: Vec<u8, Memory>,
     failures: u64,
     flushed: bool,
+    /// What the vector said to the last push.
+    grown: Result<(), AllocError>,
 }
 
 impl VecSink {
@@ -25,6 +30,7 @@ impl VecSink {
             bytes,
             failures: 0,
             flushed: false,
+            grown: Ok(()),
         }
     }
 
@@ -43,9 +49,21 @@ impl Sink for VecSink {
 
     ghost flushed = { λ s. s.flushed };
 
-    fn push(&mut self, bytes: &[u8]) -> Result<usize, DeviceFault> {
+    ghost flushes_fail = { false };
+
+    fn push(&mut self, bytes: &[u8]) -> Result<usize, DeviceFault>
+        ensures within { IfOk result (λ n. n ≤ length bytes.now) }
+        ensures taken { IfOk result
+            (λ n. Appends (Some self.old.bytes.items) (take n bytes.now) (Some self.new.bytes.items)) }
+        ensures kept { OnErr result (Appends (Some self.old.bytes.items) [] (Some self.new.bytes.items)) }
+        ensures counted { Counts (is_failed_push result (length bytes.now)) self.old.failures self.new.failures }
+        ensures unflushed { IsFalse self.new.flushed }
+        ensures all { IfOk result (λ n. n ≡ length bytes.now) }
+        ensures memory { OnErr result (IsErr self.new.grown) }
+    {
         self.flushed = false;
-        match self.bytes.extend_from_slice(bytes) {
+        self.grown = self.bytes.extend_from_slice(bytes);
+        match self.grown {
             Ok(()) => Ok(bytes.len()),
             Err(_) => {
                 self.failures = self.failures.saturating_add(1);

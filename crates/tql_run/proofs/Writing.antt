@@ -2,7 +2,7 @@
 use Rattle.std.proofs.Common.{◌≡◌, refl, sym, ◌∙◌, ap, subst, ℕ, zero, suc, Bool, true, false, List, [], ◌∷◌, Option}
 use Rattle.std.proofs.Common.{Some, None, inl, inr, arith, ◌+◌, ◌<◌, ◌≤◌, cond, append_assoc, append-nil}
 use Rattle.std.proofs.Common.{length-append, add-zero}
-use Rattle.std.specs.Prelude.{◌++◌, length, filter, fold, count_by, if◌then◌else◌, not, IsFalse, IsTrue}
+use Rattle.std.specs.Prelude.{◌++◌, length, filter, fold, count_by, if◌then◌else◌, not, Result, IsFalse, IsTrue}
 use Rattle.std.specs.List.{list_all}
 use Rattle.tql_spec.specs.Machine.{State}
 use Rattle.tql_spec.specs.Answer.{Answer}
@@ -12,7 +12,7 @@ use Rattle.tql_spec.specs.Run.{Answering, RunBy}
 use Rattle.tql_spec.specs.Lines.{Placed, placed_from, placed_statements, line_of}
 use Rattle.tql_lex.specs.Stream.{Stream}
 use Rattle.tql_lex.specs.Pieces.{GivesFirst, HasNone}
-use Rattle.tql_result.specs.Devices.{Appends, AppendsBeginning, HasFailed}
+use Rattle.tql_result.specs.Devices.{Appends, AppendsBeginning, HasFailed, Pushes}
 use Rattle.tql_result.specs.Replies.{answer_of}
 use Rattle.tql_result.specs.declared.answer.Answer as code
 use Rattle.tql_run.specs.Hearing.{Heard, Hears, note_of, notes_from, notes_of}
@@ -103,6 +103,11 @@ pub hears_none : (a : Option (List Heard)) → Hears a [] a
 hears_none a = record { told = λ zs e. (zs, e, sym (append-nil zs)) }
 
 -- ---- devices
+
+-- a push by what it came to
+pub came_to : {T E : Type 0} {text : List ℕ} {x r : Result T E} {o n : Option (List ℕ)} {b k : ℕ} → x ≡ r
+    → Pushes text r o n b k → Pushes text x o n b k
+came_to {T} {E} {text} {x} {r} {o} {n} {b} {k} e p = subst (λ (y : Result T E). Pushes text y o n b k) (sym e) p
 
 appends_on : (a b c : Option (List ℕ)) (x y : List ℕ) → Appends a x b → Appends b y c → Appends a (x ++ y) c
 appends_on a b c x y p q = record { holds = λ zs e. q.holds (zs ++ x) (p.holds zs e) ∙ ap Some (append_assoc zs x y) }
@@ -254,15 +259,15 @@ wrote_more A s before now after h new summary answer held_old held_now held_new 
     }
 
 -- the sink failed at the answer
-pub wrote_cut : (A : Answering) (s : State) (before now after : Stream) (h new : Standing) (summary : Summary)
-    (answer : code.Answer) (held_old held_now held_new : Option (List ℕ)) (w0 w1 w2 : ℕ)
+pub wrote_cut : (fails : Bool) (A : Answering) (s : State) (before now after : Stream) (h new : Standing)
+    (summary : Summary) (answer : code.Answer) (held_old held_now held_new : Option (List ℕ)) (w0 w1 w2 : ℕ)
     (h0 h1 h2 : Option (List Heard)) (line : ℕ)
     → WroteSoFar A s before now h summary held_old held_now w0 w1 h0 h1 → AnswersFirst A now after answer h new
     → line ≡ after.line → Hears h1 (note_of (summary.statements + 1) line (answer_of answer)) h2
     → AppendsBeginning held_now (answer_text (answer_of answer)) held_new → HasFailed w1 w2
-    → SinkFailed A s before new held_old held_new w0 w2 h0 h2
-wrote_cut A s before now after h new summary answer held_old held_now held_new w0 w1 w2 h0 h1 h2 line t takes on told
-    a f =
+    → SinkFailed A s before new fails held_old held_new w0 w2 h0 h2
+wrote_cut fails A s before now after h new summary answer held_old held_now held_new w0 w1 w2 h0 h1 h2 line t takes
+    on told a f =
     let a0 = takes.answers t.state t.stands in
     let p = place_of A now after answer h new takes in record {
       done = t.done ++ takes.piece ∷ [];
@@ -285,6 +290,7 @@ wrote_cut A s before now after h new summary answer held_old held_now held_new w
         front = a.front;
         back = a.back;
         parts = a.parts;
+        lacks = a.lacks;
         is = refl;
       });
       written = appends_on held_old held_now held_new (answers_text t.answers) a.front t.written a.appends;
@@ -326,11 +332,11 @@ flushed A s stream h summary held_old held_now held_new w0 w1 w2 h0 h1 t a e = r
 }
 
 -- the flush that fails
-pub unflushed : (A : Answering) (s : State) (stream : Stream) (h : Standing) (summary : Summary)
-    (held_old held_now held_new : Option (List ℕ)) (w0 w1 w2 : ℕ) (h0 h1 : Option (List Heard))
+pub unflushed : (fails : Bool) → IsTrue fails → (A : Answering) (s : State) (stream : Stream) (h : Standing)
+    (summary : Summary) (held_old held_now held_new : Option (List ℕ)) (w0 w1 w2 : ℕ) (h0 h1 : Option (List Heard))
     → WroteAll A s stream h summary held_old held_now w0 w1 h0 h1 → Appends held_now [] held_new → HasFailed w1 w2
-    → SinkFailed A s stream h held_old held_new w0 w2 h0 h1
-unflushed A s stream h summary held_old held_now held_new w0 w1 w2 h0 h1 t a f = record {
+    → SinkFailed A s stream h fails held_old held_new w0 w2 h0 h1
+unflushed fails may A s stream h summary held_old held_now held_new w0 w1 w2 h0 h1 t a f = record {
   done = asked stream;
   rest = [];
   parts = sym (append-nil (asked stream));
@@ -340,7 +346,7 @@ unflushed A s stream h summary held_old held_now held_new w0 w1 w2 h0 h1 t a f =
   stands = t.stands;
   heard = t.heard;
   text = answers_text t.answers;
-  reached = inr (refl, refl);
+  reached = inr (refl, refl, may);
   written = subst (λ x. Appends held_old x held_new) (append-nil (answers_text t.answers))
       (appends_on held_old held_now held_new (answers_text t.answers) [] t.written a);
   cause = subst (λ n. HasFailed n w2) t.steady f;

@@ -6,7 +6,7 @@ use Rattle.tql_spec.specs.Script.{Piece}
 abbrev pub Standing : Type 1
 Standing = State → Type 0
 
--- what the piece is answered is of this manner, and the responder stands for the state after it
+-- what the piece is answered is as this relation says, and the responder stands for the state after it
 pub record Answered {R : Type 0} (A : State → Piece → R → State
     → Type 0) (s : State) (p : Piece) (answer : R) (after : Standing) : Type 0 where
   pub state : State

@@ -1,5 +1,5 @@
 -- What a run reads, writes and leaves, and where it stops.
-use Rattle.std.specs.Prelude.{◌≡◌, ◌⊎◌, ◌≤◌, ◌-◌, ◌^◌, ◌==◌, ◌&&◌, not, ℕ, suc, if◌then◌else◌, Bool, true, false}
+use Rattle.std.specs.Prelude.{◌≡◌, ◌⊎◌, ◌≤◌, ◌<◌, ◌-◌, ◌^◌, ◌==◌, ◌&&◌, not, ℕ, suc, if◌then◌else◌, Bool, true, false}
 use Rattle.std.specs.Prelude.{List, [], ◌∷◌, ◌++◌, length, filter, count_by, Option, Some, Result, Ok, Err}
 use Rattle.std.specs.Prelude.{IsTrue, IsFalse, MatchBool}
 use Rattle.tql_spec.specs.Machine.{State, Done, Table, Refused}
@@ -71,23 +71,26 @@ pub record MissesEnd (source : SourceChange) (read : List ℕ) : Type 0 where
 
 -- ---- sinks
 
--- what a sink shows before and after: what it holds, and how many failures it has counted; and whether it is flushed
+-- what a sink shows before and after: what it holds, and how many failures it has counted; whether it is flushed, and
+-- whether a flush may fail
 pub record SinkChange : Type 0 where
   pub held_old : Option (List ℕ)
   pub held_new : Option (List ℕ)
   pub failures_old : ℕ
   pub failures_new : ℕ
   pub flushed : Bool
+  pub flushes_fail : Bool
 
 -- the same of a sink whose type has these ghosts
 abbrev pub sink_change : {S : Type 0} → (written : S → Option (List ℕ)) → (failures : S → ℕ) → (flushed : S → Bool)
-    → (old new : S) → SinkChange
-sink_change written failures flushed old new = record {
+    → (flushes_fail : Bool) → (old new : S) → SinkChange
+sink_change written failures flushed flushes_fail old new = record {
   held_old = written old;
   held_new = written new;
   failures_old = failures old;
   failures_new = failures new;
   flushed = flushed new;
+  flushes_fail = flushes_fail;
 }
 
 -- ---- answers
@@ -118,9 +121,8 @@ answered false script = filter (λ (p : Piece). p.finished) (statements script)
 
 -- ---- what a run did
 
--- In each case the listener is told of the statements that are refused among those answered, of no others, and of
--- each by its
--- number and its line.
+-- In each case the listener is told of the statements that are refused among those answered, of no others, and of each
+-- by its number and its line.
 
 -- the whole script was read and each of its statements answered, no device failed, and the sink is flushed
 pub record RunsWhole (A : Answering) (s : State) (after : Standing) (source : SourceChange) (sink : SinkChange)
@@ -154,7 +156,7 @@ pub record StopsReading (A : Answering) (s : State) (after : Standing) (source :
   pub writes : sink.failures_new ≡ sink.failures_old
   pub flushed : IsTrue sink.flushed
 
--- what was written of the answers: all but the last of them whole, and a beginning of the last
+-- what was written of the answers: all but the last of them whole, and a beginning of the last, which is not all of it
 pub record CutsLast (answers : List Answer) (text : List ℕ) : Type 0 where
   pub earlier : List Answer
   pub last : Answer
@@ -162,9 +164,11 @@ pub record CutsLast (answers : List Answer) (text : List ℕ) : Type 0 where
   pub front : List ℕ
   pub back : List ℕ
   pub parts : answer_text last ≡ front ++ back
+  pub lacks : 0 < length back
   pub is : text ≡ answers_text earlier ++ front
 
--- the sink failed, at an answer: the statement of that answer is the last that ran; or at the flush: all of them ran.
+-- the sink failed, at an answer: the statement of that answer is the last that ran; or at the flush, where a flush of
+-- this sink may fail: all of them ran.
 -- The statements are those of the whole script where its end was met, and else those that are whole in what was read
 pub record StopsWriting (A : Answering) (s : State) (after : Standing) (source : SourceChange) (sink : SinkChange)
     (hearing : HearingChange) : Type 0 where
@@ -180,7 +184,7 @@ pub record StopsWriting (A : Answering) (s : State) (after : Standing) (source :
   pub stands : after state
   pub heard : Hears hearing.heard_old (notes_of (placed_statements script) answers) hearing.heard_new
   pub text : List ℕ
-  pub reached : CutsLast answers text ⊎ ((rest ≡ []) × (text ≡ answers_text answers))
+  pub reached : CutsLast answers text ⊎ ((rest ≡ []) × (text ≡ answers_text answers) × IsTrue sink.flushes_fail)
   pub written : Appends sink.held_old text sink.held_new
   pub cause : HasFailed sink.failures_old sink.failures_new
 
@@ -192,7 +196,7 @@ pub record NothingRun (A : Answering) (s : State) (after : Standing) (sink : Sin
   pub written : Appends sink.held_old [] sink.held_new
   pub writes : sink.failures_new ≡ sink.failures_old
 
--- how a run went by its result: the manner of its answers, the state that the responder stood for, and what it
+-- how a run went by its result: what its answers are, the state that the responder stood for, and what it
 -- stands for after it
 abbrev pub Runs : Answering → State → Standing → SourceChange → SinkChange → HearingChange → Result Summary Fault
     → Type 0

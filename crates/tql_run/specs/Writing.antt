@@ -1,5 +1,5 @@
 -- The statements of a stream that were answered, and their answers as they were written.
-use Rattle.std.specs.Prelude.{◌≡◌, ◌⊎◌, ℕ, List, [], ◌++◌, length, Option, Some, None, Result, Ok, Err}
+use Rattle.std.specs.Prelude.{◌≡◌, ◌⊎◌, ℕ, List, [], ◌++◌, length, Option, Some, None, Result, Ok, Err, Bool, IsTrue}
 use Rattle.tql_spec.specs.Machine.{State}
 use Rattle.tql_spec.specs.Answer.{Answer}
 use Rattle.tql_spec.specs.Script.{Piece}
@@ -68,8 +68,8 @@ pub record WroteAll (A : Answering) (s : State) (stream : Stream) (after : Stand
   pub counts : Counts summary answers
   pub steady : writes_now ≡ writes_before
 
--- the sink failed, at an answer, or after the last
-pub record SinkFailed (A : Answering) (s : State) (stream : Stream) (after : Standing)
+-- the sink failed, at an answer, or after the last, where a flush may fail
+pub record SinkFailed (A : Answering) (s : State) (stream : Stream) (after : Standing) (flushes_fail : Bool)
     (held_old held_new : Option (List ℕ)) (writes_before writes_now : ℕ) (heard_old heard_new : Option (List Heard))
     : Type 0 where
   pub done : List Piece
@@ -81,14 +81,15 @@ pub record SinkFailed (A : Answering) (s : State) (stream : Stream) (after : Sta
   pub stands : after state
   pub heard : Hears heard_old (notes_of (placed_statements stream.left) answers) heard_new
   pub text : List ℕ
-  pub reached : CutsLast answers text ⊎ ((rest ≡ []) × (text ≡ answers_text answers))
+  pub reached : CutsLast answers text ⊎ ((rest ≡ []) × (text ≡ answers_text answers) × IsTrue flushes_fail)
   pub written : Appends held_old text held_new
   pub cause : HasFailed writes_before writes_now
 
 -- by the result
 abbrev pub WritesAnswers : {E : Type 0} → Answering → Result Summary E → State → Stream → Standing
-    → (held_old held_new : Option (List ℕ)) → (writes_before writes_now : ℕ)
+    → (flushes_fail : Bool) → (held_old held_new : Option (List ℕ)) → (writes_before writes_now : ℕ)
     → (heard_old heard_new : Option (List Heard)) → Type 0
-WritesAnswers A (Ok summary) s stream after old new before now was is =
+WritesAnswers A (Ok summary) s stream after fails old new before now was is =
     WroteAll A s stream after summary old new before now was is
-WritesAnswers A (Err e) s stream after old new before now was is = SinkFailed A s stream after old new before now was is
+WritesAnswers A (Err e) s stream after fails old new before now was is =
+    SinkFailed A s stream after fails old new before now was is

@@ -1,4 +1,4 @@
-// Runs of scripts: statements in, answers out, whatever answers them.
+//! Runs of scripts: statements in, answers out, whatever answers them.
 #![tactic(auto)]
 
 pub mod device;
@@ -6,6 +6,7 @@ pub mod listener;
 pub mod note;
 pub mod notes;
 mod piece;
+pub mod pushed;
 pub mod responder;
 pub mod runner;
 mod script;

@@ -3,6 +3,7 @@ ghost use Rattle.std.specs.Prelude.{Option, List, [], ◌∷◌};
 ghost use Rattle.tql_value.specs.Refusals.{refusal_of};
 ghost use Rattle.tql_run.specs.Hearing.{Heard, Hears, note};
 
+use crate::pushed::Pushed;
 use tql_value::refusal::Refusal;
 
 /// What is told of the statements that a run refuses.
@@ -10,7 +11,8 @@ pub trait Listener {
     /// What it has heard; a listener that does not tell that claims nothing of it.
     ghost heard: { Self → Option (List Heard) };
 
-    /// Is told that a statement was refused: its number and its line, both counted from 1, and why.
-    fn refused(&mut self, statement: u64, line: u64, refusal: Refusal)
+    /// Is told that a statement was refused: its number and its line, both counted from 1, and why. It is told behind
+    /// the push of the answer, as `pushed` shows, which also says whether the sink took that.
+    fn refused(&mut self, statement: u64, line: u64, refusal: Refusal, pushed: &Pushed)
         ensures { Hears (heard self.old) (note statement line (refusal_of refusal) ∷ []) (heard self.new) };
 }

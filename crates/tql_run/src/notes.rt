@@ -1,19 +1,22 @@
 //! A listener that keeps its notes in memory.
-ghost use Rattle.std.specs.Prelude.{◌≡◌, Some, List};
+ghost use Rattle.std.specs.Prelude.{◌≡◌, Some, List, is_none};
+ghost use Rattle.tql_run.specs.Keeping.{Keeps};
 
 use crate::listener::Listener;
 use crate::note::Note;
+use crate::pushed::Pushed;
+use std::alloc::AllocError;
 use tql_memory::Memory;
 use tql_value::refusal::Refusal;
 
-/// A listener that keeps a note of each refusal. Where it finds no memory for one, that note is lost, and it is not
-/// whole from then on.
+/// A listener that keeps a note of each refusal. Where it finds no memory for one, that note is lost, the allocator's
+/// error is kept in its place, and it is not whole from then on.
 #[derive(Drop)]
 pub struct Notes {
     /// The notes, in the order of the statements.
     pub kept: Vec<Note, Memory>,
-    /// Whether none was lost.
-    pub is_whole: bool,
+    /// The allocator's error where a note was lost.
+    pub lost: Option<AllocError>,
 }
 
 impl Notes {
@@ -23,24 +26,48 @@ impl Notes {
     {
         Notes {
             kept: Vec::new(memory),
-            is_whole: true,
+            lost: None,
         }
+    }
+
+    /// Whether no note was lost.
+    pub fn is_whole(&self) -> bool
+        ensures { result ≡ is_none self.now.lost }
+    {
+        self.lost.is_none()
+    }
+
+    /// Keeps a note; without memory for it the notes stay as they are.
+    pub fn keep(&mut self, note: Note) -> Result<(), AllocError>
+        ensures { Keeps note result self.old self.new }
+    {
+        self.kept.push(note)?;
+        Ok(())
     }
 }
 
 impl Listener for Notes {
-    ghost use Rattle.tql_run.specs.Hearing.{heard_in};
+    ghost use Rattle.std.specs.Prelude.{is_none, [], ◌∷◌};
+    ghost use Rattle.tql_value.specs.Refusals.{refusal_of};
+    ghost use Rattle.tql_run.specs.Hearing.{Hears, heard_in, note};
+    ghost use Rattle.tql_run.specs.Keeping.{KeepsOrLoses};
 
-    ghost heard = { λ n. heard_in n.is_whole n.kept.items };
+    ghost heard = { λ n. heard_in (is_none n.lost) n.kept.items };
 
-    fn refused(&mut self, statement: u64, line: u64, refusal: Refusal) {
+    fn refused(&mut self, statement: u64, line: u64, refusal: Refusal, _pushed: &Pushed)
+        ensures heard { Hears (heard_in (is_none self.old.lost) self.old.kept.items)
+            (note statement line (refusal_of refusal) ∷ [])
+            (heard_in (is_none self.new.lost) self.new.kept.items) }
+        ensures kept { KeepsOrLoses (record { statement = statement; line = line; refusal = refusal })
+            self.old self.new }
+    {
         let note = Note {
             statement,
             line,
             refusal,
         };
-        if self.kept.push(note).is_err() {
-            self.is_whole = false;
+        if let Err(error) = self.keep(note) {
+            self.lost = Some(error);
         }
     }
 }

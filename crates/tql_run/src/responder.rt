@@ -9,12 +9,12 @@ use tql_memory::Memory;
 use tql_result::answer::Answer;
 
 /// What answers the statements of a script, one after another. It may stand for states of the machine, and its
-/// answers are of one manner: they are the machine's replies, or tell which statements are taken.
+/// answers are all of one sort: they are the machine's replies, or tell which statements are taken.
 pub trait Responder {
     /// The states of the machine that it stands for.
     ghost stands: { Self → Standing };
 
-    /// The manner of its answers.
+    /// What its answers are.
     ghost answering: { Answering };
 
     /// The memory that a run over it grows in.

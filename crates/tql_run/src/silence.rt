@@ -2,6 +2,7 @@
 ghost use Rattle.std.specs.Prelude.{None};
 
 use crate::listener::Listener;
+use crate::pushed::Pushed;
 use tql_value::refusal::Refusal;
 
 /// A listener that keeps nothing of what it is told.
@@ -11,5 +12,5 @@ pub struct Silence;
 impl Listener for Silence {
     ghost heard = { λ _. None };
 
-    fn refused(&mut self, _statement: u64, _line: u64, _refusal: Refusal) {}
+    fn refused(&mut self, _statement: u64, _line: u64, _refusal: Refusal, _pushed: &Pushed) {}
 }

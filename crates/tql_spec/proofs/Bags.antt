@@ -37,23 +37,10 @@ pub sum-same : {X : Type 0} (v w : X → ℕ) → ((x : X) → v x ≡ w x) → 
 sum-same v w h [] = refl
 sum-same v w h (x ∷ xs) = omega (arith, sum_by-cons v x xs, sum_by-cons w x xs, h x, sum-same v w h xs)
 
-sum-none : {X : Type 0} (xs : List X) → sum_by (λ x. 0) xs ≡ 0
-sum-none [] = refl
-sum-none (x ∷ xs) = omega (arith, sum_by-cons (λ (x : _). 0) x xs, sum-none xs)
-
 pub sum-both : {X : Type 0} (v w : X → ℕ) (xs : List X) → sum_by (λ x. v x + w x) xs ≡ sum_by v xs + sum_by w xs
 sum-both v w [] = refl
 sum-both v w (x ∷ xs) =
     omega (arith, sum_by-cons (λ x. v x + w x) x xs, sum_by-cons v x xs, sum_by-cons w x xs, sum-both v w xs)
-
--- the sum over rows of sums over columns is the sum over columns of sums over rows
-pub sums-change_places : {X Y : Type 0} (w : X → Y → ℕ) (xs : List X) (ys : List Y)
-    → sum_by (λ x. sum_by (w x) ys) xs ≡ sum_by (λ y. sum_by (λ x. w x y) xs) ys
-sums-change_places w [] ys = sym (sum-none ys)
-sums-change_places w (x ∷ xs) ys =
-    sum_by-cons (λ x. sum_by (w x) ys) x xs ∙ ap (λ n. sum_by (w x) ys + n) (sums-change_places w xs ys)
-    ∙ sym (sum-same (λ y. sum_by (λ x. w x y) (x ∷ xs)) (λ y. w x y + sum_by (λ x. w x y) xs)
-    (λ y. sum_by-cons (λ x. w x y) x xs) ys ∙ sum-both (w x) (λ y. sum_by (λ x. w x y) xs) ys)
 
 -- ---- what keeps a bag
 

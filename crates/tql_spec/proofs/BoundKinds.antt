@@ -131,7 +131,7 @@ own_fits d row h = record { each = known }
     known k (inl e) = subst (FitsKnown row) (sym e)
         (λ i l. subst (λ c. IsOfKind (Some c) (definition.cell row (0 + i))) (sym (kind_at_is d.columns i))
         (subst (λ j. IsOfKind (Some (column_kind d i)) (definition.cell row j)) (omega arith)
-            (cell_kind (kinds_of d) row h i)))
+        (cell_kind (kinds_of d) row h i)))
     known k (inr m) = absurd m
 
 -- the value of an assignment

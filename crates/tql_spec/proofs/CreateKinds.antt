@@ -62,7 +62,7 @@ or_second_false true b e = absurd (cc)
 -- the kinds of the columns defined are those written
 kinds_written : (implied : List Name) (cs : List ColumnTree)
     → map (λ (c : definition.Column). c.kind) (map (column implied) cs)
-        ≡ map (λ (c : ColumnTree). kind_of_type c.type_name) cs
+    ≡ map (λ (c : ColumnTree). kind_of_type c.type_name) cs
 kinds_written implied [] = refl
 kinds_written implied (c ∷ cs) = ap (λ ks. kind_of_type c.type_name ∷ ks) (kinds_written implied cs)
 

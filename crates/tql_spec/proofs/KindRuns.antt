@@ -29,7 +29,7 @@ use Rattle.tql_spec.proofs.RowKinds.{same_kinds, generated_same}
 use Rattle.tql_spec.proofs.RowChanges.{Good, AllGood}
 use Rattle.tql_spec.proofs.ChangeKinds.{change_good}
 
--- ---- what questions find
+-- ---- what queries find
 
 -- a row of some copy
 record IsKept (t : ℕ) (es : List Entry) (r : Stamped) : Type 0 where
@@ -84,7 +84,7 @@ found_kept t until ends a b (e ∷ es) v i = elim (in_either v (filter (λ w. no
     either true n = completed_row ends t e es v n
     either false n = absurd n
 
--- what a question finds is a row of some copy
+-- what a query finds is a row of some copy
 question_kept : (t : ℕ) (w : When) (es : List Entry) (v : Version) → In v (found w (table_history t es))
     → IsKept t es v.row
 question_kept t Now [] v i = absurd i

@@ -14,7 +14,7 @@ use Rattle.std.proofs.lemmas.Cmp.{ranked, int_ranked, by_ranked, nat_cmp_total, 
 use Rattle.std.proofs.lemmas.Cmp.{on_total, then_total, lists_total, tied_itself, upto}
 use Rattle.tql_spec.specs.Datum.{Datum, Null, Int, Text, Day, Moment, Row, order, rank}
 use Rattle.tql_spec.specs.Bag.{SameBag}
-use Rattle.tql_spec.specs.Query.{by_columns, placed, in_order}
+use Rattle.tql_spec.specs.Query.{by_columns, placed}
 
 -- ---- values
 
@@ -187,10 +187,6 @@ module _ {A : Type 0} (R : A → A → Ordering) (o : IsTotalOrder R) (ties : (a
   mark : A → A → ℕ
   mark x y = if is_eq (R x y) then 1 else 0
 
-  marked_self : (x : A) → mark x x ≡ 1
-  unfolding mark
-  marked_self x = rw (tied_itself o x) refl
-
   -- what a first element adds to the marks
   marks : (y z : A) (zs : List A) → sum_by (mark y) (z ∷ zs) ≡ (if is_eq (R y z) then 1 else 0) + sum_by (mark y) zs
   unfolding mark
@@ -301,26 +297,3 @@ module _ (R : Row → Row → Ordering) (o : IsTotalOrder R) where
         | true ↦ omega (arith, sum_by-cons w s (placed R r rest), sum_by-cons w s rest, placed_bag w r rest)
         | false ↦ sum_by-cons w r (s ∷ rest)
       ]
-
--- the printed order of an answer without ORDER BY ascends
-in_order_ascends : (rows : List Row) → Ascends by_columns (in_order [] rows)
-in_order_ascends [] = tt
-in_order_ascends (r ∷ rows) = placed_ascends by_columns by_columns-total r (in_order [] rows) (in_order_ascends rows)
-
-in_order_bag : (w : Row → ℕ) (rows : List Row) → sum_by w (in_order [] rows) ≡ sum_by w rows
-in_order_bag w [] = refl
-in_order_bag w (r ∷ rows) =
-    omega (
-      arith,
-      placed_bag by_columns by_columns-total w r (in_order [] rows),
-      in_order_bag w rows,
-      sum_by-cons w r rows,
-    )
-
--- a bag that is sorted by all columns is the answer's order of it
-pub sorted_is_in_order : (sorted rows : List Row) → IsSorted by_columns sorted → SameBag sorted rows
-    → sorted ≡ in_order [] rows
-sorted_is_in_order sorted rows s b =
-    one_in_order by_columns by_columns-total by_columns-ties sorted (in_order [] rows)
-    (sorted_ascends by_columns by_columns-total sorted s) (in_order_ascends rows)
-    (record { totals = λ w. b.totals w ∙ sym (in_order_bag w rows) })

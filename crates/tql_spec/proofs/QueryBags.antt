@@ -71,13 +71,6 @@ filtered_same test xs others h =
 
 -- ---- selections
 
-then_same : {A B : Type 0} (f : A → Option B) (o p : Option (List A)) → Same o p
-    → Same (o >>= map_all f) (p >>= map_all f)
-then_same f None None h = tt
-then_same f None (Some ys) h = absurd h
-then_same f (Some xs) None h = absurd h
-then_same f (Some xs) (Some ys) h = mapped_same f xs ys h (map_all f xs) (map_all f ys) refl refl
-
 pub same_rows : (o p : Option (List Row)) → Same o p → SameRows o p
 same_rows None None h = tt
 same_rows None (Some ys) h = absurd h

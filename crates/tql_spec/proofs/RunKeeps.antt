@@ -31,7 +31,7 @@ pub unless_either : (P : State → Type 0) (o : Option Refusal) (old : State) (r
 unless_either P None old reply new p q = q refl
 unless_either P (Some e) old reply new p q = p
 
--- a question leaves the state as it was
+-- a query leaves the state as it was
 pub asked_stays : (P : State → Type 0) (s : State) (q : Query) (o : Option (List Row)) → P s → P (asked s q o).1
 asked_stays P s q None p = p
 asked_stays P s q (Some rows) p = p

@@ -544,7 +544,7 @@ ranges_are_copies_met t a b entries f = record {
   between = of_copies_met t (IsBetween a b) a (b +ℤ pos 1) (up_to a b) (not_past a b) entries f;
 }
 
--- each form of a question finds what spans say
+-- each form of a query finds what spans say
 pub reads_by_spans : ReadsBySpans
 reads_by_spans t entries f = record {
   now = now_is_the_newest t entries;

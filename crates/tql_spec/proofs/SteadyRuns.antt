@@ -242,7 +242,7 @@ reached_are_steady s r t =
     (record { in_order = first_in_order; chain = tt }) in
     steady t (entries s) c.chain c.in_order.falling
 
--- so questions there find what spans say, and any copy met will do
+-- so queries there find what spans say, and any copy met will do
 pub reached_read_by_spans : ReachedReadBySpans
 reached_read_by_spans s r t =
     let falling = (reached_in_order s r).falling in

@@ -216,9 +216,6 @@ as_read : (bytes : List ℕ) (x s : Sort) (k n : ℕ) → read x k ≡ read s n 
 as_read bytes x s k n e r = let p = some_is {X = Sort × ℕ} (x, k) (s, n) e in
     subst (λ (q : Sort × ℕ). Reads bytes q.0 q.1) p r
 
-digits_are_word_bytes : (b : ℕ) → is_letter b ≡ false → is_digit b ≡ false → is_word_byte b ≡ false
-digits_are_word_bytes b e f = rw (e, f) refl
-
 no_word_byte : (bs : List ℕ) → begins is_letter bs ≡ false → begins is_digit bs ≡ false → begins is_word_byte bs ≡ false
 no_word_byte [] e f = refl
 no_word_byte (b ∷ bs) e f = rw (e, f) refl

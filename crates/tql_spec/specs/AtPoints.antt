@@ -25,8 +25,7 @@ parent_rows defs copy None = []
 parent_rows defs copy (Some t) = table_rows defs copy t
 
 -- a copy has rows for each definition, and each key and each reference of each table holds in it, with a period at
--- every
--- point
+-- every point
 pub record HoldsAtPoints (defs : List TableDef) (copy : Copy) : Type 0 where
   pub as_many : length copy ≡ length defs
   pub keys : (t : ℕ) → t < length defs → (k : Key) → In k (table_at defs t).keys

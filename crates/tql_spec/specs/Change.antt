@@ -28,15 +28,15 @@ abbrev pub cell_faults : List Column → Row → List Refusal
 cell_faults [] row = []
 cell_faults (c ∷ cs) [] = []
 cell_faults (c ∷ cs) (v ∷ vs) =
-    fault_if (is_too_long c.limit v) ValueOutOfRange ++ fault_if
-    (c.required && is_null v) NullNotAllowed ++ cell_faults cs vs
+    fault_if (is_too_long c.limit v) ValueOutOfRange ++ fault_if (c.required && is_null v) NullNotAllowed
+    ++ cell_faults cs vs
 
 -- an application period without null that does not rise
 abbrev pub period_faults_by : Option Application → TableDef → Row → List Refusal
 period_faults_by None d row = []
 period_faults_by (Some a) d row =
-    fault_if (not (is_null (cell row a.start)) && not (is_null (cell row a.end)) && not
-    (rises (period_of d row))) PeriodNotRising
+    fault_if (not (is_null (cell row a.start)) && not (is_null (cell row a.end)) && not (rises (period_of d row)))
+    PeriodNotRising
 
 -- the fault of a new row's application period
 abbrev pub period_faults : TableDef → Row → List Refusal
@@ -49,8 +49,8 @@ check_fault (Some t) = fault_if (is_false t) CheckFailed
 
 -- all that a new row can be refused for
 abbrev pub row_faults : TableDef → Row → List Refusal
-row_faults d row = cell_faults d.columns row ++ period_faults d row ++ flat_map
-    (λ c. check_fault (judge [] row c)) d.checks
+row_faults d row =
+    cell_faults d.columns row ++ period_faults d row ++ flat_map (λ c. check_fault (judge [] row c)) d.checks
 
 -- ---- changes
 
@@ -114,8 +114,7 @@ outcome_of d rows (Some fates) =
     record {
       rows = after_fates rows fates;
       count = touched_count fates;
-      faults =
-          flat_map (λ r. row_faults d (shown d r)) (new_rows fates);
+      faults = flat_map (λ r. row_faults d (shown d r)) (new_rows fates);
     }
 
 -- the row with the values of SET, each computed on the old row

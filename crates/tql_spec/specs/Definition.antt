@@ -69,7 +69,7 @@ no_table = record {
 abbrev pub table_at : List TableDef → ℕ → TableDef
 table_at defs t = slice_index_or defs t no_table
 
--- the place of the table of this name
+-- one place further, where there is one
 abbrev pub next_place : Option ℕ → Option ℕ
 next_place None = None
 next_place (Some i) = Some (suc i)

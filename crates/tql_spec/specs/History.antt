@@ -1,4 +1,4 @@
--- The copies of the database, newest first, and what a question finds in them.
+-- The copies of the database, newest first, and what a query finds in them.
 use Rattle.std.specs.Prelude.{ℕ, Bool, not, ◌&&◌, List, [], ◌∷◌, ◌++◌, map, filter, slice_index_or, ℤ, pos, ◌+ℤ◌, ◌<ℤ◌}
 use Rattle.std.specs.Prelude.{int_le, int_lt, if◌then◌else◌}
 use Rattle.std.specs.List.{list_any}
@@ -61,7 +61,7 @@ with_end ends r = record { row = r; end = ends r }
 abbrev pub completed : (Stamped → ℤ) → List Stamped → List Version
 completed ends rows = map (with_end ends) rows
 
--- ---- what a question finds in one table
+-- ---- what a query finds in one table
 
 -- the rows of the table now: of the newest copy
 abbrev pub current : List TableEntry → List Version
@@ -72,8 +72,8 @@ current (e ∷ older) = completed still e.rows
 abbrev pub as_of_from : ℤ → (Stamped → ℤ) → ℤ → List TableEntry → List Version
 as_of_from until ends m [] = []
 as_of_from until ends m (e ∷ older) =
-    if int_le e.moment m && int_lt m until then completed ends e.rows else as_of_from e.moment
-    (ends_before e ends) m older
+    if int_le e.moment m && int_lt m until then completed ends e.rows
+    else as_of_from e.moment (ends_before e ends) m older
 
 -- the versions at a moment: the rows of the copy that stands then; none stands at the highest moment
 abbrev pub as_of : ℤ → List TableEntry → List Version

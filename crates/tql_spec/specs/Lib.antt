@@ -1,4 +1,5 @@
 pub mod Words
+pub mod Limits
 pub mod Truth
 pub mod Datum
 pub mod Calendar

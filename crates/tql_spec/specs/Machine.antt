@@ -22,7 +22,7 @@ pub data Change : Type 0 where
   InsertQuery : (table : ℕ) → (columns : List ℕ) → Query → Change
   Modify : (table : ℕ) → Option Period → Work → List Cond → Change
 
--- a statement whose names are bound
+-- a statement whose names are bound; tables stand by their places among the definitions
 pub data Bound : Type 0 where
   CreateTable : TableDef → Bound
   DropTable : ℕ → Bound
@@ -65,7 +65,7 @@ pub record State : Type 0 where
 abbrev pub new_state : State
 new_state = record { definitions = []; history = []; next = first_moment; transaction = None }
 
--- what questions see: an open transaction counts as the last commit
+-- what queries see: an open transaction counts as the last commit
 abbrev pub entries : State → List Entry
 entries s = listed s.transaction ++ s.history
 
@@ -89,7 +89,8 @@ bag_of s r = versions (table_at s.definitions r.table) r.table r.when (entries s
 
 -- ---- what a state refuses
 
--- what a statement does to the transaction and the clock; the moment of AT where its literal is valid
+-- the classes of statements, by what they do to the transaction and the clock; AT has its moment, where its literal is
+-- valid
 pub data StatementClass : Type 0 where
   Defines : StatementClass
   SetsClock : Option ℤ → StatementClass
@@ -98,7 +99,7 @@ pub data StatementClass : Type 0 where
   Changes : StatementClass
   Queries : StatementClass
 
--- the statement_class of a bound statement
+-- the class of a bound statement
 abbrev pub class_of : Bound → StatementClass
 class_of (CreateTable d) = Defines
 class_of (DropTable t) = Defines
@@ -153,7 +154,7 @@ with_table d s = in_each_copy (λ copy. copy ++ [] ∷ []) (record s { definitio
 abbrev pub without_table : ℕ → State → State
 without_table t s = in_each_copy (λ copy. remove copy t) (record s { definitions = remove s.definitions t })
 
--- a change of a working copy
+-- the table that is changed, by its place among the definitions
 abbrev pub changed_table : Change → ℕ
 changed_table (InsertTuples t columns tuples) = t
 changed_table (InsertQuery t columns q) = t
@@ -188,7 +189,7 @@ abbrev pub unless_refused : Option Refusal → State → Reply → State → Rep
 unless_refused None old reply new = (reply, new)
 unless_refused (Some e) old reply new = (Refused e, old)
 
--- a change, with keys and references tested on the copy after it
+-- the reply to a change and the state after it; keys and references are tested on the copy that it makes
 abbrev pub changed : State → Change → Reply × State
 changed s c =
     let e = working s s.transaction in
@@ -197,7 +198,7 @@ changed s c =
     unless_refused (first (o.faults ++ constraint_faults s.definitions copy)) s
     (Done (verb_of c) (Some o.count)) (with_working s s.transaction (record { moment = e.moment; copy = copy }))
 
--- a query answered: its rows in order, or out of range
+-- the reply to a query, which leaves the state as it was: its rows in order, or out of range
 abbrev pub asked : State → Query → Option (List Row) → Reply × State
 asked s q None = (Refused ValueOutOfRange, s)
 asked s q (Some rows) = (Table q.headings (in_order q.ordering rows), s)

@@ -18,8 +18,7 @@ pub record IsReached (s : State) : Type 0 where
 -- ---- the order of commits
 
 -- the moments fall from the newest copy to the oldest, below the highest and, of those committed, below the clock; an
--- open
--- transaction has the clock's
+-- open transaction has the clock's
 pub record IsInOrder (s : State) : Type 0 where
   pub falling : Falling (entries s)
   pub below_clock : FallingFrom s.next s.history
@@ -46,13 +45,13 @@ ReachedAreInOrder = (s : State) → IsReached s → IsInOrder s
 abbrev pub ReachedFit : Type 0
 ReachedFit = (s : State) → IsReached s → CopiesFit s × RowsFit s
 
--- ---- rows and questions
+-- ---- rows and queries
 
 -- the law: in every state that a run reaches, rows are steady, in each table
 abbrev pub ReachedAreSteady : Type 0
 ReachedAreSteady = (s : State) → IsReached s → (t : ℕ) → IsSteady t (entries s)
 
--- each question of a table finds what the spans of the copies say, and of a range any copy met will do
+-- each query of a table finds what the spans of the copies say, and of a range any copy met will do
 pub record ReadsInReached (s : State) (t : ℕ) : Type 0 where
   pub by_spans : QuestionsBySpans t (entries s)
   pub any_copy : (a b : ℤ) → AnyCopyMetWill t a b (entries s)

@@ -1,6 +1,7 @@
 -- The answers to a script: from bytes to replies, over whole runs.
 use Rattle.std.specs.Prelude.{◌≡◌, ◌⊎◌, ◌<◌, ◌≤◌, ℕ, true, IsTrue, IsFalse, IsUtf8, List, [], ◌∷◌, ◌++◌, length}
 use Rattle.std.specs.List.{AllByRecursion}
+use Rattle.tql_spec.specs.Limits.{longest_text, most_open}
 use Rattle.tql_spec.specs.Refusal.{Refusal, OutOfMemory, NotAStatement, NotUtf8, UnfinishedStatement, StatementTooLong}
 use Rattle.tql_spec.specs.Refusal.{NestedTooDeep, TooManyColumnsOrTables, first}
 use Rattle.tql_spec.specs.Definition.{TableDef}
@@ -23,13 +24,13 @@ pub data Sense : Type 0 where
   Says : Statement → Sense
   Faulty : Refusal → Sense
 
--- the text is these tokens, with at most 64 parentheses open
+-- the text is these tokens, with no more parentheses open than may be
 abbrev pub IsShallow : List ℕ → List Token → Type 0
-IsShallow text tokens = AreTokens tokens text × (depth tokens ≤ 64)
+IsShallow text tokens = AreTokens tokens text × (depth tokens ≤ most_open)
 
 -- the text is tokens with more parentheses open
 abbrev pub IsDeep : List ℕ → Type 0
-IsDeep text = (tokens : List Token) × AreTokens tokens text × (64 < depth tokens)
+IsDeep text = (tokens : List Token) × AreTokens tokens text × (most_open < depth tokens)
 
 -- which statements token lists spell
 abbrev pub Language : Type 1
@@ -45,15 +46,15 @@ finished text = record { text = text; finished = true }
 
 -- no fault of bytes: not too long, UTF-8, and finished
 pub record IsWhole (p : Piece) : Type 0 where
-  pub short : length p.text ≤ 1_048_576
+  pub short : length p.text ≤ longest_text
   pub utf8 : IsUtf8 p.text
   pub finished : IsTrue p.finished
 
 -- each fault comes only where none before it is present
 abbrev pub HasSense : Language → Piece → Sense → Type 0
-HasSense L p (Faulty StatementTooLong) = 1_048_576 < length p.text
-HasSense L p (Faulty NotUtf8) = (length p.text ≤ 1_048_576) × ¬ IsUtf8 p.text
-HasSense L p (Faulty UnfinishedStatement) = (length p.text ≤ 1_048_576) × IsUtf8 p.text × IsFalse p.finished
+HasSense L p (Faulty StatementTooLong) = longest_text < length p.text
+HasSense L p (Faulty NotUtf8) = (length p.text ≤ longest_text) × ¬ IsUtf8 p.text
+HasSense L p (Faulty UnfinishedStatement) = (length p.text ≤ longest_text) × IsUtf8 p.text × IsFalse p.finished
 HasSense L p (Faulty NestedTooDeep) = IsWhole p × IsDeep p.text
 HasSense L p (Faulty NotAStatement) = IsWhole p × ¬ IsDeep p.text × ((s : Statement) → IsTextOf L p.text s → ⊥)
 HasSense L p (Faulty TooManyColumnsOrTables) =
@@ -107,7 +108,7 @@ Checks old p answer new =
 
 -- ---- runs
 
--- what pieces are answered, one after another, each in this statement_class
+-- what pieces are answered, one after another, each as this relation says
 abbrev pub RunBy : {R : Type 0} → (State → Piece → R → State → Type 0) → State → List Piece → List R → State → Type 0
 RunBy A old [] [] new = new ≡ old
 RunBy A old (p ∷ ps) (r ∷ rs) new = (mid : State) × A old p r mid × RunBy A mid ps rs new

@@ -1,4 +1,4 @@
--- What a question finds in the copies, said by spans and membership: laws about History's walks.
+-- What a query finds in the copies, said by spans and membership: laws about History's walks.
 use Rattle.std.specs.Prelude.{◌≡◌, ◌⊎◌, ℕ, List, [], ◌∷◌, ◌++◌, map, ℤ, ◌≤ℤ◌, ◌<ℤ◌, if◌then◌else◌}
 use Rattle.std.specs.List.{sum_by}
 use Rattle.tql_spec.specs.Bag.{In}
@@ -60,8 +60,7 @@ pub record StandsAt (m : ℤ) (entries : List Entry) : Type 0 where
   pub held : SpanHolds later copy m
 
 -- AS OF m: the rows of the copy whose span holds m; none before the first copy, and none at the highest moment; there
--- is no
--- other case
+-- is no other case
 pub record AsOfIsTheCopyThen (t : ℕ) (m : ℤ) (entries : List Entry) : Type 0 where
   pub there : (later : List Entry) (e : Entry) (older : List Entry) → entries ≡ later ++ e ∷ older
       → SpanHolds later e m
@@ -100,9 +99,8 @@ abbrev pub times_there : (t : ℕ) → {Asked : ℤ → Type 0} → {entries : L
     → MetWith t Asked entries r → ℕ
 times_there t {Asked} {entries} {r} c = times r (rows_in c.copy.copy t)
 
--- a range: each version is a row of a copy met and ends as it does there, and each row of a copy met stands as often
--- as in
--- one of the copies met
+-- a range: each version is a row of a copy met and ends as it does there, and each row of a copy met stands as often as
+-- in one of the copies met
 pub record AreOfCopiesMet (t : ℕ) (Asked : ℤ → Type 0) (entries : List Entry) (vs : List Version) : Type 0 where
   pub only : (v : Version) → In v vs → (c : MetWith t Asked entries v.row) × EndsAt t c.later v.row v.end
   pub each : (r : Stamped) → MetWith t Asked entries r
@@ -115,7 +113,7 @@ pub record RangesAreCopiesMet (t : ℕ) (a b : ℤ) (entries : List Entry) : Typ
 
 -- ---- laws
 
--- what each form of a question finds in one table of a history whose moments fall
+-- what each form of a query finds in one table of a history whose moments fall
 pub record QuestionsBySpans (t : ℕ) (entries : List Entry) : Type 0 where
   pub now : NowIsTheNewest t entries
   pub as_of : (m : ℤ) → AsOfIsTheCopyThen t m entries

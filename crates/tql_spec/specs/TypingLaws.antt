@@ -83,7 +83,7 @@ pub record StepsKeepTypes : Type 0 where
   pub effects : (s : State) (b : Bound) → state_faults s (class_of b) ≡ [] → IsTypedState s
       → IsTypedBound s.definitions b → IsTypedState (effect s b).1
 
--- the law: what a question of a table finds in such a state, also of the past, are rows of its kinds
+-- the law: what a query of a table finds in such a state, also of the past, are rows of its kinds
 abbrev pub BagsAreTyped : Type 0
 BagsAreTyped = (s : State) → IsTypedState s → IsTypedBag s.definitions (bag_of s)
 

@@ -1,4 +1,4 @@
-// The definitions that the table engine is verified against, and the laws about them.
+//! The definitions that the table engine is verified against, and the laws about them.
 #![tactic(auto)]
 
 ghost use Rattle.std.specs.Prelude.{ℕ, List};
@@ -84,7 +84,7 @@ pub fn steady_rows()
     ensures { ReachedAreSteady }
 {}
 
-/// In every state that a run reaches questions find what the spans of the copies say.
+/// In every state that a run reaches queries find what the spans of the copies say.
 pub fn questions_in_runs()
     ensures { ReachedReadBySpans }
 {}
@@ -141,7 +141,7 @@ pub fn answers_keep_no_order()
 
 /// Values are of their columns' kinds, or null. The value of a bound expression is of its kind, a statement without a
 /// fault is bound to one that gives each column values of its kind, and steps keep this; so it is in every state that
-/// a run reaches. There questions find rows of these kinds too, and the ends of a row's application period are its
+/// a run reaches. There queries find rows of these kinds too, and the ends of a row's application period are its
 /// points, as dates or as timestamps.
 pub fn kinds_are_kept()
     ensures expressions { ValuesAreOfKind }

@@ -1,7 +1,7 @@
 -- What a change of one table's rows does to the list of all, as the code tells it.
 use Rattle.std.proofs.Common.{◌≡◌, ℕ, ◌<◌, Bool, true, List, ◌++◌, map, filter, length, Result, Ok, Err, refl, sym}
 use Rattle.std.proofs.Common.{ap, subst, ◌∙◌, arith}
-use Rattle.std.specs.Prelude.{ℤ, slice_set, Option, Some, None, IsSome, OnErr}
+use Rattle.std.specs.Prelude.{ℤ, slice_set, Option, Some, None, OnErr}
 use Rattle.tql_spec.specs.Bag.{SameBag}
 use Rattle.tql_spec.specs.Datum.{Datum}
 use Rattle.tql_spec.specs.Definition.{Stamped, Version}
@@ -9,8 +9,7 @@ use Rattle.tql_store_rows.specs.Changes.{alive, closing, fresh, replaced}
 use Rattle.tql_store_rows.specs.TableModel.{TableModel, AtRest, InTurn, IsJudged, versions, live}
 use Rattle.tql_store.proofs.Numbers.{put-here, put-versions}
 use Rattle.tql_store.proofs.Turning.{refused-rest, change-orderly, refused-orderly}
-use Rattle.tql_store.proofs.Storing.{in_turn, some-moment}
-use Rattle.tql_store.specs.StoreModel.{moment_or_high}
+use Rattle.tql_store.proofs.Storing.{in_turn}
 use Rattle.tql_store.specs.Orderly.{table_at, IsNoted, IsOrderly, HasTurned}
 use Rattle.tql_store.specs.TableSlots.{slot_at, is_taken}
 use Rattle.tql_store.specs.declared.tables.TableSlot.{TableSlot}
@@ -38,7 +37,7 @@ kept-rest m i n ts old new q l is t e es last r =
 
 pub ok-versions : {R : Type 0} (cells : R
     → List Datum) (rs : List R) (m m' : ℤ) (i n : ℕ) (ts : List TableModel) (old new : TableModel) (removed is : List ℕ)
-        → m' ≡ m
+    → m' ≡ m
     → i ≡ n → n < length ts → old ≡ table_at ts n → is ≡ removed
     → SameBag (live new) (filter alive (closing m' is old.current ++ old.closed) ++ map (λ r. fresh m' (cells r)) rs)
     → SameBag (live (table_at (slice_set ts i new) n))
@@ -75,9 +74,8 @@ noted-at i n first old new q e h =
 
 -- ---- in the store
 
-pub in-moment : (inside working : Option ℤ) (m r : ℤ) → inside ≡ working → IsSome working → m ≡ r
-    → r ≡ moment_or_high working → inside ≡ Some m
-in-moment inside working m r e some at is = e ∙ some-moment working some ∙ ap (λ (x : ℤ). Some x) (sym (at ∙ is))
+pub in-moment : (inside working : Option ℤ) (m r : ℤ) → inside ≡ working → m ≡ r → working ≡ Some r → inside ≡ Some m
+in-moment inside working m r e at is = e ∙ is ∙ ap (λ (x : ℤ). Some x) (sym at)
 
 pub change-store : (m : ℤ) (working last : Option ℤ) (n : ℕ) (places : List TableSlot)
     (old first new all : List TableModel)

@@ -10,11 +10,11 @@ use Rattle.tql_store.specs.TableSlots.{slot_at, place_for, is_taken}
 use Rattle.tql_store.specs.declared.tables.TableSlot.{TableSlot}
 use Rattle.tql_store.specs.declared.tables.TableSlot.TheVariants.{Free, Versioned, Unversioned}
 
--- one for a place at which a table stands
+-- one for a slot in which a table stands
 abbrev pub one : TableSlot → ℕ
 one p = cond (is_taken p) 1 0
 
--- the places after the first
+-- the slots after the first
 abbrev pub rest : List TableSlot → List TableSlot
 rest [] = []
 rest (p ∷ ps) = ps

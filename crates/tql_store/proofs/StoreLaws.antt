@@ -2,7 +2,8 @@
 -- have.
 use Rattle.std.proofs.Common.{◌≡◌, ℕ, Bool, true, false, filter, List, [], ◌∷◌, arith, inl, inr, refl, sym, ap, subst}
 use Rattle.std.proofs.Common.{◌∙◌}
-use Rattle.std.specs.Prelude.{ℤ, pos, ◌+ℤ◌, ◌<ℤ◌, ◌&&◌, cond, int_lt, int_le, nat_eq, slice_index_or, if◌then◌else◌}
+use Rattle.std.specs.Prelude.{ℤ, pos, ◌+ℤ◌, ◌<ℤ◌, ◌&&◌, ◌||◌, cond, int_lt, int_le, nat_eq, slice_index_or}
+use Rattle.std.specs.Prelude.{if◌then◌else◌}
 use Rattle.std.specs.Prelude.{Option, Some, None}
 use Rattle.std.proofs.lemmas.Bool.Decides.{nat_tests}
 use Rattle.std.proofs.lemmas.Int.{ints}
@@ -13,6 +14,7 @@ use Rattle.tql_spec.specs.Calendar.{high}
 use Rattle.tql_spec.specs.Datum.{Datum}
 use Rattle.tql_spec.specs.Definition.{Stamped, Version}
 use Rattle.tql_spec.specs.History.{TableEntry, meets}
+use Rattle.tql_spec.specs.History as history
 use Rattle.tql_store.proofs.Apply.{lt_true, lt_false}
 use Rattle.tql_store.proofs.Begin.{new-stands, as_of-stands, from_to-stands, current-stands}
 use Rattle.tql_store.proofs.Laws.{commit-law, brief-commit-law, rollback-law, begin-law, apply-law, same-stands}
@@ -24,12 +26,14 @@ use Rattle.tql_store.specs.StoreModel.{StoreModel, is_versioned, live}
 use Rattle.tql_store.specs.TableSlots.{slot_at, is_kept, is_brief}
 use Rattle.tql_store.specs.Represents.{Copies, Working, horizon_of, StandsWith, Represents, CommitAppends}
 use Rattle.tql_store.specs.Represents.{RollbackRestores, BeginCopies, ChangeReplaces, ReplacesVersions, with_rows}
-use Rattle.tql_store.specs.Represents.{seen_by, AnswersAsOf, AnswersFromTo, AnswersNow}
+use Rattle.tql_store.specs.Represents.{seen_by, Answers}
 use Rattle.tql_store_rows.specs.Changes.{Under, holds, is_current}
 use Rattle.tql_store.specs.Stands.{Within, StandsFor}
 use Rattle.tql_store.specs.declared.tables.TableSlot.{TableSlot}
 use Rattle.tql_store.specs.declared.tables.TableSlot.TheVariants.{Free, Versioned, Unversioned}
-use Rattle.tql_store_rows.specs.declared.readings.When.TheVariants.{FromTo, Between}
+use Rattle.tql_value.specs.When.{is_now, when_of}
+use Rattle.tql_value.specs.declared.when.When.{When}
+use Rattle.tql_value.specs.declared.when.When.TheVariants.{Now, AsOf, FromTo, Between}
 
 pub same-list : {X : Type 0} {xs ys : List X} → xs ≡ ys → SameBag xs ys
 same-list {X} {xs} {ys} e = subst (SameBag xs) e (same-refl xs)
@@ -150,7 +154,7 @@ begin-copies m old new is later below tables opened last versions = λ copies wo
 
 -- ---- readings
 
--- the versions stand for the copies that questions see
+-- the versions stand for the copies that queries see
 stands_seen : (horizon o : Option ℤ) (versions : List Version) (copies : Copies) (working : Working) (t : ℕ)
     → StandsWith horizon o versions (copies t) (working t) → StandsFor horizon versions (seen_by o copies working t)
 stands_seen horizon None versions copies working t s = s
@@ -160,20 +164,21 @@ stands_now : (h : StoreModel) (copies : Copies) (working : Working) (t : ℕ) �
     → StandsFor (horizon_of h.tables h.last t) (live h t) (seen_by h.working copies working t)
 stands_now h copies working t r = stands_seen _ h.working (live h t) copies working t (r.stands t)
 
-pub answers-as_of : (h : StoreModel) (t : ℕ) (m : ℤ) (found : List Version) → is_versioned h t ≡ true
-    → SameBag found (filter (holds m) (live h t)) → AnswersAsOf h t m found
+answers-as_of : (h : StoreModel) (t : ℕ) (m : ℤ) (found : List Version) → is_versioned h t ≡ true
+    → SameBag found (filter (holds m) (live h t)) → Answers h t (history.AsOf m) found
 answers-as_of h t m found kept e =
     λ copies working r. same-trans e
     (same-sym (as_of-stands _ _ _ m (stands_now h copies working t r) (versioned-within h t m kept)))
 
-pub answers-from_to : (h : StoreModel) (t : ℕ) (a b : ℤ) (found : List Version) → is_versioned h t ≡ true
-    → SameBag found (filter (λ v. meets a b v.row.start v.end) (live h t)) → AnswersFromTo h t a b found
+answers-from_to : (h : StoreModel) (t : ℕ) (a b : ℤ) (found : List Version) → is_versioned h t ≡ true
+    → SameBag found (filter (λ v. meets a b v.row.start v.end) (live h t))
+    → Answers h t (history.FromTo a b) found
 answers-from_to h t a b found kept e =
     λ copies working r. same-trans e
     (same-sym (from_to-stands _ _ _ a b (stands_now h copies working t r) (versioned-within h t a kept)))
 
-pub answers-now : (h : StoreModel) (t : ℕ) (found : List Version) → SameBag found (filter is_current (live h t))
-    → AnswersNow h t found
+answers-now : (h : StoreModel) (t : ℕ) (found : List Version) → SameBag found (filter is_current (live h t))
+    → Answers h t history.Now found
 answers-now h t found e =
     λ copies working r. same-trans e (same-sym (current-stands _ _ _ (stands_now h copies working t r)))
 
@@ -265,19 +270,28 @@ below_next x b = elim (le_tells x b) as (λ y. int_le x b ≡ int_lt x (b +ℤ p
   | inr s ↦ s.0 ∙ sym (lt_false {a = x} {b = b +ℤ pos 1} (let t = s.1 in omega (arith, ints)))
 ]
 
-pub answers-range : (h : StoreModel) (t : ℕ) (a b : ℤ) (found : List Version) → is_versioned h t ≡ true
-    → SameBag found (filter (asked (FromTo a b)) (live h t)) → AnswersFromTo h t a b found
+answers-range : (h : StoreModel) (t : ℕ) (a b : ℤ) (found : List Version) → is_versioned h t ≡ true
+    → SameBag found (filter (asked (FromTo a b)) (live h t)) → Answers h t (history.FromTo a b) found
 answers-range h t a b found kept e =
     answers-from_to h t a b found kept
     (same-trans e (same-list (filter-live (asked (FromTo a b)) (λ v. meets a b v.row.start v.end) (as_meets a b) h t)))
 
-pub answers-between : (h : StoreModel) (t : ℕ) (a b : ℤ) (found : List Version) → is_versioned h t ≡ true
-    → SameBag found (filter (asked (Between a b)) (live h t)) → AnswersFromTo h t a (b +ℤ pos 1) found
+answers-between : (h : StoreModel) (t : ℕ) (a b : ℤ) (found : List Version) → is_versioned h t ≡ true
+    → SameBag found (filter (asked (Between a b)) (live h t)) → Answers h t (history.Between a b) found
 answers-between h t a b found kept e = answers-from_to h t a (b +ℤ pos 1) found kept
     (same-trans e (same-list (filter-live (asked (Between a b)) (λ v. meets a (b +ℤ pos 1) v.row.start v.end)
     (λ v l. ap (λ c. c && (int_le v.row.start b && int_lt a v.end)) (below_next a b)
     ∙ ap (λ c. int_lt a (b +ℤ pos 1) && (c && int_lt a v.end)) (below_next v.row.start b)
     ∙ as_meets a (b +ℤ pos 1) v l) h t)))
+
+-- what is asked for is what the definitions find
+pub answers-found : (h : StoreModel) (t : ℕ) (when : When) (found : List Version)
+    → (is_now (when_of when) || is_versioned h t) ≡ true → SameBag found (filter (asked when) (live h t))
+    → Answers h t (when_of when) found
+answers-found h t Now found kept e = answers-now h t found e
+answers-found h t (AsOf m) found kept e = answers-as_of h t m found kept e
+answers-found h t (FromTo a b) found kept e = answers-range h t a b found kept e
+answers-found h t (Between a b) found kept e = answers-between h t a b found kept e
 
 -- ---- a new store
 

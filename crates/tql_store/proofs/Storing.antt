@@ -1,31 +1,29 @@
 -- What a store shows of its tables, and that it stays orderly through new tables, dropped ones and changes.
-use Rattle.std.proofs.Common.{◌≡◌, ℕ, suc, ◌+◌, ◌<◌, ◌≤◌, Bool, true, false, cond, List, [], ◌∷◌, ◌++◌, map, filter}
-use Rattle.std.proofs.Common.{length, refl, sym, ap, subst, ◌∙◌, arith, inl, inr}
-use Rattle.std.specs.Prelude.{ℤ, ◌<ℤ◌, All, IsTrue, IsSome, count_by, nat_eq, slice_get, slice_index_or, Option, Some}
-use Rattle.std.specs.Prelude.{None, if◌then◌else◌, ◌⊎◌}
-use Rattle.std.specs.Ordering.{int_eq}
+use Rattle.std.proofs.Common.{◌≡◌, ℕ, suc, ◌+◌, ◌≤◌, Bool, true, false, List, [], ◌∷◌, ◌++◌, map, filter}
+use Rattle.std.proofs.Common.{length, refl, sym, ap, subst, ◌∙◌, arith}
+use Rattle.std.specs.Prelude.{ℤ, All, IsTrue, nat_eq, slice_get, slice_index_or, Option, Some}
+use Rattle.std.specs.Prelude.{None, if◌then◌else◌}
 use Rattle.std.proofs.lemmas.Int.{ints}
 use Rattle.tql_spec.proofs.Bags.{same-refl}
 use Rattle.tql_spec.proofs.Members.{by_bool}
-use Rattle.tql_spec.specs.Bag.{SameBag, In}
+use Rattle.tql_spec.specs.Bag.{SameBag}
 use Rattle.tql_spec.specs.Calendar.{high}
 use Rattle.tql_spec.specs.Datum.{Datum}
 use Rattle.tql_spec.specs.Definition.{Stamped, Version}
 use Rattle.tql_index.specs.Entry.{Entry}
 use Rattle.tql_store_rows.proofs.Beginning.{begin-turn}
-use Rattle.tql_store_rows.proofs.Turns.{eq_false}
-use Rattle.tql_store_rows.specs.Changes.{alive, closing, fresh, is_current, pruned, replaced, undone, Past, Under}
+use Rattle.tql_store_rows.specs.Changes.{alive, closing, fresh, is_current, pruned, replaced, undone}
 use Rattle.tql_store_rows.specs.TableModel as rows
 use Rattle.tql_store_rows.specs.TableModel.{AtRest, InTurn, IsIndexed, IsJudged, Since, versions, noted}
 use Rattle.tql_store_rows.specs.Readings.{AreEnded}
-use Rattle.tql_store.proofs.Numbers.{one_number, self_number, put-here, put-other, versions-at, taken-within}
+use Rattle.tql_store.proofs.Numbers.{one_number, self_number, versions-at}
 use Rattle.tql_store.proofs.Turning.{before, empty-rest, by_number, each-committed, each-undone, commit-bag}
 use Rattle.tql_store.proofs.Removing.{judged-rows, removable-rows, counted-rows}
-use Rattle.tql_store.specs.StoreModel.{StoreModel, AreRemovable, has_table, is_open, live, moment_or_high, named}
-use Rattle.tql_store.specs.Orderly.{empty, table_at, touch_at, IsUntouched, IsPut, AreAtRest, AreInTurn, AreReady}
+use Rattle.tql_store.specs.StoreModel.{StoreModel, AreRemovable, is_open, live}
+use Rattle.tql_store.specs.Orderly.{empty, table_at, IsUntouched, IsPut, AreReady}
 use Rattle.tql_store.specs.Orderly.{IsOrderly, IsCommitted, IsUndone, HaveEnded, HasTurned}
-use Rattle.tql_store.specs.TableSlots.{slot_at, place_for, is_taken, is_kept, is_brief}
-use Rattle.tql_store.specs.Represents.{Judged, ReplacesVersions, Takes}
+use Rattle.tql_store.specs.TableSlots.{slot_at, place_for, is_kept, is_brief}
+use Rattle.tql_store.specs.Represents.{ReplacesVersions, Takes}
 use Rattle.tql_store.specs.declared.tables.TableSlot.{TableSlot}
 use Rattle.tql_store.specs.declared.tables.TableSlot.TheVariants.{Free}
 
@@ -59,65 +57,31 @@ pub live-of : {places : List TableSlot} {working last : Option ℤ} (tables : Li
     → shown places tables working last ≡ h → live h t ≡ rows.live (table_at tables t)
 live-of tables h t is = ap (filter alive) (versions-of tables h t (table_at tables t) is refl)
 
--- a table that is there has its number among them
-pub there-within : {places : List TableSlot} {working last : Option ℤ} (tables : List rows.TableModel)
-    (touched : List ℕ)
-    (h : StoreModel) (t : ℕ) → shown places tables working last ≡ h → IsOrderly places tables touched working last
-    → is_taken (slot_at h.tables t) ≡ true
-    → t < length tables
-there-within {places} tables touched h t is o there =
-    taken-within places tables t o.even (ap (λ (k : StoreModel). is_taken (slot_at k.tables t)) is ∙ there)
+-- ---- what the readings of its tables rest on
 
--- ---- what its tables' indexes hold
-
-pub record Indexed (h : rows.TableModel) : Type 0 where
+-- the index of a table holds its closed versions, and these have ended
+pub record IsReadable (h : rows.TableModel) : Type 0 where
   pub rest : List Entry
-  pub is : IsIndexed h rest
+  pub indexed : IsIndexed h rest
+  pub ended : AreEnded h
 
-pub indexed-at : (places : List TableSlot) (tables : List rows.TableModel) (touched : List ℕ) (working last : Option ℤ)
-    → IsOrderly places tables touched working last → (t : ℕ) → Indexed (table_at tables t)
-indexed-at places tables touched None last o t = record { rest = []; is = (o.ready.rest t).indexed }
-indexed-at places tables touched (Some m) last o t = record {
+pub readable-at : (places : List TableSlot) (tables : List rows.TableModel) (touched : List ℕ) (working last : Option ℤ)
+    → IsOrderly places tables touched working last → (t : ℕ) → IsReadable (table_at tables t)
+readable-at places tables touched None last o t = record {
+  rest = [];
+  indexed = (o.ready.rest t).indexed;
+  ended = λ v i. before last high v.end o.ready.below ((o.ready.rest t).since.ended v i);
+}
+readable-at places tables touched (Some m) last o t = record {
   rest = noted m (table_at tables t);
-  is = (o.ready.turn t).indexed;
+  indexed = (o.ready.turn t).indexed;
+  ended = λ v i. let p = (o.ready.turn t).past v i in let b = o.ready.below in omega (arith, ints, p.1, b);
 }
 
-pub ended-at : (places : List TableSlot) (tables : List rows.TableModel) (touched : List ℕ) (working last : Option ℤ)
-    → IsOrderly places tables touched working last → (t : ℕ) → AreEnded (table_at tables t)
-ended-at places tables touched None last o t =
-    λ v i. before last high v.end o.ready.below ((o.ready.rest t).since.ended v i)
-ended-at places tables touched (Some m) last o t = λ v i. let p = (o.ready.turn t).past v i in let b =
-    o.ready.below in omega (arith, ints, p.1, b)
-
-none-current : (vs : List Version) → ((v : Version) → In v vs → v.end <ℤ high)
-    → filter is_current (filter alive vs) ≡ []
-none-current [] h = refl
-none-current (v ∷ vs) h = chosen (alive v) (none-current vs (λ w i. h w (inr i)))
-  where
-    chosen : (b : Bool) → filter is_current (filter alive vs) ≡ []
-        → filter is_current (cond b (v ∷ filter alive vs) (filter alive vs)) ≡ []
-    chosen true e = rw (eq_false {a = v.end} {b = high} (h v (inl refl))) e
-    chosen false e = e
-
-filter-append : (p : Version → Bool) (xs ys : List Version) → filter p (xs ++ ys) ≡ filter p xs ++ filter p ys
-filter-append p [] ys = refl
-filter-append p (x ∷ xs) ys = chosen (p x) (filter-append p xs ys)
-  where
-    chosen : (b : Bool) → filter p (xs ++ ys) ≡ filter p xs ++ filter p ys
-        → cond b (x ∷ filter p (xs ++ ys)) (filter p (xs ++ ys)) ≡ cond b (x ∷ filter p xs) (filter p xs) ++ filter p ys
-    chosen true h = ap (λ zs. x ∷ zs) h
-    chosen false h = h
-
-append_none : (vs ws : List Version) → ws ≡ [] → vs ++ ws ≡ vs
-append_none [] ws e = e
-append_none (v ∷ vs) ws e = ap (λ us. v ∷ us) (append_none vs ws e)
-
--- what is current stands among the current versions
-pub current-only : (h : rows.TableModel) → AreEnded h
-    → filter is_current (filter alive h.current) ≡ filter is_current (rows.live h)
-current-only h ended = sym (ap (filter is_current) (filter-append alive h.current h.closed)
-    ∙ filter-append is_current (filter alive h.current) (filter alive h.closed)
-    ∙ append_none _ _ (none-current h.closed ended))
+-- a table as it is read at its number: with the versions that the store shows
+pub record IsRead (h : StoreModel) (t : ℕ) (x : rows.TableModel) : Type 0 where
+  pub shown : slice_index_or h.versions t [] ≡ versions x
+  pub readable : IsReadable x
 
 -- ---- tables that come and go
 
@@ -186,10 +150,6 @@ added-live n old new none h t = h t ∙ by_bool (nat_eq t n)
 
 -- ---- transactions
 
-pub some-moment : (o : Option ℤ) → IsSome o → o ≡ Some (moment_or_high o)
-some-moment None h = absurd (let f = h in cc)
-some-moment (Some m) h = refl
-
 pub in_turn : {places : List TableSlot} {tables : List rows.TableModel} {touched : List ℕ} {last : Option ℤ}
     (working : Option ℤ) (m : ℤ) → working ≡ Some m → IsOrderly places tables touched working last
     → IsOrderly places tables touched (Some m) last
@@ -197,7 +157,10 @@ in_turn {places} {tables} {touched} {last} working m e o =
     subst (λ (w : Option ℤ). IsOrderly places tables touched w last) e o
 
 one_moment : (o : Option ℤ) (m n : ℤ) → o ≡ Some m → o ≡ Some n → m ≡ n
-one_moment o m n e f = ap moment_or_high (sym e ∙ f)
+one_moment o m n e f = same (sym e ∙ f)
+  where
+    same : {x y : ℤ} → Some x ≡ Some y → x ≡ y
+    same {x} {y} e = cc
 
 pub committed-versions : (m : ℤ) (working last : Option ℤ) (places : List TableSlot) (old new : List rows.TableModel)
     (touched : List ℕ) (h g : StoreModel) → working ≡ Some m → IsOrderly places old touched working last
@@ -251,7 +214,7 @@ removable-at m working last places tables touched h t removed at o is r =
 
 pub replaces-at : {R : Type 0} (cells : R
     → List Datum) (added : List R) (m : ℤ) (working last : Option ℤ) (places : List TableSlot)
-        (old new : List rows.TableModel)
+    (old new : List rows.TableModel)
     (touched : List ℕ) (h g : StoreModel) (n : ℕ) (removed : List ℕ) → working ≡ Some m
     → IsOrderly places old touched working last → shown places old working last ≡ h
     → shown places new working last ≡ g → AreRemovable h n removed → HasTurned m n old new

@@ -4,7 +4,8 @@ use Rattle.std.specs.Prelude.{None, if◌then◌else◌}
 use Rattle.tql_spec.specs.Bag.{SameBag}
 use Rattle.tql_spec.specs.Datum.{Datum}
 use Rattle.tql_spec.specs.Definition.{Stamped, Version}
-use Rattle.tql_spec.specs.History.{TableEntry, as_of, from_to, current}
+use Rattle.tql_spec.specs.History.{TableEntry, When}
+use Rattle.tql_spec.specs.History.{found as versions_found}
 use Rattle.tql_store_rows.specs.Changes.{is_current}
 use Rattle.tql_store.specs.Stands.{StandsFor}
 use Rattle.tql_store_rows.specs.Changes.{alive, replaced}
@@ -93,7 +94,7 @@ ChangeReplaces t removed added old new = (copies : Copies) (working : Working) (
 
 -- ---- tables
 
--- another place stands at a number, and nothing else is changed
+-- another slot stands at a number, and nothing else is changed
 pub record Takes (t : ℕ) (place : TableSlot) (old new : List TableSlot) : Type 0 where
   pub places : (u : ℕ) → slot_at new u ≡ (if nat_eq u t then place else slot_at old u)
 
@@ -122,20 +123,12 @@ DropEmpties t old new = (copies : Copies) (working : Working) → Represents old
 
 -- ---- readings
 
--- the copies that questions see: an open transaction counts as the last commit
+-- the copies that queries see: an open transaction counts as the last commit
 abbrev pub seen_by : Option ℤ → Copies → Working → Copies
 seen_by None copies working = copies
 seen_by (Some m) copies working = appended m working copies
 
 -- what a reading answers: what the definitions find in the copies
-abbrev pub AnswersAsOf : StoreModel → ℕ → ℤ → List Version → Type 0
-AnswersAsOf h t m found = (copies : Copies) (working : Working) → Represents h copies working
-    → SameBag found (as_of m (seen_by h.working copies working t))
-
-abbrev pub AnswersFromTo : StoreModel → ℕ → ℤ → ℤ → List Version → Type 0
-AnswersFromTo h t a b found = (copies : Copies) (working : Working) → Represents h copies working
-    → SameBag found (from_to a b (seen_by h.working copies working t))
-
-abbrev pub AnswersNow : StoreModel → ℕ → List Version → Type 0
-AnswersNow h t found = (copies : Copies) (working : Working) → Represents h copies working
-    → SameBag found (current (seen_by h.working copies working t))
+abbrev pub Answers : StoreModel → ℕ → When → List Version → Type 0
+Answers h t when found = (copies : Copies) (working : Working) → Represents h copies working
+    → SameBag found (versions_found when (seen_by h.working copies working t))

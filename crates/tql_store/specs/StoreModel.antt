@@ -1,7 +1,6 @@
 -- What a store holds: its tables by their numbers, and the versions of each.
 use Rattle.std.specs.Prelude.{ℕ, ◌≤◌, Bool, false, ◌&&◌, ◌||◌, List, [], ◌∷◌, filter, count_by, nat_eq, slice_get}
 use Rattle.std.specs.Prelude.{slice_index_or, All, IsTrue, ℤ, Option, Some, None}
-use Rattle.tql_spec.specs.Calendar.{high}
 use Rattle.tql_spec.specs.Definition.{Version}
 use Rattle.tql_store_rows.specs.Changes.{alive, is_current}
 use Rattle.tql_store.specs.TableSlots.{slot_at, is_taken, is_kept}
@@ -26,11 +25,6 @@ is_versioned h t = is_kept (slot_at h.tables t)
 -- how many tables are there
 abbrev pub table_count : StoreModel → ℕ
 table_count h = count_by is_taken h.tables
-
--- the moment of an open transaction
-abbrev pub moment_or_high : Option ℤ → ℤ
-moment_or_high None = high
-moment_or_high (Some m) = m
 
 -- ---- the versions of a table
 

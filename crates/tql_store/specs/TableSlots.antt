@@ -7,7 +7,7 @@ use Rattle.tql_store.specs.declared.tables.TableSlot.TheVariants.{Free, Versione
 abbrev pub slot_at : List TableSlot → ℕ → TableSlot
 slot_at places t = slice_index_or places t Free
 
--- whether a table stands at a place
+-- whether a table stands in a slot
 abbrev pub is_taken : TableSlot → Bool
 is_taken Free = false
 is_taken Versioned = true
@@ -25,7 +25,7 @@ is_brief Free = false
 is_brief Versioned = false
 is_brief Unversioned = true
 
--- the place of a table that is versioned, or not
+-- the slot of a table that is versioned, or not
 abbrev pub place_for : Bool → TableSlot
 place_for true = Versioned
 place_for false = Unversioned

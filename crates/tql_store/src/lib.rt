@@ -1,4 +1,4 @@
-// The keeper of all row versions: those of each table by themselves, with the tables that the open transaction touched.
+//! The keeper of all row versions: those of each table by themselves, and which tables the open transaction touched.
 #![tactic(auto)]
 
 pub mod store;

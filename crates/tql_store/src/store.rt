@@ -1,15 +1,16 @@
-ghost use Rattle.std.specs.Prelude.{◌≡◌, ◌↔◌, Bool, ℕ, ℤ, ◌+ℤ◌, pos, ◌<◌, ◌++◌, ◌+◌, ◌<ℤ◌, nat_eq, if◌then◌else◌, []};
+//! The store: the versions of all tables, what a change is to it, and how a transaction begins and ends.
+ghost use Rattle.std.specs.Prelude.{◌≡◌, ◌↔◌, Bool, ℕ, ℤ, ◌||◌, ◌<◌, ◌++◌, ◌+◌, ◌<ℤ◌, nat_eq, if◌then◌else◌, []};
 ghost use Rattle.std.specs.Prelude.{map, filter, length, All, IsNone, IsSome, IsTrue, is_some, Some, None, IfOk, OnOk};
 ghost use Rattle.std.specs.Prelude.{OnErr, IfErr, Err};
 ghost use Rattle.tql_spec.specs.Calendar.{high};
 ghost use Rattle.tql_spec.specs.Bag.{SameBag};
 ghost use Rattle.tql_spec.specs.Definition.{Stamped};
-ghost use Rattle.tql_store_rows.specs.Changes.{alive, closing, fresh, holds, is_current, pruned, replaced, undone};
+ghost use Rattle.tql_store_rows.specs.Changes.{alive, closing, fresh, pruned, replaced, undone};
 ghost use Rattle.tql_store_rows.specs.Changes.{Under};
 ghost use Rattle.tql_store_rows.specs.TableModel.{AtRest, InTurn, AreRemovable as AreRemovableRows, IsJudged};
 ghost use Rattle.tql_store_rows.specs.TableModel.{live as live_rows};
 ghost use Rattle.tql_store_rows.specs.TableModel.{versions as all_versions};
-ghost use Rattle.tql_store.specs.StoreModel.{StoreModel, live, named, AreRemovable, moment_or_high};
+ghost use Rattle.tql_store.specs.StoreModel.{StoreModel, live, named, AreRemovable};
 ghost use Rattle.tql_store.specs.StoreModel.{has_table as table_there};
 ghost use Rattle.tql_store.specs.StoreModel.{is_versioned as table_versioned, table_count as tables_there};
 ghost use Rattle.tql_store.specs.Orderly.{table_at, IsNoted, HasTurned};
@@ -18,23 +19,25 @@ ghost use Rattle.tql_store_rows.specs.Readings.{version_shown as version_of};
 ghost use Rattle.tql_store.specs.Views.{Names, NamesOnce};
 ghost use Rattle.tql_store.specs.Represents.{Represents, BeginCopies, ChangeReplaces, CommitAppends, ReplacesVersions};
 ghost use Rattle.tql_store.specs.Represents.{RollbackRestores, AddsTable, AddKeepsCopies, DropEmpties, Takes};
-ghost use Rattle.tql_store.specs.Represents.{AnswersAsOf, AnswersFromTo, AnswersNow};
+ghost use Rattle.tql_store.specs.Represents.{Answers};
 ghost use Rattle.tql_store_rows.specs.Readings.{asked};
-ghost use Rattle.tql_store_rows.specs.declared.readings.When.TheVariants as when;
 ghost use Rattle.tql_store.specs.declared.tables.TableSlot.TheVariants.{Free};
 ghost use Rattle.tql_value.specs.Views.{datum_of_value};
+ghost use Rattle.tql_value.specs.When.{is_now, when_of};
 ghost use Rattle.tql_value.specs.declared.refusal.Refusal.TheVariants.{OutOfMemory};
 
 use crate::tables::{TableSlot, clear_place, free_table, place_at, put_table, taken_count};
 use crate::turns::{commit_each, note, put_rows, set_rows, undo_each};
+use std::alloc::AllocError;
 use std::marker::Model;
 use tql_index::index::IntervalIndex;
 use tql_memory::Memory;
-use tql_store_rows::version::{HIGH, Version};
+use tql_store_rows::version::Version;
 use tql_store_rows::versions::Versions;
 use tql_value::refusal::Refusal;
 use tql_value::table::TableId;
 use tql_value::value::Value;
+use tql_value::when::When;
 
 /// A change of a table: the versions that go, by their ids, and the rows that come, without generated columns.
 pub struct Delta {
@@ -243,12 +246,13 @@ impl<I: IntervalIndex> Store<I> {
 
     /// The moment of the open transaction.
     fn moment(&self) -> i64
-        ensures { result ≡ moment_or_high self.now.working }
+        requires { IsSome self.now.working }
+        ensures { self.now.working ≡ Some result }
     {
-        match self.working {
-            Some(moment) => moment,
-            None => HIGH,
-        }
+        let Some(moment) = self.working else {
+            unreachable!()
+        };
+        moment
     }
 
     /// Begins a transaction of the moment, in microseconds since 1970-01-01.
@@ -316,71 +320,18 @@ impl<I: IntervalIndex> Store<I> {
         self.working = None;
     }
 
-    /// The versions of a versioned table that hold a moment, in microseconds since 1970-01-01: FOR SYSTEM_TIME AS OF
-    /// (ISO/IEC 9075-2:2011, 7.6). Refused where memory is.
-    pub fn as_of(&self, table: TableId, t: i64) -> Result<Vec<Version<'_>, Memory>, Refusal>
-        requires { IsTrue (table_versioned self.now table) }
+    /// The versions of a table that are asked for (FOR SYSTEM_TIME, ISO/IEC 9075-2:2011, 7.6): of one that is not
+    /// versioned the rows now, each as a version that is not closed.
+    pub fn found(&self, table: TableId, when: When) -> Result<Vec<Version<'_>, Memory>, AllocError>
+        requires there { IsTrue (table_there self.now table) }
+        requires versioned { IsTrue (is_now (when_of when) || table_versioned self.now table) }
         ensures versions { IfOk result
-            (λ found. SameBag (map version_of found.items) (filter (holds t) (live self.now table))) }
+            (λ found. SameBag (map version_of found.items) (filter (asked when) (live self.now table))) }
         ensures ids { IfOk result (λ found. All (Names self.now table) found.items) }
-        ensures copies { IfOk result (λ found. AnswersAsOf self.now table t (map version_of found.items)) }
-        ensures memory { IfErr result (λ e. e ≡ OutOfMemory) }
+        ensures once { IfOk result (λ found. NamesOnce self.now table (asked when) found.items) }
+        ensures copies { IfOk result (λ found. Answers self.now table (when_of when) (map version_of found.items)) }
     {
-        let found = self.rows[usize::from(table.number())].as_of(self.memory, t)?;
-        Ok(found)
-    }
-
-    /// The versions of a versioned table that share a moment with the range from `a` to `b`, that left out,
-    /// both in microseconds since 1970-01-01: FROM .. TO (ISO/IEC 9075-2:2011, 7.6). Refused where memory is.
-    pub fn from_to(
-        &self,
-        table: TableId,
-        a: i64,
-        b: i64,
-    ) -> Result<Vec<Version<'_>, Memory>, Refusal>
-        requires { IsTrue (table_versioned self.now table) }
-        ensures versions { IfOk result
-            (λ found. SameBag (map version_of found.items) (filter (asked (when.FromTo a b)) (live self.now table))) }
-        ensures ids { IfOk result (λ found. All (Names self.now table) found.items) }
-        ensures copies { IfOk result (λ found. AnswersFromTo self.now table a b (map version_of found.items)) }
-        ensures memory { IfErr result (λ e. e ≡ OutOfMemory) }
-    {
-        let found = self.rows[usize::from(table.number())].from_to(self.memory, a, b)?;
-        Ok(found)
-    }
-
-    /// The versions of a versioned table that share a moment with the range from `a` to `b`, that included,
-    /// both in microseconds since 1970-01-01: BETWEEN .. AND (ISO/IEC 9075-2:2011, 7.6). Refused where memory is.
-    pub fn between(
-        &self,
-        table: TableId,
-        a: i64,
-        b: i64,
-    ) -> Result<Vec<Version<'_>, Memory>, Refusal>
-        requires { IsTrue (table_versioned self.now table) }
-        ensures versions { IfOk result
-            (λ found. SameBag (map version_of found.items)
-            (filter (asked (when.Between a b)) (live self.now table))) }
-        ensures ids { IfOk result (λ found. All (Names self.now table) found.items) }
-        ensures copies { IfOk result
-            (λ found. AnswersFromTo self.now table a (b +ℤ pos 1) (map version_of found.items)) }
-        ensures memory { IfErr result (λ e. e ≡ OutOfMemory) }
-    {
-        let found = self.rows[usize::from(table.number())].between(self.memory, a, b)?;
-        Ok(found)
-    }
-
-    /// The rows of a table now, each as a version that is not closed. Refused where memory is.
-    pub fn current(&self, table: TableId) -> Result<Vec<Version<'_>, Memory>, Refusal>
-        requires { IsTrue (table_there self.now table) }
-        ensures versions { IfOk result
-            (λ found. SameBag (map version_of found.items) (filter is_current (live self.now table))) }
-        ensures ids { IfOk result (λ found. All (Names self.now table) found.items) }
-        ensures once { IfOk result (λ found. NamesOnce self.now table is_current found.items) }
-        ensures copies { IfOk result (λ found. AnswersNow self.now table (map version_of found.items)) }
-        ensures memory { IfErr result (λ e. e ≡ OutOfMemory) }
-    {
-        let found = self.rows[usize::from(table.number())].current(self.memory)?;
+        let found = self.rows[usize::from(table.number())].found(self.memory, when)?;
         Ok(found)
     }
 }

@@ -14,11 +14,11 @@ use Rattle.tql_index.specs.Entry.{Entry}
 use Rattle.tql_store_rows.specs.Changes.{nothing}
 use Rattle.tql_store_rows.specs.Entries.{entry_of, entries_from}
 use Rattle.tql_store_rows.specs.TableModel.{TableModel, IsIndexed, versions}
-use Rattle.tql_store_rows.specs.Readings.{Answer, Seeks, period_of, is_answer, sought, ids_sought, answers_from}
+use Rattle.tql_store_rows.specs.Readings.{Answer, period_of, is_answer, sought, ids_sought, answers_from}
 use Rattle.tql_store_rows.specs.Readings.{numbered}
 use Rattle.tql_store_rows.specs.Readings.{placed}
-use Rattle.tql_store_rows.specs.declared.readings.When.{When}
-use Rattle.tql_store_rows.proofs.Sought.{same-list, all_in}
+use Rattle.tql_value.specs.declared.when.When.{When}
+use Rattle.tql_store_rows.proofs.Sought.{Seeks, same-list, all_in}
 
 -- ---- the numbers of closed versions
 
@@ -139,7 +139,7 @@ numbered-append n (u ∷ us) vs = ap (λ (as' : List Answer). record {
   version = u;
 } ∷ as') (numbered-append (n + 1) us vs ∙ ap (λ i. numbered (n + 1) us ++ numbered i vs) (omega arith))
 
-pub answers-append : (when : When) (us vs : List definition.Version)
+answers-append : (when : When) (us vs : List definition.Version)
     → answers_from 0 when us ++ answers_from (length us) when vs ≡ answers_from 0 when (us ++ vs)
 answers-append when us vs =
     sym (ap (filter (λ (a : Answer). is_answer when a.version)) (numbered-append 0 us vs

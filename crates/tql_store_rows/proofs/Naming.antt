@@ -1,6 +1,6 @@
 -- Which versions the answers of a reading name.
 use Rattle.std.proofs.Common.{◌≡◌, ◌<◌, ℕ, zero, suc, ◌+◌, Bool, true, false, cond, List, [], ◌∷◌, ◌++◌, map, filter}
-use Rattle.std.proofs.Common.{get_or, length, append-nil, refl, sym, ap, subst, ◌∙◌, arith, inl, inr}
+use Rattle.std.proofs.Common.{get_or, length, refl, sym, ap, subst, ◌∙◌, arith, inl, inr}
 use Rattle.std.specs.Prelude.{All, nat_lt, nat_eq, slice_get, Some, if◌then◌else◌}
 use Rattle.std.specs.List.{sum_by}
 use Rattle.std.proofs.lemmas.Bool.Decides.{nat_tests}
@@ -13,16 +13,15 @@ use Rattle.tql_spec.specs.Bag.{SameBag, In}
 use Rattle.tql_spec.specs.Definition as definition
 use Rattle.tql_index.specs.Entry.{Entry}
 use Rattle.tql_store_rows.specs.Changes.{alive, nothing}
-use Rattle.tql_store_rows.specs.TableModel.{TableModel, versions}
+use Rattle.tql_store_rows.specs.TableModel.{TableModel, IsIndexed, versions}
 use Rattle.tql_store_rows.specs.Readings.{Answer, Names, NamesOnce, IsReading, AreEnded, asked, is_answer, ids_sought}
 use Rattle.tql_store_rows.specs.Readings.{answer_of, version_shown, answers_from, numbered, placed}
 use Rattle.tql_store_rows.specs.Views.{versions_of}
 use Rattle.tql_store_rows.specs.declared.kept.Kept.{Kept}
-use Rattle.tql_store_rows.specs.declared.readings.When.{When}
-use Rattle.tql_store_rows.specs.declared.readings.When.TheVariants.{Now}
+use Rattle.tql_value.specs.declared.when.When.{When}
 use Rattle.tql_store_rows.specs.declared.version.Version.{Version}
-use Rattle.tql_store_rows.proofs.Answering.{all_answers, answers-append}
-use Rattle.tql_store_rows.proofs.Sought.{same-list, none_current}
+use Rattle.tql_store_rows.proofs.Answering.{all_answers}
+use Rattle.tql_store_rows.proofs.Sought.{same-list, seeks-all}
 
 -- ---- the versions
 
@@ -47,10 +46,6 @@ versions-shown : (found : List Version)
     → map version_shown found ≡ map (λ (a : Answer). a.version) (map answer_of found)
 versions-shown [] = refl
 versions-shown (s ∷ found) = ap (λ us. version_shown s ∷ us) (versions-shown found)
-
-pub shown-now : (when : When) (vs : List definition.Version) (found : List Version)
-    → map answer_of found ≡ answers_from 0 when vs → map version_shown found ≡ filter (asked when) (filter alive vs)
-shown-now when vs found e = versions-shown found ∙ ap (map (λ (a : Answer). a.version)) e ∙ asked-alive when 0 vs
 
 shown-bag : (when : When) (vs : List definition.Version) (found : List Version)
     → SameBag (map answer_of found) (answers_from 0 when vs)
@@ -120,12 +115,6 @@ placed_named us vs numbers a m =
     within : (n l : ℕ) → nat_lt n l ≡ true → n < l
     within n l e = grind (arith, nat_tests)
 
--- what stands in the list of the current answers names a version of the table
-pub names-now : (when : When) (us vs : List definition.Version) (found : List Version)
-    → map answer_of found ≡ answers_from 0 when us → All (Names (us ++ vs)) found
-names-now when us vs found e =
-    all_named (us ++ vs) found (λ a m. current_named when us vs a (subst (λ as'. In a as') e m))
-
 names-all : (when : When) (us vs : List definition.Version) (numbers : List ℕ) (found : List Version)
     → map answer_of found ≡ answers_from 0 when us ++ placed (length us) vs numbers → All (Names (us ++ vs)) found
 names-all when us vs numbers found e =
@@ -191,7 +180,7 @@ once when n (suc i) k (x ∷ vs) v at e = omega (
     apart : (n k : ℕ) → n < k → nat_eq n k ≡ false
     apart n k l = grind (arith, nat_tests)
 
-pub names-once : (when : When) (vs : List definition.Version) (found : List Version)
+names-once : (when : When) (vs : List definition.Version) (found : List Version)
     → SameBag (map answer_of found) (answers_from 0 when vs) → NamesOnce (asked when) vs found
 names-once when vs found h = λ i v at.
     sym (sum-map answer_of (λ (a : Answer). cond {A = ℕ} (nat_eq a.id i) 1 0) found)
@@ -200,31 +189,20 @@ names-once when vs found h = λ i v at.
     (numbered 0 vs)
     ∙ once when 0 i i vs v at (omega arith)
 
-none_among : (when : When) (n : ℕ) (vs : List definition.Version)
-    → ((v : definition.Version) → In v vs → is_answer when v ≡ false) → answers_from n when vs ≡ []
-none_among when n [] h = refl
-none_among when n (v ∷ vs) h =
-    ap (λ b. cond b (record { id = n; version = v } ∷ answers_from (n + 1) when vs) (answers_from (n + 1) when vs))
-    (h v (inl refl)) ∙ none_among when (n + 1) vs (λ u m. h u (inr m))
-
--- the current versions are those of the table, where no closed one is current
-pub once-now : (h : TableModel) (found : List Version) → AreEnded h → map answer_of found ≡ answers_from 0 Now h.current
-    → NamesOnce (asked Now) (versions h) found
-once-now h found l e =
-    names-once Now (versions h) found (same-list (e ∙ sym (append-nil (answers_from 0 Now h.current))
-    ∙ ap (λ as'. answers_from 0 Now h.current ++ as')
-    (sym (none_among Now (length h.current) h.closed (none_current h l))) ∙ answers-append Now h.current h.closed))
-
 -- ---- a reading
 
 reading : (when : When) (h : TableModel) (numbers : List ℕ) (found : List Version)
     → map answer_of found ≡ answers_from 0 when h.current ++ placed (length h.current) h.closed numbers
     → SameBag numbers (ids_sought when h.entries) → IsReading when h found
 reading when h numbers found e n = record {
-  bag = λ rest i s. shown-bag when (versions h) found (all_answers when h rest numbers (map answer_of found) e n i s);
+  bag = λ rest i l. shown-bag when (versions h) found (among rest i l);
   ids = names-all when h.current h.closed numbers found e;
-  once = λ rest i s. names-once when (versions h) found (all_answers when h rest numbers (map answer_of found) e n i s);
+  once = λ rest i l. names-once when (versions h) found (among rest i l);
 }
+  where
+    among : (rest : List Entry) → IsIndexed h rest → AreEnded h
+        → SameBag (map answer_of found) (answers_from 0 when (versions h))
+    among rest i l = all_answers when h rest numbers (map answer_of found) e n i (seeks-all when h rest i l)
 
 -- a reading from the parts of a table
 pub reading_done : (when : When) (h : TableModel) (cs ks : List Kept) (es : List Entry) (numbers : List ℕ)

@@ -1,4 +1,4 @@
--- Which entries a question seeks.
+-- Which entries a reading seeks.
 use Rattle.std.proofs.Common.{◌≡◌, suc, Bool, true, false, cond, List, [], ◌∷◌, map, filter, refl, sym, ap, subst}
 use Rattle.std.proofs.Common.{◌∙◌, arith, inl, inr}
 use Rattle.std.specs.Prelude.{ℤ, pos, ◌+ℤ◌, ◌&&◌, ◌<ℤ◌, int_le, int_lt, All}
@@ -11,12 +11,12 @@ use Rattle.tql_spec.specs.Definition.{Version}
 use Rattle.tql_spec.specs.Period.{share_a_point}
 use Rattle.tql_spec.proofs.Bags.{same-refl}
 use Rattle.tql_spec.proofs.Members.{lt_tells}
-use Rattle.tql_index.specs.Entry.{Entry, ids_sharing}
+use Rattle.tql_index.specs.Entry.{Entry}
 use Rattle.tql_store_rows.specs.Changes.{alive, is_current}
 use Rattle.tql_store_rows.specs.TableModel.{TableModel, IsIndexed}
-use Rattle.tql_store_rows.specs.Readings.{AreEnded, Seeks, asked, is_answer, meets, sought, period_of, ids_between}
-use Rattle.tql_store_rows.specs.declared.readings.When.{When}
-use Rattle.tql_store_rows.specs.declared.readings.When.TheVariants.{Now, AsOf, FromTo, Between}
+use Rattle.tql_store_rows.specs.Readings.{AreEnded, asked, is_answer, meets, sought, period_of, ids_between}
+use Rattle.tql_value.specs.declared.when.When.{When}
+use Rattle.tql_value.specs.declared.when.When.TheVariants.{Now, AsOf, FromTo, Between}
 
 pub same-list : {X : Type 0} {xs ys : List X} → xs ≡ ys → SameBag xs ys
 same-list {X} {xs} {ys} e = subst (λ zs. SameBag xs zs) e (same-refl xs)
@@ -41,17 +41,14 @@ none_between a b es f = ap (λ xs. map (λ (e : Entry). e.id) xs)
     (none-pass (λ e. meets a b e.period) es
     (λ e. ap (λ c. c && share_a_point e.period (record { start = a; end = b })) f))
 
--- ends that rise meet what shares a point with their period
-pub some_between : (a b : ℤ) (es : List Entry) → int_lt a b ≡ true
-    → ids_between a b es ≡ ids_sharing (record { start = a; end = b }) es
-some_between a b es t =
-    ap (λ c. map (λ (e : Entry). e.id) (filter (λ e. c && share_a_point e.period (record { start = a; end = b })) es)) t
-
 -- nothing is sought among what is current alone
 pub none_now : (es : List Entry) → [] ≡ map (λ (e : Entry). e.id) (filter (λ (e : Entry). false) es)
 none_now es = ap (λ xs. map (λ (e : Entry). e.id) xs) (sym (none-pass (λ e. false) es (λ e. refl)))
 
--- ---- a question asks for a closed version where it seeks its period
+-- ---- a reading asks for a closed version where it seeks its period
+
+abbrev pub Seeks : When → List Version → Type 0
+Seeks when vs = (v : Version) → In v vs → sought when (period_of v) ≡ is_answer when v
 
 -- what holds of all holds of a member
 pub all_in : {X : Type 0} (P : X → Type 0) (xs : List X) → All P xs → (x : X) → In x xs → P x
@@ -75,27 +72,17 @@ seeks : (when : When) (h : TableModel) (rest : List Entry) → IsIndexed h rest
 seeks when h rest i s = λ v m. s v m (rises_from v (proper_at h rest i v m))
     ∙ ap (λ b. b && asked when v) (sym (proper_at h rest i v m))
 
-pub seeks_as_of : (t : ℤ) (h : TableModel) (rest : List Entry) → IsIndexed h rest → Seeks (AsOf t) h.closed
-seeks_as_of t h rest i = seeks (AsOf t) h rest i (λ v m r. refl)
-
 met : (a b s e : ℤ) → s <ℤ e
     → (int_lt a b && int_lt (int_max s a) (int_min e b)) ≡ (int_lt a b && (int_lt s b && int_lt a e))
 met a b s e r = grind (arith, ints, clamps)
-
-pub seeks_from_to : (a b : ℤ) (h : TableModel) (rest : List Entry) → IsIndexed h rest → Seeks (FromTo a b) h.closed
-seeks_from_to a b h rest i = seeks (FromTo a b) h rest i (λ v m r. met a b v.row.start v.end r)
 
 met_through : (a b s e : ℤ) → s <ℤ e → e <ℤ high
     → (int_lt a (int_min b high +ℤ pos 1) && int_lt (int_max s a) (int_min e (int_min b high +ℤ pos 1))) ≡
     (int_le a b && (int_le s b && int_lt a e))
 met_through a b s e r l = grind (arith, ints, clamps)
 
-pub seeks_between : (a b : ℤ) (h : TableModel) (rest : List Entry) → IsIndexed h rest → AreEnded h
-    → Seeks (Between a b) h.closed
-seeks_between a b h rest i l = seeks (Between a b) h rest i (λ v m r. met_through a b v.row.start v.end r (l v m))
-
 -- no closed version is current
-pub none_current : (h : TableModel) → AreEnded h → (v : Version) → In v h.closed → is_answer Now v ≡ false
+none_current : (h : TableModel) → AreEnded h → (v : Version) → In v h.closed → is_answer Now v ≡ false
 none_current h l v m = both_no (alive v) (is_current v) (lower v.end (l v m))
   where
     both_no : (b c : Bool) → c ≡ false → (b && c) ≡ false
@@ -104,3 +91,12 @@ none_current h l v m = both_no (alive v) (is_current v) (lower v.end (l v m))
 
     lower : (e : ℤ) → e <ℤ high → int_eq e high ≡ false
     lower e l = grind (arith, ints)
+
+-- each question does
+pub seeks-all : (when : When) (h : TableModel) (rest : List Entry) → IsIndexed h rest → AreEnded h
+    → Seeks when h.closed
+seeks-all Now h rest i l = λ v m. sym (none_current h l v m)
+seeks-all (AsOf t) h rest i l = seeks (AsOf t) h rest i (λ v m r. refl)
+seeks-all (FromTo a b) h rest i l = seeks (FromTo a b) h rest i (λ v m r. met a b v.row.start v.end r)
+seeks-all (Between a b) h rest i l =
+    seeks (Between a b) h rest i (λ v m r. met_through a b v.row.start v.end r (l v m))

@@ -9,15 +9,15 @@ use Rattle.tql_spec.specs.Definition as definition
 use Rattle.tql_spec.specs.Period.{Period, holds as held, share_a_point}
 use Rattle.tql_value.specs.Views.{datum_of_value}
 use Rattle.tql_index.specs.Entry.{Entry}
-use Rattle.tql_store_rows.specs.declared.readings.When.{When}
-use Rattle.tql_store_rows.specs.declared.readings.When.TheVariants.{Now, AsOf, FromTo, Between}
+use Rattle.tql_value.specs.declared.when.When.{When}
+use Rattle.tql_value.specs.declared.when.When.TheVariants.{Now, AsOf, FromTo, Between}
 use Rattle.tql_store_rows.specs.declared.version.Version.{Version}
 use Rattle.tql_store_rows.specs.Changes.{alive, is_current, holds, nothing}
 use Rattle.tql_store_rows.specs.TableModel.{TableModel, IsIndexed, live, versions}
 
--- ---- questions
+-- ---- readings
 
--- whether a question asks for a version
+-- whether a reading asks for a version
 abbrev pub asked : When → definition.Version → Bool
 asked Now v = is_current v
 asked (AsOf t) v = holds t v
@@ -32,7 +32,7 @@ is_answer when v = alive v && asked when v
 abbrev pub meets : ℤ → ℤ → Period → Bool
 meets a b x = int_lt a b && share_a_point x (record { start = a; end = b })
 
--- whether a question asks the index for a period; of closed versions it asks for those of the periods that it asks for
+-- whether a reading asks the index for a period; of closed versions it asks for those of the periods that it asks for
 abbrev pub sought : When → Period → Bool
 sought Now x = false
 sought (AsOf t) x = held x t
@@ -93,17 +93,14 @@ NamesOnce test vs found = (i : ℕ) (v : definition.Version) → slice_get vs i 
 
 -- ---- readings of a table
 
--- a question asks for a closed version where it seeks its period in the index
-abbrev pub Seeks : When → List definition.Version → Type 0
-Seeks when vs = (v : definition.Version) → In v vs → sought when (period_of v) ≡ is_answer when v
-
 -- the closed versions of a table ended before the highest moment
 abbrev pub AreEnded : TableModel → Type 0
 AreEnded h = (v : definition.Version) → In v h.closed → v.end <ℤ high
 
--- a reading answers what a question asks for, where the index holds the closed versions
+-- a reading answers what a question asks for, where the index holds the closed versions and these have ended; each
+-- version under its id, and none twice
 pub record IsReading (when : When) (h : TableModel) (found : List Version) : Type 0 where
-  pub bag : (rest : List Entry) → IsIndexed h rest → Seeks when h.closed
+  pub bag : (rest : List Entry) → IsIndexed h rest → AreEnded h
       → SameBag (map version_shown found) (filter (asked when) (live h))
   pub ids : All (Names (versions h)) found
-  pub once : (rest : List Entry) → IsIndexed h rest → Seeks when h.closed → NamesOnce (asked when) (versions h) found
+  pub once : (rest : List Entry) → IsIndexed h rest → AreEnded h → NamesOnce (asked when) (versions h) found

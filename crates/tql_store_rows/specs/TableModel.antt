@@ -9,10 +9,8 @@ use Rattle.tql_store_rows.specs.Changes.{alive, is_current, nothing, Past}
 use Rattle.tql_store_rows.specs.Entries.{entries_for, entries_from}
 
 -- a table: whether it keeps its history; the versions that were current when the open transaction began, and behind
--- them those that it
--- added; how many were there; the places of those that it ended, of the first and of the others; the versions that
--- were closed before,
--- and for how many there is room; what its index holds
+-- them those that it added; how many were there; the places of those that it ended, of the first and of the others; the
+-- versions that were closed before, and for how many there is room; what its index holds
 pub record TableModel : Type 0 where
   pub keeps : Bool
   pub current : List Version

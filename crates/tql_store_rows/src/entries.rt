@@ -1,16 +1,15 @@
-// The entries of versions that the open transaction closed, put into an index of periods and taken out again.
-ghost use Rattle.std.specs.Prelude.{◌≡◌, ◌<◌, ◌+◌, ◌^◌, ◌++◌, ◌<ℤ◌, [], if◌then◌else◌, List, All, OnOk, OnErr, IfErr};
+//! The entries of versions that the open transaction closed, put into an index of periods and taken out again.
+ghost use Rattle.std.specs.Prelude.{◌<◌, ◌+◌, ◌^◌, ◌++◌, ◌<ℤ◌, [], if◌then◌else◌, List, All, OnOk, OnErr};
 ghost use Rattle.std.specs.Prelude.{length, slice_index_or};
 ghost use Rattle.tql_spec.specs.Bag.{SameBag};
 ghost use Rattle.tql_index.specs.Entry.{Entry};
 ghost use Rattle.tql_store_rows.specs.Changes.{nothing};
 ghost use Rattle.tql_store_rows.specs.Entries.{entries_for};
 ghost use Rattle.tql_store_rows.specs.Views.{versions_of};
-ghost use Rattle.tql_value.specs.declared.refusal.Refusal.TheVariants.{OutOfMemory};
 
 use crate::kept::{Kept, span};
+use std::alloc::AllocError;
 use tql_index::index::IntervalIndex;
-use tql_value::refusal::Refusal;
 
 /// Takes the entries of the versions in these places out, of which the first has the number. Takes no memory.
 pub fn leave_each<I: IntervalIndex>(
@@ -40,7 +39,7 @@ pub fn enter_each<I: IntervalIndex>(
     places: &[usize],
     moment: i64,
     number: usize,
-) -> Result<(), Refusal>
+) -> Result<(), AllocError>
     requires within { All (λ i. i < length versions.now) places.now }
     requires early { All (λ i. (slice_index_or (versions_of versions.now) i nothing).row.start <ℤ moment) places.now }
     requires room { number + length places.now < 2 ^ 64 }
@@ -48,12 +47,11 @@ pub fn enter_each<I: IntervalIndex>(
         (SameBag (I.entries index.new)
         (entries_for moment number places.now (versions_of versions.now) ++ I.entries index.old)) }
     ensures err { OnErr result (SameBag (I.entries index.new) (I.entries index.old)) }
-    ensures refusal { IfErr result (λ e. e ≡ OutOfMemory) }
 {
     for (k, place) in places.iter().enumerate() {
-        if let Err(refusal) = index.add(span(&versions[*place], moment), number + k) {
+        if let Err(error) = index.add(span(&versions[*place], moment), number + k) {
             leave_each(index, versions, &places[..k], moment, number);
-            return Err(refusal);
+            return Err(error);
         }
     }
     Ok(())
@@ -89,7 +87,7 @@ pub fn enter_kept<I: IntervalIndex>(
     places: &[usize],
     moment: i64,
     number: usize,
-) -> Result<(), Refusal>
+) -> Result<(), AllocError>
     requires within { All (λ i. i < length versions.now) places.now }
     requires early { All (λ i. (slice_index_or (versions_of versions.now) i nothing).row.start <ℤ moment) places.now }
     requires room { number + length places.now < 2 ^ 64 }
@@ -98,7 +96,6 @@ pub fn enter_kept<I: IntervalIndex>(
         ((if keeps then entries_for moment number places.now (versions_of versions.now) else [])
         ++ I.entries index.old)) }
     ensures err { OnErr result (SameBag (I.entries index.new) (I.entries index.old)) }
-    ensures refusal { IfErr result (λ e. e ≡ OutOfMemory) }
 {
     if !keeps {
         return Ok(());

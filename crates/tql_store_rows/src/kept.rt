@@ -1,4 +1,4 @@
-// The steps of a table's transactions, over plain lists.
+//! The steps of a table's transactions, over plain lists.
 ghost use Rattle.std.specs.Prelude.{◌≡◌, ◌≢◌, ◌≤◌, ◌<◌, ◌+◌, ◌++◌, [], ◌∷◌, All, OnOk, OnErr, map, filter, length};
 ghost use Rattle.std.specs.Prelude.{false, true, if◌then◌else◌, vec_len, vec_capacity, slice_index_or, Contains, ◌<ℤ◌};
 ghost use Rattle.tql_spec.specs.Bag.{SameBag};

@@ -1,9 +1,8 @@
-// The versions of one table: current rows side by side, closed ones behind them, and what the open transaction did.
+//! The versions of one table: current rows side by side, closed ones behind them, and what the open transaction did.
 #![tactic(auto)]
 
 mod entries;
 mod kept;
 mod readings;
-mod rows_readings;
 pub mod version;
 pub mod versions;

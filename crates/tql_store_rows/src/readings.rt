@@ -1,34 +1,20 @@
-// The readings of one table: the versions that a question asks for, and their ids.
+//! The readings of one table: the versions that a reading asks for, and their ids.
 ghost use Rattle.std.specs.Prelude.{◌≡◌, ◌<◌, ◌+◌, ◌^◌, ◌++◌, [], ◌∷◌, ◌+ℤ◌, pos, IfOk, OnOk, map, length};
 ghost use Rattle.std.specs.Int.{int_min};
 ghost use Rattle.tql_spec.specs.Calendar.{high};
 ghost use Rattle.tql_spec.specs.Bag.{SameBag};
 ghost use Rattle.tql_store_rows.specs.Readings.{asked, is_answer, ids_sought, ids_between, version_shown, answer_of};
 ghost use Rattle.tql_store_rows.specs.Readings.{answers_from, placed, IsReading};
-ghost use Rattle.tql_store_rows.specs.TableModel.{TableModel};
 ghost use Rattle.tql_store_rows.specs.Views.{version_of, versions_of};
-ghost use Rattle.tql_index.specs.Entry.{Entry};
 
 use crate::kept::Kept;
 use crate::version::{HIGH, Version};
+use crate::versions::Versions;
 use std::alloc::AllocError;
 use tql_index::index::IntervalIndex;
 use tql_memory::Memory;
 use tql_period::period::Period;
-use tql_value::refusal::Refusal;
-
-/// Which versions a reading asks for.
-#[derive(Clone, Copy)]
-pub enum When {
-    /// The current ones.
-    Now,
-    /// Those that hold the moment.
-    AsOf(i64),
-    /// Those that share a moment with the range, its end left out.
-    FromTo(i64, i64),
-    /// Those that share a moment with the range and its end.
-    Between(i64, i64),
-}
+use tql_value::when::When;
 
 /// Whether a version is asked for.
 fn asks(when: When, version: &Kept) -> bool
@@ -99,7 +85,7 @@ fn numbers_between<I: IntervalIndex>(
     index: &I,
     a: i64,
     b: i64,
-) -> Result<Vec<usize, Memory>, Refusal>
+) -> Result<Vec<usize, Memory>, AllocError>
     ensures { IfOk result (λ ids. SameBag ids.items (ids_between a b (I.entries index.now))) }
 {
     match Period::new(a, b) {
@@ -115,7 +101,7 @@ fn numbers_through<I: IntervalIndex>(
     index: &I,
     a: i64,
     b: i64,
-) -> Result<Vec<usize, Memory>, Refusal>
+) -> Result<Vec<usize, Memory>, AllocError>
     ensures { IfOk result (λ ids. SameBag ids.items (ids_between a (int_min b high +ℤ pos 1) (I.entries index.now))) }
 {
     numbers_between(memory, index, a, b.min(HIGH) + 1)
@@ -126,7 +112,7 @@ fn numbers_sought<I: IntervalIndex>(
     memory: Memory,
     index: &I,
     when: When,
-) -> Result<Vec<usize, Memory>, Refusal>
+) -> Result<Vec<usize, Memory>, AllocError>
     ensures { IfOk result (λ ids. SameBag ids.items (ids_sought when (I.entries index.now))) }
 {
     match when {
@@ -171,22 +157,15 @@ fn push_each<'a>(
     Ok(())
 }
 
-/// The versions of a table that are asked for: the current ones are looked at one by one, and of the closed ones
-/// those that the index gives, whose ids follow those of the current ones.
-pub fn answers_of<'a, I: IntervalIndex>(
-    memory: Memory,
-    current: &'a [Kept],
-    closed: &'a [Kept],
-    index: &I,
-    when: When,
-) -> Result<Vec<Version<'a>, Memory>, AllocError>
-    ensures { IfOk result (λ found. (h : TableModel) → h.current ≡ versions_of current.now
-        → h.closed ≡ versions_of closed.now → h.entries ≡ I.entries index.now → IsReading when h found.items) }
-{
-    let Ok(numbers) = numbers_sought(memory, index, when) else {
-        return Err(AllocError);
-    };
-    let mut found = answers_in(memory, current, when)?;
-    push_each(&mut found, current.len(), closed, &numbers)?;
-    Ok(found)
+impl<I: IntervalIndex> Versions<I> {
+    /// The versions that are asked for: the current ones are looked at one by one, and of the closed ones those that
+    /// the index gives, whose ids follow those of the current ones (FOR SYSTEM_TIME, ISO/IEC 9075-2:2011, 7.6).
+    pub fn found(&self, memory: Memory, when: When) -> Result<Vec<Version<'_>, Memory>, AllocError>
+        ensures { IfOk result (λ found. IsReading when self.now found.items) }
+    {
+        let numbers = numbers_sought(memory, &self.index, when)?;
+        let mut found = answers_in(memory, &self.current, when)?;
+        push_each(&mut found, self.current.len(), &self.closed, &numbers)?;
+        Ok(found)
+    }
 }

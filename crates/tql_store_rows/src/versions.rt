@@ -1,22 +1,21 @@
-// One table: its current rows side by side, its closed ones behind them, and what the open transaction did.
-ghost use Rattle.std.specs.Prelude.{◌≡◌, ◌≤◌, ◌<◌, ◌+◌, ◌++◌, [], Bool, true, false, if◌then◌else◌, List, All, OnOk};
-ghost use Rattle.std.specs.Prelude.{OnErr, IfErr, Some, None, map, filter, length};
+//! One table: its current rows side by side, its closed ones behind them, and what the open transaction did.
+ghost use Rattle.std.specs.Prelude.{◌≡◌, ◌≤◌, ◌<◌, ◌+◌, ◌++◌, [], Bool, true, false, if◌then◌else◌, All, OnOk};
+ghost use Rattle.std.specs.Prelude.{OnErr, Some, None, map, filter, length};
 ghost use Rattle.tql_spec.specs.Bag.{SameBag};
 ghost use Rattle.tql_spec.specs.Definition.{Stamped};
 ghost use Rattle.tql_store_rows.specs.Changes.{alive, closing, fresh, undone, replaced, pruned};
 ghost use Rattle.tql_store_rows.specs.TableModel.{TableModel, InTurn, AtRest, Since, AreRemovable, IsJudged, live};
 ghost use Rattle.tql_store_rows.specs.Entries.{entries_for};
-ghost use Rattle.tql_value.specs.declared.refusal.Refusal.TheVariants.{OutOfMemory};
 ghost use Rattle.tql_store_rows.specs.Marks.{below, from};
 ghost use Rattle.tql_value.specs.Views.{datum_of_value};
 
 use crate::entries::{enter_kept, leave_kept};
 use crate::kept::{Kept, end_each, mark_each, replace, reserve_kept, retire_kept, sweep};
 use crate::version::HIGH;
+use std::alloc::AllocError;
 use std::marker::Model;
 use tql_index::index::IntervalIndex;
 use tql_memory::Memory;
-use tql_value::refusal::Refusal;
 use tql_value::value::Value;
 
 /// The versions of a table, which keeps its history or does not.
@@ -87,7 +86,7 @@ impl<I: IntervalIndex> Versions<I> {
         removed: &[usize],
         added: Vec<Vec<Value, Memory>, Memory>,
         moment: i64,
-    ) -> Result<(), Refusal>
+    ) -> Result<(), AllocError>
         requires turn { InTurn moment self.old }
         requires removable { AreRemovable self.old removed.now }
         ensures turn { InTurn moment self.new }
@@ -102,7 +101,6 @@ impl<I: IntervalIndex> Versions<I> {
             (map (λ row. map datum_of_value row.items) added.entry.items) (live self.old))) }
         ensures err { OnErr result (self.new ≡ record self.old { room = self.new.room; entries = self.new.entries }) }
         ensures err_entries { OnErr result (SameBag self.new.entries self.old.entries) }
-        ensures refusal { IfErr result (λ e. e ≡ OutOfMemory) }
         ensures history_room { self.old.keeps ≡ false → self.new.room ≡ self.old.room }
     {
         self.change(removed, added, moment)
@@ -114,7 +112,7 @@ impl<I: IntervalIndex> Versions<I> {
         removed: &[usize],
         added: Vec<Vec<Value, Memory>, Memory>,
         moment: i64,
-    ) -> Result<(), Refusal>
+    ) -> Result<(), AllocError>
         requires within { All (λ i. i < length self.old.current) removed.now }
         requires turn { InTurn moment self.old }
         ensures keeps { self.new.keeps ≡ self.old.keeps }
@@ -131,7 +129,6 @@ impl<I: IntervalIndex> Versions<I> {
             self.old.current else []) ++ self.old.entries)) }
         ensures err { OnErr result (self.new ≡ record self.old { room = self.new.room; entries = self.new.entries }) }
         ensures err_entries { OnErr result (SameBag self.new.entries self.old.entries) }
-        ensures refusal { IfErr result (λ e. e ≡ OutOfMemory) }
         ensures history_room { self.old.keeps ≡ false → self.new.room ≡ self.old.room }
         ensures grows { self.old.room ≤ self.new.room }
     {
@@ -143,7 +140,7 @@ impl<I: IntervalIndex> Versions<I> {
         reserve_kept(self.keeps, &mut self.closed, ended + removed.len())?;
         let number = self.closed.len() + ended;
         mark_each(&mut self.ended, &mut self.dead, removed, self.base);
-        if let Err(refusal) = enter_kept(
+        if let Err(error) = enter_kept(
             self.keeps,
             &mut self.index,
             &self.current,
@@ -153,7 +150,7 @@ impl<I: IntervalIndex> Versions<I> {
         ) {
             self.ended.truncate(ended);
             self.dead.truncate(dead);
-            return Err(refusal);
+            return Err(error);
         }
         replace(&mut self.current, removed, added, moment);
         Ok(())

@@ -276,7 +276,7 @@ pub fn sum<'a>(
 /// An expression, of so many levels.
 #[cycle(expressions)]
 #[tactic(auto, unfolding(tql_syntax_grammar::specs::ReadingExpressions::expr_at))]
-pub fn expr<'a>(
+pub(crate) fn expr<'a>(
     memory: Memory,
     tokens: &mut Cursor<'_, 'a>,
     depth: usize,

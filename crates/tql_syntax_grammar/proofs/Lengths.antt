@@ -9,7 +9,7 @@ use Rattle.tql_spec.specs.Syntax.{Element, ColumnElement, PeriodElement, Constra
 use Rattle.tql_spec.specs.Syntax.{AsOfTree, FromToTree, BetweenTree, RefTree, JoinTree, InnerJoin, LeftJoin}
 use Rattle.tql_spec.specs.Syntax.{CrossJoin, ChainTree, Item, KeyName, ByHeading, ByPosition, OrderTree, CellTree}
 use Rattle.tql_spec.specs.Syntax.{NullCell, ValueCell, Tuple, SetTree}
-use Rattle.tql_spec.specs.Grammar.{Phrase, token, ◌⨟◌, ◌∣◌, empty, maybe, when, optional, each, commas, in_parens}
+use Rattle.tql_spec.specs.Grammar.{Phrase, token, ◌⨟◌, ◌∣◌, empty, maybe, optional, each, commas, in_parens}
 use Rattle.tql_spec.specs.Grammar.{name, moment, condition, type_name, generated, not_null, column_tail, period_name}
 use Rattle.tql_spec.specs.Grammar.{reflist, NoActions, none, more, key_word, without_overlaps, constraint, any_name}
 use Rattle.tql_spec.specs.Grammar.{element, span, alias, ref, join, chain, item, expr, key_name, direction, order_key}
@@ -58,10 +58,6 @@ keeps_or h k = record
 
 pub keeps_maybe : {a : Phrase} → Keeps a → Keeps (maybe a)
 keeps_maybe h = keeps_or keeps_empty h
-
-pub keeps_when : (b : Bool) {a : Phrase} → Keeps a → Keeps (when b a)
-keeps_when true h = h
-keeps_when false h = keeps_empty
 
 pub keeps_optional : {A : Type 0} (f : A → Phrase) → ((x : A) → Keeps (f x)) → (o : Option A) → Keeps (optional f o)
 keeps_optional f h None = keeps_empty

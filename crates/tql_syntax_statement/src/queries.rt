@@ -378,7 +378,7 @@ fn select_from<'a>(
 
 /// What stands behind SELECT, but ORDER BY.
 #[tactic(auto, unfolding(tql_syntax_grammar::specs::ReadingStatements::select_at, crate::specs::SelectEnds::select_from))]
-pub fn select<'a>(
+pub(crate) fn select<'a>(
     memory: Memory,
     tokens: &mut Cursor<'_, 'a>,
 ) -> Result<Box<SelectTree<'a>, Memory>, ParseError>

@@ -4,3 +4,4 @@ pub mod Literals
 pub mod Points
 pub mod Refusals
 pub mod Views
+pub mod When

@@ -1,3 +1,4 @@
+//! Sums, differences and products, exact or out of range.
 ghost use Rattle.std.specs.Prelude.{◌≡◌, option_map};
 ghost use Rattle.tql_spec.specs.Datum.{Plus, Minus, Times, Int, calculate};
 ghost use Rattle.tql_value.specs.Views.{datum_of_view, outcome};

@@ -1,3 +1,4 @@
+//! The Gregorian calendar: days and moments as numbers, and their parts.
 ghost use Rattle.std.specs.Prelude.{◌≡◌, ◌↔◌, ◌/◌, ◌%◌, ◌<◌, IsTrue, IfSome, MatchOption, Some, false};
 ghost use Rattle.tql_spec.specs.Calendar.{is_date, days_after_start, where_true, date_after_start, day_count};
 ghost use Rattle.tql_spec.specs.Calendar.{day_parts as parts_of_day, moment_day, moment_micros, micros_of_time};
@@ -7,10 +8,10 @@ ghost use Rattle.tql_value.specs.Points.{IsDay, IsMoment};
 use jiff::civil::{Date, date};
 
 /// The first day, 0001-01-01, in days since 1970-01-01.
-pub const FIRST_DAY: i64 = -719_162;
+pub(crate) const FIRST_DAY: i64 = -719_162;
 
 /// The last day, 9999-12-31, in days since 1970-01-01.
-pub const LAST_DAY: i64 = 2_932_896;
+pub(crate) const LAST_DAY: i64 = 2_932_896;
 
 /// The first moment, 0001-01-01 00:00:00, in microseconds since 1970-01-01 00:00:00.
 pub const FIRST_MOMENT: i64 = -62_135_596_800_000_000;

@@ -1,3 +1,4 @@
+//! The order of values, and the comparisons by it.
 ghost use Rattle.std.specs.Prelude.{◌≡◌};
 ghost use Rattle.tql_spec.specs.Datum.{order as order_of, rank as rank_of, compare as compared, accepts as accepted};
 ghost use Rattle.tql_value.specs.Views.{datum_of_view, plain_truth, plain_comparison};

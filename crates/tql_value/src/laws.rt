@@ -1,3 +1,4 @@
+//! What is true of all values: their order is total, and dates read back.
 ghost use Rattle.tql_spec.specs.Calendar.{PartsAreDates, PartsReadBack};
 ghost use Rattle.tql_value.specs.Points.{MomentsReadBack};
 ghost use Rattle.tql_value.specs.Laws.{KindsAreOrdered, SameIsEqual, TextsLieByCharacters};

@@ -1,4 +1,5 @@
-// Values, their comparison, their order, their arithmetic, their calendar, and the refusals of statements.
+//! Values, their comparison, their order, their arithmetic, their calendar, the versions that are asked for, and the
+//! refusals of statements.
 #![tactic(auto)]
 
 pub mod arithmetic;
@@ -11,3 +12,4 @@ pub mod table;
 pub mod text;
 pub mod truth;
 pub mod value;
+pub mod when;

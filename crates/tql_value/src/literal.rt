@@ -1,3 +1,4 @@
+//! The texts of DATE and TIMESTAMP literals, read.
 ghost use Rattle.std.specs.Prelude.{◌≡◌, ◌+◌, ◌*◌, ◌<◌, ◌≤◌, ◌^◌, length, drop, IsTrue, IfSome, All, Some, None};
 ghost use Rattle.std.specs.Prelude.{if◌then◌else◌, pos, ◌-ℤ◌, ◌&&◌, ◌-◌, ◌++◌, slice_index, replicate};
 ghost use Rattle.std.specs.List.{list_all};

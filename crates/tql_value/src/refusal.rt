@@ -1,3 +1,4 @@
+//! Why a statement is refused, and the order of report.
 ghost use Rattle.std.specs.Prelude.{◌≡◌, Some};
 ghost use Rattle.tql_spec.specs.Refusal.{earlier as earlier_of, place as place_of};
 ghost use Rattle.tql_spec.specs.Text.{number as number_of, wording};

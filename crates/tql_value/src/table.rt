@@ -1,3 +1,4 @@
+//! The number of a table.
 ghost use Rattle.std.specs.Prelude.{◌≡◌, ◌↔◌, ◌<◌, ℕ, IsSome, IfSome};
 
 use std::marker::Model;

@@ -1,3 +1,4 @@
+//! A text in memory of its own.
 ghost use Rattle.std.specs.Prelude.{◌≡◌, IfOk};
 ghost use Rattle.tql_spec.specs.Datum.{characters as characters_of};
 

@@ -1,3 +1,4 @@
+//! Three-valued logic.
 ghost use Rattle.std.specs.Prelude.{◌≡◌};
 ghost use Rattle.tql_spec.specs.Truth.{and as both, or as either, negated, is_true as true_of, is_false as false_of};
 ghost use Rattle.tql_value.specs.Views.{plain_truth};

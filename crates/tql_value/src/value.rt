@@ -1,3 +1,4 @@
+//! Values, owned or borrowed, their kinds, and the tables that queries answer.
 ghost use Rattle.std.specs.Prelude.{◌≡◌, MatchResult, option_map};
 ghost use Rattle.tql_spec.specs.Datum.{kind_of, is_null as null_of};
 ghost use Rattle.tql_value.specs.Views.{datum_of_value, datum_of_view, plain_kind};

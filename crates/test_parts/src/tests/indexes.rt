@@ -1,4 +1,5 @@
 // tql_index: what was added before memory ended is there, and what was refused is not; and how deep the tree is.
+use std::alloc::AllocError;
 use std::process::Abort;
 use std::test::Fail;
 use tql_index::index::IntervalIndex;
@@ -6,7 +7,6 @@ use tql_index::list_index::ListIndex;
 use tql_index::tree_index::TreeIndex;
 use tql_memory::{Memory, memory};
 use tql_period::period::Period;
-use tql_value::refusal::Refusal;
 
 /// The period of a step. Few starts and lengths, so that periods nest and meet; some reach to the least or the greatest
 /// number.
@@ -21,14 +21,14 @@ fn period_of(step: u64) -> Option<Period> {
     }
 }
 
-/// How many entries are added before the first is refused; none behind it may be taken, and each refusal is for memory.
+/// How many entries are added before the first is refused; none behind it may be taken.
 fn added<I: IntervalIndex>(index: &mut I) -> Option<u64> {
     let mut added = 0u64;
     for step in 0u64..20 {
         match index.add(period_of(step)?, 7) {
             Ok(()) if added == step => added = step + 1,
-            Err(Refusal::OutOfMemory) => {}
-            _ => return None,
+            Ok(()) => return None,
+            Err(AllocError) => {}
         }
     }
     Some(added)
@@ -55,7 +55,10 @@ fn has_just<I: IntervalIndex>(index: &mut I, added: u64) -> Option<bool> {
 fn kept<I: IntervalIndex>(memory: Memory) -> Option<u64> {
     let mut index = I::new(memory);
     let added = added(&mut index)?;
-    let is_right = !matches!(index.stab(0), Err(refusal) if refusal != Refusal::OutOfMemory);
+    let is_right = match index.stab(0) {
+        Ok(ids) => ids.len() as u64 <= added,
+        Err(AllocError) => true,
+    };
     if has_just(&mut index, added)? && is_right {
         Some(added)
     } else {

@@ -63,7 +63,7 @@ fn tells_where_refused_statements_stand(rt: HostRuntime) -> Result<(), Fail> {
     for size in [1, 3, usize::MAX] {
         let notes = notes_of(&rt, SCRIPT, Setting { size, ..SOUND })?;
         assert!(rt;
-            notes.is_whole && notes.kept.as_slice() == NOTES.as_slice(),
+            notes.is_whole() && notes.kept.as_slice() == NOTES.as_slice(),
             "reads of {size}"
         );
     }
@@ -73,7 +73,7 @@ fn tells_where_refused_statements_stand(rt: HostRuntime) -> Result<(), Fail> {
 #[test]
 fn tells_where_a_note_is_lost(rt: HostRuntime) -> Result<(), Fail> {
     let notes = notes_of(&rt, SCRIPT, Setting { notes: 0, ..SOUND })?;
-    assert!(rt; !notes.is_whole && notes.kept.is_empty());
+    assert!(rt; !notes.is_whole() && notes.kept.is_empty());
     Ok(())
 }
 
@@ -89,6 +89,6 @@ fn tells_of_a_refusal_that_was_not_written(rt: HostRuntime) -> Result<(), Fail> 
         line: 1,
         refusal: Refusal::NotAStatement,
     };
-    assert!(rt; notes.is_whole && notes.kept.as_slice() == [first].as_slice());
+    assert!(rt; notes.is_whole() && notes.kept.as_slice() == [first].as_slice());
     Ok(())
 }

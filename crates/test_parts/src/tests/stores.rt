@@ -2,6 +2,7 @@
 ghost use Rattle.std.specs.Prelude.{◌≡◌, [], map, IfOk, IsTrue};
 ghost use Rattle.tql_store.specs.StoreModel.{has_table as table_there, AreRemovable};
 
+use std::alloc::AllocError;
 use std::process::Abort;
 use std::test::Fail;
 use tql_index::index::{Id, IntervalIndex};
@@ -14,6 +15,7 @@ use tql_store_rows::version::{HIGH, Version};
 use tql_value::refusal::Refusal;
 use tql_value::table::TableId;
 use tql_value::value::Value;
+use tql_value::when::When;
 
 /// The number in a row, its start and its end.
 type Shown = (i64, i64, i64);
@@ -29,12 +31,12 @@ fn shown(version: &Version<'_>) -> Shown {
 /// Whether a reading finds at most one version, the right one, or is refused where memory may be.
 fn finds(
     ample: bool,
-    found: Result<Vec<Version<'_>, Memory>, Refusal>,
+    found: Result<Vec<Version<'_>, Memory>, AllocError>,
     want: Option<Shown>,
 ) -> bool {
     match found {
         Ok(found) => found.len() <= 1 && found.first().map(shown) == want,
-        Err(refusal) => refusal == Refusal::OutOfMemory && !ample,
+        Err(AllocError) => !ample,
     }
 }
 
@@ -74,7 +76,7 @@ fn removal<I: IntervalIndex>(
     requires { IsTrue (table_there store.now table) }
     ensures { IfOk result (λ d. AreRemovable store.now d.table d.removed.items) }
 {
-    let found = store.current(table)?;
+    let found = store.found(table, When::Now)?;
     let removed = ids_of(memory, &found)?;
     Ok(Delta {
         table,
@@ -134,15 +136,16 @@ fn has_history<I: IntervalIndex>(
     old: Option<Shown>,
     current: Option<Shown>,
 ) -> bool {
-    store.is_versioned(table)
-        && finds(ample, store.as_of(table, 9), None)
-        && finds(ample, store.as_of(table, 10), old)
-        && finds(ample, store.as_of(table, 29), old)
-        && finds(ample, store.as_of(table, 30), current)
-        && finds(ample, store.from_to(table, 0, 10), None)
-        && finds(ample, store.from_to(table, 0, 11), old)
-        && finds(ample, store.between(table, 0, 10), old)
-        && finds(ample, store.between(table, 10, 9), None)
+    store.has_table(table)
+        && store.is_versioned(table)
+        && finds(ample, store.found(table, When::AsOf(9)), None)
+        && finds(ample, store.found(table, When::AsOf(10)), old)
+        && finds(ample, store.found(table, When::AsOf(29)), old)
+        && finds(ample, store.found(table, When::AsOf(30)), current)
+        && finds(ample, store.found(table, When::FromTo(0, 10)), None)
+        && finds(ample, store.found(table, When::FromTo(0, 11)), old)
+        && finds(ample, store.found(table, When::Between(0, 10)), old)
+        && finds(ample, store.found(table, When::Between(10, 9)), None)
 }
 
 /// Whether the store has what `run` leaves, where both of its changes or only the first was made, or none.
@@ -160,7 +163,7 @@ fn is_left<I: IntervalIndex>(
     if !store.has_table(table) || store.has_transaction() || ample && !(inserted && removed) {
         return false;
     }
-    finds(ample, store.current(table), current)
+    finds(ample, store.found(table, When::Now), current)
         && versioned == store.is_versioned(table)
         && (!versioned || has_history(ample, store, table, old, current))
 }
@@ -244,7 +247,7 @@ impl IntervalIndex for Mute {
         }
     }
 
-    fn add(&mut self, period: Period, id: Id) -> Result<(), Refusal> {
+    fn add(&mut self, period: Period, id: Id) -> Result<(), AllocError> {
         self.index.add(period, id)
     }
 
@@ -252,12 +255,12 @@ impl IntervalIndex for Mute {
         self.index.remove(period, id)
     }
 
-    fn stab(&self, _point: i64) -> Result<Vec<Id, Memory>, Refusal> {
-        Err(Refusal::OutOfMemory)
+    fn stab(&self, _point: i64) -> Result<Vec<Id, Memory>, AllocError> {
+        Err(AllocError)
     }
 
-    fn overlapping(&self, _period: Period) -> Result<Vec<Id, Memory>, Refusal> {
-        Err(Refusal::OutOfMemory)
+    fn overlapping(&self, _period: Period) -> Result<Vec<Id, Memory>, AllocError> {
+        Err(AllocError)
     }
 }
 
@@ -270,8 +273,9 @@ fn what_the_index_refuses_is_refused(rt: HostRuntime) -> Result<(), Fail> {
     let (inserted, removed) = run(&rt, all, &mut store, table)?;
     assert!(rt; inserted && removed);
     assert!(rt; store.has_table(table) && store.is_versioned(table));
-    assert!(rt; finds(true, store.current(table), None));
-    assert!(rt; store.as_of(table, 10).is_err());
-    assert!(rt; store.from_to(table, 0, 11).is_err() && store.between(table, 0, 10).is_err());
+    assert!(rt; finds(true, store.found(table, When::Now), None));
+    assert!(rt; store.found(table, When::AsOf(10)).is_err());
+    assert!(rt; store.found(table, When::FromTo(0, 11)).is_err());
+    assert!(rt; store.found(table, When::Between(0, 10)).is_err());
     Ok(())
 }

@@ -14,6 +14,7 @@ use tql_result::reply::{Reply, Verb};
 use tql_spec::{changes_by_parts, changes_keep_no_order, inserts_keep_no_order};
 use tql_store::store::Delta;
 use tql_value::refusal::Refusal;
+use tql_value::when::When;
 
 /// The word that a change is answered with.
 fn verb_of(work: &Work) -> Verb
@@ -108,7 +109,7 @@ impl Engine {
             → Makes self.now.store p modification.now result }
     {
         let table = self.table_at(modification.table);
-        let found = self.store.current(table.id)?;
+        let found = self.store.found(table.id, When::Now)?;
         modify(self.memory, table, &found, modification)
     }
 

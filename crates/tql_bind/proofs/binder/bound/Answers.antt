@@ -28,12 +28,12 @@ returns-in-Rollback-clause-bound c =
     subst (λ (s : Statement). Gathers (bind (definitions_of c.args.tables.now) (statement_of s)) old old
     machine.Rollback) (sym c.in-Rollback.is) (sound_here machine.Rollback old)
 
-pub returns-in_ok-bound_query-in-Query-clause-bound : goal.returns-in_ok-bound_query-in-Query-clause-bound
-returns-in_ok-bound_query-in-Query-clause-bound c =
+pub returns-in_ok-query-in-Query-clause-bound : goal.returns-in_ok-query-in-Query-clause-bound
+returns-in_ok-query-in-Query-clause-bound c =
     let defs = definitions_of c.args.tables.now in
-    let x = machine.AnswerQuery (bound_query_of c.in_ok-bound_query-in-Query.query) in
+    let x = machine.AnswerQuery (bound_query_of c.in_ok-query-in-Query.query) in
     let inside : c.deref-in-Query.result.now ≡ c.in-Query.tree.value = cc (c.deref-in-Query.ensures) in
     subst (λ (s : Statement). Gathers (bind defs (statement_of s)) c.args.faults.now c.bind_query.new.faults x)
     (sym c.in-Query.is)
     (subst (λ (q : Query). Gathers (bind defs (query_of q)) c.args.faults.now c.bind_query.new.faults x) inside
-    c.in_ok-bound_query-in-Query.ensures)
+    c.in_ok-query-in-Query.ensures)

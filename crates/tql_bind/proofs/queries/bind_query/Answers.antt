@@ -17,12 +17,12 @@ returns c =
     let defs = definitions_of c.args.tables.now in
     let old = c.args.faults.now in
     let new = c.bound_query.new.faults in
-    let q = typed_query_of c.in_ok-bound_query.field-0 in
-    let x = AnswerQuery (bound_query_of c.in_ok-bound_query.field-0.query) in
+    let q = typed_query_of c.in_ok-query.field-0 in
+    let x = AnswerQuery (bound_query_of c.in_ok-query.field-0.query) in
     let inside : c.deref.result.now ≡ c.args.query.now.select.value = cc (c.deref.ensures) in
     let at_select = subst
     (λ (s : SelectTree). Gathers (select defs (select_of s) (map order_of c.deref-2.result.now)) old new q) inside
-    c.in_ok-bound_query.ensures in
+    c.in_ok-query.ensures in
     let at_keys = subst (λ (ks : List OrderTree). Gathers
     (select defs (boxed_select_of c.args.query.now.select) (map order_of ks)) old new q) c.deref-2.ensures.value
     at_select in

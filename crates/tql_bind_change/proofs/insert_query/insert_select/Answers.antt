@@ -15,8 +15,8 @@ returns c =
     c.args.faults.now c.table_number.new.faults c.insert_columns.new.faults c.bound_query.new.faults
     c.refuse_if.new.self c.in_ok-place.place c.definition_or-definition.result.now c.in_ok-columns.columns.items
     c.deref.result.now
-    c.in_ok-wanted.wanted.items c.deref-2.result.now (typed_query_of c.in_ok-bound_query.field-0) c.deref-3.result.now
+    c.in_ok-wanted.wanted.items c.deref-2.result.now (typed_query_of c.in_ok-query.field-0) c.deref-3.result.now
     c.cells_misfit.result
     c.in_ok-place.ensures c.definition_or-definition.ensures c.in_ok-columns.ensures c.deref.ensures.value
-    c.in_ok-wanted.ensures c.in_ok-bound_query.ensures c.deref-2.ensures.value
+    c.in_ok-wanted.ensures c.in_ok-query.ensures c.deref-2.ensures.value
     (ap (map (option_map plain_kind)) c.deref-3.ensures.value) c.cells_misfit.ensures c.refuse_if.ensures

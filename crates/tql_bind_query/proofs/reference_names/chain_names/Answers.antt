@@ -14,7 +14,7 @@ loop-join-init c =
     let one : names ≡ name ∷ [] =
     alone c.new-names.result.items names name c.new-names.ensures.items c.in_ok-push.ensures.items in
     subst (λ (js : List JoinTree). map string_bytes names ++ map
-        (λ (j : JoinTree). name_in (reference_in (join_of j))) js ≡
+    (λ (j : JoinTree). name_in (reference_in (join_of j))) js ≡
     names_in (chain_of written)) (sym c.deref-join-items.ensures.value)
     (first_shown string_bytes (λ j. name_in (reference_in j)) join_of names name (name_in (ref_of written.first))
     written.joins.items one c.in_ok-known_as.ensures)

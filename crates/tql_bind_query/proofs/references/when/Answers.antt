@@ -15,7 +15,7 @@ use Rattle.tql_bind_query.proofs.references.when.Goals as goal
 pub returns-in-None : goal.returns-in-None
 returns-in-None c =
     subst (λ (s : SpanTree). Gathers
-        (binding.when c.args.definition.now (span_of s)) c.args.faults.now c.args.faults.now
+    (binding.when c.args.definition.now (span_of s)) c.args.faults.now c.args.faults.now
     history.Now) (sym c.in-None.is) (sound_here history.Now c.args.faults.now)
 
 pub returns-in_ok-point-in-AsOf : goal.returns-in_ok-point-in-AsOf

@@ -3,7 +3,7 @@ use Rattle.std.proofs.lemmas.List.{length-map}
 use Rattle.tql_spec.specs.Binding.{known_as}
 use Rattle.tql_spec.specs.Names.{Known}
 use Rattle.tql_spec.specs.Words.{listed}
-use Rattle.tql_bound.specs.References.{when_of}
+use Rattle.tql_value.specs.When.{when_of}
 use Rattle.tql_catalog.specs.Definitions.{column_of}
 use Rattle.tql_catalog.specs.Tables.{definitions_of}
 use Rattle.tql_syntax_tree.specs.Statements.{ref_of}

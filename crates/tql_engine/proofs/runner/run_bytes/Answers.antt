@@ -8,6 +8,6 @@ returns c s st =
     let short : length c.args.script.now < 281_474_976_710_655 = omega (arith, c.if-script-ge-TOO_MANY_BYTES.false) in
     runs_bytes s (StandsFor c.run-end.new.engine) c.args.script.now c.args.output.now.items c.into_bytes.result.items
     _ _ _
-    (record { had = c.new-source.ensures.left; before = refl; now = refl; short = short })
+    (record { had = c.new-source.ensures.left; before = refl; now = refl; short = short }) refl
     (c.new-sink.ensures.written ∙ ap (λ v. Some v.items) c.replace.ensures.value) c.into_bytes.ensures
     c.run-end.result (c.run-end.ensures s st)

@@ -11,8 +11,8 @@ use Rattle.tql_index.proofs.search.+overlapping.Goals as goal
 abbrev passed : ℤ → ℤ
 passed z = to_z w64 (of_z w64 z)
 
-pub returns-then-top-period-clause-ok : goal.returns-then-top-period-clause-ok
-returns-then-top-period-clause-ok g t c =
+pub returns-then-top-period : goal.returns-then-top-period
+returns-then-top-period g t c =
     let p = c.in-Some.ensures.some in
     let x = points_of c.args.period in
     let q = λ (e : Entry). share_a_point e.period x in
@@ -20,20 +20,20 @@ returns-then-top-period-clause-ok g t c =
     (passed c.args.period.start) _ _ (in_period x) p.branch p.entries c.if-top-period.true (omega (arith, ints))
     (omega (arith, ints))
 
-pub returns-then-period-top-clause-ok : goal.returns-then-period-top-clause-ok
-returns-then-period-top-clause-ok g t c =
+pub returns-then-period-top : goal.returns-then-period-top
+returns-then-period-top g t c =
     let p = c.in-Some.ensures.some in
     let x = points_of c.args.period in
     let q = λ (e : Entry). share_a_point e.period x in
     left_alone q c.args.period.start c.args.period.end _ _ _ _ _ _ _ _ (in_period x) p.branch p.entries
-    (grind (arith, ints, c.if-period-top.true)) c.in_ok-overlapping.ensures.ok
+    (grind (arith, ints, c.if-period-top.true)) c.in_ok-overlapping.ensures
 
-pub returns-clause-ok : goal.returns-clause-ok
-returns-clause-ok g t c =
+pub returns : goal.returns
+returns g t c =
     let p = c.in-Some.ensures.some in
     let x = points_of c.args.period in
     let q = λ (e : Entry). share_a_point e.period x in
     on_ok c.overlapping-2.result
     (λ h. all_parts q c.shares_a_point.result c.in-Some.top.now.left c.in-Some.top.now.right _ _ _ _ _ _ p.entries
-    c.shares_a_point.ensures c.in_ok-overlapping.ensures.ok c.in_ok-push_if.ensures.ok h)
-    c.overlapping-2.ensures.ok
+    c.shares_a_point.ensures c.in_ok-overlapping.ensures c.in_ok-push_if.ensures.ok h)
+    c.overlapping-2.ensures

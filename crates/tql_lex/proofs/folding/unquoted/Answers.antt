@@ -28,8 +28,8 @@ loop-before-preserved c =
           c.requires) (rw behind at c.if-rest-behind.false)),
     )
 
-pub returns-clause-value : goal.returns-clause-value
-returns-clause-value c =
+pub returns : goal.returns
+returns c =
     let q = c.args.quote in
     rw c.in_ok-push_str-2.ensures.bytes
     (all_content q (spec.content q c.args.text.now) (string_bytes c.loop-before.content) c.loop-before.rest.now

@@ -1,5 +1,5 @@
 use Rattle.std.proofs.Common.{[], length, take, sym, refl, arith}
-use Rattle.std.proofs.lemmas.List.{take-append-drop, take_rest, length-drop, length-take}
+use Rattle.std.proofs.lemmas.List.{append-nil, take-append-drop, take_rest, length-drop, length-take}
 use Rattle.std.proofs.lemmas.Bool.Decides.{nat_tests}
 use Rattle.tql_result.proofs.Pushing.{sent_none, sent_more, pushed_whole, pushed_cut, beginning_none, failed_at_none}
 use Rattle.tql_result.proofs.Pushing.{counted_at_some, taken_none, sent_all}
@@ -10,13 +10,16 @@ loop-rest-init g c = sent_none _ _ _
 
 pub returns-in_err-taken : goal.returns-in_err-taken
 returns-in_err-taken g c =
-    pushed_cut _ [] _ c.from_residual.ensures.0 c.loop-rest.invariant refl
-    (beginning_none c.in_err-taken.ensures.kept) c.in_err-taken.ensures.counted
+    pushed_cut _ c.loop-rest.rest.now [] c.from_residual.ensures.0 c.loop-rest.invariant
+    (sym (append-nil c.loop-rest.rest.now))
+    (beginning_none c.loop-rest.rest.now (grind (arith, nat_tests)) c.in_err-taken.ensures.kept)
+    c.in_err-taken.ensures.counted
 
 pub returns-then-taken-eq0 : goal.returns-then-taken-eq0
 returns-then-taken-eq0 g c =
-    pushed_cut _ [] _ refl c.loop-rest.invariant refl
-    (beginning_none (taken_none _ c.loop-rest.rest.now c.if-taken-eq0.true c.in_ok-taken.ensures.taken))
+    pushed_cut _ c.loop-rest.rest.now [] refl c.loop-rest.invariant (sym (append-nil c.loop-rest.rest.now))
+    (beginning_none c.loop-rest.rest.now (grind (arith, nat_tests))
+    (taken_none _ c.loop-rest.rest.now c.if-taken-eq0.true c.in_ok-taken.ensures.taken))
     (failed_at_none _ (length c.loop-rest.rest.now) c.if-taken-eq0.true (grind (arith, nat_tests))
     c.in_ok-taken.ensures.counted)
 

@@ -8,5 +8,6 @@ returns-in-Ok-flush-clause-answers g c s st =
 
 pub returns-in-Err-flush-clause-answers : goal.returns-in-Err-flush-clause-answers
 returns-in-Err-flush-clause-answers g c s st =
-    unflushed g.R.Responder.answering s _ _ _ _ _ _ _ _ _ _ _ (c.in-Ok.ensures s st) c.in-Err-flush.ensures.kept
+    unflushed _ c.in-Err-flush.ensures.allowed g.R.Responder.answering s _ _ _ _ _ _ _ _ _ _ _
+    (c.in-Ok.ensures s st) c.in-Err-flush.ensures.kept
     c.in-Err-flush.ensures.counted

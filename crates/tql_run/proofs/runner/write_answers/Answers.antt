@@ -1,5 +1,5 @@
 use Rattle.std.proofs.Common.{refl}
-use Rattle.tql_run.proofs.Writing.{turn_first, turn_more, wrote_cut, wrote_end, fewer_left}
+use Rattle.tql_run.proofs.Writing.{came_to, turn_first, turn_more, wrote_cut, wrote_end, fewer_left}
 use Rattle.tql_run.proofs.runner.write_answers.Goals as goal
 
 pub loop-answer-init : goal.loop-answer-init
@@ -17,19 +17,21 @@ loop-answer-smaller g c = fewer_left _ _ _ c.in-Some.answer _ _ c.in-Some.ensure
 
 pub returns-in-Err : goal.returns-in-Err
 returns-in-Err g c s st =
-    wrote_cut _ s _ _ _ _ _ _ c.in-Some.answer _ _ _ _ _ _ _ _ _ c.line.result (c.loop-answer.invariant.wrote s st)
-    c.in-Some.ensures c.line.ensures c.tell.ensures c.in-Err.ensures.cut c.in-Err.ensures.failure
+    let p = came_to c.in-Err.ensures c.push-pushed.ensures in
+    wrote_cut _ _ s _ _ _ _ _ _ c.in-Some.answer _ _ _ _ _ _ _ _ _ c.line.result (c.loop-answer.invariant.wrote s st)
+    c.in-Some.ensures c.line.ensures c.tell.ensures p.cut p.failure
 
 pub loop-answer-preserved : goal.loop-answer-preserved
 loop-answer-preserved g c =
     let i = c.loop-answer.invariant in
+    let p = came_to c.in-Ok.ensures c.push-pushed.ensures in
     let t = turn_more _ _ _ _ _ _ _ _ c.counted-summary.result c.in-Some.answer _ _ _ _ _ _ _ _ _ c.line.result
     (record {
       wrote = i.wrote;
       room = i.room;
       fewer = i.fewer;
     }) c.in-Some.ensures c.line.ensures c.tell.ensures c.counted-summary.ensures
-    c.in-Ok.ensures.whole c.in-Ok.ensures.no_failure in
+    p.whole p.no_failure in
     record { wrote = t.wrote; room = t.room; fewer = t.fewer }
 
 pub returns : goal.returns

@@ -16,7 +16,7 @@ use Rattle.tql_engine.proofs.engine.Engine.add_table.Goals as goal
 pub add_table-requires : goal.add_table-requires
 add_table-requires c =
     let sound = subst (λ (h : EngineModel). IsSoundTable (definitions_of h.tables) c.args.definition)
-        (sym c.self.view_is)
+    (sym c.self.view_is)
     c.requires.sound in
     subst (λ (n : ℕ). n < 1000) (length-map c.self.inside.tables (λ (t : Table). t.definition)
     ∙ sym c.self.invariant.stands.count) sound.room
@@ -78,7 +78,7 @@ returns-in-Ok-clause-ok c s st =
     made_law s c.self.inside.tables _ table c.self.inside.store _ _ _
     (subst (λ (h : EngineModel). StandsFor h s) (sym c.self.view_is) st)
     (subst (λ (h : EngineModel). IsNone h.store.working)
-        (sym c.self.view_is) c.requires.closed) c.is_versioned.ensures.right
+    (sym c.self.view_is) c.requires.closed) c.is_versioned.ensures.right
     c.requires.sound.narrow c.in_ok-id.ensures.ok c.in_ok-id.ensures.copies
     c.is_versioned.ensures.versioned c.in-Ok.ensures.created
 
@@ -101,7 +101,7 @@ returns-in-Err-clause-err c s st =
 pub returns-in-Err-clause-memory : goal.returns-in-Err-clause-memory
 returns-in-Err-clause-memory c =
     let sound = subst (λ (h : EngineModel). IsSoundTable (definitions_of h.tables) c.args.definition)
-        (sym c.self.view_is)
+    (sym c.self.view_is)
     c.requires.sound in
     subst (λ (o : Option spec.Refusal). Tells {A = Unit {0}} o (Err c.in-Err.refusal))
     (no_fault (definitions_of c.self.inside.tables) c.args.definition sound) c.in-Err.ensures.told

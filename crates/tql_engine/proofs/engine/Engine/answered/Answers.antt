@@ -17,7 +17,7 @@ plan-requires c =
     let x = c.args.query.now in
     let tables = c.self.inside.tables in
     let placed = subst (λ (h : EngineModel). IsPlacedQuery (definitions_of h.tables) (bound_query_of x))
-        (sym c.self.view_is)
+    (sym c.self.view_is)
     c.requires in
     record {
       there = All-weaker (IsThere (definitions_of tables)) (λ r. r.table < length tables)
@@ -29,7 +29,7 @@ pub run-requires-clause-readable : goal.run-requires-clause-readable
 run-requires-clause-readable c =
     let x = c.args.query.now in
     let placed = subst (λ (h : EngineModel). IsPlacedQuery (definitions_of h.tables) (bound_query_of x))
-        (sym c.self.view_is)
+    (sym c.self.view_is)
     c.requires in
     sources_readable _ c.self.invariant.state x c.in_ok-plan.plan c.self.invariant.stands placed
     c.in_ok-plan.ensures.sources
@@ -38,7 +38,7 @@ pub returns-clause-rows : goal.returns-clause-rows
 returns-clause-rows c s st =
     let x = c.args.query.now in
     let placed = subst (λ (h : EngineModel). IsPlacedQuery (definitions_of h.tables) (bound_query_of x))
-        (sym c.self.view_is)
+    (sym c.self.view_is)
     c.requires in
     let back = subst (λ h. StandsFor h s) (sym c.self.view_is) st in
     let means = meaning_is _ s x c.in_ok-plan.plan back placed c.in_ok-plan.ensures.means in

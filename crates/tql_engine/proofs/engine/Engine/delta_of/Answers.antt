@@ -2,11 +2,12 @@ use Rattle.std.proofs.Common.{◌≡◌, sym, subst, ◌∙◌, Some, List, map,
 use Rattle.std.specs.Prelude.{slice_get, IsTrue}
 use Rattle.std.proofs.lemmas.List.{length-map}
 use Rattle.std.proofs.lemmas.List.Elements.{All-weaker}
+use Rattle.tql_spec.specs.History.{Now}
 use Rattle.tql_bound.specs.declared.change.Modification.{Modification}
 use Rattle.tql_catalog.specs.Rows.{stored_width}
 use Rattle.tql_catalog.specs.declared.catalog.Table.{Table}
 use Rattle.tql_dml.specs.Alters.{IsVersionOf}
-use Rattle.tql_store.specs.Represents.{AnswersNow}
+use Rattle.tql_store.specs.Represents.{Answers}
 use Rattle.tql_store.specs.StoreModel.{has_table}
 use Rattle.tql_store_rows.specs.Changes.{is_current}
 use Rattle.tql_store_rows.specs.Readings.{version_shown as version_of}
@@ -19,8 +20,8 @@ use Rattle.tql_engine.proofs.Standing.{some_is, there_law}
 use Rattle.tql_engine.proofs.Modifying.{makes_of, read_fit}
 use Rattle.tql_engine.proofs.engine.Engine.delta_of.Goals as goal
 
-pub current-requires : goal.current-requires
-current-requires c =
+pub found-requires-clause-there : goal.found-requires-clause-there
+found-requires-clause-there c =
     let p : Table = c.table_at-table.result.now in
     let stands = subst (λ h. StandsFor h c.self.invariant.state) c.self.view_is c.self.invariant.stands in
     subst (λ (h : EngineModel). IsTrue (has_table h.store p.id)) (sym c.self.view_is)
@@ -50,7 +51,7 @@ returns c p e =
       names = subst (λ (vs : List Version). All (Names c.self.inside.store q.id) vs) back c.in_ok-found.ensures.ids;
       once = subst (λ (vs : List Version). NamesOnce c.self.inside.store q.id is_current vs) back
           c.in_ok-found.ensures.once;
-      answers = subst (λ (vs : List Version). AnswersNow c.self.inside.store q.id (map version_of vs)) back
+      answers = subst (λ (vs : List Version). Answers c.self.inside.store q.id Now (map version_of vs)) back
           c.in_ok-found.ensures.copies;
       alters = c.modify.ensures.alters;
       fits = c.modify.ensures.fits;

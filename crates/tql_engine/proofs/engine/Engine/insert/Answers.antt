@@ -57,9 +57,9 @@ invariant_of-self c =
     let removed : List ℕ = c.in-Ok.delta.removed.items in
     let after = c.in-Ok-change_rows.next in
     let there = subst (λ (h : EngineModel). slice_get h.tables x.table ≡ Some p)
-        (sym c.self.view_is) c.table_at.ensures in
+    (sym c.self.view_is) c.table_at.ensures in
     let below = subst (λ (h : EngineModel). IsNone h.store.working
-        → h.next <ℤ high) (sym c.self.view_is) c.requires.below in
+    → h.next <ℤ high) (sym c.self.view_is) c.requires.below in
     let gives = c.in-Ok.ensures.alters in
     let fit = recursion_from_All (IsRowOf p.definition) rows c.in-Ok.ensures.fits in
     let old = c.self.inside.store in
@@ -69,7 +69,7 @@ invariant_of-self c =
     let done = subst (λ t. ChangesRows old.working c.self.inside.next after t removed rows old new) gives.table
     clocked in
     let bound = subst (λ (h : EngineModel). IsTypedChange (definitions_of h.tables) (insertion_of x))
-        (sym c.self.view_is)
+    (sym c.self.view_is)
     c.requires.typed in
     rw (after_reads _ s after p.id removed rows new st below done)
     (sound_after _ _ c.self.invariant (ChangeRows (insertion_of x)) _ bound
@@ -94,9 +94,9 @@ returns-in-Ok-change_rows c s st =
     let removed : List ℕ = c.in-Ok.delta.removed.items in
     let after = c.in-Ok-change_rows.next in
     let there = subst (λ (h : EngineModel). slice_get h.tables x.table ≡ Some p)
-        (sym c.self.view_is) c.table_at.ensures in
+    (sym c.self.view_is) c.table_at.ensures in
     let below = subst (λ (h : EngineModel). IsNone h.store.working
-        → h.next <ℤ high) (sym c.self.view_is) c.requires.below in
+    → h.next <ℤ high) (sym c.self.view_is) c.requires.below in
     let gives = c.in-Ok.ensures.alters in
     let fit = recursion_from_All (IsRowOf p.definition) rows c.in-Ok.ensures.fits in
     let old = c.self.inside.store in

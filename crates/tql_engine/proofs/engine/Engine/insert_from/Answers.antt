@@ -69,7 +69,7 @@ invariant_of-self c =
     let removed : List ℕ = c.in-Ok.delta.removed.items in
     let after = c.in-Ok-change_rows.next in
     let below = subst (λ (h : EngineModel). IsNone h.store.working
-        → h.next <ℤ high) (sym c.self.view_is) c.requires.below in
+    → h.next <ℤ high) (sym c.self.view_is) c.requires.below in
     let fit = recursion_from_All (IsRowOf p.definition) rows adds.1 in
     let old = c.self.inside.store in
     let new = c.change_rows.new.store in
@@ -106,7 +106,7 @@ returns-in-Ok-change_rows c s st =
     let removed : List ℕ = c.in-Ok.delta.removed.items in
     let after = c.in-Ok-change_rows.next in
     let below = subst (λ (h : EngineModel). IsNone h.store.working
-        → h.next <ℤ high) (sym c.self.view_is) c.requires.below in
+    → h.next <ℤ high) (sym c.self.view_is) c.requires.below in
     let fit = recursion_from_All (IsRowOf p.definition) rows adds.1 in
     let old = c.self.inside.store in
     let new = c.change_rows.new.store in

@@ -67,7 +67,7 @@ invariant_of-self c =
     let removed : List ℕ = c.in-Ok.delta.removed.items in
     let after = c.in-Ok-change_rows.next in
     let below = subst (λ (h : EngineModel). IsNone h.store.working
-        → h.next <ℤ high) (sym c.self.view_is) c.requires.below in
+    → h.next <ℤ high) (sym c.self.view_is) c.requires.below in
     let bound = subst (λ (h : EngineModel). IsTypedChange (definitions_of h.tables) (modification_of x))
     (sym c.self.view_is) c.requires.typed in
     let fit = recursion_from_All (IsRowOf p.definition) rows
@@ -107,7 +107,7 @@ returns-in-Ok-change_rows c s st =
     let removed : List ℕ = c.in-Ok.delta.removed.items in
     let after = c.in-Ok-change_rows.next in
     let below = subst (λ (h : EngineModel). IsNone h.store.working
-        → h.next <ℤ high) (sym c.self.view_is) c.requires.below in
+    → h.next <ℤ high) (sym c.self.view_is) c.requires.below in
     let bound = subst (λ (h : EngineModel). IsTypedChange (definitions_of h.tables) (modification_of x))
     (sym c.self.view_is) c.requires.typed in
     let own : State = c.self.invariant.state in

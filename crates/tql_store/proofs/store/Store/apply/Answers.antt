@@ -24,7 +24,7 @@ pub make-requires-clause-turn : goal.make-requires-clause-turn
 make-requires-clause-turn g c =
     let fits : SFits w64 c.moment-moment.result = search rules in
     let at = in-moment c.self.inside.working c.args.self.now.working (to_z w64 (of_z w64 c.moment-moment.result))
-    c.moment-moment.result (ap (λ (h : StoreModel). h.working) c.self.view_is) c.requires.open_now (to_z-of_z fits)
+    c.moment-moment.result (ap (λ (h : StoreModel). h.working) c.self.view_is) (to_z-of_z fits)
     c.moment-moment.ensures in
     subst (λ (ts : List rows.TableModel). InTurn (to_z w64 (of_z w64 c.moment-moment.result))
     (table_at ts c.args.delta.table)) (sym c.deref_mut.ensures.value)
@@ -35,7 +35,7 @@ pub make-requires-clause-removable : goal.make-requires-clause-removable
 make-requires-clause-removable g c =
     let fits : SFits w64 c.moment-moment.result = search rules in
     let at = in-moment c.self.inside.working c.args.self.now.working (to_z w64 (of_z w64 c.moment-moment.result))
-    c.moment-moment.result (ap (λ (h : StoreModel). h.working) c.self.view_is) c.requires.open_now (to_z-of_z fits)
+    c.moment-moment.result (ap (λ (h : StoreModel). h.working) c.self.view_is) (to_z-of_z fits)
     c.moment-moment.ensures in
     subst (λ (ts : List rows.TableModel). AreRemovable (table_at ts c.args.delta.table) c.args.delta.removed.items)
     (sym c.deref_mut.ensures.value)
@@ -47,7 +47,7 @@ pub invariant_of-self : goal.invariant_of-self
 invariant_of-self g c =
     let fits : SFits w64 c.moment-moment.result = search rules in
     let at = in-moment c.self.inside.working c.args.self.now.working (to_z w64 (of_z w64 c.moment-moment.result))
-    c.moment-moment.result (ap (λ (h : StoreModel). h.working) c.self.view_is) c.requires.open_now (to_z-of_z fits)
+    c.moment-moment.result (ap (λ (h : StoreModel). h.working) c.self.view_is) (to_z-of_z fits)
     c.moment-moment.ensures in
     refused-store (to_z w64 (of_z w64 c.moment-moment.result)) c.self.inside.working c.self.inside.last
     c.args.delta.table c.self.inside.places.items c.self.inside.rows.items c.deref_mut.result.now c.make.new.rows
@@ -74,7 +74,7 @@ pub invariant_of-self-2 : goal.invariant_of-self-2
 invariant_of-self-2 g c =
     let fits : SFits w64 c.moment-moment.result = search rules in
     let at = in-moment c.self.inside.working c.args.self.now.working (to_z w64 (of_z w64 c.moment-moment.result))
-    c.moment-moment.result (ap (λ (h : StoreModel). h.working) c.self.view_is) c.requires.open_now (to_z-of_z fits)
+    c.moment-moment.result (ap (λ (h : StoreModel). h.working) c.self.view_is) (to_z-of_z fits)
     c.moment-moment.ensures in
     change-store (to_z w64 (of_z w64 c.moment-moment.result)) c.self.inside.working c.self.inside.last
     c.args.delta.table c.self.inside.places.items c.self.inside.rows.items c.deref_mut.result.now c.make.new.rows
@@ -90,7 +90,7 @@ pub returns-clause-ok : goal.returns-clause-ok
 returns-clause-ok g c =
     let fits : SFits w64 c.moment-moment.result = search rules in
     let at = in-moment c.self.inside.working c.args.self.now.working (to_z w64 (of_z w64 c.moment-moment.result))
-    c.moment-moment.result (ap (λ (h : StoreModel). h.working) c.self.view_is) c.requires.open_now (to_z-of_z fits)
+    c.moment-moment.result (ap (λ (h : StoreModel). h.working) c.self.view_is) (to_z-of_z fits)
     c.moment-moment.ensures in
     let value = c.deref_mut.ensures.value in
     replaces-at (λ (row : Vec Value _). map datum_of_value row.items) c.args.delta.added.items
@@ -98,7 +98,7 @@ returns-clause-ok g c =
     c.self.inside.places.items c.self.inside.rows.items c.make.new.rows c.self.inside.touched.items
     c.args.self.now _ c.args.delta.table c.args.delta.removed.items at c.self.invariant c.self.view_is
     (sym (ap (λ (ts : List rows.TableModel). shown c.self.inside.places.items ts c.self.inside.working
-        c.self.inside.last)
+    c.self.inside.last)
     (with_items_is c.self.inside.rows c.make.new.rows (c.make.ensures.turned.even ∙ c.deref_mut.ensures.len))))
     c.requires.removable
     (subst (λ (ts : List rows.TableModel). HasTurned (to_z w64 (of_z w64 c.moment-moment.result)) c.args.delta.table ts

@@ -18,7 +18,7 @@ pub undo_each-requires-clause-turn : goal.undo_each-requires-clause-turn
 undo_each-requires-clause-turn g c =
     let fits : SFits w64 c.moment-moment.result = search rules in
     let at = in-moment c.self.inside.working c.args.self.now.working (to_z w64 (of_z w64 c.moment-moment.result))
-    c.moment-moment.result (ap (λ (h : StoreModel). h.working) c.self.view_is) c.requires (to_z-of_z fits)
+    c.moment-moment.result (ap (λ (h : StoreModel). h.working) c.self.view_is) (to_z-of_z fits)
     c.moment-moment.ensures in
     λ t. subst (λ (ts : List rows.TableModel). InTurn (to_z w64 (of_z w64 c.moment-moment.result)) (table_at ts t))
     (sym c.deref_mut.ensures.value)
@@ -28,7 +28,7 @@ pub invariant_of-self : goal.invariant_of-self
 invariant_of-self g c =
     let fits : SFits w64 c.moment-moment.result = search rules in
     let at = in-moment c.self.inside.working c.args.self.now.working (to_z w64 (of_z w64 c.moment-moment.result))
-    c.moment-moment.result (ap (λ (h : StoreModel). h.working) c.self.view_is) c.requires (to_z-of_z fits)
+    c.moment-moment.result (ap (λ (h : StoreModel). h.working) c.self.view_is) (to_z-of_z fits)
     c.moment-moment.ensures in
     let ended : HaveEnded (IsUndone (to_z w64 (of_z w64 c.moment-moment.result)))
     (length c.self.inside.touched.items) c.self.inside.touched.items c.self.inside.rows.items c.undo_each.new.rows
@@ -49,7 +49,7 @@ pub returns-clause-versions : goal.returns-clause-versions
 returns-clause-versions g c =
     let fits : SFits w64 c.moment-moment.result = search rules in
     let at = in-moment c.self.inside.working c.args.self.now.working (to_z w64 (of_z w64 c.moment-moment.result))
-    c.moment-moment.result (ap (λ (h : StoreModel). h.working) c.self.view_is) c.requires (to_z-of_z fits)
+    c.moment-moment.result (ap (λ (h : StoreModel). h.working) c.self.view_is) (to_z-of_z fits)
     c.moment-moment.ensures in
     let ended : HaveEnded (IsUndone (to_z w64 (of_z w64 c.moment-moment.result)))
     (length c.self.inside.touched.items) c.self.inside.touched.items c.self.inside.rows.items c.undo_each.new.rows
