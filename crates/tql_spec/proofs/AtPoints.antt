@@ -21,18 +21,18 @@ use Rattle.tql_spec.proofs.ConstraintRuns.{runs_keep_constraints}
 -- ---- tests over members and tables
 
 -- a test that holds of all holds of a member
-all_in : {A : Type 0} (p : A → Bool) (xs : List A) (x : A) → list_all p xs ≡ true → In x xs → p x ≡ true
+pub all_in : {A : Type 0} (p : A → Bool) (xs : List A) (x : A) → list_all p xs ≡ true → In x xs → p x ≡ true
 all_in p [] x e m = absurd m
 all_in p (y ∷ xs) x e (inl q) = ap p q ∙ (both (p y) (list_all p xs) e).0
 all_in p (y ∷ xs) x e (inr m) = all_in p xs x (both (p y) (list_all p xs) e).1 m
 
 -- and the other way
-in_all : {A : Type 0} (p : A → Bool) (xs : List A) → ((x : A) → In x xs → p x ≡ true) → list_all p xs ≡ true
+pub in_all : {A : Type 0} (p : A → Bool) (xs : List A) → ((x : A) → In x xs → p x ≡ true) → list_all p xs ≡ true
 in_all p [] h = refl
 in_all p (x ∷ xs) h = and_true (p x) (list_all p xs) (h x (inl refl)) (in_all p xs (λ y m. h y (inr m)))
 
 -- a test of each table holds of a table
-table_in : (test : TableDef → List Row → Bool) (defs : List TableDef) (copy : Copy) → length copy ≡ length defs
+pub table_in : (test : TableDef → List Row → Bool) (defs : List TableDef) (copy : Copy) → length copy ≡ length defs
     → each_table test defs copy ≡ true → (t : ℕ) → t < length defs
     → test (table_at defs t) (table_rows defs copy t) ≡ true
 table_in test [] copy n e t l = absurd (omega arith)
@@ -44,7 +44,7 @@ table_in test (d ∷ defs) (rows ∷ copy) n e (suc t) l =
     (omega arith)
 
 -- and the other way
-in_tables : (test : TableDef → List Row → Bool) (defs : List TableDef) (copy : Copy)
+pub in_tables : (test : TableDef → List Row → Bool) (defs : List TableDef) (copy : Copy)
     → ((t : ℕ) → t < length defs → test (table_at defs t) (table_rows defs copy t) ≡ true)
     → each_table test defs copy ≡ true
 in_tables test [] copy h = refl
@@ -54,7 +54,7 @@ in_tables test (d ∷ defs) (rows ∷ copy) h =
     (in_tables test defs copy (λ t l. h (suc t) (omega arith)))
 
 -- a reference to its parent's place
-reference_is : (defs : List TableDef) (copy : Copy) (d : TableDef) (rows : List Row) (f : Reference) (o : Option ℕ)
+pub reference_is : (defs : List TableDef) (copy : Copy) (d : TableDef) (rows : List Row) (f : Reference) (o : Option ℕ)
     → reference_to defs copy d rows f o ≡ reference_holds d (parent_at defs o) f (parent_rows defs copy o) rows
 reference_is defs copy d rows f None = refl
 reference_is defs copy d rows f (Some t) = refl

@@ -17,13 +17,13 @@ use Rattle.tql_spec.proofs.Steady.{front_is}
 -- ---- what is weighed of one row
 
 -- the rows that one row leaves
-abbrev left_of : (Stamped → ℕ) → Stamped → Option Fate → ℕ
+abbrev pub left_of : (Stamped → ℕ) → Stamped → Option Fate → ℕ
 left_of w r None = 0
 left_of w r (Some Untouched) = w r
 left_of w r (Some (Replaced new)) = sum_by w new
 
 -- the new rows among them
-abbrev new_of : (Stamped → ℕ) → Option Fate → ℕ
+abbrev pub new_of : (Stamped → ℕ) → Option Fate → ℕ
 new_of w None = 0
 new_of w (Some Untouched) = 0
 new_of w (Some (Replaced new)) = sum_by w new
@@ -34,7 +34,7 @@ touch_of o = cond (goes o) 1 0
 
 module _ (f : Stamped → Option Fate) where
   -- what is weighed of the rows after a change is weighed of each row
-  left_total : (w : Stamped → ℕ) (rows : List Stamped) (fates : List Fate) → map_all f rows ≡ Some fates
+  pub left_total : (w : Stamped → ℕ) (rows : List Stamped) (fates : List Fate) → map_all f rows ≡ Some fates
       → sum_by w (after_fates rows fates) ≡ sum_by (λ r. left_of w r (f r)) rows
   left_total w [] fates e = refl
   left_total w (x ∷ rows) fates e =
@@ -51,7 +51,7 @@ module _ (f : Stamped → Option Fate) where
       by_fate (Replaced new) ys ih = sum_by-append w new (after_fates rows ys) ∙ ap (λ n. sum_by w new + n) ih
 
   -- so are the new rows
-  new_total : (w : Stamped → ℕ) (rows : List Stamped) (fates : List Fate) → map_all f rows ≡ Some fates
+  pub new_total : (w : Stamped → ℕ) (rows : List Stamped) (fates : List Fate) → map_all f rows ≡ Some fates
       → sum_by w (new_rows fates) ≡ sum_by (λ r. new_of w (f r)) rows
   new_total w [] fates e = let q : [] ≡ fates = cc in ap (λ fs. sum_by w (new_rows fs)) (sym q)
   new_total w (x ∷ rows) fates e =

@@ -54,15 +54,15 @@ by_place ReferenceNotMet = refl
 by_place OutOfMemory = refl
 
 -- one place, one refusal
-one_place : (a b : Refusal) → place a ≡ place b → Some a ≡ Some b
+pub one_place : (a b : Refusal) → place a ≡ place b → Some a ≡ Some b
 one_place a b e = sym (by_place a) ∙ ap (slice_get reports) e ∙ by_place b
 
 -- ---- what the first is
 
 -- a fault that is there, and none of those there comes before it
-record IsFirst (a : Refusal) (xs : List Refusal) : Type 0 where
-  there : In a xs
-  least : (x : Refusal) → In x xs → place a ≤ place x
+pub record IsFirst (a : Refusal) (xs : List Refusal) : Type 0 where
+  pub there : In a xs
+  pub least : (x : Refusal) → In x xs → place a ≤ place x
 
 -- one more fault in front
 first_of_two : (x y : Refusal) (ys : List Refusal) (b : Bool) → nat_lt (place y) (place x) ≡ b → IsFirst y ys
@@ -101,7 +101,7 @@ by_rest x ys a (Some y) k later e =
     subst (λ r. IsFirst r (x ∷ ys)) q (first_of_two x y ys (nat_lt (place y) (place x)) refl (later y k))
 
 -- the first is so
-first_is : (xs : List Refusal) (a : Refusal) → first xs ≡ Some a → IsFirst a xs
+pub first_is : (xs : List Refusal) (a : Refusal) → first xs ≡ Some a → IsFirst a xs
 first_is [] a e = absurd (cc)
 first_is (x ∷ ys) a e = by_rest x ys a (first ys) refl (λ y k. first_is ys y k) e
 

@@ -55,7 +55,7 @@ all_stamped d m rows t h r n =
     let i = in_image (stamped d m) r rows n in subst (IsTyped d) (sym i.2) (stamped_typed d m i.0 t (h i.0 i.1))
 
 -- a part of no faults has none
-part_free : {X : Type 0} (f : X → List Refusal) (x : X) (xs : List X) → In x xs → flat_map f xs ≡ [] → f x ≡ []
+pub part_free : {X : Type 0} (f : X → List Refusal) (x : X) (xs : List X) → In x xs → flat_map f xs ≡ [] → f x ≡ []
 part_free f x [] m e = absurd m
 part_free f x (y ∷ xs) (inl q) e = ap f q ∙ no_left (f y) (flat_map f xs) e
 part_free f x (y ∷ xs) (inr m) e = part_free f x xs m (no_right (f y) (flat_map f xs) e)

@@ -78,7 +78,7 @@ assigned_kinds ks old row (a ∷ more) h k new e = at_value (eval [] old a.value
     at_value (Some v) q ih p = ih v q p
 
 -- another cell stays
-set_other : (row : Row) (c i : ℕ) (v : Datum) → (c ≡ i → ⊥) → cell (slice_set row c v) i ≡ cell row i
+pub set_other : (row : Row) (c i : ℕ) (v : Datum) → (c ≡ i → ⊥) → cell (slice_set row c v) i ≡ cell row i
 set_other [] c i v h = refl
 set_other (x ∷ row) zero zero v h = absurd (h refl)
 set_other (x ∷ row) zero (suc i) v h = refl
@@ -103,14 +103,14 @@ assigned_other old row (a ∷ more) i h new e = at_value (eval [] old a.value)
 -- ---- generated cells
 
 -- an element put back where one was taken out
-put_back : {X : Type 0} (xs : List X) (i : ℕ) (x : X) → i < length xs → insert (remove xs i) i x ≡ slice_set xs i x
+pub put_back : {X : Type 0} (xs : List X) (i : ℕ) (x : X) → i < length xs → insert (remove xs i) i x ≡ slice_set xs i x
 put_back [] i x h = absurd (omega arith)
 put_back (y ∷ []) zero x h = refl
 put_back (y ∷ z ∷ xs) zero x h = refl
 put_back (y ∷ xs) (suc i) x h = ap (λ l. y ∷ l) (put_back xs i x (omega arith))
 
 -- two of them
-put_both : {X : Type 0} (xs : List X) (i j : ℕ) (x y : X) → i < j → j < length xs
+pub put_both : {X : Type 0} (xs : List X) (i j : ℕ) (x y : X) → i < j → j < length xs
     → insert (insert (remove (remove xs j) i) i x) j y ≡ slice_set (slice_set xs i x) j y
 put_both [] i j x y h k = absurd (omega arith)
 put_both (z ∷ xs) zero zero x y h k = absurd (omega arith)

@@ -44,7 +44,7 @@ inserted (y ∷ xs) zero x = omega arith
 inserted (y ∷ xs) (suc i) x = let e = inserted xs i x in omega arith
 
 -- a row with its generated cells
-with_length : (o : Option System) (cells : Row) (a b : ℤ)
+pub with_length : (o : Option System) (cells : Row) (a b : ℤ)
     → length (with_generated o cells a b) ≡ length cells + length (generated_columns o)
 with_length None cells a b = omega arith
 with_length (Some s) cells a b = by_bool (nat_lt s.start s.end)
@@ -60,7 +60,7 @@ with_length (Some s) cells a b = by_bool (nat_lt s.start s.end)
     )))
 
 -- a row without them
-without_length : (o : Option System) (row : Row) → IsProper (length row) o
+pub without_length : (o : Option System) (row : Row) → IsProper (length row) o
     → length (without_generated o row) + length (generated_columns o) ≡ length row
 without_length None row k = omega arith
 without_length (Some s) row k = by_bool (nat_lt s.start s.end)
@@ -87,7 +87,7 @@ without_length (Some s) row k = by_bool (nat_lt s.start s.end)
         omega (arith, r)
 
 -- the columns of a table
-abbrev width : TableDef → ℕ
+abbrev pub width : TableDef → ℕ
 width d = length d.columns
 
 -- the table's generated columns are two of its own
@@ -95,23 +95,24 @@ abbrev pub Sound : TableDef → Type 0
 Sound d = IsProper (length d.columns) d.system
 
 -- a row that fits shows a cell for each column
-shown_length : (d : TableDef) (r : Stamped) → Fits d r → length (shown d r) ≡ width d
+pub shown_length : (d : TableDef) (r : Stamped) → Fits d r → length (shown d r) ≡ width d
 shown_length d r f = with_length d.system r.cells r.start high ∙ f
 
 -- a full row that is stamped fits
-stamped_fits : (d : TableDef) (m : ℤ) (row : Row) → Sound d → length row ≡ width d → Fits d (stamped d m row)
+pub stamped_fits : (d : TableDef) (m : ℤ) (row : Row) → Sound d → length row ≡ width d → Fits d (stamped d m row)
 stamped_fits d m row k e = without_length d.system row (subst (λ n. IsProper n d.system) (sym e) k) ∙ e
 
 -- ---- rows that a change makes
 
 -- cells filled in change no length
-filled_length : (row : Row) (columns : List ℕ) (values : List Datum) → length (filled row columns values) ≡ length row
+pub filled_length : (row : Row) (columns : List ℕ) (values : List Datum)
+    → length (filled row columns values) ≡ length row
 filled_length row [] values = refl
 filled_length row (c ∷ cs) [] = refl
 filled_length row (c ∷ cs) (v ∷ vs) = filled_length (slice_set row c v) cs vs ∙ length-set row c v
 
 -- nor do cells assigned
-assigned_length : (old row : Row) (sets : List Assignment) (new : Row) → assigned old row sets ≡ Some new
+pub assigned_length : (old row : Row) (sets : List Assignment) (new : Row) → assigned old row sets ≡ Some new
     → length new ≡ length row
 assigned_length old row [] new e = let q : row ≡ new = cc in ap length (sym q)
 assigned_length old row (a ∷ more) new e = at_value (eval [] old a.value)
@@ -125,7 +126,8 @@ assigned_length old row (a ∷ more) new e = at_value (eval [] old a.value)
     at_value (Some v) ih q = ih v q ∙ length-set row a.column v
 
 -- nor a period put in
-with_period_length : (o : Option Application) (p : Period) (row : Row) → length (with_period_by o p row) ≡ length row
+pub with_period_length : (o : Option Application) (p : Period) (row : Row)
+    → length (with_period_by o p row) ≡ length row
 with_period_length None p row = refl
 with_period_length (Some a) p row = length-set (slice_set row a.start _) a.end _ ∙ length-set row a.start _
 
@@ -176,13 +178,13 @@ abbrev pub AllFit : TableDef → List Stamped → Type 0
 AllFit d rows = (r : Stamped) → In r rows → Fits d r
 
 -- full rows that are stamped fit
-stamped_all : (d : TableDef) (m : ℤ) (rows : List Row) → Sound d → AllWide (width d) rows
+pub stamped_all : (d : TableDef) (m : ℤ) (rows : List Row) → Sound d → AllWide (width d) rows
     → AllFit d (map (stamped d m) rows)
 stamped_all d m rows k h r n =
     let i = in_image (stamped d m) r rows n in subst (Fits d) (sym i.2) (stamped_fits d m i.0 k (h i.0 i.1))
 
 -- what replaces a row that fits fits
-fate_fits : (d : TableDef) (m : ℤ) (portion : Option Period) (work : Work) (conds : List Cond) → Sound d
+pub fate_fits : (d : TableDef) (m : ℤ) (portion : Option Period) (work : Work) (conds : List Cond) → Sound d
     → (r : Stamped) → Fits d r → (new : List Stamped)
     → fate d m portion work conds (shown d r) ≡ Some (Replaced new) → AllFit d new
 fate_fits d m portion work conds k r f new q = touched (is_touched d portion conds (shown d r))
@@ -204,7 +206,7 @@ fate_fits d m portion work conds k r f new q = touched (is_touched d portion con
         (λ x n. pieces_wide d portion (shown d r) rows (h rows refl) x n ∙ shown_length d r f))
 
 -- an INSERT
-insert_fits : (d : TableDef) (m : ℤ) (rows : List Stamped) (columns : List ℕ) (o : Option (List (List Datum)))
+pub insert_fits : (d : TableDef) (m : ℤ) (rows : List Stamped) (columns : List ℕ) (o : Option (List (List Datum)))
     → Sound d → AllFit d rows → AllFit d (insertion d m rows columns o).rows
 insert_fits d m rows columns None k f r n = f r n
 insert_fits d m rows columns (Some tuples) k f r n = elim
@@ -216,8 +218,8 @@ insert_fits d m rows columns (Some tuples) k f r n = elim
     ]
 
 -- an UPDATE or a DELETE
-modify_fits : (d : TableDef) (m : ℤ) (rows : List Stamped) (portion : Option Period) (work : Work) (conds : List Cond)
-    → Sound d → AllFit d rows → AllFit d (modify d m rows portion work conds).rows
+pub modify_fits : (d : TableDef) (m : ℤ) (rows : List Stamped) (portion : Option Period) (work : Work)
+    (conds : List Cond) → Sound d → AllFit d rows → AllFit d (modify d m rows portion work conds).rows
 modify_fits d m rows portion work conds k f = by_fates
     (map_all (λ r. fate d m portion work conds (shown d r)) rows) refl
   where

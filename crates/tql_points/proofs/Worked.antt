@@ -1,0 +1,146 @@
+-- A worked list of statements, computed on whole tables and at single points.
+use Rattle.std.specs.Prelude.{◌≡◌, refl, ℕ, zero, suc, true, false, IsTrue, List, [], ◌∷◌, length, take, ℤ, pos, Some}
+use Rattle.std.specs.Prelude.{None}
+use Rattle.std.specs.List.{list_all}
+use Rattle.std.proofs.Common.{arith, inl, inr, subst, sym}
+use Rattle.tql_spec.specs.Bag.{In}
+use Rattle.tql_spec.specs.Datum.{Int, Text, Day, Ints, Texts, Days, Moments, Above, Row}
+use Rattle.tql_spec.specs.Expression.{Expr, Literal, Column, Compare}
+use Rattle.tql_spec.specs.Definition.{TableDef, Key}
+use Rattle.tql_spec.specs.History.{Now}
+use Rattle.tql_spec.specs.Change.{Work}
+use Rattle.tql_spec.specs.Machine.{Bound, ChangeRows, Change, InsertTuples, Modify, Start, Rollback, Reply, Done}
+use Rattle.tql_spec.specs.Machine.{Refused}
+use Rattle.tql_spec.specs.Machine.{Inserted, step}
+use Rattle.tql_spec.specs.Refusal.{DuplicateKey}
+use Rattle.tql_points.specs.Slice.{slice, payloads}
+use Rattle.tql_points.specs.PointTable.{point_table}
+use Rattle.tql_points.specs.Scope.{is_payload, ArePointTables, is_in_scope}
+use Rattle.tql_points.specs.PointStatement.{statement_at}
+use Rattle.tql_points.specs.RefusalLaw.{gives_periods, state_at}
+use Rattle.tql_points.specs.PointMachine.{after_all, accepted, beginning, point_beginning, given_at, answer_of}
+
+-- a versioned table with an application period between its columns 1 and 2, a key WITHOUT OVERLAPS and a CHECK
+abbrev pay : TableDef
+pay = record {
+  name = 112 ∷ [];
+  columns = record { name = 101 ∷ []; kind = Ints; limit = None; required = true }
+      ∷ record { name = 102 ∷ []; kind = Days; limit = None; required = true }
+      ∷ record { name = 103 ∷ []; kind = Days; limit = None; required = true }
+      ∷ record { name = 104 ∷ []; kind = Moments; limit = None; required = false }
+      ∷ record { name = 105 ∷ []; kind = Texts; limit = Some 3; required = false }
+      ∷ record { name = 106 ∷ []; kind = Moments; limit = None; required = false } ∷ [];
+  system = Some (record { start = 3; end = 5 });
+  application = Some (record { name = 112 ∷ 112 ∷ []; start = 1; end = 2 });
+  keys = record { columns = 0 ∷ []; by_period = true } ∷ [];
+  references = [];
+  checks = Compare Above (Column 0) (Literal (Int (pos 0))) ∷ [];
+}
+
+-- it is in scope
+pay_in_scope : ArePointTables (pay ∷ [])
+pay_in_scope zero l = record {
+  period = refl;
+  apart = (omega arith, refl, (omega arith, refl, (omega arith, refl, (omega arith, refl, tt))));
+  checks = refl;
+  keys = λ k m. only k m;
+  references = λ f m. absurd m;
+}
+  where
+    only : (k : Key) → In k pay.keys → IsTrue k.by_period × IsTrue (list_all (is_payload pay) k.columns)
+    only k (inl e) = subst (λ (z : Key). IsTrue z.by_period × IsTrue (list_all (is_payload pay) z.columns)) (sym e)
+        (refl, refl)
+    only k (inr n) = absurd n
+pay_in_scope (suc t) l = absurd (omega arith)
+
+-- values of cells
+abbrev num : ℕ → Expr
+num n = Literal (Int (pos n))
+
+abbrev day : ℕ → Expr
+day n = Literal (Day (pos n))
+
+abbrev text : ℕ → Expr
+text b = Literal (Text (b ∷ []))
+
+-- a row for the days 0 to 99; 'B' for the days 30 to 59; an overlap that is refused; a change that is undone; 'C' for
+-- days that begin where the row ends; and the days 50 to 69 taken out
+abbrev script : List Bound
+script =
+    ChangeRows (InsertTuples 0 (0 ∷ 1 ∷ 2 ∷ 4 ∷ []) ((num 7 ∷ day 0 ∷ day 100 ∷ text 65 ∷ []) ∷ []))
+    ∷ ChangeRows (Modify 0 (Some (record { start = pos 30; end = pos 60 }))
+    (Work.Set (record { column = 4; value = text 66 } ∷ [])) [])
+    ∷ ChangeRows (InsertTuples 0 (0 ∷ 1 ∷ 2 ∷ 4 ∷ []) ((num 7 ∷ day 99 ∷ day 120 ∷ text 67 ∷ []) ∷ []))
+    ∷ Start ∷ ChangeRows (Modify 0 None Work.Remove []) ∷ Rollback
+    ∷ ChangeRows (InsertTuples 0 (0 ∷ 1 ∷ 2 ∷ 4 ∷ []) ((num 7 ∷ day 100 ∷ day 120 ∷ text 67 ∷ []) ∷ []))
+    ∷ ChangeRows (Modify 0 (Some (record { start = pos 50; end = pos 70 })) Work.Remove
+    (Compare Above (Column 0) (num 0) ∷ [])) ∷ []
+
+-- the list is in scope
+script_in_scope : IsTrue (list_all (is_in_scope (pay ∷ [])) script)
+script_in_scope = refl
+
+-- what is found now on whole tables, at a point
+abbrev sliced : ℤ → List Row
+sliced p = slice pay p (answer_of (after_all (beginning (pay ∷ []) (pos 5)) script) 0 Now)
+
+-- what the machine of the point finds now
+abbrev plain : ℤ → List Row
+plain p = payloads (point_table (pay ∷ []) pay)
+    (answer_of (after_all (point_beginning (pay ∷ []) (pos 5)) (given_at (pay ∷ []) (pos 5) p script)) 0 Now)
+
+-- a row that says the number and a letter
+abbrev says : ℕ → List Row
+says b = (Int (pos 7) ∷ Text (b ∷ []) ∷ []) ∷ []
+
+on_day_10 : (sliced (pos 10) ≡ says 65) × (plain (pos 10) ≡ says 65)
+on_day_10 = (refl, refl)
+
+on_day_40 : (sliced (pos 40) ≡ says 66) × (plain (pos 40) ≡ says 66)
+on_day_40 = (refl, refl)
+
+on_day_55 : (sliced (pos 55) ≡ []) × (plain (pos 55) ≡ [])
+on_day_55 = (refl, refl)
+
+on_day_99 : (sliced (pos 99) ≡ says 65) × (plain (pos 99) ≡ says 65)
+on_day_99 = (refl, refl)
+
+on_day_100 : (sliced (pos 100) ≡ says 67) × (plain (pos 100) ≡ says 67)
+on_day_100 = (refl, refl)
+
+on_day_120 : (sliced (pos 120) ≡ []) × (plain (pos 120) ≡ [])
+on_day_120 = (refl, refl)
+
+-- one of the eight statements is refused
+seven_taken : length (accepted (beginning (pay ∷ []) (pos 5)) script) ≡ 7
+seven_taken = refl
+
+-- ---- a refusal
+
+-- its INSERTs give periods that rise
+periods_given : IsTrue (list_all (gives_periods (pay ∷ [])) script)
+periods_given = refl
+
+-- the change that is refused for its key at one day
+abbrev overlap : Change
+overlap = InsertTuples 0 (0 ∷ 1 ∷ 2 ∷ 4 ∷ []) ((num 7 ∷ day 99 ∷ day 120 ∷ text 67 ∷ []) ∷ [])
+
+-- what the whole tables answer to it after the first two statements, and the machines of two days
+overlap_refused : (step (after_all (beginning (pay ∷ []) (pos 5)) (take 2 script)) (ChangeRows overlap)).0
+    ≡ Refused DuplicateKey
+overlap_refused = refl
+
+at_day : ℤ → Reply
+at_day p = (step (state_at (pay ∷ []) (pos 5) (take 2 script) p) (statement_at (pay ∷ []) p (ChangeRows overlap))).0
+
+refused_on_day_99 : at_day (pos 99) ≡ Refused DuplicateKey
+unfolding at_day
+refused_on_day_99 = refl
+
+taken_on_day_100 : at_day (pos 100) ≡ Done Inserted (Some 1)
+unfolding at_day
+taken_on_day_100 = refl
+
+idle_on_day_98 : at_day (pos 98) ≡ Done Inserted (Some 0)
+unfolding at_day
+idle_on_day_98 = refl
