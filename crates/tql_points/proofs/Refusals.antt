@@ -167,11 +167,11 @@ refused_so : (o : Option Refusal) (old : State) (v : Verb) (n : Option ℕ) (new
 refused_so None old v n new e q = absurd (cc)
 refused_so (Some f) old v n new e q = let z : f ≡ e = cc in ap (λ (x : Refusal). Some x) z
 
-so_refused : (o : Option Refusal) (old : State) (reply : Reply) (new : State) (e : Refusal) → o ≡ Some e
+pub so_refused : (o : Option Refusal) (old : State) (reply : Reply) (new : State) (e : Refusal) → o ≡ Some e
     → (unless_refused o old reply new).0 ≡ Refused e
 so_refused o old reply new e q = ap (λ z. (unless_refused z old reply new).0) q
 
-same_refusal : (e f : Refusal) → Refused e ≡ Refused f → e ≡ f
+pub same_refusal : (e f : Refusal) → Refused e ≡ Refused f → e ≡ f
 same_refusal e f q = cc
 
 -- outcomes that are the same

@@ -39,7 +39,7 @@ module _ (defs : List TableDef) (all : ArePointTables defs) where
         → is_refused reply ≡ false → (reply, mid) ≡ step old (bind defs t).value → OneAnswer old x reply mid
 
   -- a statement with a fault of its names is refused
-  faulty : (s : State) (t : Statement) (f : Refusal) → first (bind s.definitions t).faults ≡ Some f
+  pub faulty : (s : State) (t : Statement) (f : Refusal) → first (bind s.definitions t).faults ≡ Some f
       → (is_refused (respond s t).0 ≡ true) × ((respond s t).1 ≡ s)
   faulty s t f e = by_first (first (statement_faults s t)) refl
     where

@@ -4,7 +4,9 @@
 ghost use Rattle.tql_points.specs.ChangeLaw.{SlicesAreThere, InsertionsReduce, ModificationsReduce, BesideStays};
 ghost use Rattle.tql_points.specs.PointMachine.{SnapshotsReduce};
 ghost use Rattle.tql_points.specs.RefusalLaw.{RefusalsReduce};
+ghost use Rattle.tql_points.specs.PointRun.{StartsAreKept, RunsAgreeAtPoints};
 ghost use Rattle.tql_points.specs.RunLaw.{RunsReduce, RunRefusalsReduce};
+ghost use Rattle.tql_points.specs.ScopeLaw.{CreationsAreInScope, StatementsAreInScope};
 
 /// A change of a table is, at each point, the change that the point is given: if it is not refused, neither is that
 /// one, and what that one leaves of the slice is the slice of what it leaves. Beside its portion it leaves the slice.
@@ -32,4 +34,20 @@ pub fn runs_reduce()
 /// A change is refused exactly where the machine of some point refuses it, and with the first of their refusals.
 pub fn refusals_reduce()
     ensures { RefusalsReduce }
+{}
+
+/// What is written in scope is bound in scope: a CREATE TABLE with an application period, keys WITHOUT OVERLAPS,
+/// references with PERIOD, and CHECKs that name no period makes a table in scope; an INSERT of tuples, an UPDATE or a
+/// DELETE that names a period as its portion alone is bound to a change in scope.
+pub fn written_in_scope()
+    ensures creations { CreationsAreInScope }
+    ensures statements { StatementsAreInScope }
+{}
+
+/// Every run over statements that make tables, and then over statements in scope, agrees with the machines of all
+/// points: what is done is done by each, what is refused is refused as the first of them that refuses it, and behind
+/// each answer the slices, now and as of each moment, are what they answer.
+pub fn runs_agree_at_points()
+    ensures starts { StartsAreKept }
+    ensures runs { RunsAgreeAtPoints }
 {}

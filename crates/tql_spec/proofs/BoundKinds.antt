@@ -46,7 +46,7 @@ checked_in f x (y ∷ xs) (inl e) = inl (ap (λ z. (f z).value) e)
 checked_in f x (y ∷ xs) (inr m) = inr (checked_in f x xs m)
 
 -- where none passes a test, no member does
-none_any : {X : Type 0} (p : X → Bool) (x : X) (xs : List X) → In x xs → list_any p xs ≡ false → p x ≡ false
+pub none_any : {X : Type 0} (p : X → Bool) (x : X) (xs : List X) → In x xs → list_any p xs ≡ false → p x ≡ false
 none_any p x [] m e = absurd m
 none_any p x (y ∷ xs) (inl q) e = ap p q ∙ or_first_false (p y) (list_any p xs) e
 none_any p x (y ∷ xs) (inr m) e = none_any p x xs m (or_second_false (p y) (list_any p xs) e)

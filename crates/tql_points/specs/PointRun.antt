@@ -1,0 +1,118 @@
+-- A run of a script beside the machines of all points.
+use Rattle.std.specs.Prelude.{◌≡◌, ◌⊎◌, ◌≤◌, IsTrue, IsFalse, List, [], ◌∷◌, ◌++◌, ℤ, None}
+use Rattle.tql_spec.specs.Bag.{In}
+use Rattle.tql_spec.specs.Refusal.{Refusal, OutOfMemory, place}
+use Rattle.tql_spec.specs.Definition.{TableDef}
+use Rattle.tql_spec.specs.Machine.{State, Bound, Reply, Done, Refused, Table, step}
+use Rattle.tql_spec.specs.Script.{Piece}
+use Rattle.tql_spec.specs.Running.{Runs}
+use Rattle.tql_spec.specs.Syntax.{Statement}
+use Rattle.tql_spec.specs.Binding.{bind}
+use Rattle.tql_spec.specs.Run.{Sense, Says, Faulty, HasSense, Answers, Run}
+use Rattle.tql_points.specs.PointStatement.{statement_at}
+use Rattle.tql_points.specs.Scope.{ArePointTables}
+use Rattle.tql_points.specs.PointMachine.{is_refused, beginning, point_beginning, SlicesAgree}
+use Rattle.tql_points.specs.StatementScope.{prepares, is_query, is_statement_in_scope}
+
+-- ---- the machines of all points
+
+-- for each point the state in which its machine is
+abbrev pub PointMachines : Type 0
+PointMachines = ℤ → State
+
+-- as they begin beside a state: with its clock, and its tables without their application periods
+abbrev pub machines_of : State → PointMachines
+machines_of s p = point_beginning s.definitions s.next
+
+-- what the machine of a point replies to the statement as the point is given it
+abbrev pub reply_at : List TableDef → PointMachines → Bound → ℤ → Reply
+reply_at defs machines b p = (step (machines p) (statement_at defs p b)).0
+
+-- the machines after each was given the statement
+abbrev pub after_each : List TableDef → PointMachines → Bound → PointMachines
+after_each defs machines b p = (step (machines p) (statement_at defs p b)).1
+
+-- no machine refuses the statement
+abbrev pub NoneRefuses : List TableDef → PointMachines → Bound → Type 0
+NoneRefuses defs machines b = (p : ℤ) → IsFalse (is_refused (reply_at defs machines b p))
+
+-- some machine refuses it so, and none with an earlier refusal
+pub record IsFirstRefusal (defs : List TableDef) (machines : PointMachines) (b : Bound) (e : Refusal) : Type 0 where
+  pub point : ℤ
+  pub refused : reply_at defs machines b point ≡ Refused e
+  pub first : (p : ℤ) (f : Refusal) → reply_at defs machines b p ≡ Refused f → place e ≤ place f
+
+-- ---- one piece of a script
+
+-- what a refusal tells, by what the piece says: the fault of its text; or, where the names, kinds, forms and literals
+-- of the statement have no fault, the first of the refusals of the machines
+abbrev pub TellsRefusal : List TableDef → PointMachines → Sense → Refusal → Type 0
+TellsRefusal defs machines (Faulty f) e = e ≡ f
+TellsRefusal defs machines (Says t) e =
+    (bind defs t).faults ≡ [] → IsFalse (is_query t) → IsFirstRefusal defs machines (bind defs t).value e
+
+-- how the machines go along with a reply: what is done is done by each, and refused by none; what is refused, or asked,
+-- is given to none
+abbrev pub GoAlong : List TableDef → PointMachines → Piece → Reply → PointMachines → Type 0
+GoAlong defs old x (Done verb count) new =
+    (t : Statement) × HasSense Runs x (Says t) × NoneRefuses defs old (bind defs t).value
+    × (new ≡ after_each defs old (bind defs t).value)
+GoAlong defs old x (Table headings rows) new = new ≡ old
+GoAlong defs old x (Refused e) new =
+    (new ≡ old) × ((e ≡ OutOfMemory) ⊎ ((sense : Sense) × HasSense Runs x sense × TellsRefusal defs old sense e))
+
+-- ---- runs
+
+-- the answers to pieces, the machines beside them, and behind each answer, at each point, the slices
+abbrev pub RunsBeside : List TableDef → State → PointMachines → List Piece → List Reply → State → PointMachines → Type 0
+RunsBeside defs s machines [] [] new after = (new ≡ s) × (after ≡ machines)
+RunsBeside defs s machines (x ∷ xs) (r ∷ rs) new after =
+    (mid : State) × (next : PointMachines) × Answers s x r mid × GoAlong defs machines x r next
+    × ((p : ℤ) → SlicesAgree defs p mid (next p)) × RunsBeside defs mid next xs rs new after
+RunsBeside defs s machines _ _ new after = ⊥
+
+-- tables in scope, without a commit and without an open transaction: so all are empty
+pub record IsAtStart (s : State) : Type 0 where
+  pub tables : ArePointTables s.definitions
+  pub uncommitted : s.history ≡ []
+  pub idle : s.transaction ≡ None
+
+-- each piece that says a statement makes a table in scope, or sets the clock
+abbrev pub ArePreparing : List Piece → Type 0
+ArePreparing pieces = (x : Piece) → In x pieces → (t : Statement) → HasSense Runs x (Says t) → IsTrue (prepares t)
+
+-- each piece that says a statement says one in scope
+abbrev pub AreInScope : List TableDef → List Piece → Type 0
+AreInScope defs pieces =
+    (x : Piece) → In x pieces → (t : Statement) → HasSense Runs x (Says t) → IsTrue (is_statement_in_scope defs t)
+
+-- the law: statements that make tables or set the clock keep this, and such a state is the beginning of its tables and
+-- its clock
+abbrev pub StartsAreKept : Type 0
+StartsAreKept =
+    (s : State) (pieces : List Piece) (replies : List Reply) (new : State) → IsAtStart s → ArePreparing pieces
+    → Run s pieces replies new → IsAtStart new × (new ≡ beginning new.definitions new.next)
+
+-- the first pieces make tables; where those behind them are in scope, they run beside the machines of all points
+pub record RunsAtPoints (s : State) (made others : List Piece) (replies : List Reply) (new : State) : Type 0 where
+  pub first : List Reply
+  pub later : List Reply
+  pub both : replies ≡ first ++ later
+  pub start : State
+  pub prepared : Run s made first start
+  pub at_start : IsAtStart start
+  pub ran : Run start others later new
+  pub beside : AreInScope start.definitions others → (after : PointMachines)
+      × RunsBeside start.definitions start (machines_of start) others later new after
+
+-- a run agrees with the machines of all points: however it is cut into pieces that make tables and those behind them
+abbrev pub AgreesAtPoints : State → List Piece → List Reply → State → Type 0
+AgreesAtPoints s pieces replies new =
+    IsAtStart s → (made others : List Piece) → pieces ≡ made ++ others → ArePreparing made
+    → RunsAtPoints s made others replies new
+
+-- the law: every run does
+abbrev pub RunsAgreeAtPoints : Type 0
+RunsAgreeAtPoints =
+    (s : State) (pieces : List Piece) (replies : List Reply) (new : State) → Run s pieces replies new
+    → AgreesAtPoints s pieces replies new

@@ -1,0 +1,125 @@
+-- For which statements, as they are written, points can be told one by one.
+use Rattle.std.specs.Prelude.{ℕ, Bool, true, false, not, ◌&&◌, ◌||◌, ◌==◌, List, [], ◌∷◌, ◌++◌, map, slice_index_or, ℤ}
+use Rattle.std.specs.Prelude.{int_lt, Option, Some, None, is_some, if◌then◌else◌}
+use Rattle.std.specs.List.{flat_map, list_all}
+use Rattle.tql_spec.specs.Words.{same_text, is_empty}
+use Rattle.tql_spec.specs.Calendar.{read_date, read_timestamp}
+use Rattle.tql_spec.specs.Definition.{Name, TableDef, Application}
+use Rattle.tql_spec.specs.Creation.{has_name, names_of, application_name, part_names, periods_of, period_names}
+use Rattle.tql_spec.specs.Creation.{application_parts, constraints_of}
+use Rattle.tql_spec.specs.Binding.{insert_columns}
+use Rattle.tql_spec.specs.Syntax.{Sum, Terms, NoTerm, Factors, NoFactor, Unsigned, Primary, DateLiteral}
+use Rattle.tql_spec.specs.Syntax.{TimestampLiteral, Enclosed, Condition, CellTree, NullCell, ValueCell, Tuple, SetTree}
+use Rattle.tql_spec.specs.Syntax.{Element, Constraint, KeyTree, ForeignTree, CheckTree, Statement, CreateTree, DropTree}
+use Rattle.tql_spec.specs.Syntax.{InsertValues, InsertSelect, UpdateTree, DeleteTree, QueryTree, StartTree, CommitTree}
+use Rattle.tql_spec.specs.Syntax.{RollbackTree, AtTree}
+use Rattle.tql_points.specs.Slice.{own_columns}
+use Rattle.tql_points.specs.NamesAvoided.{sum_avoids, condition_avoids, filter_avoids}
+
+-- ---- CREATE TABLE
+
+-- the names of the periods and of their columns, as they are written
+abbrev pub written_names : List Element → List Name
+written_names es = period_names es ++ flat_map part_names (periods_of es)
+
+-- whether a key is WITHOUT OVERLAPS, a reference has PERIOD, and a CHECK names none of these names
+abbrev pub is_point_constraint : List Name → Constraint → Bool
+is_point_constraint names (KeyTree primary n ns period) = is_some period
+is_point_constraint names (ForeignTree child n parent) = is_some child.period
+is_point_constraint names (CheckTree c) = condition_avoids names c
+
+-- whether a statement makes a table with an application period, and with constraints of this form alone
+abbrev pub makes_point_table : Statement → Bool
+makes_point_table (CreateTree n e es versioned) =
+    not (is_empty (application_parts (e ∷ es)))
+    && list_all (is_point_constraint (written_names (e ∷ es))) (constraints_of (e ∷ es))
+makes_point_table _ = false
+
+-- whether a statement makes such a table, or sets the clock
+abbrev pub prepares : Statement → Bool
+prepares (AtTree m) = true
+prepares t = makes_point_table t
+
+-- ---- the periods that INSERT gives
+
+-- the point that an expression is written as: a literal of a day or a moment, in parentheses or without
+abbrev mutual
+  pub point_of_sum : Sum → Option ℤ
+  point_of_sum (Terms (Factors (Unsigned p) NoFactor) NoTerm) = point_of_primary p
+  point_of_sum _ = None
+
+  pub point_of_primary : Primary → Option ℤ
+  point_of_primary (DateLiteral t) = read_date t
+  point_of_primary (TimestampLiteral t) = read_timestamp t
+  point_of_primary (Enclosed e) = point_of_sum e
+  point_of_primary _ = None
+
+-- the point of a cell
+abbrev pub point_in : CellTree → Option ℤ
+point_in NullCell = None
+point_in (ValueCell e) = point_of_sum e
+
+-- the cell that stands for a column, of cells for these columns
+abbrev pub cell_for : ℕ → List ℕ → List CellTree → CellTree
+cell_for i (c ∷ cs) (x ∷ xs) = if i == c then x else cell_for i cs xs
+cell_for i _ _ = NullCell
+
+-- two points that are there, and rise
+abbrev pub do_rise : Option ℤ → Option ℤ → Bool
+do_rise (Some f) (Some g) = int_lt f g
+do_rise _ _ = false
+
+-- whether cells for these columns give a period that rises
+abbrev pub cells_rise : Option Application → List ℕ → List CellTree → Bool
+cells_rise None columns cells = true
+cells_rise (Some a) columns cells =
+    do_rise (point_in (cell_for a.start columns cells)) (point_in (cell_for a.end columns cells))
+
+-- whether a tuple does, where INSERT lists these names of columns
+abbrev pub tuple_rises : TableDef → List Name → Tuple → Bool
+tuple_rises d names t = cells_rise d.application (insert_columns d names).value (t.first ∷ t.more)
+
+-- ---- UPDATE and DELETE
+
+-- the names of a table's periods and of their columns
+abbrev pub own_names : TableDef → List Name
+own_names d = application_name d.application ++ map (λ i. slice_index_or (names_of d) i []) (own_columns d)
+
+-- whether a cell names none of these names
+abbrev pub cell_avoids : List Name → CellTree → Bool
+cell_avoids names NullCell = true
+cell_avoids names (ValueCell e) = sum_avoids names e
+
+-- whether SET sets and reads no column of these names
+abbrev pub set_avoids : List Name → SetTree → Bool
+set_avoids names s = not (has_name s.column names) && cell_avoids names s.value
+
+-- whether SET and WHERE name no period of the table and no column of one
+abbrev pub change_avoids : List SetTree → Option Condition → TableDef → Bool
+change_avoids sets c d = list_all (set_avoids (own_names d)) sets && filter_avoids (own_names d) c
+
+-- ---- statements
+
+-- whether the test holds of each table of this name
+abbrev pub of_table : Name → (TableDef → Bool) → List TableDef → Bool
+of_table n test defs = list_all (λ (d : TableDef). not (same_text n d.name) || test d) defs
+
+-- whether a statement asks
+abbrev pub is_query : Statement → Bool
+is_query (QueryTree s keys) = true
+is_query _ = false
+
+-- whether a statement is an INSERT of tuples, each with a period that rises, an UPDATE or a DELETE that names a period
+-- as its portion alone, a statement of transactions or of the clock, or a query
+abbrev pub is_statement_in_scope : List TableDef → Statement → Bool
+is_statement_in_scope defs (CreateTree n e es versioned) = false
+is_statement_in_scope defs (DropTree n) = false
+is_statement_in_scope defs (InsertValues n names t ts) = of_table n (λ d. list_all (tuple_rises d names) (t ∷ ts)) defs
+is_statement_in_scope defs (InsertSelect n names s) = false
+is_statement_in_scope defs (UpdateTree n portion s ss c) = of_table n (change_avoids (s ∷ ss) c) defs
+is_statement_in_scope defs (DeleteTree n portion c) = of_table n (change_avoids [] c) defs
+is_statement_in_scope defs (QueryTree s keys) = true
+is_statement_in_scope defs StartTree = true
+is_statement_in_scope defs CommitTree = true
+is_statement_in_scope defs RollbackTree = true
+is_statement_in_scope defs (AtTree m) = true
