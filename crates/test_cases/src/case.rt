@@ -4,12 +4,11 @@ use crate::compare::text_difference;
 use crate::growths::growth_fault;
 use crate::neighbours::marks;
 use crate::runs::{Answering, answer};
+use crate::short::written_out;
+use crate::steps::bound_fault;
 use std::alloc::{AllocError, Global};
 use std::fs;
 use std::io::{self, ErrorKind};
-
-/// How many letters an `@` stands for in a script that is to be filled: as many as the bytes of the longest statement.
-const FILLING: usize = 1_048_576;
 
 /// What the first line of a script asks for, behind `-- cases:`.
 #[derive(Clone, Copy, PartialEq, Eq, Debug)]
@@ -18,8 +17,10 @@ struct Directives {
     in_pieces: bool,
     /// Each growth of the run is refused in turn.
     by_growths: bool,
-    /// An `@` stands for so many letters `x` as the longest statement has bytes.
-    is_filled: bool,
+    /// The script and its listed texts are in the short form.
+    is_short: bool,
+    /// The last statement of the run makes at most so many growths.
+    most_growths: Option<u64>,
 }
 
 /// The words of the first line, if it begins with `-- cases:`.
@@ -30,36 +31,30 @@ fn asked(script: &[u8]) -> &str {
     text.strip_prefix("-- cases:").unwrap_or("")
 }
 
+/// The number N of a word `growths<=N`.
+fn bound_in(word: &str) -> io::Result<u64> {
+    let bound = word.strip_prefix("growths<=").unwrap_or("");
+    let number = bound.parse();
+    number.map_err(|_| io::Error::from(ErrorKind::InvalidInput))
+}
+
 /// What the first line of a script asks for.
 fn directives_in(script: &[u8]) -> io::Result<Directives> {
     let mut found = Directives {
         in_pieces: false,
         by_growths: false,
-        is_filled: false,
+        is_short: false,
+        most_growths: None,
     };
     for word in asked(script).split_ascii_whitespace() {
         match word {
             "pieces" => found.in_pieces = true,
             "growths" => found.by_growths = true,
-            "filled" => found.is_filled = true,
-            _ => return Err(io::Error::from(ErrorKind::InvalidInput)),
+            "short" => found.is_short = true,
+            _ => found.most_growths = Some(bound_in(word)?),
         }
     }
     Ok(found)
-}
-
-/// A script with so many letters in the place of each `@`.
-fn filled(alloc: Global, script: &[u8]) -> Result<Vec<u8>, AllocError> {
-    let mut whole = Vec::new(alloc);
-    for byte in script {
-        if *byte == b'@' {
-            let length = whole.len().saturating_add(FILLING);
-            whole.resize(length, b'x')?;
-        } else {
-            whole.push(*byte)?;
-        }
-    }
-    Ok(whole)
 }
 
 /// The bytes of a file; None where it is not there.
@@ -118,6 +113,12 @@ fn listed_fault(
     if fault.is_none() && directives.by_growths {
         fault = growth_fault(alloc, answering, script, listed)?;
     }
+    if fault.is_none()
+        && answering == Answering::Run
+        && let Some(most) = directives.most_growths
+    {
+        fault = bound_fault(alloc, script, listed, most)?;
+    }
     Ok(fault)
 }
 
@@ -144,16 +145,21 @@ struct Script {
     directives: Directives,
 }
 
+/// A script or a listed text, written out where it is in the short form.
+fn spelled(alloc: Global, directives: Directives, bytes: Vec<u8>) -> Result<Vec<u8>, AllocError> {
+    if directives.is_short {
+        written_out(alloc, &bytes)
+    } else {
+        Ok(bytes)
+    }
+}
+
 /// The script of a case, which has to be there.
 fn script_of(rt: &HostRuntime, base: &str) -> io::Result<Script> {
     let path = format!(in rt.alloc(); "{base}.sql")?;
     let bytes = fs::read(rt, path.as_str())?;
     let directives = directives_in(&bytes)?;
-    let bytes = if directives.is_filled {
-        filled(rt.alloc(), &bytes)?
-    } else {
-        bytes
-    };
+    let bytes = spelled(rt.alloc(), directives, bytes)?;
     Ok(Script { bytes, directives })
 }
 
@@ -184,6 +190,7 @@ pub fn fault_of(rt: &HostRuntime, folder: &str, name: &str) -> io::Result<Option
     for (listing, ending) in LISTINGS {
         if let Some(listed) = bytes_of(rt, base.as_str(), ending)? {
             is_compared = true;
+            let listed = spelled(alloc, script.directives, listed)?;
             if let Some(fault) = fault_in(alloc, &script, listing, &listed)? {
                 return Ok(Some(format!(in alloc; "{ending} {fault}")?));
             }

@@ -1,14 +1,13 @@
 //! Runs of a script in which each growth is refused in turn, in two ways: no memory is granted from there on, or only
 //! that one growth is refused. A statement that finds no memory has changed nothing: tried again with memory, it and
 //! all later ones are answered as they are listed.
-use crate::runs::{Answering, Outcome, answer};
+use crate::runs::{Answering, answer};
+use crate::steps::{reply_text, statements_of, step_all};
 use std::alloc::{AllocError, Global};
 use std::io;
 use tql_engine::engine::Engine;
 use tql_lex::splitter::{Piece, Splitter};
 use tql_memory::{Memory, memory};
-use tql_result::print::write_reply;
-use tql_result::std_sink::StdSink;
 use tql_run::runner::Fault;
 
 /// What a statement is answered that finds no memory.
@@ -16,16 +15,6 @@ const NO_MEMORY: &[u8] = b"REFUSED E01 out of memory\n";
 
 /// More growths than a script of the cases makes.
 const MOST_GROWTHS: u64 = 4000;
-
-/// The text of the reply to a statement.
-fn reply_text(alloc: Global, engine: &mut Engine, statement: &[u8]) -> io::Result<Vec<u8>> {
-    let reply = engine.step(statement);
-    let mut sink = StdSink::new(Vec::new(alloc));
-    match write_reply(&mut sink, &reply) {
-        Ok(()) => Ok(sink.into_writer()),
-        Err(_) => Err(io::Error::from(AllocError)),
-    }
-}
 
 /// What an engine answers to the statements of a script that end in `;`, where one that finds no memory is tried
 /// again with memory enough.
@@ -52,43 +41,70 @@ fn retried_in(
 
 /// What a new engine answers that is granted so many growths, then refused one, and then granted all.
 fn retried(alloc: Global, script: &[u8], granted: u64) -> io::Result<Vec<u8>> {
-    let mut splitter = Splitter::new(memory(alloc, u64::MAX)?);
-    if splitter.feed(script).is_err() {
-        return Err(io::Error::from(AllocError));
-    }
-    splitter.finish();
+    let mut splitter = statements_of(alloc, script)?;
     let memory = memory(alloc, granted)?;
     let mut engine = Engine::new(memory);
     retried_in(alloc, memory, &mut engine, &mut splitter)
 }
 
+/// The listed text of a script.
+#[derive(Drop)]
+struct Listed<'a> {
+    text: &'a [u8],
+    /// Where in it no reply has been given yet, and where each ends.
+    ends: Vec<usize>,
+}
+
+/// Where each line of a text ends, and before them its beginning.
+fn line_ends(alloc: Global, text: &[u8]) -> Result<Vec<usize>, AllocError> {
+    let mut ends = vec![in alloc; 0]?;
+    for (at, byte) in text.iter().enumerate() {
+        if *byte == b'\n' {
+            ends.push(at.saturating_add(1))?;
+        }
+    }
+    Ok(ends)
+}
+
+/// Where the replies end in the listed text of a script. A check answers each statement with a line.
+fn reply_ends(
+    alloc: Global,
+    answering: Answering,
+    script: &[u8],
+    listed: &[u8],
+) -> io::Result<Vec<usize>> {
+    match answering {
+        Answering::Run => Ok(step_all(alloc, script)?.ends),
+        Answering::Check => Ok(line_ends(alloc, listed)?),
+    }
+}
+
+/// Whether a text has the first of the listed replies, and then for each other statement that it found no memory.
+fn is_beginning(listed: &Listed<'_>, text: &[u8]) -> bool {
+    let mut begin = text;
+    let mut last = listed.ends.iter().rev();
+    for _ in 0..u64::MAX {
+        let Some(rest) = begin.strip_suffix(NO_MEMORY) else {
+            break;
+        };
+        begin = rest;
+        last.next();
+    }
+    match last.next() {
+        Some(end) => listed.text.get(..*end) == Some(begin),
+        None => false,
+    }
+}
+
 /// What a run in so much memory shows.
 #[derive(Clone, Copy, PartialEq, Eq, Debug)]
 enum Sweep {
-    /// Memory ran out.
-    RanOut,
-    /// There was enough of it.
+    /// All that was granted was asked for, and what was answered is right.
+    UsedUp,
+    /// There was more than enough memory, and each statement is answered as it is listed.
     Ended,
-    /// A reply is wrong.
+    /// A reply is wrong, or lost.
     Differs,
-}
-
-/// What a text shows: the listed one, or a beginning of it and then that each statement found no memory.
-fn shown(listed: &[u8], text: &[u8]) -> Sweep {
-    let mut left = text;
-    for _ in 0..u64::MAX {
-        let Some(rest) = left.strip_suffix(NO_MEMORY) else {
-            break;
-        };
-        left = rest;
-    }
-    if text == listed {
-        Sweep::Ended
-    } else if listed.starts_with(left) && left.len() < text.len() {
-        Sweep::RanOut
-    } else {
-        Sweep::Differs
-    }
 }
 
 /// Runs a script that is granted so many growths, and no further one.
@@ -96,14 +112,17 @@ fn run_in(
     alloc: Global,
     answering: Answering,
     script: &[u8],
-    listed: &[u8],
+    listed: &Listed<'_>,
     granted: u64,
 ) -> io::Result<Sweep> {
-    let Outcome { end, text } = answer(alloc, answering, script, usize::MAX, granted)?;
-    match end {
-        Err(Fault::Memory) if text.is_empty() => Ok(Sweep::RanOut),
-        Err(_) => Ok(Sweep::Differs),
-        Ok(_) => Ok(shown(listed, &text)),
+    let outcome = answer(alloc, answering, script, usize::MAX, granted)?;
+    let nothing_ran = outcome.end == Err(Fault::Memory) && outcome.text.is_empty();
+    let begins = outcome.ended_well() && is_beginning(listed, &outcome.text);
+    let is_whole = begins && outcome.text.as_slice() == listed.text;
+    match outcome.left {
+        0 if nothing_ran || begins => Ok(Sweep::UsedUp),
+        1.. if is_whole => Ok(Sweep::Ended),
+        _ => Ok(Sweep::Differs),
     }
 }
 
@@ -122,20 +141,22 @@ fn is_retried_well(
     }
 }
 
-/// Refuses a script's first growth, then its second, and so on, until none is refused; tells at which one a reply is
-/// wrong.
+/// Refuses a script's first growth, then its second, and so on, until there is more memory than it asks for; tells at
+/// which one a reply is wrong.
 pub fn growth_fault(
     alloc: Global,
     answering: Answering,
     script: &[u8],
-    listed: &[u8],
+    text: &[u8],
 ) -> io::Result<Option<String>> {
+    let ends = reply_ends(alloc, answering, script, text)?;
+    let listed = Listed { text, ends };
     for granted in 0..MOST_GROWTHS {
-        let sweep = run_in(alloc, answering, script, listed, granted)?;
-        let is_well = is_retried_well(alloc, answering, script, listed, granted)?;
+        let sweep = run_in(alloc, answering, script, &listed, granted)?;
+        let is_well = is_retried_well(alloc, answering, script, text, granted)?;
         match sweep {
-            Sweep::RanOut if is_well => {}
-            Sweep::Ended if is_well && granted > 0 => return Ok(None),
+            Sweep::UsedUp if is_well => {}
+            Sweep::Ended if is_well && granted > 1 => return Ok(None),
             _ => {
                 let fault = format!(in alloc; "differs where {granted} growths are granted")?;
                 return Ok(Some(fault));

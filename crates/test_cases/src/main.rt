@@ -10,6 +10,8 @@ mod folder;
 mod growths;
 mod neighbours;
 mod runs;
+mod short;
+mod steps;
 
 use crate::case::fault_of;
 use crate::folder::{case_names, names_in};

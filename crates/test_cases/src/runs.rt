@@ -9,11 +9,12 @@ use tql_run::runner::{Fault, Summary};
 use tql_run::silence::Silence;
 use tql_run::slice_source::SliceSource;
 
-/// How a run ended, and what it wrote.
+/// How a run ended, what it wrote, and how many of the blocks of memory that it was granted it never asked for.
 #[derive(Drop)]
 pub struct Outcome {
     pub end: Result<Summary, Fault>,
     pub text: Vec<u8, Memory>,
+    pub left: u64,
 }
 
 impl Outcome {
@@ -46,10 +47,12 @@ pub enum Answering {
 
 /// Runs a script on a new engine, whole and in so many blocks of memory.
 fn run_whole(alloc: Global, script: &[u8], granted: u64) -> Result<Outcome, AllocError> {
-    let mut engine = Engine::new(memory(alloc, granted)?);
     let mut text = Vec::new(memory(alloc, u64::MAX)?);
+    let memory = memory(alloc, granted)?;
+    let mut engine = Engine::new(memory);
     let end = run_bytes(&mut engine, script, &mut text);
-    Ok(Outcome { end, text })
+    let left = memory.left();
+    Ok(Outcome { end, text, left })
 }
 
 /// Runs a script on a new engine, in pieces of so many bytes and in so many blocks of memory.
@@ -59,13 +62,15 @@ fn run_pieces(
     size: usize,
     granted: u64,
 ) -> Result<Outcome, AllocError> {
-    let mut engine = Engine::new(memory(alloc, granted)?);
     let mut source = SliceSource::in_pieces(script, size);
     let mut sink = VecSink::new(Vec::new(memory(alloc, u64::MAX)?));
+    let memory = memory(alloc, granted)?;
+    let mut engine = Engine::new(memory);
     let end = run(&mut engine, &mut source, &mut sink, &mut Silence);
     Ok(Outcome {
         end,
         text: sink.into_bytes(),
+        left: memory.left(),
     })
 }
 
@@ -83,6 +88,7 @@ pub fn check_only(
     Ok(Outcome {
         end,
         text: sink.into_bytes(),
+        left: memory.left(),
     })
 }
 

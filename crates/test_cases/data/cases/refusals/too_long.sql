@@ -1,7 +1,7 @@
--- cases: filled
+-- cases: short
 -- A statement of 1,048,576 bytes is read; one more byte is refused (E13), before any other fault. By hand from docs/LANGUAGE.md.
-@;
-@ ;
-@ÿ;
-SELECT @ FROM t;
+{1048576 x};
+{1048576 x} ;
+{1048576 x}ÿ;
+SELECT {1048576 x} FROM t;
 AT

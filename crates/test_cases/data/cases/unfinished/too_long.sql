@@ -1,3 +1,3 @@
--- cases: filled
+-- cases: short
 -- A text of more than 1,048,576 bytes that no `;` ends is refused as too long (E13). By hand from docs/LANGUAGE.md.
-@x
+{1048576 x}x
