@@ -79,18 +79,25 @@ fn reply_ends(
     }
 }
 
-/// Whether a text has the first of the listed replies, and then for each other statement that it found no memory.
-fn is_beginning(listed: &Listed<'_>, text: &[u8]) -> bool {
+/// A text without the replies at its end that tell that there was no memory, and how many these are.
+fn without_refusals(text: &[u8]) -> (&[u8], usize) {
     let mut begin = text;
-    let mut last = listed.ends.iter().rev();
+    let mut refusals = 0usize;
     for _ in 0..u64::MAX {
         let Some(rest) = begin.strip_suffix(NO_MEMORY) else {
             break;
         };
         begin = rest;
-        last.next();
+        refusals = refusals.saturating_add(1);
     }
-    match last.next() {
+    (begin, refusals)
+}
+
+/// Whether a text has the first of the listed replies, and then for each other statement that it found no memory.
+fn is_beginning(listed: &Listed<'_>, text: &[u8]) -> bool {
+    let (begin, refusals) = without_refusals(text);
+    let place = listed.ends.len().checked_sub(refusals.saturating_add(1));
+    match place.and_then(|place| listed.ends.get(place)) {
         Some(end) => listed.text.get(..*end) == Some(begin),
         None => false,
     }
