@@ -15,7 +15,6 @@ pub mod Modifying
 pub mod MomentFits
 pub mod Printing
 pub mod QueryInserting
-pub mod RunningLaws
 pub mod Standing
 pub mod Swapping
 pub mod TransactionKeeps

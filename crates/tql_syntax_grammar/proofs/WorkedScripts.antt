@@ -312,7 +312,7 @@ quoted = refl
 
 -- portions in rows of two times
 portions :
-    prints (no_key
+    runs (no_key
     ++ codes "UPDATE emp FOR PORTION OF ep FROM DATE '2011-02-01' TO DATE '2011-03-01' SET dept = 'B'; "
     ++ codes "UPDATE emp FOR PORTION OF ep FROM DATE '2011-02-15' TO DATE '2011-04-01' SET dept = 'C'; "
     ++ codes "SELECT dept, estart, eend FROM emp;")
@@ -324,7 +324,7 @@ portions = refl
 
 -- where a portion lies outside
 out_of_portion :
-    prints (no_key
+    runs (no_key
     ++ codes "INSERT INTO emp VALUES (9223372036854775807, 'Z', DATE '2012-01-01', DATE '2013-01-01'); "
     ++ codes "DELETE FROM emp WHERE eno + 1 > 0; "
     ++ codes "DELETE FROM emp FOR PORTION OF ep FROM DATE '2011-01-01' TO DATE '2011-02-01' WHERE eno + 1 > 0;")

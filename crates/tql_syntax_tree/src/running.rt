@@ -2,9 +2,9 @@
 ghost use Rattle.std.specs.Prelude.{◌≡◌, map};
 ghost use Rattle.std.specs.List.{list_all};
 ghost use Rattle.tql_spec.specs.Running as running;
-ghost use Rattle.tql_syntax_tree.specs.Statements.{create_of, delete_of, element_of, statement_of, update_of};
+ghost use Rattle.tql_syntax_tree.specs.Statements.{create_of, element_of, statement_of};
 
-use crate::statement::{CreateTree, Delete, Element, Statement, Update};
+use crate::statement::{CreateTree, Element, Statement};
 
 /// Whether an element of CREATE is a column or a period.
 fn is_plain_element(element: &Element<'_>) -> bool
@@ -30,30 +30,16 @@ fn does_create_run(create: &CreateTree<'_>) -> bool
     is_plain_element(&create.first) && are_plain_elements(&create.more)
 }
 
-/// Whether UPDATE runs.
-fn does_update_run(update: &Update<'_>) -> bool
-    ensures { result ≡ running.does_run (update_of update.now) }
-{
-    update.portion.is_none()
-}
-
-/// Whether DELETE runs.
-fn does_delete_run(delete: &Delete<'_>) -> bool
-    ensures { result ≡ running.does_run (delete_of delete.now) }
-{
-    delete.portion.is_none()
-}
-
-/// Whether a statement runs.
+/// Whether a statement runs: each but a CREATE TABLE with a key, a reference or a check.
 pub fn does_run(statement: &Statement<'_>) -> bool
     ensures { result ≡ running.does_run (statement_of statement.now) }
 {
     match statement {
         Statement::Create(create) => does_create_run(create),
-        Statement::Update(update) => does_update_run(update),
-        Statement::Delete(delete) => does_delete_run(delete),
         Statement::DropTable(_)
         | Statement::Insert(_)
+        | Statement::Update(_)
+        | Statement::Delete(_)
         | Statement::Query(_)
         | Statement::StartTransaction
         | Statement::Commit

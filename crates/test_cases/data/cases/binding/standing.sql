@@ -1,4 +1,4 @@
--- Statements of the grammar where there is no table: keys, checks and portions do not run yet (E10), queries are refused by their tables (E20); a check takes them. By hand from docs/LANGUAGE.md.
+-- Statements of the grammar where there is no table: keys and checks do not run yet (E10), queries and portions are refused by their tables (E20); a check takes them. By hand from docs/LANGUAGE.md.
 CREATE TABLE t (a DATE, b DATE, PERIOD FOR p (a, b), UNIQUE (a, p WITHOUT OVERLAPS));
 CREATE TABLE t (PRIMARY KEY (a), a INT);
 CREATE TABLE t (a INT, CHECK (a > 0));

@@ -15,7 +15,6 @@ use Rattle.tql_engine.specs.Fitting.{IsNarrow}
 use Rattle.tql_engine.specs.Stands.{EngineModel, StandsFor}
 use Rattle.tql_engine.proofs.Printing.{does_print}
 use Rattle.tql_bind_table.specs.Binds.{Binds}
-use Rattle.tql_engine.proofs.RunningLaws.{makes_none}
 use Rattle.tql_engine.proofs.Joining.{state_does, bound_allowed, bound_does, refusal_does}
 use Rattle.tql_engine.proofs.engine.Engine.execute.Goals as goal
 
@@ -74,9 +73,6 @@ returns-in-Err-clause-answered c s st =
     (sym (st.fits.definitions ∙ tables)) c.in-Err.ensures.binds in
     refusal_does bound_of c.args.self.now s t c.in-Err.fault st (ap (option_map refusal_of) (sym c.in_default.is)
     ∙ c.state_fault.ensures s st) binds
-
-pub bind-requires-clause-plain : goal.bind-requires-clause-plain
-bind-requires-clause-plain c = makes_none (statement_of c.args.statement.now) c.requires.runs
 
 pub bind-requires-clause-tables : goal.bind-requires-clause-tables
 bind-requires-clause-tables c =

@@ -1,0 +1,11 @@
+-- cases: pieces
+-- A portion of no point (E31), a text that is too long (E30), a generated column (E23).
+-- By hand from docs/LANGUAGE.md.
+CREATE TABLE emp (eno INTEGER, dept VARCHAR(10), estart DATE, eend DATE,
+  s TIMESTAMP(12) GENERATED ALWAYS AS ROW START, e TIMESTAMP(12) GENERATED ALWAYS AS ROW END,
+  PERIOD FOR ep (estart, eend), PERIOD FOR SYSTEM_TIME (s, e)) WITH SYSTEM VERSIONING;
+AT TIMESTAMP '2011-01-01 00:00:00';
+INSERT INTO emp VALUES (1, 'A', DATE '2011-01-01', DATE '2011-12-31');
+UPDATE emp FOR PORTION OF ep FROM DATE '2011-06-01' TO DATE '2011-06-01' SET dept = 'B';
+UPDATE emp SET dept = 'ABCDEFGHIJK';
+UPDATE emp SET s = TIMESTAMP '2011-01-01 00:00:00';

@@ -1,0 +1,16 @@
+-- cases: pieces
+-- The refusals of a portion in their order, each beside a later one: its name (E21), kinds (E22), a column of the period set
+-- (E23, E22), a literal out of range (E30), and a portion that does not rise (E31), of which nothing is evaluated.
+-- By hand from docs/LANGUAGE.md.
+CREATE TABLE emp (eno INTEGER, dept VARCHAR(10), estart DATE, eend DATE,
+  s TIMESTAMP(12) GENERATED ALWAYS AS ROW START, e TIMESTAMP(12) GENERATED ALWAYS AS ROW END,
+  PERIOD FOR ep (estart, eend), PERIOD FOR SYSTEM_TIME (s, e)) WITH SYSTEM VERSIONING;
+AT TIMESTAMP '2011-01-01 00:00:00';
+INSERT INTO emp VALUES (1, 'A', DATE '2011-01-01', DATE '2011-12-31');
+UPDATE emp FOR PORTION OF nosuch FROM DATE '2011-06-01' TO DATE '2011-06-01' SET dept = 'B';
+UPDATE emp FOR PORTION OF ep FROM TIMESTAMP '2011-06-01 00:00:00' TO DATE '2011-06-01' SET dept = 'B';
+UPDATE emp FOR PORTION OF ep FROM DATE '2011-06-01' TO DATE '2011-05-01' SET estart = DATE '2011-01-01';
+UPDATE emp FOR PORTION OF ep FROM DATE '2011-01-01' TO DATE '2011-05-01' SET eend = 1;
+DELETE FROM emp FOR PORTION OF ep FROM DATE '2011-02-30' TO DATE '2011-01-01';
+DELETE FROM emp FOR PORTION OF ep FROM DATE '2011-06-01' TO DATE '2011-06-01' WHERE eno = 9223372036854775808;
+DELETE FROM emp FOR PORTION OF ep FROM DATE '2011-06-01' TO DATE '2011-06-01' WHERE eno + 9223372036854775807 > 0;
