@@ -12,3 +12,5 @@ pub mod Cuts
 pub mod Touching
 pub mod PieceTexts
 pub mod Texts
+pub mod Modified
+pub mod PointChanges

@@ -6,6 +6,7 @@ ghost use Rattle.tql_store_rows.specs.Readings.{version_shown as version_of};
 ghost use Rattle.tql_dml.specs.Alters.{Alters, modified, fates, coming, gone, portion_in, work_in, conds_in};
 ghost use Rattle.tql_dml.specs.Alters.{IsVersionOf, AreTyped};
 ghost use Rattle.tql_dml.specs.Cutting.{IsCut, left_cells, made_cells};
+ghost use Rattle.tql_dml.specs.PointChanges.{ModifiesAtPoints};
 ghost use Rattle.tql_period.specs.Points.{points_of};
 ghost use Rattle.tql_expr.specs.Evaluated.{Evaluated};
 ghost use Rattle.tql_expr.specs.Shown.{shown_by};
@@ -193,7 +194,8 @@ fn changes(
 /// come before and after it (ISO/IEC 9075-2:2011, 14.9 and 14.14). Refused, the first of them over all rows: an
 /// evaluation out of range, a text longer than its column takes, a NULL in a column that takes none, an application
 /// period that does not rise; memory. Nothing is changed. Where the versions are rows of the table, and a portion's
-/// values are of their columns' kinds, so are those that come.
+/// values are of their columns' kinds, so are those that come. Where SET and WHERE name no period, at each point of
+/// time what stays and what comes is what the plain change makes of the rows that hold there.
 pub fn modify(
     memory: Memory,
     table: &Table,
@@ -207,6 +209,7 @@ pub fn modify(
     ensures fits { All (IsVersionOf table.now.definition) found.now
         → AreTyped table.now.definition found.now modification.now
         → IfOk result (λ delta. All (IsRowOf table.now.definition) (rows_of delta.added.items)) }
+    ensures points { IfOk result (ModifiesAtPoints table.now.definition found.now modification.now) }
 {
     let definition = &table.definition;
     let changed = changes(memory, definition, modification, found)?;

@@ -10,7 +10,6 @@ pub mod Faults
 pub mod Finding
 pub mod Inserting
 pub mod LaterLemmas
-pub mod Modified
 pub mod Modifying
 pub mod MomentFits
 pub mod Printing
@@ -24,3 +23,4 @@ pub mod Stepping
 pub mod Joining
 pub mod StateFaults
 pub mod Bytes
+pub mod PointRuns

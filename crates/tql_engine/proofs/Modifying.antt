@@ -47,7 +47,7 @@ use Rattle.tql_engine.proofs.Added.{altered_by}
 use Rattle.tql_engine.proofs.Faults.{refused}
 use Rattle.tql_engine.proofs.Standing.{definition_law}
 use Rattle.tql_engine.proofs.Doing.{by_step, refuses, none_there, defined_all, change_step}
-use Rattle.tql_engine.proofs.Modified.{touches, rows_made}
+use Rattle.tql_dml.proofs.Modified.{touches, rows_made}
 use Rattle.tql_engine.proofs.Swapping.{rows_fit_same, swapped}
 
 -- ---- the rows that a change sees

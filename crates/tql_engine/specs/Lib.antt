@@ -7,3 +7,4 @@ pub mod Committing
 pub mod Sense
 pub mod Bytes
 pub mod Modifying
+pub mod PointRuns

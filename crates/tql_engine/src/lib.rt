@@ -3,6 +3,7 @@
 
 mod committing;
 pub mod engine;
+pub mod points;
 pub mod runner;
 mod sense;
 mod store;

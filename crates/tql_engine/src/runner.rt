@@ -4,6 +4,7 @@ ghost use Rattle.tql_spec.specs.Run.{Replies};
 ghost use Rattle.tql_run.specs.Hearing.{hearing_change};
 ghost use Rattle.tql_run.specs.Runs.{Runs, source_change, sink_change};
 ghost use Rattle.tql_engine.specs.Bytes.{RunsBytes};
+ghost use Rattle.tql_engine.specs.PointRuns.{BytesAgreeAtPoints};
 ghost use Rattle.tql_engine.specs.Stands.{StandsFor};
 
 use crate::engine::Engine;
@@ -43,14 +44,18 @@ pub fn run<I: Source, O: Sink, L: Listener>(
 /// statement runs behind the one whose reply it did not take whole, and the run says `Write`; it never says that where
 /// the output has all replies whole. Where there is no memory for what a run takes at its start, nothing runs, and the
 /// run says `Memory`. Where the script has 2^48 - 1 bytes or more, nothing runs, and the run says `Read`; it says that
-/// of no shorter script. A refused statement does not stop the run.
+/// of no shorter script. A refused statement does not stop the run. What ran agrees with the machines of all points
+/// (clause `points`): where its first statements make tables in scope and those behind them are in scope, it is at each
+/// point what a plain machine without periods does.
 pub fn run_bytes(
     engine: &mut Engine,
     script: &[u8],
     output: &mut Vec<u8, Memory>,
 ) -> Result<Summary, Fault>
-    ensures { (s : State) → StandsFor engine.old s
+    ensures written { (s : State) → StandsFor engine.old s
         → RunsBytes s (StandsFor engine.new) script.now output.old.items output.new.items result }
+    ensures points { (s : State) → StandsFor engine.old s
+        → BytesAgreeAtPoints s (StandsFor engine.new) script.now output.old.items output.new.items result }
 {
     if script.len() >= TOO_MANY_BYTES {
         return Err(Fault::Read);

@@ -6,6 +6,7 @@ use Rattle.tql_bound.specs.Changes.{tuple_of}
 use Rattle.tql_dml.specs.Alters.{Alters, added_rows, tuples_in}
 use Rattle.tql_value.specs.Views.{rows_of}
 use Rattle.tql_dml.proofs.Altering.{values_print, of_values}
+use Rattle.tql_dml.proofs.PointChanges.{inserts_where_ok}
 use Rattle.tql_dml.proofs.insertion.insert_tuples.Goals as goal
 
 pub insert_rows-requires : goal.insert_rows-requires
@@ -27,3 +28,8 @@ returns-clause-alters c =
     of_values d c.args.table.now.id x (tuples_in x) (Some tuples) c.insert_rows.result values
     (subst (λ js. Alters c.args.table.now.id [] (λ m. (added_rows d js (Some tuples) m).rows)
     (added_rows d js (Some tuples)) c.insert_rows.result) c.deref-2.ensures.value c.insert_rows.ensures.alters)
+
+pub returns-clause-points : goal.returns-clause-points
+returns-clause-points c =
+    inserts_where_ok c.args.table.now.definition c.args.table.now.id c.args.insertion.now c.insert_rows.result
+    (returns-clause-alters c)

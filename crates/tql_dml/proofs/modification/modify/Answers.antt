@@ -4,6 +4,7 @@ use Rattle.tql_value.specs.Views.{rows_of}
 use Rattle.tql_dml.specs.Cells.{rows_faults}
 use Rattle.tql_dml.specs.Parts.{parts_in}
 use Rattle.tql_dml.proofs.Altering.{modify_fails, modify_refused, modify_gives, modify_fits}
+use Rattle.tql_dml.proofs.PointChanges.{modify_at_points}
 use Rattle.tql_dml.proofs.modification.modify.Goals as goal
 
 pub returns-in_err-changed-clause-alters : goal.returns-in_err-changed-clause-alters
@@ -33,3 +34,8 @@ returns-in-None-clause-fits c =
     c.first_fault.ensures.right c.requires c.in_ok-changed.ensures (ap rows_of c.of_table.ensures.added)
     (c.in-None.ensures.fault
     ∙ ap (λ rs. first (rows_faults c.args.table.now.definition (rows_of rs))) c.deref.ensures.value)
+
+pub returns-in-None-clause-points : goal.returns-in-None-clause-points
+returns-in-None-clause-points c =
+    modify_at_points c.args.table.now.definition c.args.table.now.id c.args.found.now c.args.modification.now
+    c.of_table.result (returns-in-None-clause-alters c)

@@ -1,13 +1,19 @@
 use Rattle.std.proofs.Common.{refl, ◌∙◌, ap, ◌<◌, length, arith, Some}
 use Rattle.tql_engine.specs.Stands.{StandsFor}
 use Rattle.tql_engine.proofs.Bytes.{runs_bytes}
+use Rattle.tql_engine.proofs.PointRuns.{bytes_agree}
 use Rattle.tql_engine.proofs.runner.run_bytes.Goals as goal
 
-pub returns : goal.returns
-returns c s st =
+pub returns-clause-written : goal.returns-clause-written
+returns-clause-written c s st =
     let short : length c.args.script.now < 281_474_976_710_655 = omega (arith, c.if-script-ge-TOO_MANY_BYTES.false) in
     runs_bytes s (StandsFor c.run-end.new.engine) c.args.script.now c.args.output.now.items c.into_bytes.result.items
     _ _ _
     (record { had = c.new-source.ensures.left; before = refl; now = refl; short = short }) refl
     (c.new-sink.ensures.written ∙ ap (λ v. Some v.items) c.replace.ensures.value) c.into_bytes.ensures
     c.run-end.result (c.run-end.ensures s st)
+
+pub returns-clause-points : goal.returns-clause-points
+returns-clause-points c s st =
+    bytes_agree s (StandsFor c.run-end.new.engine) c.args.script.now c.args.output.now.items c.into_bytes.result.items
+    c.run-end.result (returns-clause-written c s st)

@@ -14,9 +14,8 @@ use Rattle.tql_spec.specs.Expression.{Cond}
 use Rattle.tql_spec.specs.Change.{Outcome, Fate, Untouched, Replaced, Work, fate, fate_where, made_of, pieces}
 use Rattle.tql_spec.specs.Change.{is_touched, after_fates, new_rows, outcome_of, modify}
 use Rattle.tql_spec.specs.ChangeLaws.{goes, SameOutcome, ChangesKeepNoOrder, ChangesByParts}
-use Rattle.tql_store.specs.Changes.{rows_after}
+use Rattle.tql_store.specs.Changes.{starting, rows_after}
 use Rattle.tql_dml.specs.Alters.{is_yes, coming}
-use Rattle.tql_engine.proofs.ChangeKeeps.{begun_at}
 
 -- ---- lists of what may be missing
 
@@ -29,6 +28,10 @@ front {A} (Some y) (Some ys) zs e = (y, ys, refl, refl, same (y ∷ ys) zs e)
   where
     same : (us vs : List A) → Some us ≡ Some vs → vs ≡ us
     same us vs e = cc
+
+-- new rows of a moment
+abbrev begun_at : ℤ → List Row → List Stamped
+begun_at m rows = map (starting m) rows
 
 -- whether a row is touched
 abbrev pub touches : TableDef → Option Period → List Cond → Stamped → Bool
@@ -124,7 +127,7 @@ module _ (no_order : ChangesKeepNoOrder) (by_parts : ChangesByParts) (d : TableD
   -- ---- the rows after it
 
   -- where there is no fault, no fate is missing
-  fates_there : (rows : List Stamped) (o : Option (List Fate)) → map_all fate_of rows ≡ o
+  pub fates_there : (rows : List Stamped) (o : Option (List Fate)) → map_all fate_of rows ≡ o
       → first (modify d m rows portion work conds).faults ≡ None → (fs : List Fate) × (o ≡ Some fs)
   fates_there rows None e k = absurd (missing rows e k)
     where
@@ -134,7 +137,7 @@ module _ (no_order : ChangesKeepNoOrder) (by_parts : ChangesByParts) (d : TableD
   fates_there rows (Some fs) e k = (fs, refl)
 
   -- the rows that stay, and those that come, begun at the moment
-  made_after : (rows : List Stamped) (fs : List Fate) (added : List Row) → map_all fate_of rows ≡ Some fs
+  pub made_after : (rows : List Stamped) (fs : List Fate) (added : List Row) → map_all fate_of rows ≡ Some fs
       → map (λ (r : Stamped). r.cells) (new_rows fs) ≡ added
       → SameBag (after_fates rows fs) (rows_after m (touches d portion conds) added rows)
   made_after rows fs added e cells =

@@ -1,0 +1,48 @@
+-- What runs and steps of an engine say of single points.
+use Rattle.std.specs.Prelude.{◌≡◌, ℕ, List, [], ◌∷◌, map, Result, Ok, Err}
+use Rattle.tql_spec.specs.Machine.{State, Reply}
+use Rattle.tql_spec.specs.Script.{statements}
+use Rattle.tql_spec.specs.Run.{Answers, Run, finished}
+use Rattle.tql_points.specs.PointRun.{AgreesAtPoints}
+use Rattle.tql_run.specs.Responding.{Standing, Answered}
+use Rattle.tql_run.specs.declared.runner.Summary.{Summary}
+use Rattle.tql_run.specs.declared.runner.Fault.{Fault}
+use Rattle.tql_run.specs.declared.runner.Fault.TheVariants.{Read, Write, Memory}
+use Rattle.tql_engine.specs.Bytes.{WritesWhole, StopsWriting}
+use Rattle.tql_engine.specs.Stands.{EngineModel, StandsFor}
+
+-- ---- a script in memory
+
+-- by the result of its run: the run of which the output tells agrees with the machines of all points, the whole one or
+-- the one that stopped; else nothing ran
+abbrev pub BytesAgreeAtPoints : State → Standing → (script old new : List ℕ) → Result Summary Fault → Type 0
+BytesAgreeAtPoints s after script old new (Ok summary) =
+    (w : WritesWhole s after script old new summary) × AgreesAtPoints s (statements script) w.writes.0 w.state
+BytesAgreeAtPoints s after script old new (Err Write) =
+    (w : StopsWriting s after script old new) × AgreesAtPoints s w.done w.replies w.state
+BytesAgreeAtPoints s after script old new (Err Memory) = after s
+BytesAgreeAtPoints s after script old new (Err Read) = after s
+
+-- ---- statements one by one
+
+-- an engine given texts one after another, and its replies: each step as the clause `answered` of `Engine::step` says
+abbrev pub Steps : EngineModel → List (List ℕ) → List Reply → EngineModel → Type 0
+Steps old [] [] new = new ≡ old
+Steps old (text ∷ texts) (reply ∷ replies) new =
+    (mid : EngineModel)
+    × ((s : State) → StandsFor old s → Answered Answers s (finished text) reply (StandsFor mid))
+    × Steps mid texts replies new
+Steps old _ _ new = ⊥
+
+-- they are a run of the machine, and it agrees with the machines of all points
+pub record StepsAgree (s : State) (texts : List (List ℕ)) (replies : List Reply) (new : EngineModel) : Type 0 where
+  pub state : State
+  pub stands : StandsFor new state
+  pub ran : Run s (map finished texts) replies state
+  pub agrees : AgreesAtPoints s (map finished texts) replies state
+
+-- the law: so it is from every state for which the engine stands
+abbrev pub StepsAgreeAtPoints : Type 0
+StepsAgreeAtPoints =
+    (old new : EngineModel) (texts : List (List ℕ)) (replies : List Reply) → Steps old texts replies new
+    → (s : State) → StandsFor old s → StepsAgree s texts replies new
