@@ -2,7 +2,54 @@
 //! the crates of tests.
 #![tactic(auto)]
 
+use std::alloc::Global;
 use std::io::{self, Error, ErrorKind, Read, Write};
+
+/// What a run of a script meets: its devices, and its memory.
+#[derive(Clone, Copy)]
+pub struct Setting {
+    /// How many bytes a read gives at once, at the most.
+    pub size: usize,
+    /// How many reads do well, and how many writes.
+    pub reads: u64,
+    pub writes: u64,
+    /// Whether flushes do.
+    pub flushes: bool,
+    /// How many blocks of memory are granted.
+    pub granted: u64,
+}
+
+/// Devices that do not fail, and memory that does not end.
+pub const SOUND: Setting = Setting {
+    size: usize::MAX,
+    reads: u64::MAX,
+    writes: u64::MAX,
+    flushes: true,
+    granted: u64::MAX,
+};
+
+impl Setting {
+    /// A reader of a script.
+    pub fn reader(self, script: &[u8]) -> Chunks<'_> {
+        Chunks {
+            left: script,
+            size: self.size,
+            reads_left: self.reads,
+            interrupts: 0,
+            interrupts_left: 0,
+        }
+    }
+
+    /// A writer that has taken nothing yet.
+    pub fn writer(self, alloc: Global) -> Kept {
+        Kept {
+            bytes: Vec::new(alloc),
+            size: usize::MAX,
+            writes_left: self.writes,
+            flushes: self.flushes,
+        }
+    }
+}
 
 /// A reader of bytes that gives so many at once, fails where it has no reads left, and is interrupted so many times
 /// before each read.

@@ -1,4 +1,4 @@
-// The engine where no script shows it: memory that has ended, devices that fail.
+//! The engine where no script shows it: memory that has ended, devices that fail.
 #![tactic(auto)]
 
 #[cfg(test)]

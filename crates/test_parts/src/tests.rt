@@ -1,4 +1,4 @@
-// One file for each crate that is tested.
+//! One file for each crate that is tested.
 mod devices;
 mod indexes;
 mod memories;

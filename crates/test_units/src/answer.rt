@@ -1,4 +1,4 @@
-// What a line is answered, with each growth refused in turn.
+//! What a line is answered, with each growth refused in turn.
 use crate::line::Line;
 use crate::stop::Stop;
 use crate::{calendar, indexes, lexer, periods, replies, values};

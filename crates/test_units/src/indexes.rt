@@ -1,4 +1,4 @@
-// The indexes of periods, each as a list of steps.
+//! The indexes of periods, each as a list of steps.
 use crate::line::Line;
 use crate::parts::{count, int, period, write_yes};
 use crate::stop::Stop;

@@ -1,4 +1,4 @@
-// The tokens of a text, and the pieces of a script.
+//! The tokens of a text, and the pieces of a script.
 ghost use Rattle.std.specs.Prelude.{◌≡◌, ◌<◌};
 
 use crate::line::Line;

@@ -1,4 +1,4 @@
-// A line of a file: `COMMAND INPUT -> ANSWER`.
+//! A line of a file: `COMMAND INPUT -> ANSWER`.
 use std::alloc::{AllocError, Global};
 
 /// What a line asks, and what is to be answered.

@@ -1,7 +1,7 @@
-// Reads the lines of the files of data/, answers each, and prints how many lines a file has. Before that it prints each
-// line whose answer is not the one that it asks for.
-//
-//     rt try $(for file in data/*; do echo --data $(basename $file)=$file; done)
+//! Reads the lines of the files of data/, answers each, and prints how many lines a file has. Before that it prints
+//! each line whose answer is not the one that it asks for.
+//!
+//!     rt try $(for file in data/*; do echo --data $(basename $file)=$file; done)
 #![tactic(auto)]
 
 mod answer;

@@ -1,4 +1,4 @@
-// Parts of a line, read and written.
+//! Parts of a line, read and written.
 use crate::stop::Stop;
 use std::alloc::AllocError;
 use tql_memory::Memory;

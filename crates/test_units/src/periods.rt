@@ -1,4 +1,4 @@
-// The parts of periods, their points, and coverage.
+//! The parts of periods, their points, and coverage.
 use crate::line::Line;
 use crate::parts::{int, period, sides, two};
 use crate::stop::Stop;

@@ -1,4 +1,4 @@
-// The printed texts of replies and answers.
+//! The printed texts of replies and answers.
 use crate::line::Line;
 use crate::parts::{count, rows, sides, two};
 use crate::stop::Stop;

@@ -1,4 +1,4 @@
-// Why a line has no answer of its own.
+//! Why a line has no answer of its own.
 use std::alloc::{AllocError, AllocFailed};
 use tql_value::refusal::Refusal;
 

@@ -1,4 +1,4 @@
-// Comparison and order of values of two kinds, copies, texts, numbers of tables, and refusals.
+//! Comparison and order of values of two kinds, copies, texts, numbers of tables, and refusals.
 use crate::line::Line;
 use crate::parts::{count, sides, two, view, write_view};
 use crate::stop::Stop;

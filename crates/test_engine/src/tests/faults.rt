@@ -1,6 +1,7 @@
-// Devices that fail.
-use crate::tests::devices::{Outcome, SOUND, Setting, run_script};
+//! Devices that fail.
+use crate::tests::devices::{Outcome, run_script};
 use std::test::Fail;
+use test_devices::{SOUND, Setting};
 use tql_engine::engine::Engine;
 use tql_engine::runner::run_bytes;
 use tql_memory::memory;

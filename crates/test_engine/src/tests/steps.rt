@@ -1,4 +1,4 @@
-// The calls of an engine beside scripts: COMMIT and ROLLBACK where memory has ended, and a step by a text.
+//! The calls of an engine beside scripts: COMMIT and ROLLBACK where memory has ended, and a step by a text.
 use std::process::Abort;
 use std::test::Fail;
 use tql_engine::engine::Engine;

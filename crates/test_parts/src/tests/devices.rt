@@ -1,4 +1,4 @@
-// A responder that counts bytes.
+//! A responder that counts bytes.
 ghost use Rattle.std.specs.Prelude.{⊤};
 
 use tql_memory::Memory;

@@ -1,4 +1,4 @@
-// tql_index: what was added before memory ended is there, and what was refused is not; and how deep the tree is.
+//! tql_index: what was added before memory ended is there, and what was refused is not; and how deep the tree is.
 use std::alloc::AllocError;
 use std::process::Abort;
 use std::test::Fail;

@@ -1,4 +1,4 @@
-// tql_memory: how many blocks are granted.
+//! tql_memory: how many blocks are granted.
 use indexmap::IndexMap;
 use smallvec::SmallVec;
 use std::alloc::AllocError;

@@ -1,4 +1,4 @@
-// tql_run: which refused statements a listener is told of, and where they stand.
+//! tql_run: which refused statements a listener is told of, and where they stand.
 use crate::tests::devices::Lengths;
 use std::test::Fail;
 use tql_memory::memory;

@@ -1,33 +1,12 @@
-// tql_run: whole runs, over devices that fail and memory that ends.
+//! tql_run: whole runs, over devices that fail and memory that ends.
 use crate::tests::devices::Lengths;
 use std::test::Fail;
-use test_devices::{Chunks, Kept};
+use test_devices::{SOUND, Setting};
 use tql_memory::memory;
 use tql_result::std_sink::StdSink;
 use tql_run::runner::{Fault, Summary, run};
 use tql_run::silence::Silence;
 use tql_run::std_source::StdSource;
-
-/// What a run of a script meets.
-#[derive(Clone, Copy)]
-struct Setting {
-    /// How many bytes a read gives at once, at the most.
-    size: usize,
-    reads: u64,
-    writes: u64,
-    flushes: bool,
-    /// How many blocks of memory are granted.
-    granted: u64,
-}
-
-/// Devices that do not fail, and memory that does not end.
-const SOUND: Setting = Setting {
-    size: usize::MAX,
-    reads: u64::MAX,
-    writes: u64::MAX,
-    flushes: true,
-    granted: u64::MAX,
-};
 
 /// How a run ended: its counts of statements and of refusals, or its fault.
 type End = Result<(u64, u64), Fault>;
@@ -48,19 +27,8 @@ fn run_script(rt: &impl AllocGlobal, script: &[u8], setting: Setting) -> Result<
     let mut lengths = Lengths {
         memory: memory(rt.alloc(), setting.granted)?,
     };
-    let mut source = StdSource::new(Chunks {
-        left: script,
-        size: setting.size,
-        reads_left: setting.reads,
-        interrupts: 0,
-        interrupts_left: 0,
-    });
-    let mut sink = StdSink::new(Kept {
-        bytes: Vec::new(rt.alloc()),
-        size: usize::MAX,
-        writes_left: setting.writes,
-        flushes: setting.flushes,
-    });
+    let mut source = StdSource::new(setting.reader(script));
+    let mut sink = StdSink::new(setting.writer(rt.alloc()));
     let end = run(&mut lengths, &mut source, &mut sink, &mut Silence).map(counts);
     Ok(Outcome {
         end,

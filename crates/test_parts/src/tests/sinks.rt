@@ -1,4 +1,4 @@
-// tql_result: what a sink that fails leaves of a reply, and what it counts.
+//! tql_result: what a sink that fails leaves of a reply, and what it counts.
 use std::alloc::{AllocError, Global};
 use std::test::Fail;
 use test_devices::Kept;

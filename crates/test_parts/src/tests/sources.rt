@@ -1,4 +1,4 @@
-// tql_run: a read that is interrupted is made again, and one that fails is counted.
+//! tql_run: a read that is interrupted is made again, and one that fails is counted.
 use std::test::Fail;
 use test_devices::Chunks;
 use tql_run::device::Source;

@@ -1,4 +1,4 @@
-// tql_store: a short history, run with each growth refused in turn.
+//! tql_store: a short history, run with each growth refused in turn.
 ghost use Rattle.std.specs.Prelude.{◌≡◌, [], map, IfOk, IsTrue};
 ghost use Rattle.tql_store.specs.StoreModel.{has_table as table_there, AreRemovable};
 
