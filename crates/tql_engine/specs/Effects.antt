@@ -35,8 +35,7 @@ reply_by (Ok reply) = reply_of reply
 reply_by (Err e) = Refused (refusal_of e)
 
 -- what is asked of the transaction and the clock before names are bound: the moment of AT is not read yet, and COMMIT
--- and ROLLBACK answer for
--- themselves
+-- and ROLLBACK answer for themselves
 abbrev pub asked_first : StatementClass → StatementClass
 asked_first (SetsClock m) = SetsClock None
 asked_first Ends = Queries
