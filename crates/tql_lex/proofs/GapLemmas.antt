@@ -22,10 +22,10 @@ record Behind (in_comment : Bool) (bytes rest : List ℕ) : Type 0 where
 one_more_byte : (b : ℕ) (words : List ℕ) → (b == 10) ≡ false → IsOneLine words → IsOneLine (b ∷ words)
 one_more_byte b words e one = and_from (not (b == 10)) (list_all (λ c. not (c == 10)) words) (ap not e) one
 
-dash_first : (b : ℕ) (bs : List ℕ) → begins_comment b bs ≡ true → b ≡ 45
+pub dash_first : (b : ℕ) (bs : List ℕ) → begins_comment b bs ≡ true → b ≡ 45
 dash_first b bs e = eqb-true b 45 (and_parts (b == 45) (starts_with_dash bs) e).0
 
-dash_next : (b c : ℕ) (bs : List ℕ) → begins_comment b (c ∷ bs) ≡ true → c ≡ 45
+pub dash_next : (b c : ℕ) (bs : List ℕ) → begins_comment b (c ∷ bs) ≡ true → c ≡ 45
 dash_next b c bs e = eqb-true c 45 (and_parts (b == 45) (c == 45) e).1
 
 comment_gap : (b c : ℕ) (bs rest : List ℕ) → begins_comment b (c ∷ bs) ≡ true → Behind true bs rest

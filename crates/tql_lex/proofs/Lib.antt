@@ -1,4 +1,6 @@
 pub mod CuttingLemmas
+pub mod LookLemmas
+pub mod HoldLemmas
 pub mod QuoteLemmas
 pub mod GapLemmas
 pub mod TokensLemmas

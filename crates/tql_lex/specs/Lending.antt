@@ -4,7 +4,7 @@ use Rattle.std.specs.Borrow.{Fml, MutBor}
 use Rattle.std.specs.Io.BufRead.{Rests}
 use Rattle.tql_lex.specs.Stream.{Stream}
 use Rattle.tql_lex.specs.Pieces.{Gives}
-use Rattle.tql_lex.specs.declared.splitter.Piece.{Piece}
+use Rattle.tql_lex.specs.declared.piece.Piece.{Piece}
 use Rattle.tql_lex.specs.contracts.splitter.Splitter.{the_row}
 
 abbrev pub EndsAs : MutBor Stream → Option Piece → Fml

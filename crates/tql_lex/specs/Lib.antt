@@ -1,6 +1,10 @@
 pub mod Stream
 pub mod Cutting
+pub mod Drafts
+pub mod Ready
+pub mod Holding
 pub mod Pieces
+pub mod Feeding
 pub mod Lending
 pub mod Tokens
 pub mod Reading

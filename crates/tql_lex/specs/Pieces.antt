@@ -1,49 +1,77 @@
 -- What a splitter gives.
-use Rattle.std.specs.Prelude.{◌≡◌, ℕ, ◌<◌, ◌≤◌, ◌++◌, not, IsTrue, IsFalse, List, [], ◌∷◌, length, Option, Some, None}
+use Rattle.std.specs.Prelude.{◌≡◌, ℕ, ◌+◌, ◌<◌, ◌≤◌, ◌++◌, not, Bool, IsTrue, IsFalse, List, [], ◌∷◌, length}
+use Rattle.std.specs.Prelude.{Option, Some, None}
 use Rattle.std.specs.List.{list_all}
 use Rattle.tql_spec.specs.Script as script
 use Rattle.tql_spec.specs.Script.{statements}
 use Rattle.tql_spec.specs.Lines.{placed_from, line_of}
-use Rattle.tql_lex.specs.Stream.{Stream}
-use Rattle.tql_lex.specs.declared.scan.Found.{Found}
-use Rattle.tql_lex.specs.declared.splitter.Piece.{Piece}
-use Rattle.tql_lex.specs.declared.splitter.Piece.TheVariants.{Text, TooLong, NoMemory, Unfinished}
+use Rattle.tql_lex.specs.Stream.{Kept, Stream, to_do, capped}
+use Rattle.tql_lex.specs.Drafts.{longest, Keeps}
+use Rattle.tql_lex.specs.Holding.{Holds}
+use Rattle.tql_lex.specs.declared.piece.Piece.{Piece}
+use Rattle.tql_lex.specs.declared.piece.Piece.TheVariants.{Text, TooLong, NoMemory, Unfinished}
 
--- the longest text that is given
-abbrev pub longest : ℕ
-longest = 1_048_576
-
--- the piece stands for the statement
+-- the piece stands for the statement; that memory was refused stands for any
 abbrev pub StandsFor : Piece → script.Piece → Type 0
 StandsFor (Text t) p = (p.text ≡ t.now) × IsTrue p.finished × (length t.now ≤ longest)
 StandsFor TooLong p = longest < length p.text
-StandsFor NoMemory p = ⊥
+StandsFor NoMemory p = Unit {0}
 StandsFor (Unfinished t) p = (p.text ≡ t.now) × IsFalse p.finished × (length t.now ≤ longest)
 
--- the statement that was found
-abbrev pub piece_found : Found → script.Piece
-piece_found f = record { text = f.text.now; finished = f.finished }
+-- what is kept of a text that has ended, by a `;` or without one, is that of the statement
+abbrev pub Says : Bool → Kept → script.Piece → Type 0
+Says finished kept p = (p.finished ≡ finished) × Keeps p.text kept
 
--- the statement is the first of those left, whatever is still to come, and stands on its line; after the end nothing
--- comes
-pub record GivesFirst (old new : Stream) (p : script.Piece) : Type 0 where
-  pub given : statements old.left ≡ p ∷ statements new.left
-  pub coming : (more : List ℕ) → IsFalse old.ended → statements (old.left ++ more) ≡ p ∷ statements (new.left ++ more)
-  pub unfinished : IsFalse p.finished → IsTrue old.ended
-  pub ended : new.ended ≡ old.ended
-  pub used : List ℕ
-  pub parts : old.left ≡ used ++ new.left
-  pub passed : new.passed ≡ old.passed ++ used
+-- what may still come: after the end nothing
+abbrev pub MayFollow : Bool → List ℕ → Type 0
+MayFollow ended more = IsTrue ended → more ≡ []
+
+-- Behind the bytes that were passed, the statement is the first of those left, whatever may still follow. What stands up
+-- to its end is used, and the rest is left. It stands on this line.
+pub record IsFirst (ended : Bool) (passed left used rest : List ℕ) (p : script.Piece) (on : ℕ)
+    : Type 0 where
+  pub given : (more : List ℕ) → MayFollow ended more → statements (left ++ more) ≡ p ∷ statements (rest ++ more)
+  pub unfinished : IsFalse p.finished → IsTrue ended
+  pub parts : left ≡ used ++ rest
   pub before : List ℕ
-  pub placed : placed_from old.passed old.left ≡ record { before = before; piece = p } ∷ placed_from new.passed new.left
-  pub line : new.line ≡ line_of (record { before = before; piece = p })
+  pub placed : (more : List ℕ) → MayFollow ended more
+      → placed_from passed (left ++ more)
+      ≡ record { before = before; piece = p } ∷ placed_from (passed ++ used) (rest ++ more)
+  pub within : length before + length p.text ≤ length (passed ++ used)
+  pub line : on ≡ capped (line_of (record { before = before; piece = p }))
 
 -- no statement is left: none that is whole, and after the end none at all
-pub record HasNone (s : Stream) : Type 0 where
-  pub whole : IsTrue (list_all (λ (p : script.Piece). not p.finished) (statements s.left))
-  pub at_end : IsTrue s.ended → statements s.left ≡ []
+pub record HasNone (ended : Bool) (left : List ℕ) : Type 0 where
+  pub whole : IsTrue (list_all (λ (p : script.Piece). not p.finished) (statements left))
+  pub at_end : IsTrue ended → statements left ≡ []
 
--- the next statement, or none; only the statement given is taken
+-- the next statement was taken, and it is as this says
+pub record Takes (Is : script.Piece → Type 0) (new : Stream) (passed left : List ℕ) : Type 0 where
+  pub piece : script.Piece
+  pub is : Is piece
+  pub used : List ℕ
+  pub rest : List ℕ
+  pub first : IsFirst new.ended passed left used rest piece new.line
+  pub holds : Holds new (passed ++ used) rest
+
+-- no statement was taken, and the splitter holds what it held
+pub record TakesNone (new : Stream) (passed left : List ℕ) : Type 0 where
+  pub none : HasNone new.ended left
+  pub holds : Holds new passed left
+
+-- the next statement, whatever the splitter was fed; only that one is taken
+pub record GivesOne (Is : script.Piece → Type 0) (old new : Stream) : Type 0 where
+  pub ended : new.ended ≡ old.ended
+  pub fewer : to_do new < to_do old
+  pub takes : (passed left : List ℕ) → Holds old passed left → Takes Is new passed left
+
+-- none: all bytes that were fed are looked at
+pub record GivesNone (old new : Stream) : Type 0 where
+  pub ended : new.ended ≡ old.ended
+  pub line : new.line ≡ old.line
+  pub ready : new.ready ≡ []
+  pub takes : (passed left : List ℕ) → Holds old passed left → TakesNone new passed left
+
 abbrev pub Gives : Stream → Option Piece → Stream → Type 0
-Gives old None new = (new ≡ old) × HasNone old
-Gives old (Some piece) new = (p : script.Piece) × StandsFor piece p × GivesFirst old new p
+Gives old None new = GivesNone old new
+Gives old (Some piece) new = GivesOne (StandsFor piece) old new

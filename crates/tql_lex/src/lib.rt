@@ -1,8 +1,11 @@
 //! The statements of a script, and the tokens of a statement.
 #![tactic(auto)]
 
+mod draft;
 mod extent;
 pub mod folding;
+pub mod piece;
+mod ready;
 mod reserved;
 mod scan;
 mod scan_state;

@@ -1,7 +1,7 @@
 //! Where in a script a byte stands.
 ghost use Rattle.std.specs.Prelude.{◌≡◌};
 ghost use Rattle.tql_spec.specs.Script as script;
-ghost use Rattle.tql_lex.specs.Cutting.{state_of};
+ghost use Rattle.tql_lex.specs.Cutting.{state_of, is_comment};
 
 /// Where a byte stands, told by the bytes before it.
 #[derive(Clone, Copy)]
@@ -36,6 +36,13 @@ pub(crate) fn state_after(place: ScanState, byte: u8) -> ScanState
             ScanState::Outside,
         (ScanState::InText | ScanState::InName | ScanState::InComment, _) => place,
     }
+}
+
+/// Whether a byte in this state stands in a comment.
+pub(crate) fn is_comment(place: ScanState) -> bool
+    ensures { result ≡ is_comment (state_of place) }
+{
+    matches!(place, ScanState::InComment)
 }
 
 /// Whether a `;` in this state ends a statement.

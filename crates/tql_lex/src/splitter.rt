@@ -1,95 +1,97 @@
 //! The statements of a stream of bytes.
-ghost use Rattle.std.specs.Prelude.{◌≡◌, ◌++◌, true, false, IsFalse, OnOk, OnErr, IfErr};
-ghost use Rattle.tql_lex.specs.Pieces.{StandsFor, piece_found};
+ghost use Rattle.std.specs.Prelude.{◌≡◌, ◌≤◌, length, List, IsFalse, IfOk};
+ghost use Rattle.tql_lex.specs.Feeding.{Feeds, Finishes, LooksAt, Closes, TakesOn, Advances, forgotten};
 
-use crate::scan::{Found, first_statement, line_feeds};
+use crate::draft::Draft;
+use crate::piece::Piece;
+use crate::ready::Ready;
+use crate::scan_state::{ScanState, can_end, is_comment, state_after};
+use std::alloc::AllocError;
 use std::marker::Model;
 use tql_memory::Memory;
-use tql_value::refusal::Refusal;
 
 /// The most bytes that a statement's text may have.
 pub const LONGEST: usize = 1_048_576;
 
-/// What is next in a script.
-#[derive(Clone, Copy)]
-pub enum Piece<'a> {
-    /// A statement's text, without its `;`.
-    Text(&'a [u8]),
-    /// A statement of more than 1,048,576 bytes.
-    TooLong,
-    /// A statement that found no memory.
-    NoMemory,
-    /// The text at the end of the input, which no `;` ends.
-    Unfinished(&'a [u8]),
-}
+/// The most bytes that a splitter is fed at once.
+pub const PIECE: usize = 65_536;
 
-/// Cuts a stream of bytes, which comes in parts, into statements. How the bytes were cut into parts does not matter.
+/// Cuts a stream of bytes, which comes in parts, into statements. How the bytes were cut into parts does not matter. It
+/// keeps one part, and of the text that was begun the bytes that have come, up to 1,048,576.
 #[derive(Drop)]
 pub struct Splitter {
-    bytes: Vec<u8, Memory>,
-    start: usize,
+    ready: Ready,
+    draft: Draft,
+    /// Whether the draft was given out.
+    given: bool,
+    /// Where the next byte stands.
+    place: ScanState,
     ended: bool,
-    /// How many line feeds stand before the start.
-    feeds: usize,
+    /// How many line feeds were passed.
+    feeds: u64,
+    /// How many stand before the text that was begun.
+    begun: u64,
     /// The line of the statement that was given last.
     line: u64,
 }
 
 impl Model for Splitter {
-    ghost use Rattle.std.specs.Prelude.{◌≡◌, drop, take, ◌≤◌, vec_len};
-    ghost use Rattle.tql_spec.specs.Lines as lines;
     ghost use Rattle.tql_lex.specs.Stream.{Stream};
+    ghost use Rattle.tql_lex.specs.Cutting.{state_of};
 
     ghost Value = { Stream };
 
     ghost view = { λ s. record {
-      left = drop s.start s.bytes.items;
+      kept = s.draft;
+      given = s.given;
+      place = state_of s.place;
+      ready = s.ready;
       ended = s.ended;
-      passed = take s.start s.bytes.items;
+      feeds = s.feeds;
+      begun = s.begun;
       line = s.line;
     } };
-
-    ghost invariant = { λ s. (s.start ≤ vec_len s.bytes) × (s.feeds ≡ lines.line_feeds (take s.start s.bytes.items)) };
 }
 
 impl Splitter {
-    ghost use Rattle.std.specs.Prelude.{List};
+    ghost use Rattle.std.specs.Prelude.{[]};
     ghost use Rattle.std.specs.Borrow.{sem};
+    ghost use Rattle.tql_lex.specs.Holding.{Holds};
     ghost use Rattle.tql_lex.specs.Lending.{EndsAs};
 
-    /// A splitter that was fed nothing, and keeps the memory that it grows in.
-    pub fn new(memory: Memory) -> Splitter
-        ensures empty { result.left ≡ List.[] }
-        ensures open { result.ended ≡ false }
-        ensures unread { result.passed ≡ List.[] }
+    /// A splitter that was fed nothing. It takes room for one part, and keeps the memory that a text grows in.
+    pub fn new(memory: Memory) -> Result<Splitter, AllocError>
+        ensures holds { IfOk result (λ s. Holds s List.[] List.[]) }
+        ensures ready { IfOk result (λ s. s.ready ≡ List.[]) }
+        ensures open { IfOk result (λ s. IsFalse s.ended) }
     {
-        Splitter {
-            bytes: Vec::new(memory),
-            start: 0,
+        let ready = Ready::new(memory)?;
+        Ok(Splitter {
+            ready,
+            draft: Draft::new(memory),
+            given: false,
+            place: ScanState::Outside,
             ended: false,
             feeds: 0,
+            begun: 0,
             line: 1,
-        }
+        })
     }
 
-    /// Adds bytes to what is left. A refused growth leaves everything as it was.
-    pub fn feed(&mut self, bytes: &[u8]) -> Result<(), Refusal>
-        requires { IsFalse self.old.ended }
-        ensures left { OnOk result (self.new.left ≡ self.old.left ++ bytes.now) }
-        ensures ended { OnOk result (self.new.ended ≡ self.old.ended) }
-        ensures passed { OnOk result (self.new.passed ≡ self.old.passed) }
-        ensures refused { OnErr result (self.new ≡ self.old) }
-        ensures reason { IfErr result (λ e. e ≡ Refusal.OutOfMemory) }
+    /// Adds a part of at most 65,536 bytes to what is left. It is called first, or where `next_statement` last answered
+    /// None, and takes no memory.
+    pub fn feed(&mut self, bytes: &[u8])
+        requires open { IsFalse self.old.ended }
+        requires drained { self.old.ready ≡ List.[] }
+        requires small { length bytes.now ≤ 65_536 }
+        ensures { Feeds self.old self.new bytes.now }
     {
-        self.bytes.extend_from_slice(bytes)?;
-        Ok(())
+        self.ready.fill(bytes);
     }
 
     /// Says that no more bytes come.
     pub fn finish(&mut self)
-        ensures left { self.new.left ≡ self.old.left }
-        ensures ended { self.new.ended ≡ true }
-        ensures passed { self.new.passed ≡ self.old.passed }
+        ensures { Finishes self.old self.new }
     {
         self.ended = true;
     }
@@ -101,43 +103,91 @@ impl Splitter {
         self.ended
     }
 
-    /// The line of the statement that was given last, of its first byte that counts; the first line is 1.
+    /// The line of the statement that was given last, of its first byte that counts; the first line is 1, and the count
+    /// stays at 2^64 - 1.
     pub fn line(&self) -> u64
         ensures { result ≡ self.now.line }
     {
         self.line
     }
 
+    /// Lets go of a text that was given out.
+    fn forget(&mut self)
+        ensures { self.new ≡ forgotten self.old }
+    {
+        if self.given {
+            self.draft.clear();
+            self.given = false;
+        }
+    }
+
+    /// Looks at a byte that ends no piece.
+    fn look(&mut self, byte: u8)
+        ensures { LooksAt byte self.old self.new }
+    {
+        if !self.draft.is_begun() {
+            self.begun = self.feeds;
+        }
+        self.draft.look(byte, is_comment(self.place));
+        self.place = state_after(self.place, byte);
+        if byte == b'\n' {
+            self.feeds = self.feeds.saturating_add(1);
+        }
+    }
+
+    /// Ends a piece, and gives its text out, if it has one.
+    fn close(&mut self) -> bool
+        ensures { Closes result self.old self.new }
+    {
+        self.draft.end();
+        self.place = ScanState::Outside;
+        self.given = self.draft.is_begun();
+        if self.given {
+            self.line = self.begun.saturating_add(1);
+        }
+        self.given
+    }
+
+    /// Takes a byte, and answers whether it ended a statement.
+    fn take(&mut self, byte: u8) -> bool
+        requires { IsFalse self.old.given }
+        ensures { TakesOn byte result self.old self.new }
+    {
+        if byte == b';' && can_end(self.place) {
+            self.close()
+        } else {
+            self.look(byte);
+            false
+        }
+    }
+
+    /// Goes on to the end of the next statement, and answers whether a `;` ended it.
+    fn advance(&mut self) -> Option<bool>
+        ensures { Advances self.old result self.new }
+    {
+        self.forget();
+        while let Some(byte) = self.ready.take() {
+            if self.take(byte) {
+                return Some(true);
+            }
+        }
+        if self.ended && self.draft.is_begun() {
+            self.close();
+            return Some(false);
+        }
+        None
+    }
+
     /// The next statement: its text from the first byte that is neither a blank nor in a comment up to its `;`.
-    /// It is None where no whole statement is left, and then nothing changes. Once the input has ended, what no `;`
-    /// ends is given as unfinished. The limit on a text's bytes, and that a `;` in a text, a quoted name or a comment
-    /// ends nothing, are this project's choice; `NoMemory` is not given yet.
+    /// It is None where the bytes that were fed hold no whole statement, and then the next part may be fed. Once the
+    /// input has ended, what no `;` ends is given as unfinished. A text of more than 1,048,576 bytes is not kept, and is
+    /// given as too long, once, where it ends. Where memory is refused for a text, its bytes are let go, and `NoMemory`
+    /// is given, once, where it ends. The limit, and that a `;` in a text, a quoted name or a comment ends nothing, are
+    /// this project's choice.
     pub fn next_statement(&mut self) -> Option<Piece<'_>>
         ensures* next { sem 𝓛 (EndsAs self.entry result) }
     {
-        let bytes = self.bytes.as_slice();
-        let (_, left) = bytes.split_at(self.start);
-        let found = first_statement(left)?;
-        if !found.finished && !self.ended {
-            return None;
-        }
-        let feeds = self.feeds + line_feeds(found.before);
-        self.line = feeds as u64 + 1;
-        self.feeds = feeds + line_feeds(found.text);
-        self.start = bytes.len() - found.rest.len();
-        Some(piece_of(found))
-    }
-}
-
-/// The piece that a statement is given as.
-fn piece_of(found: Found<'_>) -> Piece<'_>
-    ensures { StandsFor result (piece_found found.entry) }
-{
-    if found.text.len() > LONGEST {
-        Piece::TooLong
-    } else if found.finished {
-        Piece::Text(found.text)
-    } else {
-        Piece::Unfinished(found.text)
+        let finished = self.advance()?;
+        Some(self.draft.piece(finished))
     }
 }

@@ -1,0 +1,54 @@
+//! The piece of a stream that is still to be looked at.
+ghost use Rattle.std.specs.Prelude.{◌≡◌, ◌≤◌, length, IfOk, [], List};
+ghost use Rattle.tql_lex.specs.Ready.{TakesByte};
+
+use crate::splitter::PIECE;
+use std::alloc::AllocError;
+use std::marker::Model;
+use tql_memory::Memory;
+
+/// The bytes that were fed and not looked at: one piece at the most.
+#[derive(Drop)]
+pub(crate) struct Ready {
+    bytes: Vec<u8, Memory>,
+    next: usize,
+}
+
+impl Model for Ready {
+    ghost use Rattle.std.specs.Prelude.{◌≤◌, ℕ, List, drop, vec_len, vec_capacity};
+
+    ghost Value = { List ℕ };
+
+    ghost view = { λ r. drop r.next r.bytes.items };
+
+    ghost invariant = { λ r. (r.next ≤ vec_len r.bytes) × (65_536 ≤ vec_capacity r.bytes) };
+}
+
+impl Ready {
+    /// No bytes, and room for a piece.
+    pub(crate) fn new(memory: Memory) -> Result<Ready, AllocError>
+        ensures { IfOk result (λ r. r ≡ List.[]) }
+    {
+        let bytes = Vec::with_capacity(memory, PIECE)?;
+        Ok(Ready { bytes, next: 0 })
+    }
+
+    /// Takes a piece in the place of what there was. There is room for it.
+    pub(crate) fn fill(&mut self, piece: &[u8])
+        requires { length piece.now ≤ 65_536 }
+        ensures { self.new ≡ piece.now }
+    {
+        self.next = 0;
+        self.bytes.clear();
+        let _taken = self.bytes.extend_from_slice(piece);
+    }
+
+    /// Takes the next byte.
+    pub(crate) fn take(&mut self) -> Option<u8>
+        ensures { TakesByte self.old result self.new }
+    {
+        let byte = *self.bytes.get(self.next)?;
+        self.next += 1;
+        Some(byte)
+    }
+}
