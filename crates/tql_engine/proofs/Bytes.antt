@@ -117,16 +117,19 @@ module _ (s : State) (after : Standing) (script old new : List ℕ) (source : So
         counts = subst (λ (x : List Answer). Counts summary x) p.all r.counts;
       }
 
-  stopped_at : (r : run.StopsWriting Replies s after source sink hearing) (b : Bool) → source.ended ≡ b
-      → StopsWriting s after script old new
-  stopped_at r true e =
-      let meets = subst (λ (b : Bool). MatchBool b (MeetsEnd source) (MissesEnd source r.script)) e r.read in
-      let is = whole_read script r.script source m r.given meets in
+  -- what follows what was read
+  stopped : (r : run.StopsWriting Replies s after source sink hearing) → StopsWriting s after script old new
+  stopped r =
+      let told = r.given.told script m.had in
+      let follows : IsTrue r.met → told.0 ≡ [] = λ e.
+      let meets = subst (λ (b : Bool). MatchBool b (MeetsEnd source) (source.failures_new ≡ source.failures_old)) e r.read in
+      meets.at_end.nothing told.0 told.2 in
+      let first = r.first told.0 follows in
       let p = replying s r.done r.answers r.state r.ran in
       record {
         done = r.done;
-        rest = r.rest;
-        parts = ap statements (sym is) ∙ ap (λ (b : Bool). answered b r.script) (sym e) ∙ r.parts;
+        rest = first.others;
+        parts = ap statements told.1 ∙ first.parts;
         replies = p.replies;
         state = r.state;
         ran = p.ran;
@@ -141,14 +144,10 @@ module _ (s : State) (after : Standing) (script old new : List ℕ) (source : So
           → CutsLast (map Replied replies) r.text
       cut replies all (inl c) = subst (λ (x : List Answer). CutsLast x r.text) all c
       cut replies all (inr (none, is, fails)) = absurd (no_flush_fails sink.flushes_fail never fails)
-  stopped_at r false e =
-      let misses = subst (λ (b : Bool). MatchBool b (MeetsEnd source) (MissesEnd source r.script)) e r.read in
-      absurd (ended script r.script source m r.given misses)
-
   -- what a run over memory leaves
   pub runs_bytes : (result : Result Summary Fault) → Runs Replies s after source sink hearing result
       → RunsBytes s after script old new result
   runs_bytes (Ok summary) r = whole summary r
-  runs_bytes (Err Write) r = stopped_at r source.ended refl
+  runs_bytes (Err Write) r = stopped r
   runs_bytes (Err Memory) r = (m.short, r.stands, grown old new [] sink before now r.written ∙ append-nil old)
   runs_bytes (Err Read) r = absurd (ended script r.script source m r.given r.cut)

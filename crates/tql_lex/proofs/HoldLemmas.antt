@@ -587,6 +587,7 @@ gives_none start now r ends = record {
   ended = r.ended;
   line = r.line;
   ready = r.ready;
+  no_more = r.no_more;
   takes = λ passed left h. record {
     none = none_left now r.still r.ready ends passed left (r.holds passed left h);
     holds = r.holds passed left h;

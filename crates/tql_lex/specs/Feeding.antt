@@ -12,6 +12,7 @@ use Rattle.tql_lex.specs.Pieces.{GivesOne, GivesNone, Says}
 pub record Feeds (old new : Stream) (bytes : List ℕ) : Type 0 where
   pub ended : new.ended ≡ old.ended
   pub line : new.line ≡ old.line
+  pub more : to_do new ≡ to_do old + length bytes
   pub holds : (passed left : List ℕ) → Holds old passed left → Holds new passed (left ++ bytes)
 
 -- the end is told
@@ -19,6 +20,7 @@ pub record Finishes (old new : Stream) : Type 0 where
   pub ended : IsTrue new.ended
   pub line : new.line ≡ old.line
   pub ready : new.ready ≡ old.ready
+  pub same : to_do new ≡ to_do old
   pub holds : (passed left : List ℕ) → Holds old passed left → Holds new passed left
 
 -- a byte was taken that ends no statement

@@ -70,6 +70,7 @@ pub record GivesNone (old new : Stream) : Type 0 where
   pub ended : new.ended ≡ old.ended
   pub line : new.line ≡ old.line
   pub ready : new.ready ≡ []
+  pub no_more : to_do new ≤ to_do old
   pub takes : (passed left : List ℕ) → Holds old passed left → TakesNone new passed left
 
 abbrev pub Gives : Stream → Option Piece → Stream → Type 0

@@ -8,7 +8,7 @@ use Rattle.tql_spec.specs.Grammar.{IsStatement}
 use Rattle.tql_spec.specs.Running.{Runs}
 use Rattle.tql_spec.specs.Run.{Language, Answering, Replies, Checks, Faulty, HasSense, finished}
 use Rattle.tql_value.specs.Refusals.{refusal_of}
-use Rattle.tql_value.specs.declared.refusal.Refusal.TheVariants.{StatementTooLong}
+use Rattle.tql_value.specs.declared.refusal.Refusal.TheVariants.{StatementTooLong, OutOfMemory}
 use Rattle.tql_run.specs.Pieces.{HasFault, IsCutFault, RefusesFaults}
 use Rattle.tql_run.specs.Responding.{Answered, Standing}
 
@@ -21,10 +21,16 @@ fault_sense L p e (inr (short, cut, inr (is, utf8))) =
     subst (λ (x : Refusal). HasSense L p (Faulty x)) (sym is) (short, utf8, cut)
 
 pub replies_refuse : RefusesFaults Replies
-replies_refuse s p e f = inl (Faulty e, fault_sense Runs p e f, refl)
+replies_refuse = record {
+  at_once = λ s p e f. inl (Faulty e, fault_sense Runs p e f, refl);
+  for_memory = λ s p. inr (refl, refl);
+}
 
 pub checks_refuse : RefusesFaults Checks
-checks_refuse s p e f = (inl (Faulty e, fault_sense IsStatement p e f, refl), refl)
+checks_refuse = record {
+  at_once = λ s p e f. (inl (Faulty e, fault_sense IsStatement p e f, refl), refl);
+  for_memory = λ s p. (inr refl, refl);
+}
 
 -- ---- pieces
 
@@ -43,7 +49,7 @@ pub long_answered : (A : Answering) → RefusesFaults A → (s : State) (p : Pie
     → Answered A s p (Replied (Refused (refusal_of StatementTooLong))) after
 long_answered A law s p after st long = record {
   state = s;
-  answers = law s p (refusal_of StatementTooLong) (inl (refl, long));
+  answers = law.at_once s p (refusal_of StatementTooLong) (inl (refl, long));
   stands = st;
 }
 
@@ -54,7 +60,12 @@ pub cut_answered : (A : Answering) → RefusesFaults A
     → length text ≤ 1_048_576 → IsCutFault text e → Answered A s p (Replied (Refused e)) after
 cut_answered A law s p text after e st is cut short fault = record {
   state = s;
-  answers = law s p e (inr
+  answers = law.at_once s p e (inr
       (subst (λ t. length t ≤ 1_048_576) (sym is) short, cut, subst (λ t. IsCutFault t e) (sym is) fault));
   stands = st;
 }
+
+-- a piece for which memory was refused
+pub memory_answered : (A : Answering) → RefusesFaults A → (s : State) (p : Piece) (after : Standing) → after s
+    → Answered A s p (Replied (Refused (refusal_of OutOfMemory))) after
+memory_answered A law s p after st = record { state = s; answers = law.for_memory s p; stands = st }

@@ -2,7 +2,6 @@ pub mod Responding
 pub mod Pieces
 pub mod Hearing
 pub mod Runs
-pub mod Faults
 pub mod Keeping
 pub mod Reads
 pub mod Writing

@@ -1,6 +1,6 @@
 -- The faults that a piece of a script has whatever its statements may be.
 use Rattle.std.specs.Prelude.{◌≡◌, ◌⊎◌, ◌≤◌, ◌<◌, ℕ, List, length, IsFalse, IsUtf8}
-use Rattle.tql_spec.specs.Refusal.{Refusal, NotUtf8, UnfinishedStatement, StatementTooLong}
+use Rattle.tql_spec.specs.Refusal.{Refusal, OutOfMemory, NotUtf8, UnfinishedStatement, StatementTooLong}
 use Rattle.tql_spec.specs.Machine.{State, Refused}
 use Rattle.tql_spec.specs.Answer.{Replied}
 use Rattle.tql_spec.specs.Script.{Piece}
@@ -16,6 +16,7 @@ HasFault p e =
     ((e ≡ StatementTooLong) × (1_048_576 < length p.text))
     ⊎ ((length p.text ≤ 1_048_576) × IsFalse p.finished × IsCutFault p.text e)
 
--- the law: a piece with such a fault is refused for it, and the state stays
-abbrev pub RefusesFaults : Answering → Type 0
-RefusesFaults A = (s : State) (p : Piece) (e : Refusal) → HasFault p e → A s p (Replied (Refused e)) s
+-- the law: a piece with such a fault is refused for it, and any piece may be refused for want of memory; the state stays
+pub record RefusesFaults (A : Answering) : Type 0 where
+  pub at_once : (s : State) (p : Piece) (e : Refusal) → HasFault p e → A s p (Replied (Refused e)) s
+  pub for_memory : (s : State) (p : Piece) → A s p (Replied (Refused OutOfMemory)) s

@@ -1,29 +1,24 @@
--- What was read of a script.
-use Rattle.std.specs.Prelude.{◌≡◌, ◌≤◌, ◌<◌, ◌*◌, ℕ, List, [], false, length, IsFalse}
-use Rattle.tql_lex.specs.Stream.{Stream}
-use Rattle.tql_run.specs.Runs.{SourceChange, Gives, MeetsEnd, MissesEnd, most_bytes}
-use Rattle.tql_run.specs.declared.script.End.{End}
-use Rattle.tql_run.specs.declared.script.End.TheVariants.{Reached, Failed}
+-- What was read of a script so far.
+use Rattle.std.specs.Prelude.{◌≡◌, ◌≤◌, ◌<◌, ◌*◌, ℕ, List, [], length, take, IsTrue, IsFalse, Result, Ok, Err, is_err}
+use Rattle.tql_result.specs.Devices.{Counts}
+use Rattle.tql_run.specs.Runs.{SourceChange, Gives, IsAtEnd, is_end}
 
--- why the reading stopped, these bytes having been read
-abbrev pub Stops : End → SourceChange → List ℕ → Type 0
-Stops Reached source read = MeetsEnd source
-Stops Failed source read = MissesEnd source read
+-- what a pull has put into its buffer
+abbrev pub taken : {E : Type 0} → Result ℕ E → List ℕ → List ℕ
+taken (Ok n) buffer = take n buffer
+taken (Err e) buffer = []
 
--- what the source gave is what is left to split
-pub record Reads (end : End) (stream : Stream) (source : SourceChange) : Type 0 where
-  pub given : Gives source.left_old stream.left source.left_new
-  pub opened : stream.ended ≡ false
-  pub unread : stream.passed ≡ []
-  pub stops : Stops end source stream.left
-  pub short : length stream.left ≤ most_bytes
+-- a pull into a buffer of this length gave these bytes
+pub record Pulls {E : Type 0} (result : Result ℕ E) (room : ℕ) (bytes : List ℕ) (source : SourceChange) : Type 0 where
+  pub given : Gives source.left_old bytes source.left_new
+  pub at_end : IsTrue source.ended → IsAtEnd source.left_new
+  pub counted : Counts (is_err result) source.failures_old source.failures_new
+  pub told : source.ended ≡ is_end result room
 
--- so far, in this many pulls
-pub record ReadsSoFar (pulls : ℕ) (stream : Stream) (source : SourceChange) : Type 0 where
-  pub given : Gives source.left_old stream.left source.left_new
-  pub opened : stream.ended ≡ false
-  pub unread : stream.passed ≡ []
+-- the source gave these bytes in so many pulls, none of which failed or said that the input has ended
+pub record ReadsSoFar (pulls : ℕ) (script : List ℕ) (source : SourceChange) : Type 0 where
+  pub given : Gives source.left_old script source.left_new
   pub steady : source.failures_new ≡ source.failures_old
   pub unmet : 0 < pulls → IsFalse source.ended
-  pub grown : pulls ≤ length stream.left
-  pub short : length stream.left ≤ pulls * 65_536
+  pub grown : pulls ≤ length script
+  pub short : length script ≤ pulls * 65_536

@@ -119,6 +119,11 @@ abbrev pub answered : Bool → List ℕ → List Piece
 answered true script = statements script
 answered false script = filter (λ (p : Piece). p.finished) (statements script)
 
+-- the pieces are the first of these
+pub record IsBeginning (done pieces : List Piece) : Type 0 where
+  pub others : List Piece
+  pub parts : pieces ≡ done ++ others
+
 -- ---- what a run did
 
 -- In each case the listener is told of the statements that are refused among those answered, of no others, and of each
@@ -167,17 +172,19 @@ pub record CutsLast (answers : List Answer) (text : List ℕ) : Type 0 where
   pub lacks : 0 < length back
   pub is : text ≡ answers_text earlier ++ front
 
--- the sink failed, at an answer: the statement of that answer is the last that ran; or at the flush, where a flush of
--- this sink may fail: all of them ran.
--- The statements are those of the whole script where its end was met, and else those that are whole in what was read
+-- The sink failed, at an answer: the statement of that answer is the last that ran; or at a flush, where a flush of
+-- this sink may fail: all ran that are whole in what was read. The source had not failed. Those that ran are the first
+-- statements of the script, whatever may still follow what was read; where the end was met, nothing does.
 pub record StopsWriting (A : Answering) (s : State) (after : Standing) (source : SourceChange) (sink : SinkChange)
     (hearing : HearingChange) : Type 0 where
   pub script : List ℕ
   pub given : Gives source.left_old script source.left_new
-  pub read : MatchBool source.ended (MeetsEnd source) (MissesEnd source script)
+  pub met : Bool
+  pub read : MatchBool met (MeetsEnd source) (source.failures_new ≡ source.failures_old)
   pub done : List Piece
   pub rest : List Piece
-  pub parts : answered source.ended script ≡ done ++ rest
+  pub parts : answered met script ≡ done ++ rest
+  pub first : (more : List ℕ) → (IsTrue met → more ≡ []) → IsBeginning done (statements (script ++ more))
   pub answers : List Answer
   pub state : State
   pub ran : RunBy A s done answers state
@@ -188,9 +195,11 @@ pub record StopsWriting (A : Answering) (s : State) (after : Standing) (source :
   pub written : Appends sink.held_old text sink.held_new
   pub cause : HasFailed sink.failures_old sink.failures_new
 
--- no memory for what a run takes at its start: nothing ran and nothing was written
-pub record NothingRun (A : Answering) (s : State) (after : Standing) (sink : SinkChange) (hearing : HearingChange)
-    : Type 0 where
+-- no memory for what a run takes at its start: nothing was read, nothing ran and nothing was written
+pub record NothingRun (A : Answering) (s : State) (after : Standing) (source : SourceChange) (sink : SinkChange)
+    (hearing : HearingChange) : Type 0 where
+  pub left : source.left_new ≡ source.left_old
+  pub reads : source.failures_new ≡ source.failures_old
   pub stands : after s
   pub heard : Hears hearing.heard_old [] hearing.heard_new
   pub written : Appends sink.held_old [] sink.held_new
@@ -203,4 +212,4 @@ abbrev pub Runs : Answering → State → Standing → SourceChange → SinkChan
 Runs A s after source sink hearing (Ok summary) = RunsWhole A s after source sink hearing summary
 Runs A s after source sink hearing (Err Read) = StopsReading A s after source sink hearing
 Runs A s after source sink hearing (Err Write) = StopsWriting A s after source sink hearing
-Runs A s after source sink hearing (Err Memory) = NothingRun A s after sink hearing
+Runs A s after source sink hearing (Err Memory) = NothingRun A s after source sink hearing

@@ -9,7 +9,6 @@ mod piece;
 pub mod pushed;
 pub mod responder;
 pub mod runner;
-mod script;
 pub mod silence;
 pub mod slice_source;
 pub mod std_source;

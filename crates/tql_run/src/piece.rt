@@ -8,7 +8,7 @@ ghost use Rattle.tql_run.specs.Pieces.{IsCutFault};
 ghost use Rattle.tql_run.specs.Responding.{Answered};
 
 use crate::responder::Responder;
-use tql_lex::splitter::Piece;
+use tql_lex::piece::Piece;
 use tql_result::answer::Answer;
 use tql_result::reply::Reply;
 use tql_value::refusal::Refusal;

@@ -1,24 +1,28 @@
 //! A whole run of a script.
-ghost use Rattle.std.specs.Prelude.{◌≡◌, ◌≤◌, ◌<◌, List, length, IsTrue, OnOk};
+ghost use Rattle.std.specs.Prelude.{◌≡◌, ◌≤◌, ◌<◌, ◌+◌, [], length, IsTrue, IsFalse, IfOk, OnOk};
 ghost use Rattle.tql_spec.specs.Machine.{State};
 ghost use Rattle.tql_result.specs.Replies.{answer_of};
+ghost use Rattle.tql_lex.specs.Stream.{to_do};
+ghost use Rattle.tql_lex.specs.Holding.{Holds};
 ghost use Rattle.tql_run.specs.Runs.{Runs, source_change, sink_change, count_of, most_bytes};
 ghost use Rattle.tql_run.specs.Hearing.{Hears, note_of, hearing_change};
-ghost use Rattle.tql_run.specs.Writing.{AnswersNext, WritesAnswers};
+ghost use Rattle.tql_run.specs.Reads.{Pulls, taken};
+ghost use Rattle.tql_run.specs.Writing.{AnswersNext, AnswersReady, Tallies, EndsRun};
 
 use crate::device::Source;
 use crate::listener::Listener;
 use crate::piece::answer_piece;
 use crate::pushed::Pushed;
 use crate::responder::Responder;
-use crate::script::{End, read_script};
 use std::alloc::AllocError;
-use tql_lex::splitter::Splitter;
+use tql_lex::splitter::{PIECE, Splitter};
 use tql_result::answer::Answer;
 use tql_result::device::DeviceFault;
 use tql_result::reply::Reply;
 use tql_result::sink::Sink;
-use tql_value::refusal::Refusal;
+
+/// The most pulls of one run.
+pub const MOST_PULLS: u64 = 281_474_976_710_655;
 
 /// How many statements a run answered, and how many of these it refused.
 #[derive(Clone, Copy, PartialEq, Eq, Debug)]
@@ -49,21 +53,6 @@ impl From<AllocError> for Fault {
     }
 }
 
-/// Why a script was not read: for want of memory, and for any other refusal as where the source failed.
-impl From<Refusal> for Fault {
-    ghost use Rattle.std.specs.Prelude.{◌≡◌};
-    ghost use Rattle.tql_run.specs.Faults.{fault_for};
-
-    ghost from_gives = { λ e f. f ≡ fault_for e };
-
-    fn from(refusal: Refusal) -> Fault {
-        match refusal {
-            Refusal::OutOfMemory => Fault::Memory,
-            _ => Fault::Read,
-        }
-    }
-}
-
 /// The counts with one more answer.
 fn counted(summary: Summary, answer: &Answer) -> Summary
     requires room { summary.statements < most_bytes }
@@ -83,8 +72,8 @@ fn counted(summary: Summary, answer: &Answer) -> Summary
     }
 }
 
-/// Takes the next statement and answers it; None where no statement is left, and then nothing changes.
-fn answer_next<R: Responder>(responder: &mut R, splitter: &mut Splitter) -> Option<Answer>
+/// Takes the next statement and answers it; None where the bytes that were fed hold no whole one.
+pub fn answer_next<R: Responder>(responder: &mut R, splitter: &mut Splitter) -> Option<Answer>
     ensures { AnswersNext R.answering result splitter.old splitter.new
         (R.stands responder.old) (R.stands responder.new) }
 {
@@ -103,24 +92,23 @@ fn tell<L: Listener>(listener: &mut L, statement: u64, line: u64, answer: &Answe
     }
 }
 
-/// Answers the statements that are left, writes their answers, and tells the listener of those that are refused.
-fn write_answers<R: Responder, O: Sink, L: Listener>(
+/// Answers the statements that are whole, writes their answers, and tells the listener of those that are refused.
+fn answer_ready<R: Responder, O: Sink, L: Listener>(
     responder: &mut R,
     splitter: &mut Splitter,
     sink: &mut O,
     listener: &mut L,
-) -> Result<Summary, DeviceFault>
-    requires few { length splitter.old.left ≤ most_bytes }
-    requires unread { splitter.old.passed ≡ List.[] }
-    ensures { (s : State) → R.stands responder.old s
-        → WritesAnswers R.answering result s splitter.old (R.stands responder.new)
-        O.flushes_fail (O.written sink.old) (O.written sink.new) (O.failures sink.old) (O.failures sink.new)
+    summary: &mut Summary,
+) -> Result<(), DeviceFault>
+    requires room { summary.old.statements + to_do splitter.old ≤ most_bytes }
+    requires fewer { summary.old.refused ≤ summary.old.statements }
+    ensures answers { AnswersReady R.answering result splitter.old splitter.new
+        (R.stands responder.old) (R.stands responder.new) summary.old summary.new O.flushes_fail
+        (O.written sink.old) (O.written sink.new) (O.failures sink.old) (O.failures sink.new)
         (L.heard listener.old) (L.heard listener.new) }
+    ensures tallies { Tallies splitter.old splitter.new summary.old summary.new }
+    ensures ready { OnOk result (splitter.new.ready ≡ []) }
 {
-    let mut summary = Summary {
-        statements: 0,
-        refused: 0,
-    };
     while let Some(answer) = answer_next(responder, splitter) {
         let pushed = Pushed::push(sink, &answer);
         tell(
@@ -131,42 +119,130 @@ fn write_answers<R: Responder, O: Sink, L: Listener>(
             &pushed,
         );
         match pushed.outcome() {
-            Ok(()) => summary = counted(summary, &answer),
+            Ok(()) => *summary = counted(*summary, &answer),
             Err(fault) => return Err(fault),
         }
     }
-    Ok(summary)
+    Ok(())
 }
 
-/// Answers the statements that are left as `write_answers` does, and passes on what the sink may have kept back.
-fn answer_all<R: Responder, O: Sink, L: Listener>(
+/// Answers the statements that are whole as `answer_ready` does, and has the sink pass on what it may have kept back.
+fn answer_flushed<R: Responder, O: Sink, L: Listener>(
     responder: &mut R,
     splitter: &mut Splitter,
     sink: &mut O,
     listener: &mut L,
-) -> Result<Summary, DeviceFault>
-    requires few { length splitter.old.left ≤ most_bytes }
-    requires unread { splitter.old.passed ≡ List.[] }
-    ensures answers { (s : State) → R.stands responder.old s
-        → WritesAnswers R.answering result s splitter.old (R.stands responder.new)
-        O.flushes_fail (O.written sink.old) (O.written sink.new) (O.failures sink.old) (O.failures sink.new)
+    summary: &mut Summary,
+) -> Result<(), DeviceFault>
+    requires room { summary.old.statements + to_do splitter.old ≤ most_bytes }
+    requires fewer { summary.old.refused ≤ summary.old.statements }
+    ensures answers { AnswersReady R.answering result splitter.old splitter.new
+        (R.stands responder.old) (R.stands responder.new) summary.old summary.new O.flushes_fail
+        (O.written sink.old) (O.written sink.new) (O.failures sink.old) (O.failures sink.new)
         (L.heard listener.old) (L.heard listener.new) }
+    ensures tallies { Tallies splitter.old splitter.new summary.old summary.new }
+    ensures ready { OnOk result (splitter.new.ready ≡ []) }
     ensures flushed { OnOk result (IsTrue (O.flushed sink.new)) }
 {
-    match write_answers(responder, splitter, sink, listener) {
-        Ok(summary) => match sink.flush() {
-            Ok(()) => Ok(summary),
+    match answer_ready(responder, splitter, sink, listener, summary) {
+        Ok(()) => match sink.flush() {
+            Ok(()) => Ok(()),
             Err(fault) => Err(fault),
         },
         Err(fault) => Err(fault),
     }
 }
 
-/// Reads a script from the source to its end, then answers its statements one after another, writes each answer to the
-/// sink, and flushes it. Where the source fails, the statements that came whole before that are answered, and the run
-/// says `Read`; where the sink fails, no statement runs behind the one whose answer it did not take, and the run says
-/// `Write`. A refused statement does not stop the run; the listener is told of it, behind the push of its answer: what
-/// it is handed is made by a push alone.
+/// Pulls the next bytes, which a source may wait for. So all statements that are whole have been answered, and the sink
+/// has passed their answers on: this is the one place where a run pulls.
+fn pull_flushed<I: Source, O: Sink>(
+    source: &mut I,
+    splitter: &Splitter,
+    sink: &O,
+    buffer: &mut [u8],
+) -> Result<usize, DeviceFault>
+    requires answered { splitter.now.ready ≡ [] }
+    requires flushed { IsTrue (O.flushed sink.now) }
+    ensures within { IfOk result (λ n. n ≤ length buffer.old) }
+    ensures pulls { Pulls result (length buffer.old) (taken result buffer.new)
+        (source_change I.left I.failures I.ended source.old source.new) }
+{
+    source.pull(buffer)
+}
+
+/// Answers what is left of a script that was read to its end.
+fn answer_rest<R: Responder, O: Sink, L: Listener>(
+    responder: &mut R,
+    splitter: &mut Splitter,
+    sink: &mut O,
+    listener: &mut L,
+    summary: Summary,
+) -> Result<Summary, Fault>
+    requires room { summary.statements + to_do splitter.old ≤ most_bytes }
+    requires fewer { summary.refused ≤ summary.statements }
+    ensures { EndsRun R.answering result splitter.old
+        (R.stands responder.old) (R.stands responder.new) summary O.flushes_fail (O.flushed sink.new)
+        (O.written sink.old) (O.written sink.new) (O.failures sink.old) (O.failures sink.new)
+        (L.heard listener.old) (L.heard listener.new) }
+{
+    let mut all = summary;
+    splitter.finish();
+    match answer_flushed(responder, splitter, sink, listener, &mut all) {
+        Ok(()) => Ok(all),
+        Err(_) => Err(Fault::Write),
+    }
+}
+
+/// Reads a script from the source, and answers each of its statements as `run` does.
+fn converse<R: Responder, I: Source, O: Sink, L: Listener>(
+    responder: &mut R,
+    source: &mut I,
+    sink: &mut O,
+    listener: &mut L,
+    splitter: &mut Splitter,
+    buffer: &mut [u8],
+) -> Result<Summary, Fault>
+    requires room { 0 < length buffer.old }
+    requires small { length buffer.old ≤ 65_536 }
+    requires unread { Holds splitter.old [] [] }
+    requires ready { splitter.old.ready ≡ [] }
+    requires unended { IsFalse splitter.old.ended }
+    ensures { (s : State) → R.stands responder.old s → Runs R.answering s (R.stands responder.new)
+        (source_change I.left I.failures I.ended source.old source.new)
+        (sink_change O.written O.failures O.flushed O.flushes_fail sink.old sink.new)
+        (hearing_change L.heard listener.old listener.new) result }
+{
+    let mut summary = Summary {
+        statements: 0,
+        refused: 0,
+    };
+    for _pull in 0..MOST_PULLS {
+        match answer_flushed(responder, splitter, sink, listener, &mut summary) {
+            Ok(()) => {}
+            Err(_) => return Err(Fault::Write),
+        }
+        match pull_flushed(source, splitter, sink, buffer) {
+            Err(_) => return Err(Fault::Read),
+            Ok(count) => {
+                if count == 0 {
+                    return answer_rest(responder, splitter, sink, listener, summary);
+                }
+                splitter.feed(&buffer[..count]);
+            }
+        }
+    }
+    match answer_flushed(responder, splitter, sink, listener, &mut summary) {
+        Ok(()) => Err(Fault::Read),
+        Err(_) => Err(Fault::Write),
+    }
+}
+
+/// Answers the statements of a script one after another, writes each answer to the sink, and tells the listener of those
+/// that are refused, behind the push of the answer: what it is handed is made by a push alone. Each statement is answered
+/// as soon as it is whole: the source is pulled only where no whole statement is left, and where the sink has passed
+/// on all answers before. Where the source fails, the statements that came whole before that are answered and stand, and
+/// the run says `Read`; where the sink fails, no statement runs behind the one whose answer it did not take, and the run
+/// says `Write`. A refused statement does not stop the run.
 pub fn run<R: Responder, I: Source, O: Sink, L: Listener>(
     responder: &mut R,
     source: &mut I,
@@ -178,16 +254,15 @@ pub fn run<R: Responder, I: Source, O: Sink, L: Listener>(
         (sink_change O.written O.failures O.flushed O.flushes_fail sink.old sink.new)
         (hearing_change L.heard listener.old listener.new) result }
 {
-    let mut splitter = Splitter::new(responder.memory());
-    let end = read_script(responder.memory(), source, &mut splitter)?;
-    if end == End::Reached {
-        splitter.finish();
-    }
-    match answer_all(responder, &mut splitter, sink, listener) {
-        Err(_) => Err(Fault::Write),
-        Ok(summary) => match end {
-            End::Reached => Ok(summary),
-            End::Failed => Err(Fault::Read),
-        },
-    }
+    let memory = responder.memory();
+    let mut splitter = Splitter::new(memory)?;
+    let mut buffer = vec![in memory; 0u8; PIECE]?;
+    converse(
+        responder,
+        source,
+        sink,
+        listener,
+        &mut splitter,
+        &mut buffer,
+    )
 }

@@ -1,6 +1,6 @@
 use Rattle.std.proofs.Common.{subst}
 use Rattle.tql_lex.specs.Pieces.{StandsFor}
-use Rattle.tql_run.proofs.Faults.{text_answered, long_answered, cut_answered}
+use Rattle.tql_run.proofs.Faults.{text_answered, long_answered, memory_answered, cut_answered}
 use Rattle.tql_run.proofs.piece.answer_piece.Goals as goal
 
 pub returns-in-Text-clause-answered : goal.returns-in-Text-clause-answered
@@ -15,3 +15,6 @@ pub returns-in-Unfinished-clause-answered : goal.returns-in-Unfinished-clause-an
 returns-in-Unfinished-clause-answered g c s p st e =
     let w = subst (λ q. StandsFor q p) c.in-Unfinished.is e in cut_answered _ g.met.R.Responder.refuses s p _ _ _ st
     w.0 w.1 w.2 c.cut_fault.ensures
+
+pub returns-in-NoMemory-clause-answered : goal.returns-in-NoMemory-clause-answered
+returns-in-NoMemory-clause-answered g c s p st e = memory_answered _ g.met.R.Responder.refuses s p _ st
