@@ -1,8 +1,9 @@
 //! The engine for programs of your own: an in-memory bitemporal table engine, each of its answers proved.
 //!
 //! Make the memory that everything is kept in, and an engine in it; give it a script, or one statement after another,
-//! and read the replies. A run tells a listener which statements were refused, and on which lines. Nothing is kept
-//! when the engine is let go.
+//! and read the replies. A run tells a listener which statements were refused, and on which lines. A script may come
+//! part by part: a `Session` is fed bytes as they come, and gives the answers as soon as their statements are whole.
+//! Nothing is kept when the engine is let go.
 //!
 //! ```text
 //! let memory = memory(rt.alloc(), u64::MAX)?;
@@ -22,6 +23,7 @@
 pub use tql_engine::engine::Engine;
 pub use tql_engine::runner::{run, run_bytes};
 pub use tql_memory::{Memory, memory};
+pub use tql_result::answer::Answer;
 pub use tql_result::device::DeviceFault;
 pub use tql_result::reply::{Reply, Verb};
 pub use tql_result::sink::Sink;
@@ -33,6 +35,7 @@ pub use tql_run::note::Note;
 pub use tql_run::notes::Notes;
 pub use tql_run::pushed::Pushed;
 pub use tql_run::runner::{Fault, Summary};
+pub use tql_run::session::Session;
 pub use tql_run::silence::Silence;
 pub use tql_run::slice_source::SliceSource;
 pub use tql_run::std_source::StdSource;

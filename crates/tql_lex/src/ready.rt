@@ -1,5 +1,6 @@
 //! The piece of a stream that is still to be looked at.
 ghost use Rattle.std.specs.Prelude.{◌≡◌, ◌≤◌, length, IfOk, [], List};
+ghost use Rattle.tql_spec.specs.Words.{is_empty};
 ghost use Rattle.tql_lex.specs.Ready.{TakesByte};
 
 use crate::splitter::PIECE;
@@ -50,5 +51,13 @@ impl Ready {
         let byte = *self.bytes.get(self.next)?;
         self.next += 1;
         Some(byte)
+    }
+
+    /// Whether no byte is left.
+    pub(crate) fn is_empty(&self) -> bool
+        ensures { result ≡ is_empty self.now }
+    {
+        let bytes = self.bytes.as_slice();
+        self.next == bytes.len()
     }
 }

@@ -1,5 +1,6 @@
 //! The statements of a stream of bytes.
 ghost use Rattle.std.specs.Prelude.{◌≡◌, ◌≤◌, length, List, IsFalse, IfOk};
+ghost use Rattle.tql_spec.specs.Words.{is_empty};
 ghost use Rattle.tql_lex.specs.Feeding.{Feeds, Finishes, LooksAt, Closes, TakesOn, Advances, forgotten};
 
 use crate::draft::Draft;
@@ -87,6 +88,13 @@ impl Splitter {
         ensures { Feeds self.old self.new bytes.now }
     {
         self.ready.fill(bytes);
+    }
+
+    /// Whether all bytes that were fed are looked at, so that the next part may be fed.
+    pub fn is_drained(&self) -> bool
+        ensures { result ≡ is_empty self.now.ready }
+    {
+        self.ready.is_empty()
     }
 
     /// Says that no more bytes come.

@@ -9,6 +9,7 @@ mod piece;
 pub mod pushed;
 pub mod responder;
 pub mod runner;
+pub mod session;
 pub mod silence;
 pub mod slice_source;
 pub mod std_source;
