@@ -1,4 +1,4 @@
--- Conjuncts, and that no aggregate stands in them.
+-- Conjuncts.
 use Rattle.std.specs.Prelude.{vec_len, ◌==◌}
 use Rattle.std.specs.List.{list_any}
 use Rattle.std.proofs.Common.{◌≡◌, refl, ℕ, ◌≤◌, arith, Bool, true, false, List, [], ◌∷◌, length, map, drop, All}
@@ -22,9 +22,7 @@ use Rattle.tql_expr.specs.declared.terms.Terms.{Terms}
 use Rattle.tql_expr.specs.declared.terms.CondId.{CondId}
 use Rattle.tql_bind_expr.specs.Gathered.{Gathers}
 use Rattle.tql_bind_expr.proofs.Gathering.{bound, after_nil, unless_asked}
-use Rattle.tql_spec.specs.Aggregates.{in_condition, in_filter}
 use Rattle.tql_bind_cond.specs.Conjuncts.{members, as_one}
-use Rattle.tql_bind_cond.proofs.AggregateLaws.{has_one, conjuncts_as_written, filter_as_written}
 use Rattle.tql_bind_cond.proofs.Lists.{ConjLeads, conds_done}
 use Rattle.tql_bind_cond.proofs.SoleLaws.{empty_items, some_items}
 use Rattle.tql_bind_cond.proofs.Views.{cond_out, conj_out}
@@ -96,28 +94,6 @@ conjuncts_behind {A} s c some =
     ap (λ (d : tree.Condition). as_one (condition s d)) (cond_out c)
     ∙ some_conjs s (conj_of (out-CondIn A c).first) (out-CondIn A c).more.items (some_items (out-CondIn A c).more some)
     ∙ ap (conjuncts s) (sym (cond_out c))
-
--- ---- no aggregate
-
-without_is : (c : Checked (List Cond)) (written b : Bool) (old mid now : Option Refusal) (xs : List Cond)
-    → list_any has_one c.value ≡ written → b ≡ written → Gathers c old mid xs
-    → Gathers (refuse_if b FormNotAllowedHere) mid now tt → Gathers (c >>= without_aggregates) old now xs
-without_is c written b old mid now xs law asked g h =
-    let same = asked ∙ sym law ∙ ap (λ (cs : List Cond). list_any has_one cs) (sym g.value) in
-    bound c without_aggregates old mid now xs xs g
-    (unless_asked b (list_any has_one xs) FormNotAllowedHere xs mid now same h)
-
-pub plain_is : (s : List Known) (c : tree.Condition) (b : Bool) (old mid now : Option Refusal) (xs : List Cond)
-    → b ≡ in_condition c → Gathers (conjuncts s c) old mid xs → Gathers (refuse_if b FormNotAllowedHere) mid now tt
-    → Gathers (plain_conjuncts s c) old now xs
-plain_is s c b old mid now xs asked g h =
-    without_is (conjuncts s c) (in_condition c) b old mid now xs (conjuncts_as_written s c) asked g h
-
-pub filter_is : (s : List Known) (o : Option tree.Condition) (b : Bool) (old mid now : Option Refusal) (xs : List Cond)
-    → b ≡ in_filter o → Gathers (optional_conjuncts s o) old mid xs
-    → Gathers (refuse_if b FormNotAllowedHere) mid now tt → Gathers (plain_filter s o) old now xs
-filter_is s o b old mid now xs asked g h =
-    without_is (optional_conjuncts s o) (in_filter o) b old mid now xs (filter_as_written s o) asked g h
 
 -- no clause
 pub none_is : (s : List Known) (o : Option tree.Condition) (t : Terms) (old : Option Refusal) (ys : List CondId)

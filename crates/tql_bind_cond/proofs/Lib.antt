@@ -1,4 +1,3 @@
-pub mod AggregateLaws
 pub mod ComparisonLaws
 pub mod ConjunctLaws
 pub mod Lists

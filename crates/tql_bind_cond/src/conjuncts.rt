@@ -9,11 +9,11 @@ ghost use Rattle.tql_bind_expr.specs.Gathered.{Gathers};
 ghost use Rattle.tql_bind_expr.specs.Scopes.{scope_of};
 ghost use Rattle.tql_bind_cond.specs.Conjuncts.{members, as_one};
 
-use crate::aggregates::{is_in_condition, is_in_filter};
 use crate::conditions::{condition, factor};
 use std::alloc::AllocError;
 use tql_bind_expr::faults::Faults;
 use tql_bind_expr::scope::Known;
+use tql_expr::search::Search;
 use tql_expr::terms::{CondId, Terms};
 use tql_memory::Memory;
 use tql_syntax_tree::condition::{Cond, Conj};
@@ -104,6 +104,19 @@ pub fn optional_conjuncts(
     }
 }
 
+/// A fault where an aggregate stands in one of these conjuncts.
+#[tactic(auto, using(tql_bind_expr::proofs::Gathering::gathering))]
+fn without_aggregates(conjuncts: &[CondId], terms: &Terms, faults: &mut Faults)
+    requires { All (HasCond terms.now) conjuncts.now }
+    ensures { Gathers (binding.without_aggregates (map (cond terms.now) conjuncts.now)) faults.old faults.new
+        (map (cond terms.now) conjuncts.now) }
+{
+    faults.refuse_if(
+        terms.finds_any_in(Search::Aggregate, conjuncts),
+        Refusal::FormNotAllowedHere,
+    );
+}
+
 /// The conjuncts of an ON, where no aggregate may stand. The only error is a refused growth; faults are gathered.
 pub fn plain_conjuncts(
     memory: Memory,
@@ -119,7 +132,7 @@ pub fn plain_conjuncts(
     ensures held { IfOk result (λ v. All (HasCond terms.new) v.items) }
 {
     let all = conjuncts(memory, scope, condition, terms, faults)?;
-    faults.refuse_if(is_in_condition(condition), Refusal::FormNotAllowedHere);
+    without_aggregates(&all, terms, faults);
     Ok(all)
 }
 
@@ -138,6 +151,6 @@ pub fn plain_filter(
     ensures held { IfOk result (λ v. All (HasCond terms.new) v.items) }
 {
     let all = optional_conjuncts(memory, scope, clause, terms, faults)?;
-    faults.refuse_if(is_in_filter(clause), Refusal::FormNotAllowedHere);
+    without_aggregates(&all, terms, faults);
     Ok(all)
 }

@@ -2,7 +2,6 @@
 //! kept.
 #![tactic(auto)]
 
-mod aggregates;
 mod comparisons;
 mod conditions;
 pub mod conjuncts;

@@ -1,21 +1,17 @@
 -- A cell that is an expression.
 use Rattle.std.specs.Prelude.{◌≡◌, Bool, List, Option}
-use Rattle.std.proofs.Common.{sym, ap, ◌∙◌}
 use Rattle.tql_spec.specs.Binding.{cell}
 use Rattle.tql_spec.specs.Creation.{has_aggregate}
 use Rattle.tql_spec.specs.Names.{Known, Typed, expr, unless, refuse_if}
 use Rattle.tql_spec.specs.Refusal.{Refusal, FormNotAllowedHere}
 use Rattle.tql_spec.specs.Syntax as tree
-use Rattle.tql_spec.specs.Aggregates.{in_sum}
 use Rattle.tql_bind_expr.specs.Gathered.{Gathers}
-use Rattle.tql_bind_expr.proofs.AggregateLaws.{sum_as_written}
 use Rattle.tql_bind_expr.proofs.Gathering.{bound, unless_asked}
 
 -- no aggregate may stand in it
 pub cell_bound : (s : List Known) (e : tree.Sum) (old mid now : Option Refusal) (a : Typed) (b : Bool)
-    → b ≡ in_sum e → Gathers (expr s e) old mid a → Gathers (refuse_if b FormNotAllowedHere) mid now tt
+    → b ≡ has_aggregate a.expr → Gathers (expr s e) old mid a → Gathers (refuse_if b FormNotAllowedHere) mid now tt
     → Gathers (cell s (tree.ValueCell e)) old now a
-cell_bound s e old mid now a b written g h =
-    let asked = written ∙ sym (sum_as_written s e) ∙ ap (λ (t : Typed). has_aggregate t.expr) (sym g.value) in
+cell_bound s e old mid now a b asked g h =
     bound (expr s e) (λ t. unless (has_aggregate t.expr) FormNotAllowedHere t) old mid now a a g
     (unless_asked b (has_aggregate a.expr) FormNotAllowedHere a mid now asked h)

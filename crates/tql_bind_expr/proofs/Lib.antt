@@ -1,4 +1,3 @@
-pub mod AggregateLaws
 pub mod Arena
 pub mod CellLaws
 pub mod ChainLaws

@@ -7,12 +7,12 @@ ghost use Rattle.tql_bind_expr.specs.Bounds.{typed_of};
 ghost use Rattle.tql_bind_expr.specs.Gathered.{Gathers};
 ghost use Rattle.tql_bind_expr.specs.Scopes.{scope_of};
 
-use crate::aggregates::has_aggregate;
 use crate::expressions::sum;
 use crate::faults::Faults;
 use crate::literals::null;
 use crate::scope::{Known, Typed};
 use std::alloc::AllocError;
+use tql_expr::search::Search;
 use tql_expr::terms::Terms;
 use tql_memory::Memory;
 use tql_syntax_tree::statement::CellTree;
@@ -36,7 +36,10 @@ pub fn cell(
         CellTree::Null => null(terms),
         CellTree::Value(value) => {
             let bound = sum(memory, scope, value, terms, faults)?;
-            faults.refuse_if(has_aggregate(value), Refusal::FormNotAllowedHere);
+            faults.refuse_if(
+                terms.finds(Search::Aggregate, bound.expr),
+                Refusal::FormNotAllowedHere,
+            );
             Ok(bound)
         }
     }

@@ -2,7 +2,6 @@
 //! order of report is kept.
 #![tactic(auto)]
 
-pub mod aggregates;
 pub mod cells;
 mod chain;
 pub mod expressions;

@@ -1,5 +1,6 @@
 //! What stands somewhere in an expression or a condition.
-ghost use Rattle.std.specs.Prelude.{◌≡◌, ◌<◌, ◌||◌, IfSome, not};
+ghost use Rattle.std.specs.List.{list_any};
+ghost use Rattle.std.specs.Prelude.{◌≡◌, ◌<◌, ◌||◌, All, IfSome, map, not};
 ghost use Rattle.tql_spec.specs.Binding.{is_loose};
 ghost use Rattle.tql_spec.specs.Creation.{has_expr, has_number};
 ghost use Rattle.tql_spec.specs.Expression as bound;
@@ -176,5 +177,31 @@ impl Terms {
             here = parts.near;
         }
         self.finds_in_test(search, here)
+    }
+
+    /// Whether it stands in one of the expressions.
+    pub fn finds_any(&self, search: Search<'_>, items: &[ExprId]) -> bool
+        requires { All (HasExpr self.now) items.now }
+        ensures { result ≡ list_any (sought search.entry) (map (expr self.now) items.now) }
+    {
+        for item in items {
+            if self.finds(search, *item) {
+                return true;
+            }
+        }
+        false
+    }
+
+    /// Whether it stands in one of the conjuncts.
+    pub fn finds_any_in(&self, search: Search<'_>, conjuncts: &[CondId]) -> bool
+        requires { All (HasCond self.now) conjuncts.now }
+        ensures { result ≡ list_any (has_expr (sought search.entry)) (map (cond self.now) conjuncts.now) }
+    {
+        for conjunct in conjuncts {
+            if self.finds_in(search, *conjunct) {
+                return true;
+            }
+        }
+        false
     }
 }

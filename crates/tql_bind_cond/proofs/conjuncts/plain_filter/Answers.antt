@@ -1,9 +1,19 @@
+use Rattle.std.proofs.Common.{List, map, subst}
+use Rattle.tql_spec.specs.Binding.{without_aggregates}
+use Rattle.tql_spec.specs.Names.{optional_conjuncts}
+use Rattle.tql_expr.specs.Meaning.{cond}
+use Rattle.tql_expr.specs.declared.terms.CondId.{CondId}
 use Rattle.tql_syntax_tree.specs.Statements.{filter_of}
+use Rattle.tql_bind_expr.specs.Gathered.{Gathers}
 use Rattle.tql_bind_expr.specs.Scopes.{scope_of}
-use Rattle.tql_bind_cond.proofs.ConjunctLaws.{filter_is}
+use Rattle.tql_bind_expr.proofs.Gathering.{bound}
 use Rattle.tql_bind_cond.proofs.conjuncts.plain_filter.Goals as goal
 
 pub returns-clause-bound : goal.returns-clause-bound
 returns-clause-bound c =
-    filter_is (scope_of c.args.scope.now) (filter_of c.args.clause.now) c.is_in_filter.result _ _ _ _
-    c.is_in_filter.ensures c.in_ok-all.ensures.bound c.refuse_if.ensures
+    let terms = c.optional_conjuncts.new.terms in
+    let plain = subst
+    (λ (xs : List CondId). Gathers (without_aggregates (map (cond terms) xs)) c.optional_conjuncts.new.faults
+    c.without_aggregates.new.faults (map (cond terms) xs)) c.deref.ensures.value c.without_aggregates.ensures in
+    bound (optional_conjuncts (scope_of c.args.scope.now) (filter_of c.args.clause.now)) without_aggregates _ _ _ _ _
+    c.in_ok-all.ensures.bound plain

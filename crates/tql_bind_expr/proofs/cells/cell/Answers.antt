@@ -6,7 +6,6 @@ use Rattle.tql_syntax_tree.specs.Expressions.{expr_of}
 use Rattle.tql_syntax_tree.specs.Statements.{cell_of}
 use Rattle.tql_syntax_tree.specs.declared.expression.ExprIn.{ExprIn}
 use Rattle.tql_syntax_tree.specs.declared.statement.CellTree.{CellTree}
-use Rattle.tql_spec.specs.Aggregates.{in_sum}
 use Rattle.tql_bind_expr.specs.Bounds.{typed_of}
 use Rattle.tql_bind_expr.specs.Gathered.{Gathers}
 use Rattle.tql_bind_expr.specs.Scopes.{scope_of}
@@ -26,9 +25,8 @@ returns-in_ok-bound-in-Value-clause-bound c =
     let old = c.args.faults.now in
     let mid = c.sum.new.faults in
     let a = typed_of c.sum.new.terms c.in_ok-bound-in-Value.bound in
-    let written = c.has_aggregate.ensures ∙ ap (λ (x : ExprIn _). in_sum (expr_of x)) c.deref-in-Value.ensures in
     let bound = subst (λ (x : ExprIn _). Gathers (expr s (expr_of x)) old mid a) c.deref.ensures
     c.in_ok-bound-in-Value.ensures.bound in
     subst (λ (x : tree.CellTree). Gathers (binding.cell s x) old c.refuse_if.new.self a)
     (sym (ap cell_of c.in-Value.is))
-    (cell_bound s e old mid c.refuse_if.new.self a c.has_aggregate.result written bound c.refuse_if.ensures)
+    (cell_bound s e old mid c.refuse_if.new.self a c.finds.result c.finds.ensures bound c.refuse_if.ensures)
