@@ -1,14 +1,20 @@
--- Literals and aggregates, by the tests that the code makes.
+-- Literals and columns, by the tests that the code makes.
 use Rattle.std.specs.Prelude.{◌≡◌, refl, ℕ, ◌^◌, Bool, true, false, not, nat_le, List, ℤ, pos, neg_ℤ, Option, Some}
-use Rattle.std.specs.Prelude.{None, if◌then◌else◌}
-use Rattle.std.proofs.Common.{sym, ap, ◌∙◌}
+use Rattle.std.specs.Prelude.{None, if◌then◌else◌, [], ◌∷◌, Result, Ok, Err, IfOk}
+use Rattle.std.specs.declared.alloc.AllocError.{AllocError}
+use Rattle.std.proofs.Common.{sym, ap, subst, ◌∙◌}
 use Rattle.tql_spec.specs.Calendar.{number_of}
 use Rattle.tql_spec.specs.Datum.{Datum, Null, Int, Ints, Kind}
-use Rattle.tql_spec.specs.Expression.{Literal}
-use Rattle.tql_spec.specs.Names.{Checked, Typed, typed, sound, unless, literal}
-use Rattle.tql_spec.specs.Refusal.{ValueOutOfRange}
-use Rattle.tql_bind_expr.specs.Bounds.{literal_of}
+use Rattle.tql_spec.specs.Expression.{Literal, Column}
+use Rattle.tql_spec.specs.Names.{Checked, Thing, AColumn, APeriod, Typed, typed, nothing, sound, unless, refuse_if}
+use Rattle.tql_spec.specs.Names.{literal, one_column}
+use Rattle.tql_spec.specs.Refusal.{Refusal, ValueOutOfRange, NameUnknownAmbiguousOrRepeated}
+use Rattle.tql_expr.specs.declared.terms.Terms.{Terms}
+use Rattle.tql_bind_expr.specs.Bounds.{literal_of, typed_of}
+use Rattle.tql_bind_expr.specs.Gathered.{Gathers}
 use Rattle.tql_bind_expr.specs.Numbers.{number_literal, signed_value}
+use Rattle.tql_bind_expr.specs.Columns.{sole_column}
+use Rattle.tql_bind_expr.specs.declared.scope.Typed as code
 
 -- a number where it is there
 abbrev pub number_as : Option Datum → Checked Typed
@@ -30,3 +36,29 @@ number_is false ds = number_by (nat_le (number_of ds) 9223372036854775807) (Int 
 pub literal_at : (k : Kind) (f : ℤ → Datum) (o : Option ℤ) (p q : ℤ) → o ≡ Some p → q ≡ p
     → literal k f o ≡ sound (literal_of (f q) (Some k))
 literal_at k f o p q is same = ap (literal k f) is ∙ ap (λ (z : ℤ). sound (literal_of (f z) (Some k))) (sym same)
+
+-- a name that stands for a column and nothing else, and one that does not
+pub a_column : (found : List Thing) (x : Typed) → sole_column found ≡ Some x → one_column found ≡ sound x
+a_column (AColumn i c ∷ []) x is = let same : typed (Column i) c.kind ≡ x = cc in ap (λ (y : Typed). sound y) same
+a_column [] x is = absurd (cc)
+a_column (APeriod s e k ∷ []) x is = absurd (cc)
+a_column (AColumn i c ∷ y ∷ ys) x is = absurd (cc)
+a_column (APeriod s e k ∷ y ∷ ys) x is = absurd (cc)
+
+no_column : (found : List Thing) → sole_column found ≡ None
+    → one_column found ≡ unless true NameUnknownAmbiguousOrRepeated nothing
+no_column (AColumn i c ∷ []) is = absurd (cc)
+no_column [] is = refl
+no_column (APeriod s e k ∷ []) is = refl
+no_column (AColumn i c ∷ y ∷ ys) is = refl
+no_column (APeriod s e k ∷ y ∷ ys) is = refl
+
+-- where no column is found
+pub no_column_is : (t : Terms) (r : Result code.Typed AllocError) (found : List Thing) (old now : Option Refusal)
+    → sole_column found ≡ None
+    → Gathers (refuse_if true NameUnknownAmbiguousOrRepeated) old now tt → IfOk r (λ x. typed_of t x ≡ nothing)
+    → IfOk r (λ x. Gathers (one_column found) old now (typed_of t x))
+no_column_is t (Ok x) found old now none g h =
+    subst (λ (c : Checked Typed). Gathers c old now (typed_of t x)) (sym (no_column found none))
+    (record { value = h; least = g.least })
+no_column_is t (Err e) found old now none g h = tt

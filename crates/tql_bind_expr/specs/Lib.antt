@@ -1,5 +1,6 @@
 pub mod Bounds
 pub mod Chains
+pub mod Columns
 pub mod Gathered
 pub mod Numbers
 pub mod Scopes

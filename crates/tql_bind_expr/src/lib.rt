@@ -11,6 +11,7 @@ mod literals;
 pub mod moments;
 pub mod names;
 pub mod number;
+pub mod repeats;
 pub mod scope;
 mod signs;
 pub mod tables;

@@ -1,5 +1,5 @@
 //! Literals and columns.
-ghost use Rattle.std.specs.Prelude.{◌≡◌, ◌∷◌, [], IfOk, option_map, Some, true};
+ghost use Rattle.std.specs.Prelude.{◌≡◌, IfOk, option_map, Some, true};
 ghost use Rattle.tql_spec.specs.Calendar as calendar;
 ghost use Rattle.tql_spec.specs.Datum as datum;
 ghost use Rattle.tql_spec.specs.Expression as bound;
@@ -13,10 +13,10 @@ ghost use Rattle.tql_value.specs.Views.{plain_kind, datum_of_value};
 ghost use Rattle.tql_bind_expr.specs.Gathered.{Gathers};
 ghost use Rattle.tql_bind_expr.specs.Bounds.{typed_of, literal_of};
 ghost use Rattle.tql_bind_expr.specs.Numbers.{number_literal};
-ghost use Rattle.tql_bind_expr.specs.Scopes.{scope_of, thing_of, things_of};
+ghost use Rattle.tql_bind_expr.specs.Scopes.{scope_of, things_of};
 
 use crate::faults::Faults;
-use crate::names::things;
+use crate::names::{sole_column, things};
 use crate::number::signed;
 use crate::scope::{Known, Thing, Typed};
 use crate::texts::unquoted;
@@ -63,25 +63,7 @@ fn column_at(terms: &mut Terms, number: usize, kind: Kind) -> Result<Typed, Allo
     })
 }
 
-/// The column that a thing is.
-#[tactic(auto, using(crate::proofs::Gathering::gathering))]
-fn as_column(thing: Thing<'_>, terms: &mut Terms, faults: &mut Faults) -> Result<Typed, AllocError>
-    ensures bound { IfOk result
-        (λ t. Gathers (names.one_column (thing_of thing.entry ∷ [])) faults.old faults.new (typed_of terms.new t)) }
-    ensures stays { Stays terms.old terms.new }
-    ensures held { IfOk result (λ t. HasExpr terms.new t.expr) }
-{
-    match thing {
-        Thing::Column(number, column) => column_at(terms, number, column.kind),
-        Thing::Period(_, _, _) => {
-            faults.refuse_if(true, Refusal::NameUnknownAmbiguousOrRepeated);
-            literal(terms, Value::Null, None)
-        }
-    }
-}
-
 /// Exactly one column.
-#[tactic(auto, using(crate::proofs::Gathering::gathering))]
 fn one_column(
     things: &[Thing<'_>],
     terms: &mut Terms,
@@ -92,11 +74,11 @@ fn one_column(
     ensures stays { Stays terms.old terms.new }
     ensures held { IfOk result (λ t. HasExpr terms.new t.expr) }
 {
-    match things {
-        [thing] => as_column(*thing, terms, faults),
-        _ => {
+    match sole_column(things) {
+        Some((number, kind)) => column_at(terms, number, kind),
+        None => {
             faults.refuse_if(true, Refusal::NameUnknownAmbiguousOrRepeated);
-            literal(terms, Value::Null, None)
+            null(terms)
         }
     }
 }

@@ -1,11 +1,12 @@
 //! Names in a scope.
-ghost use Rattle.std.specs.Prelude.{◌≡◌, ◌++◌, map, option_map, IfOk, string_bytes};
+ghost use Rattle.std.specs.Prelude.{◌≡◌, ◌++◌, ◌∷◌, [], map, option_map, IfOk, string_bytes};
 ghost use Rattle.tql_spec.specs.Names as names;
 ghost use Rattle.tql_spec.specs.Words.{same_text, listed};
 ghost use Rattle.tql_catalog.specs.Definitions.{column_of};
 ghost use Rattle.tql_syntax_tree.specs.Expressions.{named_of};
 ghost use Rattle.tql_value.specs.Views.{plain_kind};
-ghost use Rattle.tql_bind_expr.specs.Scopes.{text_of, known_of, scope_of, things_of};
+ghost use Rattle.tql_bind_expr.specs.Columns.{numbered, sole_column};
+ghost use Rattle.tql_bind_expr.specs.Scopes.{text_of, known_of, scope_of, thing_of, things_of};
 
 use crate::scope::{Known, Thing};
 use crate::texts::meant;
@@ -133,5 +134,25 @@ pub fn things<'a>(
             let qualifier = meant(memory, qualifier)?;
             things_called(memory, scope, Some(qualifier.as_str()), name.as_str())
         }
+    }
+}
+
+/// The number and the kind of the column that a thing is.
+fn as_column(thing: Thing<'_>) -> Option<(usize, Kind)>
+    ensures { option_map numbered result ≡ sole_column (thing_of thing.entry ∷ []) }
+{
+    match thing {
+        Thing::Column(number, column) => Some((number, column.kind)),
+        Thing::Period(_, _, _) => None,
+    }
+}
+
+/// The number and the kind of the column that a name stands for, where it stands for one and nothing else.
+pub fn sole_column(found: &[Thing<'_>]) -> Option<(usize, Kind)>
+    ensures { option_map numbered result ≡ sole_column (things_of found.now) }
+{
+    match found {
+        [thing] => as_column(*thing),
+        _ => None,
     }
 }

@@ -1,15 +1,24 @@
-use Rattle.std.proofs.Common.{IfOk, subst, sym, ap}
-use Rattle.tql_spec.specs.Names.{Checked, Typed, one_column}
+use Rattle.std.proofs.Common.{◌≡◌, ap, sym, ◌∙◌, option_map, Some, None}
+use Rattle.tql_spec.specs.Expression.{Column}
+use Rattle.tql_spec.specs.Names.{one_column, typed}
+use Rattle.tql_value.specs.Views.{plain_kind}
 use Rattle.tql_bind_expr.specs.Bounds.{typed_of}
-use Rattle.tql_bind_expr.specs.Gathered.{Gathers}
+use Rattle.tql_bind_expr.specs.Columns.{numbered, sole_column}
 use Rattle.tql_bind_expr.specs.Scopes.{things_of}
-use Rattle.tql_bind_expr.proofs.Loops.{only}
+use Rattle.tql_bind_expr.proofs.Gathering.{sound_ok}
+use Rattle.tql_bind_expr.proofs.LiteralLaws.{a_column, no_column_is}
 use Rattle.tql_bind_expr.proofs.literals.one_column.Goals as goal
 
-pub returns-in-len1-clause-bound : goal.returns-in-len1-clause-bound
-returns-in-len1-clause-bound c =
-    subst (λ (d : Checked Typed). IfOk c.as_column.result
-    (λ t. Gathers d c.args.faults.now c.as_column.new.faults (typed_of c.as_column.new.terms t)))
-    (ap (λ xs. one_column (things_of xs))
-    (sym (only c.args.things.now c.thing-item.result c.in-len1.len_at_least c.in-len1.len_below c.thing-item.is)))
-    c.as_column.ensures.bound
+pub returns-in-Some-clause-bound : goal.returns-in-Some-clause-bound
+returns-in-Some-clause-bound c =
+    let all = things_of c.args.things.now in
+    let x = typed (Column c.in-Some.number) (plain_kind c.in-Some.kind) in
+    let found : sole_column all ≡ Some x = sym c.sole_column.ensures ∙ ap (option_map numbered) c.in-Some.is in
+    sound_ok (one_column all) x (typed_of c.column_at.new.terms) _ c.column_at.result (a_column all x found)
+    c.column_at.ensures.bound
+
+pub returns-in-None-clause-bound : goal.returns-in-None-clause-bound
+returns-in-None-clause-bound c =
+    let all = things_of c.args.things.now in
+    let found : sole_column all ≡ None = sym c.sole_column.ensures ∙ ap (option_map numbered) c.in-None.is in
+    no_column_is c.null.new.terms c.null.result all _ _ found c.refuse_if.ensures c.null.ensures.bound

@@ -1,0 +1,11 @@
+use Rattle.std.proofs.Common.{◌≡◌, length, map}
+use Rattle.tql_spec.specs.Creation.{repeats}
+use Rattle.tql_bind_expr.proofs.repeats.repeats_name.Given as goal
+
+-- those behind tell what all tell
+abbrev pub invariant-loop-left : goal.invariant-loop-left
+invariant-loop-left g l =
+    repeats (map g.T.HasName.named l.fn.items) ≡ repeats (map g.T.HasName.named l.left)
+
+abbrev pub decreases-loop-left : goal.decreases-loop-left
+decreases-loop-left g l = length l.left
