@@ -25,11 +25,13 @@ fn group_at_end(part: &[u8]) -> Option<Group<'_>> {
 
 /// Puts a text behind another one, with a number in the place of each `#`.
 fn push_numbered(whole: &mut Vec<u8>, text: &[u8], number: &str) -> Result<(), AllocError> {
-    for byte in text {
-        if *byte == b'#' {
-            whole.extend_from_slice(number.as_bytes())?;
-        } else {
-            whole.push(*byte)?;
+    for part in text.split_inclusive(|byte| *byte == b'#') {
+        match part.strip_suffix(b"#") {
+            Some(before) => {
+                whole.extend_from_slice(before)?;
+                whole.extend_from_slice(number.as_bytes())?;
+            }
+            None => whole.extend_from_slice(part)?,
         }
     }
     Ok(())
