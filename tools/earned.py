@@ -18,7 +18,7 @@ ALLOWED = {
     "tql_value/src/refusal.rt": (2, "From<AllocError> and From<AllocFailed<_>> for Refusal"),
     "tql_syntax_expr/src/cursor.rt": (3, "the same for ParseError, and ParseError's own refusal"),
     "tql_run/src/piece.rt": (1, "the piece that stands for a text which found no memory"),
-    "tql_run/src/runner.rt": (2, "From<AllocError> for Fault, and Fault of a refusal for memory"),
+    "tql_run/src/runner.rt": (1, "From<AllocError> for Fault"),
     "tql_main/src/main.rt": (5, "what the program takes before a run was refused; there is no run then to say it"),
 }
 TOKEN = re.compile(r"""//[^\n]*|"(?:[^"\\]|\\.)*"|'(?:[^'\\\n]|\\.)'|[A-Za-z_]\w*|::|=>|->|\n|[^\s\w]""")

@@ -58,9 +58,9 @@ impl Responder for Checker {
 }
 
 /// Checks a script without running it: checks its statements one after another, each as soon as it is whole, and writes
-/// each answer to the sink. The source is pulled only where no whole statement is left, and where the sink has passed on
-/// all answers before. A device that fails ends the check as it ends a run, and a refused statement ends nothing; the
-/// listener is told of it. The summary counts the answers, and the refusals among them.
+/// each answer to the sink. The source is pulled only where no whole statement is left, and where the sink has passed
+/// on all answers before. A device that fails ends the check as it ends a run, and a refused statement ends nothing;
+/// the listener is told of it. The summary counts the answers, and the refusals among them.
 pub fn check_script<I: Source, O: Sink, L: Listener>(
     memory: Memory,
     source: &mut I,

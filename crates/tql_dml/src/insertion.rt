@@ -46,8 +46,8 @@ pub fn insert_rows(
 }
 
 /// The change that adds a row for each tuple, by the values of its expressions: ISO/IEC 9075-2:2011, 14.11. Refused
-/// as in `insert_rows`, and, before all of these, where an evaluation is out of range. At each point of time it adds the
-/// tuples whose application period holds the point.
+/// as in `insert_rows`, and, before all of these, where an evaluation is out of range. At each point of time it adds
+/// the tuples whose application period holds the point.
 pub fn insert_tuples(memory: Memory, table: &Table, insertion: &Insertion) -> Result<Delta, Refusal>
     ensures alters { Alters table.now.id [] (λ m. (inserted table.now.definition insertion.now m).rows)
         (inserted table.now.definition insertion.now) result }

@@ -122,7 +122,8 @@ module _ (s : State) (after : Standing) (script old new : List ℕ) (source : So
   stopped r =
       let told = r.given.told script m.had in
       let follows : IsTrue r.met → told.0 ≡ [] = λ e.
-      let meets = subst (λ (b : Bool). MatchBool b (MeetsEnd source) (source.failures_new ≡ source.failures_old)) e r.read in
+      let meets = subst (λ (b : Bool). MatchBool b (MeetsEnd source) (source.failures_new ≡ source.failures_old)) e
+      r.read in
       meets.at_end.nothing told.0 told.2 in
       let first = r.first told.0 follows in
       let p = replying s r.done r.answers r.state r.ran in
@@ -144,6 +145,7 @@ module _ (s : State) (after : Standing) (script old new : List ℕ) (source : So
           → CutsLast (map Replied replies) r.text
       cut replies all (inl c) = subst (λ (x : List Answer). CutsLast x r.text) all c
       cut replies all (inr (none, is, fails)) = absurd (no_flush_fails sink.flushes_fail never fails)
+
   -- what a run over memory leaves
   pub runs_bytes : (result : Result Summary Fault) → Runs Replies s after source sink hearing result
       → RunsBytes s after script old new result

@@ -22,13 +22,13 @@ use tql_run::slice_source::SliceSource;
 /// From so many bytes on a script in memory is not read, as a source of so many is not: `run` says `Read` of both.
 const TOO_MANY_BYTES: usize = 281_474_976_710_655;
 
-/// Runs the statements of a script one after another, writes each reply to the sink, and tells the listener of those that
-/// are refused, behind the push of the reply. Each statement runs as soon as it is whole: the source is pulled only where
-/// no whole statement is left, and where the sink has passed on all replies before. Where the source fails, the statements
-/// that came whole before that have run and stand, and the run says `Read`; where the sink fails, no statement runs behind
-/// the one whose reply it did not take, and the run says `Write`. A refused statement does not stop the run. Memory for a
-/// whole script is not asked for: where a statement finds none it is refused, and `Memory` is said only of what a run takes
-/// at its start.
+/// Runs the statements of a script one after another, writes each reply to the sink, and tells the listener of those
+/// that are refused, behind the push of the reply. Each statement runs as soon as it is whole: the source is pulled
+/// only where no whole statement is left, and where the sink has passed on all replies before. Where the source fails,
+/// the statements that came whole before that have run and stand, and the run says `Read`; where the sink fails, no
+/// statement runs behind the one whose reply it did not take, and the run says `Write`. A refused statement does not
+/// stop the run. Memory for a whole script is not asked for: where a statement finds none it is refused, and `Memory`
+/// is said only of what a run takes at its start.
 pub fn run<I: Source, O: Sink, L: Listener>(
     engine: &mut Engine,
     source: &mut I,

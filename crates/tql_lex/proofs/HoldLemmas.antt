@@ -1,6 +1,7 @@
 -- What a splitter holds, from byte to byte and from statement to statement.
 use Rattle.std.proofs.Common.{◌≡◌, ℕ, suc, ◌+◌, ◌<◌, ◌≤◌, ◌==◌, Bool, true, false, cond, List, [], ◌∷◌, ◌++◌, length}
-use Rattle.std.proofs.Common.{take, drop, Option, Some, None, refl, sym, subst, ap, ◌∙◌, arith, append_assoc, append-nil}
+use Rattle.std.proofs.Common.{take, drop, Option, Some, None, refl, sym, subst, ap, ◌∙◌, arith, append_assoc}
+use Rattle.std.proofs.Common.{append-nil}
 use Rattle.std.proofs.Common.{length-append, take_at, drop_at, inl, inr}
 use Rattle.std.specs.Prelude.{◌&&◌, ◌⊎◌, not, map, IsTrue, IsFalse, if◌then◌else◌}
 use Rattle.std.specs.List.{list_all}
@@ -11,13 +12,15 @@ use Rattle.tql_spec.specs.Script.{Outside, state_after, without_lead, statements
 use Rattle.tql_spec.specs.Lines.{Placed, lead, placed_from, line_feeds, line_of}
 use Rattle.tql_spec.proofs.LineLaws.{pieces_placed, lead_parts}
 use Rattle.tql_lex.specs.Cutting.{state_behind, end_from, finished_piece, unfinished_piece, is_comment}
-use Rattle.tql_lex.specs.Stream.{Kept, Nothing, Dash, Whole, Overlong, Lost, Stream, is_begun, kept_now, one_if, to_do, capped}
+use Rattle.tql_lex.specs.Stream.{Kept, Nothing, Dash, Whole, Overlong, Lost, Stream, is_begun, kept_now, one_if, to_do}
+use Rattle.tql_lex.specs.Stream.{capped}
 use Rattle.tql_lex.specs.Drafts.{Keeps, Ends}
 use Rattle.tql_lex.specs.Holding.{Shows, Reads, Holds}
 use Rattle.tql_lex.specs.Pieces.{Says, MayFollow, IsFirst, HasNone, Takes, GivesOne, GivesNone}
 use Rattle.tql_lex.specs.Ready.{TakesByte}
 use Rattle.tql_lex.specs.Feeding.{Passes, TakesOn, LooksAt, Closes, with_byte}
-use Rattle.tql_lex.proofs.CuttingLemmas.{ends, one_placed, piece_behind, placed_ends, placed_never, placed_none, placed_some}
+use Rattle.tql_lex.proofs.CuttingLemmas.{ends, one_placed, piece_behind, placed_ends, placed_never, placed_none}
+use Rattle.tql_lex.proofs.CuttingLemmas.{placed_some}
 use Rattle.tql_lex.proofs.LookLemmas.{state_more, none_more, ends_at, looked_more}
 
 -- ---- line feeds
@@ -69,7 +72,8 @@ kept_still true kept e = let no : true ≡ false = e in absurd cc
 kept_still false kept e = refl
 
 begun_still : (before looked ahead ahead_now text : List ℕ) (was : Kept) (old_begun feeds begun : ℕ)
-    → ((is_begun was ≡ true) × (ahead_now ≡ ahead) × (0 < length text)) ⊎ ((is_begun was ≡ false) × (ahead_now ≡ looked))
+    → ((is_begun was ≡ true) × (ahead_now ≡ ahead) × (0 < length text)) ⊎
+    ((is_begun was ≡ false) × (ahead_now ≡ looked))
     → (0 < length text → old_begun ≡ capped (line_feeds (before ++ ahead)))
     → feeds ≡ capped (line_feeds (before ++ looked)) → begun ≡ (if is_begun was then old_begun else feeds)
     → begun ≡ capped (line_feeds (before ++ ahead_now))
@@ -191,7 +195,8 @@ placed_close ahead looked rest more b whole end =
     ∙ placed_ends ahead (looked ++ b ∷ []) (rest ++ more) n (ends_at Outside looked b whole end)
     ∙ ap (λ (z : List ℕ). one_placed (piece_behind ahead (finished_piece z)) ++ placed_from (ahead ++ z ++ 59 ∷ [])
     (drop (suc n) (looked ++ b ∷ []) ++ (rest ++ more))) front
-    ∙ ap (λ (z : List ℕ). one_placed (piece_behind ahead (finished_piece looked)) ++ placed_from (ahead ++ looked ++ 59 ∷ [])
+    ∙ ap (λ (z : List ℕ). one_placed (piece_behind ahead (finished_piece looked)) ++ placed_from
+    (ahead ++ looked ++ 59 ∷ [])
     (z ++ (rest ++ more))) back
 
 -- what is passed with a piece and its `;`
@@ -246,10 +251,12 @@ closed_blank b answer old new c still goes none passed left h =
       skipped = used;
       looked = [];
       parts = h.parts ∙ left_with h.skipped h.looked old.ready b (is_end old.place b goes)
-          ∙ ap (λ (z : List ℕ). z ++ old.ready) (sym (append-nil used)) ∙ ap (λ (z : List ℕ). (used ++ []) ++ z) (sym c.ready);
+          ∙ ap (λ (z : List ℕ). z ++ old.ready) (sym (append-nil used))
+          ∙ ap (λ (z : List ℕ). (used ++ []) ++ z) (sym c.ready);
       placed = λ more. placed_up_to b old passed left h goes more
           ∙ ap (λ (z : List Placed). z ++ placed_from (passed ++ used) (old.ready ++ more))
-          (placed_none ((passed ++ h.skipped) ++ lead false h.looked) (without_lead false h.looked) true (ap length text))
+          (placed_none ((passed ++ h.skipped) ++ lead false h.looked) (without_lead false h.looked) true
+          (ap length text))
           ∙ ap (λ (z : List ℕ). placed_from (passed ++ used) (z ++ more)) (sym c.ready);
       reads = fresh new (passed ++ used) c.place (given_out new.given new.kept c.given)
           (c.feeds ∙ h.reads.feeds ∙ ap capped (feeds_with passed h.skipped h.looked));
@@ -269,8 +276,10 @@ lead_is looked ahead text parts is =
 -- the first of the statements, by where the statements stand
 first_of : (ended : Bool) (passed left used rest before : List ℕ) (p : script.Piece) (on : ℕ)
     → ((more : List ℕ) → MayFollow ended more
-    → placed_from passed (left ++ more) ≡ record { before = before; piece = p } ∷ placed_from (passed ++ used) (rest ++ more))
-    → (IsFalse p.finished → IsTrue ended) → left ≡ used ++ rest → length before + length p.text ≤ length (passed ++ used)
+    → placed_from passed (left ++ more) ≡ record { before = before; piece = p } ∷ placed_from (passed ++ used)
+    (rest ++ more))
+    → (IsFalse p.finished → IsTrue ended) → left ≡ used ++ rest
+    → length before + length p.text ≤ length (passed ++ used)
     → on ≡ capped (line_of (record { before = before; piece = p })) → IsFirst ended passed left used rest p on
 first_of ended passed left used rest before p on placed unfinished parts within line = record {
   given = λ more m. sym (pieces_placed passed (left ++ more)) ∙ ap (map (λ (q : Placed). q.piece)) (placed more m)
@@ -284,7 +293,8 @@ first_of ended passed left used rest before p on placed unfinished parts within 
 }
 
 -- the line of a text
-line_is : (before ahead looked : List ℕ) (p : script.Piece) (begun on : ℕ) → begun ≡ capped (line_feeds (before ++ ahead))
+line_is : (before ahead looked : List ℕ) (p : script.Piece) (begun on : ℕ)
+    → begun ≡ capped (line_feeds (before ++ ahead))
     → on ≡ capped (begun + 1) → lead false looked ≡ ahead
     → on ≡ capped (line_of (record { before = before ++ lead false looked; piece = p }))
 line_is before ahead looked p begun on had is at =
@@ -500,7 +510,12 @@ pub taken_end : (b : ℕ) (answer : Bool) (old new : Stream) → Closes answer o
     → ends old.place b ≡ true → TakesOn b answer old new
 taken_end b true old new c still goes = record {
   ended = c.ended;
-  fewer = omega (arith, ap length c.ready, ap (λ (k : Kept). one_if (is_begun k)) (given_out new.given new.kept c.given));
+  fewer = omega (
+    arith,
+    ap length c.ready,
+    ap (λ (k : Kept). one_if (is_begun k))
+        (given_out new.given new.kept c.given),
+  );
   takes = closed_text b true old new c still goes (sym c.is);
 }
 taken_end b false old new c still goes = record {
@@ -508,7 +523,12 @@ taken_end b false old new c still goes = record {
   ended = c.ended;
   line = c.line ∙ ap (λ (t : Bool). if t then capped (old.begun + 1) else old.line) (sym c.is);
   fewer = omega (arith, ap length c.ready);
-  no_more = omega (arith, ap length c.ready, ap (λ (k : Kept). one_if (is_begun k)) (given_out new.given new.kept c.given));
+  no_more = omega (
+    arith,
+    ap length c.ready,
+    ap (λ (k : Kept). one_if (is_begun k))
+        (given_out new.given new.kept c.given),
+  );
   holds = closed_blank b false old new c still goes (sym c.is);
 }
 
@@ -567,7 +587,8 @@ gives_end answer start now new r c ended begun =
         ap one_if begun,
         r.no_more,
       );
-      takes = λ passed left h. closed_end answer now new c r.still r.ready ended some passed left (r.holds passed left h);
+      takes = λ passed left h. closed_end answer now new c r.still r.ready ended some passed left
+          (r.holds passed left h);
     }
   where
     still_begun : (old new : Kept) → Ends old new → is_begun new ≡ is_begun old

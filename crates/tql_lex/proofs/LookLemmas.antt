@@ -1,6 +1,7 @@
 -- What is looked at of a piece, byte by byte.
 use Rattle.std.proofs.Common.{◌≡◌, ℕ, suc, ◌<◌, ◌==◌, Bool, true, false, cond, List, [], ◌∷◌, ◌++◌, length}
-use Rattle.std.proofs.Common.{Some, None, refl, sym, subst, ap, ◌∙◌, arith, append_assoc, append-nil, length-append, inl, inr}
+use Rattle.std.proofs.Common.{Some, None, refl, sym, subst, ap, ◌∙◌, arith, append_assoc, append-nil, length-append}
+use Rattle.std.proofs.Common.{inl, inr}
 use Rattle.std.specs.Prelude.{◌||◌, ◌⊎◌, not, MatchBool, if◌then◌else◌}
 use Rattle.std.proofs.lemmas.Bool.{eqb-true, and_parts}
 use Rattle.tql_spec.specs.Script.{ScanState, Outside, InComment, state_after}
@@ -78,15 +79,18 @@ begin_in false = Outside
 -- blanks and comments alone end outside a comment, or in one
 abbrev AreBlank : Bool → List ℕ → Type 0
 AreBlank c xs =
-    ((state_behind (begin_in c) xs ≡ Outside) × ((more : List ℕ) → without_lead c (xs ++ more) ≡ without_lead false more))
-    ⊎ ((state_behind (begin_in c) xs ≡ InComment) × ((more : List ℕ) → without_lead c (xs ++ more) ≡ without_lead true more))
+    ((state_behind (begin_in c) xs ≡ Outside) × ((more : List ℕ)
+    → without_lead c (xs ++ more) ≡ without_lead false more))
+    ⊎ ((state_behind (begin_in c) xs ≡ InComment) × ((more : List ℕ)
+    → without_lead c (xs ++ more) ≡ without_lead true more))
 
 -- a blank opens nothing
 blank_outside : (b : ℕ) → is_blank b ≡ true → state_after Outside b ≡ Outside
 blank_outside b e = by (b == 45) refl (b == 39) refl (b == 34) refl where
   by : (t : Bool) → (b == 45) ≡ t → (u : Bool) → (b == 39) ≡ u → (v : Bool) → (b == 34) ≡ v
       → state_after Outside b ≡ Outside
-  by true p u q v r = let no : is_blank 45 ≡ true = subst (λ (x : ℕ). is_blank x ≡ true) (eqb-true b 45 p) e in absurd cc
+  by true p u q v r = let no : is_blank 45 ≡ true = subst (λ (x : ℕ). is_blank x ≡ true) (eqb-true b 45 p) e in absurd
+      cc
   by false p true q v r =
       let no : is_blank 39 ≡ true = subst (λ (x : ℕ). is_blank x ≡ true) (eqb-true b 39 q) e in absurd cc
   by false p false q true r =
@@ -101,9 +105,17 @@ blank_first b more p = rw (p, blank_no_comment b more p) refl
 
 blank_on : (b : ℕ) (xs : List ℕ) → is_blank b ≡ true → AreBlank false xs → AreBlank false (b ∷ xs)
 blank_on b xs p (inl h) =
-    inl (ap (λ (s : ScanState). state_behind s xs) (blank_outside b p) ∙ h.0, λ more. blank_first b (xs ++ more) p ∙ h.1 more)
+    inl (
+      ap (λ (s : ScanState). state_behind s xs) (blank_outside b p) ∙ h.0,
+      λ more. blank_first b (xs ++ more) p
+          ∙ h.1 more,
+    )
 blank_on b xs p (inr h) =
-    inr (ap (λ (s : ScanState). state_behind s xs) (blank_outside b p) ∙ h.0, λ more. blank_first b (xs ++ more) p ∙ h.1 more)
+    inr (
+      ap (λ (s : ScanState). state_behind s xs) (blank_outside b p) ∙ h.0,
+      λ more. blank_first b (xs ++ more) p
+          ∙ h.1 more,
+    )
 
 line_state : (b : ℕ) (xs : List ℕ) (t : Bool) → (b == 10) ≡ t
     → state_behind InComment (b ∷ xs) ≡ state_behind (begin_in (not t)) xs
@@ -171,7 +183,8 @@ pub record LookedMore (b : ℕ) (looked ahead text : List ℕ) (was new : Kept) 
   pub is_text : without_lead false (looked ++ b ∷ []) ≡ text_now
   pub kept : Shows new text_now
   pub at : 0 < length text_now
-      → ((is_begun was ≡ true) × (ahead_now ≡ ahead) × (0 < length text)) ⊎ ((is_begun was ≡ false) × (ahead_now ≡ looked))
+      → ((is_begun was ≡ true) × (ahead_now ≡ ahead) × (0 < length text)) ⊎
+      ((is_begun was ≡ false) × (ahead_now ≡ looked))
 
 -- a text is kept as it has begun
 shows_kept : (text : List ℕ) (new : Kept) → HasBegun text → Keeps text new → Shows new text
@@ -183,7 +196,8 @@ shows_kept text Lost h k = h
 
 -- what has begun goes on
 goes_on : (b : ℕ) (looked ahead text : List ℕ) (was new : Kept) → is_begun was ≡ true → looked ≡ ahead ++ text
-    → without_lead false looked ≡ text → HasBegun text → Shows new (text ++ b ∷ []) → LookedMore b looked ahead text was new
+    → without_lead false looked ≡ text → HasBegun text → Shows new (text ++ b ∷ [])
+    → LookedMore b looked ahead text was new
 goes_on b looked ahead text was new begun parts is h shows = record {
   ahead_now = ahead;
   text_now = text ++ b ∷ [];
@@ -224,7 +238,8 @@ first_byte : (b : ℕ) (looked ahead : List ℕ) (new : Kept) → (m : Bool) →
     → MatchBool m (new ≡ Nothing) (MatchBool d (new ≡ Dash) (Keeps (b ∷ []) new))
     → LookedMore b looked ahead [] Nothing new
 first_byte b looked ahead new true p d q on looks =
-    no_text_yet b looked ahead [] Nothing new (on ∙ blank_first b [] p) (subst (λ (k : Kept). Shows k []) (sym looks) refl)
+    no_text_yet b looked ahead [] Nothing new (on ∙ blank_first b [] p)
+    (subst (λ (k : Kept). Shows k []) (sym looks) refl)
 first_byte b looked ahead new false p true q on looks =
     let dash : b ≡ 45 = eqb-true b 45 q in
     begins_now b looked ahead [] Nothing new refl (on ∙ ap (λ (x : ℕ). without_lead false (x ∷ [])) dash
@@ -235,7 +250,8 @@ first_byte b looked ahead new false p false q on looks =
     begins_now b looked ahead [] Nothing new refl (on ∙ h.stays []) (shows_kept (b ∷ []) new h looks)
 
 -- behind blanks and comments
-look_nothing : (b : ℕ) (c : Bool) (looked ahead text : List ℕ) (new : Kept) → without_lead false looked ≡ text → text ≡ []
+look_nothing : (b : ℕ) (c : Bool) (looked ahead text : List ℕ) (new : Kept) → without_lead false looked ≡ text
+    → text ≡ []
     → is_comment (state_behind Outside looked) ≡ c → Looks c b Nothing new → LookedMore b looked ahead text Nothing new
 look_nothing b c looked ahead text new is none comment looks =
     subst (λ (t : List ℕ). LookedMore b looked ahead t Nothing new) (sym none)
@@ -256,7 +272,8 @@ look_nothing b c looked ahead text new is none comment looks =
       by (inr h) false e looks = let no : true ≡ false = ap is_comment (sym h.0) ∙ e in absurd cc
 
 -- behind a `-`
-look_dash : (b : ℕ) (looked ahead text : List ℕ) (new : Kept) → looked ≡ ahead ++ text → without_lead false looked ≡ text
+look_dash : (b : ℕ) (looked ahead text : List ℕ) (new : Kept) → looked ≡ ahead ++ text
+    → without_lead false looked ≡ text
     → text ≡ 45 ∷ [] → (d : Bool) → (b == 45) ≡ d → MatchBool d (new ≡ Nothing) (Keeps (45 ∷ b ∷ []) new)
     → LookedMore b looked ahead text Dash new
 look_dash b looked ahead text new parts is dash d q looks =

@@ -26,8 +26,8 @@ Says finished kept p = (p.finished ≡ finished) × Keeps p.text kept
 abbrev pub MayFollow : Bool → List ℕ → Type 0
 MayFollow ended more = IsTrue ended → more ≡ []
 
--- Behind the bytes that were passed, the statement is the first of those left, whatever may still follow. What stands up
--- to its end is used, and the rest is left. It stands on this line.
+-- Behind the bytes that were passed, the statement is the first of those left, whatever may still follow. What stands
+-- up to its end is used, and the rest is left. It stands on this line.
 pub record IsFirst (ended : Bool) (passed left used rest : List ℕ) (p : script.Piece) (on : ℕ)
     : Type 0 where
   pub given : (more : List ℕ) → MayFollow ended more → statements (left ++ more) ≡ p ∷ statements (rest ++ more)

@@ -2,8 +2,8 @@
 use Rattle.std.specs.Prelude.{ℕ, ◌+◌, Bool, true, false, List, length, min, ◌^◌, ◌-◌}
 use Rattle.tql_spec.specs.Script.{ScanState}
 
--- what is kept of the text that was begun: nothing while no text has begun, a `-` that may yet begin a comment, the text,
--- or in its place that it is too long, or that memory was refused for it
+-- what is kept of the text that was begun: nothing while no text has begun, a `-` that may yet begin a comment, the
+-- text, or in its place that it is too long, or that memory was refused for it
 pub data Kept : Type 0 where
   Nothing : Kept
   Dash : Kept

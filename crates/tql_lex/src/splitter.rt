@@ -188,10 +188,10 @@ impl Splitter {
 
     /// The next statement: its text from the first byte that is neither a blank nor in a comment up to its `;`.
     /// It is None where the bytes that were fed hold no whole statement, and then the next part may be fed. Once the
-    /// input has ended, what no `;` ends is given as unfinished. A text of more than 1,048,576 bytes is not kept, and is
-    /// given as too long, once, where it ends. Where memory is refused for a text, its bytes are let go, and `NoMemory`
-    /// is given, once, where it ends. The limit, and that a `;` in a text, a quoted name or a comment ends nothing, are
-    /// this project's choice.
+    /// input has ended, what no `;` ends is given as unfinished. A text of more than 1,048,576 bytes is not kept, and
+    /// is given as too long, once, where it ends. Where memory is refused for a text, its bytes are let go, and
+    /// `NoMemory` is given, once, where it ends. The limit, and that a `;` in a text, a quoted name or a comment ends
+    /// nothing, are this project's choice.
     pub fn next_statement(&mut self) -> Option<Piece<'_>>
         ensures* next { sem 𝓛 (EndsAs self.entry result) }
     {

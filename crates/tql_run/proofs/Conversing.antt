@@ -85,7 +85,8 @@ count_fits pulls n few le = omega (arith, few, le)
 pub failed_writing : (A : Answering) (s : State) (script : List ℕ) (ended : Bool) (after : Standing) (pulls : ℕ)
     (source : SourceChange) (sink : SinkChange) (hearing : HearingChange) → ended ≡ false
     → ReadsSoFar pulls script source
-    → SinkFailed A s script ended after sink.flushes_fail sink.held_old sink.held_new sink.failures_old sink.failures_new
+    → SinkFailed A s script ended after sink.flushes_fail sink.held_old sink.held_new sink.failures_old
+    sink.failures_new
     hearing.heard_old hearing.heard_new → StopsWriting A s after source sink hearing
 failed_writing A s script ended after pulls source sink hearing unended r f = record {
   script = script;
@@ -132,9 +133,11 @@ failed_reading A s script stream after summary source sink hearing unended given
     }
 
 -- a pull that gave nothing
-pub gives_kept : (a b c : Option (List ℕ)) (xs bytes : List ℕ) → bytes ≡ [] → Gives a xs b → Gives b bytes c → Gives a xs c
+pub gives_kept : (a b c : Option (List ℕ)) (xs bytes : List ℕ) → bytes ≡ [] → Gives a xs b → Gives b bytes c
+    → Gives a xs c
 gives_kept a b c xs bytes none p q =
-    subst (λ (z : List ℕ). Gives a z c) (ap (λ (z : List ℕ). xs ++ z) none ∙ append-nil xs) (gives_on a b c xs bytes p q)
+    subst (λ (z : List ℕ). Gives a z c) (ap (λ (z : List ℕ). xs ++ z) none ∙ append-nil xs)
+    (gives_on a b c xs bytes p q)
 
 -- a pull of no bytes, though there was room
 pub met_end : {E : Type 0} (pulls room n : ℕ) (script bytes : List ℕ) (before : SourceChange) (left : Option (List ℕ))

@@ -233,7 +233,8 @@ told_all script places others answers h0 h1 parts even told =
 
 -- a line that is not too great is counted
 line_is : (script passed used : List ℕ) (p : Placed) (on : ℕ) → on ≡ capped (line_of p)
-    → length p.before + length p.piece.text ≤ length (passed ++ used) → (rest : List ℕ) → script ≡ (passed ++ used) ++ rest
+    → length p.before + length p.piece.text ≤ length (passed ++ used) → (rest : List ℕ)
+    → script ≡ (passed ++ used) ++ rest
     → length script < most_bytes → on ≡ line_of p
 line_is script passed used p on is within rest parts short =
     let few : line_feeds p.before ≤ length p.before = count_by-le-length (λ (b : ℕ). b == 10) p.before in
@@ -251,7 +252,8 @@ record Further (A : Answering) (s : State) (script : List ℕ) (stream : Stream)
   holds : Holds stream passed left
   parts : script ≡ passed ++ left
   done : List Piece
-  first : (more : List ℕ) → MayFollow stream.ended more → statements (script ++ more) ≡ done ++ statements (left ++ more)
+  first : (more : List ℕ) → MayFollow stream.ended more → statements (script ++ more) ≡ done ++ statements
+      (left ++ more)
   finished : IsFalse stream.ended → IsTrue (are_finished done)
   place : Placed
   placed : (more : List ℕ) → MayFollow stream.ended more
@@ -520,7 +522,8 @@ wrote_fed A s script bytes now after h summary held_old held_now w0 w1 h0 h1 une
       wrote = record {
         parts = ap (λ (xs : List ℕ). xs ++ bytes) w.parts ∙ append_assoc t.passed t.left bytes;
         done = w.done;
-        first = λ more m. ap statements (append_assoc script bytes more) ∙ w.first (bytes ++ more) (never (bytes ++ more))
+        first = λ more m. ap statements (append_assoc script bytes more)
+            ∙ w.first (bytes ++ more) (never (bytes ++ more))
             ∙ ap (λ (xs : List ℕ). w.done ++ statements xs) (sym (append_assoc t.left bytes more));
         finished = λ _. w.finished unended;
         places = w.places;

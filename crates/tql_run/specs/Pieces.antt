@@ -16,7 +16,8 @@ HasFault p e =
     ((e ≡ StatementTooLong) × (1_048_576 < length p.text))
     ⊎ ((length p.text ≤ 1_048_576) × IsFalse p.finished × IsCutFault p.text e)
 
--- the law: a piece with such a fault is refused for it, and any piece may be refused for want of memory; the state stays
+-- the law: a piece with such a fault is refused for it, and any piece may be refused for want of memory; the state
+-- stays
 pub record RefusesFaults (A : Answering) : Type 0 where
   pub at_once : (s : State) (p : Piece) (e : Refusal) → HasFault p e → A s p (Replied (Refused e)) s
   pub for_memory : (s : State) (p : Piece) → A s p (Replied (Refused OutOfMemory)) s

@@ -237,12 +237,12 @@ fn converse<R: Responder, I: Source, O: Sink, L: Listener>(
     }
 }
 
-/// Answers the statements of a script one after another, writes each answer to the sink, and tells the listener of those
-/// that are refused, behind the push of the answer: what it is handed is made by a push alone. Each statement is answered
-/// as soon as it is whole: the source is pulled only where no whole statement is left, and where the sink has passed
-/// on all answers before. Where the source fails, the statements that came whole before that are answered and stand, and
-/// the run says `Read`; where the sink fails, no statement runs behind the one whose answer it did not take, and the run
-/// says `Write`. A refused statement does not stop the run.
+/// Answers the statements of a script one after another, writes each answer to the sink, and tells the listener of
+/// those that are refused, behind the push of the answer: what it is handed is made by a push alone. Each statement is
+/// answered as soon as it is whole: the source is pulled only where no whole statement is left, and where the sink has
+/// passed on all answers before. Where the source fails, the statements that came whole before that are answered and
+/// stand, and the run says `Read`; where the sink fails, no statement runs behind the one whose answer it did not take,
+/// and the run says `Write`. A refused statement does not stop the run.
 pub fn run<R: Responder, I: Source, O: Sink, L: Listener>(
     responder: &mut R,
     source: &mut I,

@@ -11,8 +11,8 @@ use tql_lex::splitter::{PIECE, Splitter};
 use tql_memory::Memory;
 use tql_result::answer::Answer;
 
-/// A script that comes part by part: the host feeds bytes as they come, and takes the answers as soon as their statements
-/// are whole. How the bytes were cut into parts does not matter.
+/// A script that comes part by part: the host feeds bytes as they come, and takes the answers as soon as their
+/// statements are whole. How the bytes were cut into parts does not matter.
 #[derive(Drop)]
 pub struct Session {
     splitter: Splitter,
@@ -29,8 +29,8 @@ impl Model for Session {
 impl Session {
     ghost use Rattle.tql_lex.specs.Holding.{Holds};
 
-    /// A session that was fed nothing. It takes room for one part of 65,536 bytes, and keeps the memory that a statement's
-    /// text grows in.
+    /// A session that was fed nothing. It takes room for one part of 65,536 bytes, and keeps the memory that a
+    /// statement's text grows in.
     pub fn new(memory: Memory) -> Result<Session, AllocError>
         ensures holds { IfOk result (λ s. Holds s [] []) }
         ensures ready { IfOk result (λ s. s.ready ≡ []) }
@@ -69,8 +69,8 @@ impl Session {
         self.splitter.line()
     }
 
-    /// Answers the next statement. It is None where the bytes that were fed hold no whole one; once the end was told, what
-    /// no `;` ends is refused as unfinished.
+    /// Answers the next statement. It is None where the bytes that were fed hold no whole one; once the end was told,
+    /// what no `;` ends is refused as unfinished.
     pub fn next_answer<R: Responder>(&mut self, responder: &mut R) -> Option<Answer>
         ensures { AnswersNext R.answering result self.old self.new
             (R.stands responder.old) (R.stands responder.new) }

@@ -26,7 +26,11 @@ returns-in-Err-pull_flushed g c s st =
     let p = c.in-Err-pull_flushed.ensures.pulls in
     failed_reading _ s i.script _ _ _ _ _ _ (c.in-Ok.ensures.tallies.ended ∙ i.unended)
     (gives_kept _ _ _ i.script _ refl i.reads.given p.given)
-    (record { unmet = p.told; cause = inl (subst (λ (n : ℕ). HasFailed n (g.I.Source.failures c.pull_flushed.new.source)) i.reads.steady p.counted) })
+    (record {
+      unmet = p.told;
+      cause = inl (subst (λ (n : ℕ). HasFailed n
+          (g.I.Source.failures c.pull_flushed.new.source)) i.reads.steady p.counted);
+    })
     c.in-Ok.ensures.flushed
     (c.in-Ok.ensures.answers s i.script _ _ _ (script_short _ i.script _ few i.reads) (i.wrote s st))
 
@@ -38,7 +42,8 @@ returns-then-count-eq0 g c s st =
     let w = c.in-Ok.ensures.answers s i.script _ _ _ (script_short _ i.script _ few i.reads) (i.wrote s st) in
     ended_run _ s i.script _ c.answer_rest.result _ _ _
     (gives_kept _ _ _ i.script _ (none_taken _ _ c.if-count-eq0.true) i.reads.given p.given)
-    (met_end _ _ _ i.script _ _ _ _ _ i.reads p c.if-count-eq0.true (omega (arith, c.requires.room, c.loop-pull.auto.buffer)))
+    (met_end _ _ _ i.script _ _ _ _ _ i.reads p c.if-count-eq0.true
+    (omega (arith, c.requires.room, c.loop-pull.auto.buffer)))
     (c.answer_rest.ensures s i.script _ _ _ (script_short _ i.script _ few i.reads) w.to)
 
 pub loop-pull-preserved : goal.loop-pull-preserved
@@ -56,9 +61,11 @@ loop-pull-preserved g c =
     let unended = c.in-Ok.ensures.tallies.ended ∙ i.unended in
     record {
       script = i.script ++ bytes;
-      reads = reads_more _ _ count i.script c.pull_flushed.new.buffer bytes _ _ _ _ i.reads p c.if-count-eq0.false fits small refl;
+      reads = reads_more _ _ count i.script c.pull_flushed.new.buffer bytes _ _ _ _ i.reads p c.if-count-eq0.false fits
+          small refl;
       wrote = λ s st. wrote_fed _ s i.script bytes _ _ _ _ _ _ _ _ _ _ unended
-          (c.in-Ok.ensures.answers s i.script _ _ _ (script_short _ i.script _ few i.reads) (i.wrote s st)).to c.feed.ensures;
+          (c.in-Ok.ensures.answers s i.script _ _ _ (script_short _ i.script _ few i.reads) (i.wrote s st)).to
+          c.feed.ensures;
       unended = c.feed.ensures.ended ∙ unended;
       room = omega (arith, i.room, c.in-Ok.ensures.tallies.room, c.feed.ensures.more, size, fits, small);
       fewer = c.in-Ok.ensures.tallies.fewer i.fewer;

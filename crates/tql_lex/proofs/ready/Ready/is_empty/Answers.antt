@@ -1,4 +1,5 @@
-use Rattle.std.proofs.Common.{refl, sym, ◌∙◌, ap, ◌≡◌, ◌<◌, ◌≤◌, ◌-◌, ◌==◌, ℕ, List, [], ◌∷◌, Bool, true, false, length, drop, arith}
+use Rattle.std.proofs.Common.{refl, sym, ◌∙◌, ap, ◌≡◌, ◌<◌, ◌≤◌, ◌-◌, ◌==◌, ℕ, List, [], ◌∷◌, Bool, true, false}
+use Rattle.std.proofs.Common.{length, drop, arith}
 use Rattle.std.proofs.Common.{length-drop}
 use Rattle.std.proofs.lemmas.Bool.{eqb-true, eqb-false}
 use Rattle.tql_spec.specs.Words.{is_empty}
@@ -20,4 +21,5 @@ returns c =
     let all : count ≡ length items = ap length c.as_slice-bytes.ensures.value in
     let within : next ≤ length items = omega (arith, c.self.invariant, c.as_slice-bytes.ensures.len, all) in
     empty_as c.args.self.now (next == count)
-    (λ e. omega (arith, size, all, eqb-true next count e)) (λ e. omega (arith, size, all, within, eqb-false next count e))
+    (λ e. omega (arith, size, all, eqb-true next count e)) (λ e. omega
+    (arith, size, all, within, eqb-false next count e))

@@ -20,8 +20,10 @@ returns-then-is_begun c =
       begun = c.self.inside.begun;
       line = c.self.inside.line;
     } in
-    let same : now ≡ c.loop-byte.self = ap (λ (r : List ℕ). record now { ready = r }) (n.1 ∙ sym n.0) ∙ c.self.view_is in
-    let all : Reached c.args.self.now now = reached c.args.self.now c.loop-byte.self now same i.still i.ended i.line i.no_more
+    let same : now ≡ c.loop-byte.self = ap (λ (r : List ℕ). record now { ready = r }) (n.1 ∙ sym n.0)
+    ∙ c.self.view_is in
+    let all : Reached c.args.self.now now = reached c.args.self.now c.loop-byte.self now same i.still i.ended i.line
+    i.no_more
     i.holds (ap (λ (s : Stream). s.ready) (sym same) ∙ n.1) in
     gives_end c.close.result c.args.self.now now c.close.new.self all c.close.ensures
     (ap (λ (s : Stream). s.ended) (sym c.self-2.view_is) ∙ c.if-self.true)
@@ -41,8 +43,10 @@ returns c =
       begun = c.self.inside.begun;
       line = c.self.inside.line;
     } in
-    let same : now ≡ c.loop-byte.self = ap (λ (r : List ℕ). record now { ready = r }) (n.1 ∙ sym n.0) ∙ c.self.view_is in
-    let all : Reached c.args.self.now now = reached c.args.self.now c.loop-byte.self now same i.still i.ended i.line i.no_more
+    let same : now ≡ c.loop-byte.self = ap (λ (r : List ℕ). record now { ready = r }) (n.1 ∙ sym n.0)
+    ∙ c.self.view_is in
+    let all : Reached c.args.self.now now = reached c.args.self.now c.loop-byte.self now same i.still i.ended i.line
+    i.no_more
     i.holds (ap (λ (s : Stream). s.ready) (sym same) ∙ n.1) in
     gives_none c.args.self.now now all (λ (e : now.ended ≡ true). elim c.else-self.branch [
       | else-self-via-then-self+else-is_begun w ↦
