@@ -5,3 +5,4 @@ pub mod ReferenceLaws
 pub mod ScopeLaws
 pub mod Sequences
 pub mod ShownLaws
+pub mod OneOf

@@ -1,5 +1,5 @@
 -- The references of all chains in scope.
-use Rattle.std.specs.Prelude.{◌≡◌, ℕ, ◌+◌, ◌^◌, ◌<◌, ◌≤◌, List, [], ◌∷◌, ◌++◌, map, length, All}
+use Rattle.std.specs.Prelude.{◌≡◌, refl, ℕ, ◌+◌, ◌^◌, ◌<◌, ◌≤◌, List, [], ◌∷◌, ◌++◌, map, length, All}
 use Rattle.std.proofs.Common.{sym, ap, ◌∙◌, subst, arith, drop, get_or, append-nil, append_assoc}
 use Rattle.std.proofs.lemmas.List.{drop_all}
 use Rattle.std.proofs.lemmas.List.Elements.{All-nil, All-cons, All-head, All-tail}
@@ -71,3 +71,9 @@ pub whole_done : (ls : List Linked) (ks : List Known) (n : ℕ) (xs : List Linke
 whole_done ls ks n xs i past so =
     let none = subst (WholeLeads ls ks n) (drop_all i xs past) so in
     λ t. sym (append-nil (scope_of ks)) ∙ none.leads t
+
+-- the names of references
+pub known_names : (ks : List Known)
+    → map (λ (k : names.Known). k.name) (scope_of ks) ≡ map (λ (k : Known). k.name.now) ks
+known_names [] = refl
+known_names (k ∷ ks) = ap (λ (ns : List (List ℕ)). k.name.now ∷ ns) (known_names ks)

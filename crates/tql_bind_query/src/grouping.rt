@@ -1,55 +1,32 @@
 //! The columns of GROUP BY, and what may stand in a grouped query.
-ghost use Rattle.std.specs.Prelude.{◌≡◌, [], ◌∷◌, ◌||◌, All, IfOk, map};
+ghost use Rattle.std.specs.Prelude.{◌≡◌, ◌||◌, All, IfOk, map};
 ghost use Rattle.std.specs.List.{list_any};
 ghost use Rattle.tql_spec.specs.Binding as binding;
 ghost use Rattle.tql_spec.specs.Creation.{has_expr, nests_aggregates};
-ghost use Rattle.tql_spec.specs.Names as names;
 ghost use Rattle.tql_spec.specs.Names.{check_each};
 ghost use Rattle.tql_expr.specs.Meaning.{cond, expr, HasCond, HasExpr};
-ghost use Rattle.tql_expr.specs.Searches.{sought};
 ghost use Rattle.tql_syntax_tree.specs.Expressions.{named_of};
 ghost use Rattle.tql_syntax_tree.specs.Statements.{items_of, select_of};
 ghost use Rattle.tql_bind_expr.specs.Gathered.{Gathers};
-ghost use Rattle.tql_bind_expr.specs.Scopes.{scope_of, thing_of, things_of};
-ghost use Rattle.tql_bind_query.specs.Grouped.{number_in};
+ghost use Rattle.tql_bind_expr.specs.Scopes.{scope_of, things_of};
+ghost use Rattle.tql_bind_query.specs.Grouped.{sole_number};
 
 use std::alloc::AllocError;
 use tql_bind_expr::faults::Faults;
-use tql_bind_expr::names::things;
+use tql_bind_expr::names::{sole_column, things};
 use tql_bind_expr::scope::{Known, Thing};
 use tql_expr::search::Search;
 use tql_expr::terms::{CondId, ExprId, Terms};
 use tql_memory::Memory;
 use tql_syntax_tree::expression::Named;
 use tql_syntax_tree::statement::{Items, SelectTree};
-use tql_value::refusal::Refusal;
 
-/// The number of the column that a thing is.
-#[tactic(auto, using(tql_bind_expr::proofs::Gathering::gathering))]
-fn as_column(thing: Thing<'_>, faults: &mut Faults) -> usize
-    ensures { Gathers (number_in (names.one_column (thing_of thing.entry ∷ []))) faults.old faults.new result }
+/// The number of the column that a name stands for, where it stands for one and nothing else.
+fn sole_number(found: &[Thing<'_>]) -> Option<usize>
+    ensures { result ≡ sole_number (things_of found.now) }
 {
-    match thing {
-        Thing::Column(number, _) => number,
-        Thing::Period(_, _, _) => {
-            faults.refuse_if(true, Refusal::NameUnknownAmbiguousOrRepeated);
-            0
-        }
-    }
-}
-
-/// The number of the column, where there is exactly one.
-#[tactic(auto, using(tql_bind_expr::proofs::Gathering::gathering))]
-fn only_column(things: &[Thing<'_>], faults: &mut Faults) -> usize
-    ensures { Gathers (number_in (names.one_column (things_of things.now))) faults.old faults.new result }
-{
-    match things {
-        [thing] => as_column(*thing, faults),
-        _ => {
-            faults.refuse_if(true, Refusal::NameUnknownAmbiguousOrRepeated);
-            0
-        }
-    }
+    let (number, _) = sole_column(found)?;
+    Some(number)
 }
 
 /// The number of a column of GROUP BY.
@@ -63,7 +40,7 @@ fn group_column(
         (λ n. Gathers (binding.group_column (scope_of scope.now) (named_of named.now)) faults.old faults.new n) }
 {
     let found = things(memory, scope, *named)?;
-    Ok(only_column(&found, faults))
+    Ok(faults.or_first(sole_number(&found)))
 }
 
 /// The numbers of the columns of GROUP BY (ISO/IEC 9075-2:2011, 7.9). A fault where a name is not that of exactly one
@@ -87,32 +64,6 @@ pub fn group_columns(
     Ok(numbers)
 }
 
-/// Whether it stands in one of the expressions.
-fn finds_any(terms: &Terms, search: Search<'_>, items: &[ExprId]) -> bool
-    requires { All (HasExpr terms.now) items.now }
-    ensures { result ≡ list_any (sought search.entry) (map (expr terms.now) items.now) }
-{
-    for item in items {
-        if terms.finds(search, *item) {
-            return true;
-        }
-    }
-    false
-}
-
-/// Whether it stands in one of the conjuncts.
-fn finds_any_in(terms: &Terms, search: Search<'_>, conjuncts: &[CondId]) -> bool
-    requires { All (HasCond terms.now) conjuncts.now }
-    ensures { result ≡ list_any (has_expr (sought search.entry)) (map (cond terms.now) conjuncts.now) }
-{
-    for conjunct in conjuncts {
-        if terms.finds_in(search, *conjunct) {
-            return true;
-        }
-    }
-    false
-}
-
 /// Whether a query is grouped: it has GROUP BY, HAVING or an aggregate.
 pub fn is_grouped(
     select: &SelectTree<'_>,
@@ -127,8 +78,8 @@ pub fn is_grouped(
 {
     !select.grouping.is_empty()
         || select.having.is_some()
-        || finds_any(terms, Search::Aggregate, items)
-        || finds_any_in(terms, Search::Aggregate, having)
+        || terms.finds_any(Search::Aggregate, items)
+        || terms.finds_any_in(Search::Aggregate, having)
 }
 
 /// Whether the select list is `*`.
@@ -153,8 +104,8 @@ fn has_loose(
         || list_any (has_expr (binding.is_loose groups.now)) (map (cond terms.now) having.now)) }
 {
     is_star(&select.items)
-        || finds_any(terms, Search::Loose(groups), items)
-        || finds_any_in(terms, Search::Loose(groups), having)
+        || terms.finds_any(Search::Loose(groups), items)
+        || terms.finds_any_in(Search::Loose(groups), having)
 }
 
 /// Whether an aggregate stands inside an aggregate, or in a grouped query `*` or a column that is none of the
@@ -172,7 +123,7 @@ pub fn has_grouping_fault(
     ensures { result ≡ binding.grouping_faults is_grouped groups.now (select_of select.now)
         (map (expr terms.now) items.now) (map (cond terms.now) having.now) }
 {
-    finds_any(terms, Search::Nested, items)
-        || finds_any_in(terms, Search::Nested, having)
+    terms.finds_any(Search::Nested, items)
+        || terms.finds_any_in(Search::Nested, having)
         || (is_grouped && has_loose(groups, select, terms, items, having))
 }

@@ -2,6 +2,7 @@
 ghost use Rattle.std.specs.Prelude.{◌≡◌, IfOk, length, map, string_bytes};
 ghost use Rattle.tql_spec.specs.Binding as binding;
 ghost use Rattle.tql_spec.specs.Calendar.{number_of};
+ghost use Rattle.tql_spec.specs.Creation.{or_first};
 ghost use Rattle.tql_spec.specs.Names.{check_each};
 ghost use Rattle.tql_spec.specs.Syntax.{ByHeading};
 ghost use Rattle.tql_spec.specs.Words.{same_text};
@@ -19,7 +20,6 @@ use tql_bound::query::OrderKey;
 use tql_memory::Memory;
 use tql_syntax_tree::expression::Name;
 use tql_syntax_tree::statement::{KeyName, OrderTree};
-use tql_value::refusal::Refusal;
 
 /// Whether this is the heading.
 fn is_heading(heading: &String<Memory>, name: &str) -> bool
@@ -46,16 +46,12 @@ fn places_of(
 }
 
 /// The place, where there is exactly one.
-#[tactic(auto, using(tql_bind_expr::proofs::Gathering::gathering))]
-fn only_place(places: &[usize], faults: &mut Faults) -> usize
-    ensures { Gathers (binding.only_place places.now) faults.old faults.new result }
+fn only_place(places: &[usize]) -> Option<usize>
+    ensures { binding.only_place places.now ≡ or_first result }
 {
     match places {
-        [place] => *place,
-        _ => {
-            faults.refuse_if(true, Refusal::NameUnknownAmbiguousOrRepeated);
-            0
-        }
+        [place] => Some(*place),
+        _ => None,
     }
 }
 
@@ -72,7 +68,7 @@ fn heading_place(
 {
     let name = meant(memory, name)?;
     let places = places_of(memory, headings, name.as_str())?;
-    Ok(only_place(&places, faults))
+    Ok(faults.or_first(only_place(&places)))
 }
 
 /// The place, from 0, of a position, counted from 1, among so many columns.
@@ -88,17 +84,10 @@ fn place_at(digits: &[u8], width: usize) -> Option<usize>
 }
 
 /// The output column at a position, by its digits.
-#[tactic(auto, using(tql_bind_expr::proofs::Gathering::gathering))]
 fn position_place(digits: &str, width: usize, faults: &mut Faults) -> usize
     ensures { Gathers (position_place width digits.now) faults.old faults.new result }
 {
-    match place_at(digits.as_bytes(), width) {
-        Some(place) => place,
-        None => {
-            faults.refuse_if(true, Refusal::NameUnknownAmbiguousOrRepeated);
-            0
-        }
-    }
+    faults.or_first(place_at(digits.as_bytes(), width))
 }
 
 /// The output column that a key names.

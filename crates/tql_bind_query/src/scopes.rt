@@ -8,8 +8,8 @@ ghost use Rattle.tql_bind_query.specs.From.{IsPlaced, IsWhole};
 
 use crate::from::Linked;
 use std::alloc::AllocError;
+use tql_bind_expr::repeats::repeats_name;
 use tql_bind_expr::scope::Known;
-use tql_bind_expr::texts::is_same_text;
 use tql_memory::Memory;
 
 /// A reference whose columns stand behind so many more.
@@ -60,28 +60,10 @@ pub fn whole_scope<'a>(
     Ok(scope)
 }
 
-/// Whether a reference is known by this name.
-fn has_name(scope: &[Known<'_>], name: &str) -> bool
-    ensures { result ≡ creation.has_name name.now (map (λ (k : names.Known). k.name) (scope_of scope.now)) }
-{
-    for known in scope {
-        if is_same_text(name, known.name) {
-            return true;
-        }
-    }
-    false
-}
-
 /// Whether two references are known by one name.
+#[tactic(auto, using(crate::proofs::ScopeLaws::known_names))]
 pub fn repeats_names(scope: &[Known<'_>]) -> bool
     ensures { result ≡ creation.repeats (map (λ (k : names.Known). k.name) (scope_of scope.now)) }
 {
-    let mut left = scope;
-    while let [known, others @ ..] = left {
-        if has_name(others, known.name) {
-            return true;
-        }
-        left = others;
-    }
-    false
+    repeats_name(scope)
 }
