@@ -1,0 +1,140 @@
+//! The values in some columns of a row: whether they are those of a tuple, and a period of one point for them.
+ghost use Rattle.std.specs.Prelude.{◌≡◌, map, option_map};
+ghost use Rattle.std.specs.List.{fold, list_any};
+ghost use Rattle.tql_spec.specs.Truth.{is_true as holds_true};
+ghost use Rattle.tql_spec.specs.Datum.{compare as compared, Equals, is_null as null_of};
+ghost use Rattle.tql_spec.specs.Definition.{cell as cell_of};
+ghost use Rattle.tql_period.specs.Points.{points_of};
+ghost use Rattle.tql_value.specs.Views.{datum_of_value, datum_of_view};
+ghost use Rattle.tql_store_index.specs.Tuple.{is_at, mixed as mixed_of, mixed_with as mixed_with_of, digest, point_for};
+ghost use Rattle.tql_store_index.specs.Tuple.{point_of, in_columns};
+ghost use Rattle.tql_store_index.specs.Basis.{ByValues, stands_by};
+
+use tql_period::period::Period;
+use tql_value::comparison::{Comparison, compare};
+use tql_value::truth::Truth;
+use tql_value::value::{Value, View};
+
+/// The value in a column; past the last one, NULL.
+pub(crate) fn cell(row: &[Value], column: usize) -> View<'_>
+    ensures { datum_of_view result ≡ cell_of (map datum_of_value row.now) column }
+{
+    match row.get(column) {
+        Some(value) => value.view(),
+        None => View::Null,
+    }
+}
+
+/// Whether two values are equal; NULL is nothing's equal.
+fn equals(a: View<'_>, b: View<'_>) -> bool
+    ensures { result ≡ holds_true (compared Equals (datum_of_view a.entry) (datum_of_view b.entry)) }
+{
+    matches!(compare(Comparison::Equal, a, b), Truth::True)
+}
+
+/// Whether the values in these columns of a row are those of the tuple, none of them NULL.
+pub(crate) fn has_values(columns: &[usize], tuple: &[View<'_>], row: &[Value]) -> bool
+    ensures { result ≡ is_at columns.now (map datum_of_view tuple.now) (map datum_of_value row.now) }
+{
+    match (columns.split_first(), tuple.split_first()) {
+        (None, None) => true,
+        (Some((column, columns)), Some((wanted, tuple))) => {
+            equals(cell(row, *column), *wanted) && has_values(columns, tuple, row)
+        }
+        _ => false,
+    }
+}
+
+/// A number with one more.
+fn mixed(number: u64, more: u64) -> u64
+    ensures { result ≡ mixed_of number more }
+{
+    number.wrapping_mul(1_099_511_628_211).wrapping_add(more)
+}
+
+/// A number with these bytes.
+fn mixed_with_bytes(number: u64, bytes: &[u8]) -> u64
+    ensures { result ≡ fold mixed_of number bytes.now }
+{
+    let mut mixture = number;
+    for byte in bytes {
+        mixture = mixed(mixture, u64::from(*byte));
+    }
+    mixture
+}
+
+/// A number with one more value.
+fn mixed_with(number: u64, value: View<'_>) -> u64
+    ensures { result ≡ mixed_with_of number (datum_of_view value.entry) }
+{
+    match value {
+        View::Null => mixed(number, 0),
+        View::Int(value) => mixed(number, value.cast_unsigned()),
+        View::Text(text) => mixed_with_bytes(mixed(number, 1), text.as_bytes()),
+        View::Day(day) => mixed(number, day.cast_unsigned()),
+        View::Moment(moment) => mixed(number, moment.cast_unsigned()),
+    }
+}
+
+/// The period of a number: it starts there, or one before at the highest.
+fn period_for(number: u64) -> Period
+    ensures { points_of result ≡ point_for number }
+{
+    let start = number.cast_signed().min(i64::MAX - 1);
+    Period {
+        start,
+        end: start + 1,
+    }
+}
+
+/// A number with the values in these columns of a row.
+fn digest_of_row(number: u64, columns: &[usize], row: &[Value]) -> u64
+    ensures { result ≡ digest number (in_columns columns.now (map datum_of_value row.now)) }
+{
+    match columns.split_first() {
+        None => number,
+        Some((column, columns)) => {
+            digest_of_row(mixed_with(number, cell(row, *column)), columns, row)
+        }
+    }
+}
+
+/// A number with the values of a tuple.
+fn digest_of_tuple(number: u64, tuple: &[View<'_>]) -> u64
+    ensures { result ≡ digest number (map datum_of_view tuple.now) }
+{
+    match tuple.split_first() {
+        None => number,
+        Some((value, tuple)) => digest_of_tuple(mixed_with(number, *value), tuple),
+    }
+}
+
+/// Whether one of the values in these columns of a row is NULL.
+fn has_null(columns: &[usize], row: &[Value]) -> bool
+    ensures { result ≡ list_any null_of (in_columns columns.now (map datum_of_value row.now)) }
+{
+    match columns.split_first() {
+        None => false,
+        Some((column, columns)) => cell(row, *column).is_null() || has_null(columns, row),
+    }
+}
+
+/// The period under which a row stands by its values in these columns; none where one of them is NULL. Rows with the
+/// same values stand under the same one; others may.
+pub(crate) fn point_of_row(columns: &[usize], row: &[Value]) -> Option<Period>
+    ensures { option_map points_of result
+        ≡ stands_by (ByValues columns.now) (map datum_of_value row.now) }
+{
+    if has_null(columns, row) {
+        None
+    } else {
+        Some(period_for(digest_of_row(0, columns, row)))
+    }
+}
+
+/// The period under which the rows with the values of this tuple stand.
+pub(crate) fn point_of_tuple(tuple: &[View<'_>]) -> Period
+    ensures { points_of result ≡ point_of (map datum_of_view tuple.now) }
+{
+    period_for(digest_of_tuple(0, tuple))
+}

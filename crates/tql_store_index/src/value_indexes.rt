@@ -1,0 +1,258 @@
+//! Where rows stand by each of several bases: their values in lists of columns, their application period.
+ghost use Rattle.std.specs.Prelude.{◌≡◌, ◌<◌, ◌≤◌, ◌+◌, ◌==◌, [], All, OnOk, OnErr, IfOk, IfSome, length, map, slice_set};
+ghost use Rattle.std.specs.Prelude.{None};
+ghost use Rattle.tql_spec.specs.Bag.{SameBag};
+ghost use Rattle.tql_store_index.specs.Basis.{basis_for, meets, sought_of, stands_by};
+ghost use Rattle.tql_store_index.specs.Seating.{seat_at};
+ghost use Rattle.tql_store_index.specs.Standing.{passes, seats_if, stands};
+ghost use Rattle.tql_store_index.specs.ValueIndexes.{Each, IsGrown, IsTurned, IsLinked, DiffersIn, AreLoose, index_at};
+ghost use Rattle.tql_value.specs.Views.{datum_of_value};
+
+use crate::basis::{Basis, Sought};
+use crate::seat_index::SeatIndex;
+use crate::seats::Seats;
+use crate::tuple::point_of_tuple;
+use std::alloc::AllocError;
+use std::marker::Model;
+use tql_index::index::IntervalIndex;
+use tql_memory::Memory;
+use tql_value::value::Value;
+
+/// Where rows stand by one basis.
+#[derive(Drop)]
+pub struct ValueIndex<I: IntervalIndex> {
+    basis: Basis,
+    index: SeatIndex<I>,
+}
+
+impl<I: IntervalIndex> Model for ValueIndex<I> {
+    ghost use Rattle.tql_store_index.specs.Basis.{basis_of};
+    ghost use Rattle.tql_store_index.specs.ValueIndexes as spec;
+
+    ghost Value = { spec.ValueIndex };
+
+    ghost view = { λ k. record { basis = basis_of k.basis; standing = k.index } };
+}
+
+/// Leaves the rows between two places under nothing. Takes no memory.
+fn unlink_each<I: IntervalIndex>(index: &mut SeatIndex<I>, seats: &Seats, from: usize, to: usize)
+    requires rises { from ≤ to }
+    requires room { to ≤ length seats.now.seats }
+    ensures differs { DiffersIn from to seats.now index.old index.new }
+    ensures gone { AreLoose from to seats.now index.new }
+{
+    for place in from..to {
+        let seat = seats.seat(place);
+        index.unlink(seat);
+    }
+}
+
+impl<I: IntervalIndex> ValueIndex<I> {
+    /// Makes room for so many seats.
+    fn grow(&mut self, seats: usize) -> Result<(), AllocError>
+        ensures grown { IsGrown self.old self.new }
+        ensures ok { OnOk result (seats ≤ length self.new.standing) }
+    {
+        self.index.grow(seats)
+    }
+
+    /// Puts a row where it stands. Refused where memory is, and then nothing is changed.
+    fn enter(&mut self, seat: usize, row: &[Value]) -> Result<(), AllocError>
+        requires there { seat < length self.old.standing }
+        requires loose { stands self.old.standing seat ≡ None }
+        ensures ok { OnOk result (self.new ≡ record {
+          basis = self.old.basis;
+          standing = slice_set self.old.standing seat (stands_by self.old.basis (map datum_of_value row.now));
+        }) }
+        ensures err { OnErr result (self.new ≡ self.old) }
+    {
+        let period = self.basis.period(row);
+        self.index.link(seat, period)
+    }
+
+    /// Leaves the rows between two places under nothing. Takes no memory.
+    fn leave(&mut self, seats: &Seats, from: usize, to: usize)
+        requires rises { from ≤ to }
+        requires room { to ≤ length seats.now.seats }
+        ensures turned { IsTurned from to seats.now self.old self.new }
+        ensures gone { AreLoose from to seats.now self.new.standing }
+    {
+        unlink_each(&mut self.index, seats, from, to);
+    }
+
+    /// The seats of the rows that may be sought: all that are, and seldom others.
+    fn seats_of(&self, sought: Sought<'_>) -> Result<Vec<usize, Memory>, AllocError>
+        ensures { IfOk result
+            (λ seats. SameBag seats.items (seats_if (passes (meets (sought_of sought.entry))) 0 self.now.standing)) }
+    {
+        match sought {
+            Sought::With(_, tuple) => self.index.overlapping(point_of_tuple(tuple)),
+            Sought::Holding(_, _, point) => self.index.stab(point),
+            Sought::Sharing(_, _, period) => self.index.overlapping(period),
+        }
+    }
+
+    /// The places of the rows that may be sought: all that are, and seldom others.
+    fn find(&self, seats: &Seats, sought: Sought<'_>) -> Result<Vec<usize, Memory>, AllocError>
+        ensures { IfOk result (λ places. (what : _) → IsLinked what seats.now self.now.standing
+            → SameBag places.items (seats_if (passes (meets (sought_of sought.entry))) 0 what)) }
+    {
+        let mut found = self.seats_of(sought)?;
+        seats.place_each(&mut found);
+        Ok(found)
+    }
+}
+
+/// Makes room for so many seats in each.
+fn grow_each<I: IntervalIndex>(
+    indexes: &mut [ValueIndex<I>],
+    seats: usize,
+) -> Result<(), AllocError>
+    ensures each { Each IsGrown indexes.old indexes.new }
+    ensures ok { OnOk result
+        ((i : _) → i < length indexes.old → seats ≤ length (index_at indexes.new i).standing) }
+{
+    for i in 0..indexes.len() {
+        indexes[i].grow(seats)?;
+    }
+    Ok(())
+}
+
+/// Puts the row of a place where it stands, in each. Refused where memory is, and then it stands in some of them.
+fn enter_each<I: IntervalIndex>(
+    indexes: &mut [ValueIndex<I>],
+    seats: &Seats,
+    place: usize,
+    row: &[Value],
+) -> Result<(), AllocError>
+    requires there { place < length seats.now.seats }
+    requires wide { (i : _) → i < length indexes.old
+        → length seats.now.seats ≤ length (index_at indexes.old i).standing }
+    requires loose { (i : _) → i < length indexes.old
+        → stands (index_at indexes.old i).standing (seat_at seats.now place) ≡ None }
+    ensures each { Each (IsTurned place (place + 1) seats.now) indexes.old indexes.new }
+    ensures came { OnOk result ((i : _) → i < length indexes.old
+        → stands (index_at indexes.new i).standing (seat_at seats.now place)
+        ≡ stands_by (index_at indexes.old i).basis (map datum_of_value row.now)) }
+{
+    let seat = seats.seat(place);
+    for i in 0..indexes.len() {
+        indexes[i].enter(seat, row)?;
+    }
+    Ok(())
+}
+
+/// Leaves the rows between two places under nothing, in each. Takes no memory.
+fn leave_each<I: IntervalIndex>(
+    indexes: &mut [ValueIndex<I>],
+    seats: &Seats,
+    from: usize,
+    to: usize,
+)
+    requires rises { from ≤ to }
+    requires room { to ≤ length seats.now.seats }
+    ensures each { Each (IsTurned from to seats.now) indexes.old indexes.new }
+    ensures gone { (i : _) → i < length indexes.old
+        → AreLoose from to seats.now (index_at indexes.new i).standing }
+{
+    for i in 0..indexes.len() {
+        indexes[i].leave(seats, from, to);
+    }
+}
+
+/// Where rows stand by each of several bases.
+#[derive(Drop)]
+pub struct ValueIndexes<I: IntervalIndex> {
+    indexes: Vec<ValueIndex<I>, Memory>,
+}
+
+impl<I: IntervalIndex> Model for ValueIndexes<I> {
+    ghost use Rattle.std.specs.Prelude.{List};
+    ghost use Rattle.tql_store_index.specs.ValueIndexes as spec;
+
+    ghost Value = { List spec.ValueIndex };
+
+    ghost view = { λ k. k.indexes.items };
+}
+
+impl<I: IntervalIndex> ValueIndexes<I> {
+    /// No basis.
+    pub fn new(memory: Memory) -> ValueIndexes<I>
+        ensures { result ≡ [] }
+    {
+        ValueIndexes {
+            indexes: Vec::new(memory),
+        }
+    }
+
+    /// Whether there is no basis.
+    pub fn is_empty(&self) -> bool
+        ensures { result ≡ (length self.now == 0) }
+    {
+        self.indexes.is_empty()
+    }
+
+    /// One basis more, by which no row stands yet.
+    pub fn add(&mut self, memory: Memory, basis: Basis) -> Result<(), AllocError>
+        ensures { All (λ k. k.standing ≡ []) self.old → All (λ k. k.standing ≡ []) self.new }
+    {
+        self.indexes.push(ValueIndex {
+            basis,
+            index: SeatIndex::new(memory),
+        })?;
+        Ok(())
+    }
+
+    /// Makes room for so many seats.
+    pub fn grow(&mut self, seats: usize) -> Result<(), AllocError>
+        ensures each { Each IsGrown self.old self.new }
+        ensures ok { OnOk result ((i : _) → i < length self.old → seats ≤ length (index_at self.new i).standing) }
+    {
+        grow_each(&mut self.indexes, seats)
+    }
+
+    /// Puts the row of a place where it stands by each basis. Refused where memory is, and then it stands by some.
+    pub fn enter(&mut self, seats: &Seats, place: usize, row: &[Value]) -> Result<(), AllocError>
+        requires there { place < length seats.now.seats }
+        requires wide { (i : _) → i < length self.old → length seats.now.seats ≤ length (index_at self.old i).standing }
+        requires loose { (i : _) → i < length self.old
+            → stands (index_at self.old i).standing (seat_at seats.now place) ≡ None }
+        ensures each { Each (IsTurned place (place + 1) seats.now) self.old self.new }
+        ensures came { OnOk result ((i : _) → i < length self.old
+            → stands (index_at self.new i).standing (seat_at seats.now place)
+            ≡ stands_by (index_at self.old i).basis (map datum_of_value row.now)) }
+    {
+        enter_each(&mut self.indexes, seats, place, row)
+    }
+
+    /// Leaves the rows between two places under nothing, by each basis. Takes no memory.
+    pub fn leave(&mut self, seats: &Seats, from: usize, to: usize)
+        requires rises { from ≤ to }
+        requires room { to ≤ length seats.now.seats }
+        ensures each { Each (IsTurned from to seats.now) self.old self.new }
+        ensures gone { (i : _) → i < length self.old → AreLoose from to seats.now (index_at self.new i).standing }
+    {
+        leave_each(&mut self.indexes, seats, from, to);
+    }
+
+    /// The places of the rows that may be sought: all that are, and seldom others. None where no rows stand by the
+    /// basis for it.
+    pub fn find(
+        &self,
+        seats: &Seats,
+        sought: Sought<'_>,
+    ) -> Result<Option<Vec<usize, Memory>>, AllocError>
+        ensures { IfOk result (λ r. IfSome r (λ places. (what : _)
+            → ((i : _) → i < length self.now → (index_at self.now i).basis ≡ basis_for (sought_of sought.entry)
+            → IsLinked what seats.now (index_at self.now i).standing)
+            → SameBag places.items (seats_if (passes (meets (sought_of sought.entry))) 0 what))) }
+    {
+        for index in &self.indexes {
+            if index.basis.serves(sought) {
+                let places = index.find(seats, sought)?;
+                return Ok(Some(places));
+            }
+        }
+        Ok(None)
+    }
+}
