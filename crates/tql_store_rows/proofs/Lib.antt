@@ -12,3 +12,6 @@ pub mod Resting
 pub mod Done
 pub mod Changing
 pub mod Beginning
+pub mod RowsStanding
+pub mod Choosing
+pub mod Ending

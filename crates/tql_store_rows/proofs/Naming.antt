@@ -15,6 +15,7 @@ use Rattle.tql_index.specs.Entry.{Entry}
 use Rattle.tql_store_rows.specs.Changes.{alive, nothing}
 use Rattle.tql_store_rows.specs.TableModel.{TableModel, IsIndexed, versions}
 use Rattle.tql_store_rows.specs.Readings.{Answer, Names, NamesOnce, IsReading, AreEnded, asked, is_answer, ids_sought}
+use Rattle.tql_store_rows.specs.Readings.{answers_by, told_by}
 use Rattle.tql_store_rows.specs.Readings.{answer_of, version_shown, answers_from, numbered, placed}
 use Rattle.tql_store_rows.specs.Views.{versions_of}
 use Rattle.tql_store_rows.specs.declared.kept.Kept.{Kept}
@@ -25,38 +26,38 @@ use Rattle.tql_store_rows.proofs.Sought.{same-list, seeks-all}
 
 -- ---- the versions
 
-asked-alive : (when : When) (n : ℕ) (vs : List definition.Version)
-    → map (λ (a : Answer). a.version) (answers_from n when vs) ≡ filter (asked when) (filter alive vs)
-asked-alive when n [] = refl
-asked-alive when n (v ∷ vs) = by_bool (alive v)
-    (λ e. rw e (chosen (asked when v) (asked-alive when (n + 1) vs)))
-    (λ e. rw e (asked-alive when (n + 1) vs))
+told-alive : (t : definition.Version → Bool) (n : ℕ) (vs : List definition.Version)
+    → map (λ (a : Answer). a.version) (answers_by t n vs) ≡ filter t (filter alive vs)
+told-alive t n [] = refl
+told-alive t n (v ∷ vs) = by_bool (alive v)
+    (λ e. rw e (chosen (t v) (told-alive t (n + 1) vs)))
+    (λ e. rw e (told-alive t (n + 1) vs))
   where
-    chosen : (b : Bool) → map (λ (a : Answer). a.version) (answers_from (n + 1) when vs) ≡ filter (asked when)
+    chosen : (b : Bool) → map (λ (a : Answer). a.version) (answers_by t (n + 1) vs) ≡ filter t
         (filter alive vs)
         → map (λ (a : Answer). a.version) (cond b (record {
           id = n;
           version = v;
-        } ∷ answers_from (n + 1) when vs) (answers_from (n + 1) when vs)) ≡ cond b
-        (v ∷ filter (asked when) (filter alive vs)) (filter (asked when) (filter alive vs))
+        } ∷ answers_by t (n + 1) vs) (answers_by t (n + 1) vs)) ≡ cond b
+        (v ∷ filter t (filter alive vs)) (filter t (filter alive vs))
     chosen true later = ap (λ us. v ∷ us) later
     chosen false later = later
 
-versions-shown : (found : List Version)
+pub versions-shown : (found : List Version)
     → map version_shown found ≡ map (λ (a : Answer). a.version) (map answer_of found)
 versions-shown [] = refl
 versions-shown (s ∷ found) = ap (λ us. version_shown s ∷ us) (versions-shown found)
 
-shown-bag : (when : When) (vs : List definition.Version) (found : List Version)
-    → SameBag (map answer_of found) (answers_from 0 when vs)
-    → SameBag (map version_shown found) (filter (asked when) (filter alive vs))
-shown-bag when vs found h =
+pub shown-bag : (t : definition.Version → Bool) (vs : List definition.Version) (found : List Version)
+    → SameBag (map answer_of found) (answers_by t 0 vs)
+    → SameBag (map version_shown found) (filter t (filter alive vs))
+shown-bag t vs found h =
     same-trans (same-list (versions-shown found))
-    (same-trans (same-map (λ (a : Answer). a.version) h) (same-list (asked-alive when 0 vs)))
+    (same-trans (same-map (λ (a : Answer). a.version) h) (same-list (told-alive t 0 vs)))
 
 -- ---- their ids
 
-abbrev NamesAnswer : List definition.Version → Answer → Type 0
+abbrev pub NamesAnswer : List definition.Version → Answer → Type 0
 NamesAnswer vs a = slice_get vs a.id ≡ Some a.version
 
 in_at : {X : Type 0} (xs : List X) (k : ℕ) (d : X) → k < length xs → In (get_or xs k d) xs
@@ -64,12 +65,12 @@ in_at [] k d l = absurd (omega (arith, l))
 in_at (x ∷ xs) zero d l = inl refl
 in_at (x ∷ xs) (suc k) d l = inr (in_at xs k d (omega (arith, l)))
 
-all_named : (vs : List definition.Version) (found : List Version)
+pub all_named : (vs : List definition.Version) (found : List Version)
     → ((a : Answer) → In a (map answer_of found) → NamesAnswer vs a) → All (Names vs) found
 all_named vs found h =
     λ k d l. h (answer_of (get_or found k d)) (in_map answer_of (get_or found k d) found (in_at found k d l))
 
-numbered_named : (all vs : List definition.Version) (n : ℕ)
+pub numbered_named : (all vs : List definition.Version) (n : ℕ)
     → ((k : ℕ) (v : definition.Version) → slice_get vs k ≡ Some v → slice_get all (n + k) ≡ Some v) → (a : Answer)
     → In a (numbered n vs) → NamesAnswer all a
 numbered_named all [] n at a m = absurd m
@@ -78,7 +79,7 @@ numbered_named all (v ∷ vs) n at a (inl e) = subst (λ x. NamesAnswer all x) (
 numbered_named all (v ∷ vs) n at a (inr m) = numbered_named all vs (n + 1) (λ k u g. ap (slice_get all) (omega arith)
     ∙ at (suc k) u g) a m
 
-get_left : (us vs : List definition.Version) (k : ℕ) (v : definition.Version) → slice_get us k ≡ Some v
+pub get_left : (us vs : List definition.Version) (k : ℕ) (v : definition.Version) → slice_get us k ≡ Some v
     → slice_get (us ++ vs) k ≡ Some v
 get_left [] vs k v e = cc
 get_left (u ∷ us) vs zero v e = e
@@ -102,7 +103,7 @@ current_named when us vs a m = numbered_named (us ++ vs) us 0 (λ k v e. ap (sli
     ∙ get_left us vs k v e) a
     (in_kept (λ (x : Answer). is_answer when x.version) a (numbered 0 us) m).0
 
-placed_named : (us vs : List definition.Version) (numbers : List ℕ) (a : Answer) → In a (placed (length us) vs numbers)
+pub placed_named : (us vs : List definition.Version) (numbers : List ℕ) (a : Answer) → In a (placed (length us) vs numbers)
     → NamesAnswer (us ++ vs) a
 placed_named us vs numbers a m =
     let i = in_image (λ n. record {
@@ -126,39 +127,39 @@ names-all when us vs numbers found e =
 
 -- ---- each once
 
-abbrev weight_at : When → ℕ → Answer → ℕ
-weight_at when k a = cond (is_answer when a.version) (cond (nat_eq a.id k) 1 0) 0
+abbrev weight_at : (definition.Version → Bool) → ℕ → Answer → ℕ
+weight_at t k a = cond (told_by t a.version) (cond (nat_eq a.id k) 1 0) 0
 
-weight_other : (b c : Bool) → c ≡ false → cond b (cond {A = ℕ} c 1 0) 0 ≡ 0
+pub weight_other : (b c : Bool) → c ≡ false → cond b (cond {A = ℕ} c 1 0) 0 ≡ 0
 weight_other true c e = ap (λ (x : Bool). cond {A = ℕ} x 1 0) e
 weight_other false c e = refl
 
-none_lower : (when : When) (k n : ℕ) (vs : List definition.Version) → k < n
-    → sum_by (weight_at when k) (numbered n vs) ≡ 0
-none_lower when k n [] l = refl
-none_lower when k n (v ∷ vs) l = omega (
+none_lower : (t : definition.Version → Bool) (k n : ℕ) (vs : List definition.Version) → k < n
+    → sum_by (weight_at t k) (numbered n vs) ≡ 0
+none_lower t k n [] l = refl
+none_lower t k n (v ∷ vs) l = omega (
   arith,
-  sum_by-cons (weight_at when k) (record { id = n; version = v }) (numbered (n + 1) vs),
-  weight_other (is_answer when v) (nat_eq n k) (apart n k l),
-  none_lower when k (n + 1) vs (omega (arith, l)),
+  sum_by-cons (weight_at t k) (record { id = n; version = v }) (numbered (n + 1) vs),
+  weight_other (told_by t v) (nat_eq n k) (apart n k l),
+  none_lower t k (n + 1) vs (omega (arith, l)),
 )
   where
     apart : (n k : ℕ) → k < n → nat_eq n k ≡ false
     apart n k l = grind (arith, nat_tests)
 
-once : (when : When) (n i k : ℕ) (vs : List definition.Version) (v : definition.Version) → slice_get vs i ≡ Some v
+once : (t : definition.Version → Bool) (n i k : ℕ) (vs : List definition.Version) (v : definition.Version) → slice_get vs i ≡ Some v
     → k ≡ n + i
-    → sum_by (weight_at when k) (numbered n vs) ≡ (if is_answer when v then 1 else 0)
-once when n i k [] v at e = cc
-once when n zero k (x ∷ vs) v at e =
+    → sum_by (weight_at t k) (numbered n vs) ≡ (if told_by t v then 1 else 0)
+once t n i k [] v at e = cc
+once t n zero k (x ∷ vs) v at e =
     omega (
       arith,
-      sum_by-cons (weight_at when k) (record {
+      sum_by-cons (weight_at t k) (record {
         id = n;
         version = x;
       }) (numbered (n + 1) vs),
       first,
-      none_lower when k (n + 1) vs (omega (arith, e)),
+      none_lower t k (n + 1) vs (omega (arith, e)),
     )
   where
     same : {x v : definition.Version} → Some x ≡ Some v → x ≡ v
@@ -167,27 +168,27 @@ once when n zero k (x ∷ vs) v at e =
     itself : (n k : ℕ) → k ≡ n + 0 → nat_eq n k ≡ true
     itself n k e = grind (arith, nat_tests)
 
-    first : weight_at when k (record { id = n; version = x }) ≡ (if is_answer when v then 1 else 0)
-    first = ap (λ b. cond (is_answer when x) (cond {A = ℕ} b 1 0) 0) (itself n k e)
-        ∙ ap (λ (u : definition.Version). cond {A = ℕ} (is_answer when u) 1 0) (same at)
-once when n (suc i) k (x ∷ vs) v at e = omega (
+    first : weight_at t k (record { id = n; version = x }) ≡ (if told_by t v then 1 else 0)
+    first = ap (λ b. cond (told_by t x) (cond {A = ℕ} b 1 0) 0) (itself n k e)
+        ∙ ap (λ (u : definition.Version). cond {A = ℕ} (told_by t u) 1 0) (same at)
+once t n (suc i) k (x ∷ vs) v at e = omega (
   arith,
-  sum_by-cons (weight_at when k) (record { id = n; version = x }) (numbered (n + 1) vs),
-  weight_other (is_answer when x) (nat_eq n k) (apart n k (omega (arith, e))),
-  once when (n + 1) i k vs v at (omega (arith, e)),
+  sum_by-cons (weight_at t k) (record { id = n; version = x }) (numbered (n + 1) vs),
+  weight_other (told_by t x) (nat_eq n k) (apart n k (omega (arith, e))),
+  once t (n + 1) i k vs v at (omega (arith, e)),
 )
   where
     apart : (n k : ℕ) → n < k → nat_eq n k ≡ false
     apart n k l = grind (arith, nat_tests)
 
-names-once : (when : When) (vs : List definition.Version) (found : List Version)
-    → SameBag (map answer_of found) (answers_from 0 when vs) → NamesOnce (asked when) vs found
-names-once when vs found h = λ i v at.
+pub names-once : (t : definition.Version → Bool) (vs : List definition.Version) (found : List Version)
+    → SameBag (map answer_of found) (answers_by t 0 vs) → NamesOnce t vs found
+names-once t vs found h = λ i v at.
     sym (sum-map answer_of (λ (a : Answer). cond {A = ℕ} (nat_eq a.id i) 1 0) found)
     ∙ h.totals (λ (a : Answer). cond {A = ℕ} (nat_eq a.id i) 1 0)
-    ∙ sum-filter (λ (a : Answer). is_answer when a.version) (λ (a : Answer). cond {A = ℕ} (nat_eq a.id i) 1 0)
+    ∙ sum-filter (λ (a : Answer). told_by t a.version) (λ (a : Answer). cond {A = ℕ} (nat_eq a.id i) 1 0)
     (numbered 0 vs)
-    ∙ once when 0 i i vs v at (omega arith)
+    ∙ once t 0 i i vs v at (omega arith)
 
 -- ---- a reading
 
@@ -195,9 +196,9 @@ reading : (when : When) (h : TableModel) (numbers : List ℕ) (found : List Vers
     → map answer_of found ≡ answers_from 0 when h.current ++ placed (length h.current) h.closed numbers
     → SameBag numbers (ids_sought when h.entries) → IsReading when h found
 reading when h numbers found e n = record {
-  bag = λ rest i l. shown-bag when (versions h) found (among rest i l);
+  bag = λ rest i l. shown-bag (asked when) (versions h) found (among rest i l);
   ids = names-all when h.current h.closed numbers found e;
-  once = λ rest i l. names-once when (versions h) found (among rest i l);
+  once = λ rest i l. names-once (asked when) (versions h) found (among rest i l);
 }
   where
     among : (rest : List Entry) → IsIndexed h rest → AreEnded h

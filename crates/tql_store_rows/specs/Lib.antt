@@ -1,5 +1,7 @@
+pub mod RowsStanding
 pub mod Changes
 pub mod Views
+pub mod Wanted
 pub mod Marks
 pub mod TableModel
 pub mod Entries

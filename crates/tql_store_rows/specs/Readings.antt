@@ -1,6 +1,6 @@
 -- What a reading answers: which versions it asks for, and their ids.
 use Rattle.std.specs.Prelude.{◌≡◌, ℕ, ◌+◌, Bool, false, ◌&&◌, List, [], ◌∷◌, map, filter, length, ℤ, pos, ◌+ℤ◌}
-use Rattle.std.specs.Prelude.{int_le, int_lt, nat_lt, nat_eq, count_by, slice_get, slice_index_or, Some, All, ◌<ℤ◌}
+use Rattle.std.specs.Prelude.{int_le, int_lt, nat_lt, nat_eq, count_by, slice_get, slice_index_or, Option, Some, None, All, ◌<ℤ◌}
 use Rattle.std.specs.Prelude.{if◌then◌else◌}
 use Rattle.std.specs.Int.{int_min}
 use Rattle.tql_spec.specs.Bag.{SameBag, In}
@@ -71,6 +71,14 @@ abbrev pub numbered : ℕ → List definition.Version → List Answer
 numbered n [] = []
 numbered n (v ∷ vs) = record { id = n; version = v } ∷ numbered (n + 1) vs
 
+-- a version that holds a moment and passes a test
+abbrev pub told_by : (definition.Version → Bool) → definition.Version → Bool
+told_by test v = alive v && test v
+
+-- those that do
+abbrev pub answers_by : (definition.Version → Bool) → ℕ → List definition.Version → List Answer
+answers_by test n vs = filter (λ (a : Answer). told_by test a.version) (numbered n vs)
+
 -- those that are asked for
 abbrev pub answers_from : ℕ → When → List definition.Version → List Answer
 answers_from n when vs = filter (λ (a : Answer). is_answer when a.version) (numbered n vs)
@@ -90,6 +98,11 @@ Names vs s = slice_get vs s.id ≡ Some (version_shown s)
 abbrev pub NamesOnce : (definition.Version → Bool) → List definition.Version → List Version → Type 0
 NamesOnce test vs found = (i : ℕ) (v : definition.Version) → slice_get vs i ≡ Some v
     → count_by (λ (s : Version). nat_eq s.id i) found ≡ (if alive v && test v then 1 else 0)
+
+-- a version that holds a moment and is not closed
+abbrev pub where_open : Option definition.Version → Option definition.Version
+where_open None = None
+where_open (Some v) = if alive v && is_current v then Some v else None
 
 -- ---- readings of a table
 

@@ -1,18 +1,22 @@
 //! The steps of a table's transactions, over plain lists.
 ghost use Rattle.std.specs.Prelude.{◌≡◌, ◌≢◌, ◌≤◌, ◌<◌, ◌+◌, ◌++◌, [], ◌∷◌, All, OnOk, OnErr, map, filter, length};
 ghost use Rattle.std.specs.Prelude.{false, true, if◌then◌else◌, vec_len, vec_capacity, slice_index_or, Contains, ◌<ℤ◌};
+ghost use Rattle.std.specs.List.{swap_remove};
 ghost use Rattle.tql_spec.specs.Bag.{SameBag};
 ghost use Rattle.tql_store_rows.specs.Changes.{is_current, closing, fresh, ended, moved_out, emptied, taken};
 ghost use Rattle.tql_store_rows.specs.Views.{version_of, versions_of, open_at};
 ghost use Rattle.tql_store_rows.specs.Marks.{below, from};
 ghost use Rattle.tql_value.specs.Views.{datum_of_value};
 ghost use Rattle.tql_period.specs.Points.{points_of};
+ghost use Rattle.tql_store_index.specs.ValueIndexes.{IsLinked};
+ghost use Rattle.tql_store_rows.specs.RowsStanding.{open_of};
 
 use crate::version::HIGH;
 use std::alloc::AllocError;
 use std::mem;
 use tql_memory::Memory;
 use tql_period::period::Period;
+use tql_store_index::seats::Seats;
 use tql_value::value::Value;
 
 /// A version in its place.
@@ -24,7 +28,7 @@ pub struct Kept {
 }
 
 /// Whether a version is not closed.
-fn is_open(version: &Kept) -> bool
+pub fn is_open(version: &Kept) -> bool
     ensures { result ≡ is_current (version_of version.now) }
 {
     version.end == HIGH
@@ -52,30 +56,53 @@ fn take_version(version: &mut Kept, memory: Memory, moment: i64) -> Kept
     )
 }
 
+/// Takes a version out of its place, where the last one comes with its seat.
+fn drop_version(versions: &mut Vec<Kept, Memory>, seats: &mut Seats, place: usize) -> Kept
+    requires { place < length versions.old.items }
+    ensures value { result ≡ slice_index_or versions.old.items place result }
+    ensures items { versions.new.items ≡ swap_remove versions.old.items place result }
+    ensures shorter { length versions.new.items + 1 ≡ length versions.old.items }
+    ensures others { (k : _) → k ≢ place → k + 1 < length versions.old.items → (d : Kept)
+        → slice_index_or versions.new.items k d ≡ slice_index_or versions.old.items k d }
+    ensures linked { (basis : _) → (standing : _) → is_current (version_of result) ≡ false
+        → IsLinked (open_of basis (versions_of versions.old.items)) seats.old standing
+        → IsLinked (open_of basis (versions_of versions.new.items)) seats.new standing }
+{
+    let last = versions.len() - 1;
+    seats.swap(place, last);
+    versions.swap_remove(place)
+}
+
 /// Takes closed versions out of a place until an open one stands there, or none.
-fn clear_place(versions: &mut Vec<Kept, Memory>, place: usize)
+fn clear_place(versions: &mut Vec<Kept, Memory>, seats: &mut Seats, place: usize)
     ensures bag { SameBag (filter is_current (versions_of versions.new.items))
         (filter is_current (versions_of versions.old.items)) }
     ensures clear { place < length versions.new.items → open_at versions.new.items place }
     ensures shorter { length versions.new.items ≤ length versions.old.items }
     ensures others { (k : _) → k ≢ place → k < length versions.new.items → (d : _)
         → slice_index_or versions.new.items k d ≡ slice_index_or versions.old.items k d }
+    ensures linked { (basis : _) → (standing : _)
+        → IsLinked (open_of basis (versions_of versions.old.items)) seats.old standing
+        → IsLinked (open_of basis (versions_of versions.new.items)) seats.new standing }
 {
     while place < versions.len() && !is_open(&versions[place]) {
-        versions.swap_remove(place);
+        drop_version(versions, seats, place);
     }
 }
 
 /// Takes the closed versions out of these places.
-pub fn sweep(versions: &mut Vec<Kept, Memory>, places: &[usize])
+pub fn sweep(versions: &mut Vec<Kept, Memory>, seats: &mut Seats, places: &[usize])
     ensures bag { SameBag (filter is_current (versions_of versions.new.items))
         (filter is_current (versions_of versions.old.items)) }
     ensures shorter { length versions.new.items ≤ length versions.old.items }
     ensures left { (k : _) → k < length versions.new.items → (Contains places.now k → open_at versions.new.items k)
         × (open_at versions.old.items k → open_at versions.new.items k) }
+    ensures linked { (basis : _) → (standing : _)
+        → IsLinked (open_of basis (versions_of versions.old.items)) seats.old standing
+        → IsLinked (open_of basis (versions_of versions.new.items)) seats.new standing }
 {
     for place in places {
-        clear_place(versions, *place);
+        clear_place(versions, seats, *place);
     }
 }
 

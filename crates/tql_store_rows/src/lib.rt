@@ -2,7 +2,9 @@
 #![tactic(auto)]
 
 mod entries;
+mod finding;
 mod kept;
 mod readings;
+mod standing;
 pub mod version;
 pub mod versions;

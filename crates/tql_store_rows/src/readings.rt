@@ -17,7 +17,7 @@ use tql_period::period::Period;
 use tql_value::when::When;
 
 /// Whether a version is asked for.
-fn asks(when: When, version: &Kept) -> bool
+pub fn asks(when: When, version: &Kept) -> bool
     ensures { result ≡ asked when (version_of version.now) }
 {
     match when {
@@ -36,7 +36,7 @@ fn answers_to(when: When, version: &Kept) -> bool
 }
 
 /// The version as a reading answers it.
-fn shown(id: usize, version: &Kept) -> Version<'_>
+pub fn shown(id: usize, version: &Kept) -> Version<'_>
     ensures version { version_shown result ≡ version_of version.now }
     ensures id { result.id ≡ id }
 {

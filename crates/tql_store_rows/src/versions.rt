@@ -1,6 +1,6 @@
 //! One table: its current rows side by side, its closed ones behind them, and what the open transaction did.
 ghost use Rattle.std.specs.Prelude.{◌≡◌, ◌≤◌, ◌<◌, ◌+◌, ◌++◌, [], Bool, true, false, if◌then◌else◌, All, OnOk};
-ghost use Rattle.std.specs.Prelude.{OnErr, Some, None, map, filter, length};
+ghost use Rattle.std.specs.Prelude.{OnErr, IfOk, Some, None, map, filter, length};
 ghost use Rattle.tql_spec.specs.Bag.{SameBag};
 ghost use Rattle.tql_spec.specs.Definition.{Stamped};
 ghost use Rattle.tql_store_rows.specs.Changes.{alive, closing, fresh, undone, replaced, pruned};
@@ -11,11 +11,14 @@ ghost use Rattle.tql_value.specs.Views.{datum_of_value};
 
 use crate::entries::{enter_kept, leave_kept};
 use crate::kept::{Kept, end_each, mark_each, replace, reserve_kept, retire_kept, sweep};
+use crate::standing::{enter_rows, leave_back, leave_rows, leave_shut, row_indexes};
 use crate::version::HIGH;
 use std::alloc::AllocError;
 use std::marker::Model;
 use tql_index::index::IntervalIndex;
 use tql_memory::Memory;
+use tql_store_index::seats::Seats;
+use tql_store_index::value_indexes::ValueIndexes;
 use tql_value::value::Value;
 
 /// The versions of a table, which keeps its history or does not.
@@ -29,6 +32,10 @@ pub struct Versions<I: IntervalIndex> {
     dead: Vec<usize, Memory>,
     pub(crate) closed: Vec<Kept, Memory>,
     pub(crate) index: I,
+    /// The seats of the current versions, which stay when these are moved.
+    pub(crate) seats: Seats,
+    /// Where the current versions stand by their values in lists of columns, and by their application periods.
+    pub(crate) indexes: ValueIndexes<I>,
 }
 
 impl<I: IntervalIndex> Model for Versions<I> {
@@ -49,6 +56,10 @@ impl<I: IntervalIndex> Model for Versions<I> {
       room = vec_capacity r.closed;
       entries = I.entries r.index;
     } };
+
+    ghost use Rattle.tql_store_rows.specs.RowsStanding.{AreStanding, rows_of};
+
+    ghost invariant = { λ r. AreStanding r.seats r.indexes (rows_of (versions_of r.current.items)) };
 }
 
 impl<I: IntervalIndex> Versions<I> {
@@ -76,7 +87,45 @@ impl<I: IntervalIndex> Versions<I> {
             dead: Vec::new(memory),
             closed: Vec::new(memory),
             index: I::new(memory),
+            seats: Seats::new(memory),
+            indexes: ValueIndexes::new(memory),
         }
+    }
+
+    /// The same, whose current rows can be found by their values in each of these lists of columns, and by the period
+    /// from the first of two columns to the second.
+    pub fn with_indexes(
+        memory: Memory,
+        keeps: bool,
+        lists: Vec<Vec<usize, Memory>, Memory>,
+        application: Option<(usize, usize)>,
+    ) -> Result<Versions<I>, AllocError>
+        ensures empty { IfOk result (λ r. r
+            ≡ (record {
+              keeps = keeps;
+              current = [];
+              base = 0;
+              ended = [];
+              dead = [];
+              closed = [];
+              room = 0;
+              entries = [];
+            })) }
+        ensures rest { IfOk result (AtRest None) }
+    {
+        let indexes = row_indexes(memory, lists, application)?;
+        Ok(Versions {
+            memory,
+            keeps,
+            current: Vec::new(memory),
+            base: 0,
+            ended: Vec::new(memory),
+            dead: Vec::new(memory),
+            closed: Vec::new(memory),
+            index: I::new(memory),
+            seats: Seats::new(memory),
+            indexes,
+        })
     }
 
     /// In the open transaction, closes the current versions of these ids and adds the rows, and takes all memory that
@@ -139,6 +188,7 @@ impl<I: IntervalIndex> Versions<I> {
         let dead = self.dead.len();
         reserve_kept(self.keeps, &mut self.closed, ended + removed.len())?;
         let number = self.closed.len() + ended;
+        enter_rows(&mut self.seats, &mut self.indexes, &self.current, &added)?;
         mark_each(&mut self.ended, &mut self.dead, removed, self.base);
         if let Err(error) = enter_kept(
             self.keeps,
@@ -150,6 +200,7 @@ impl<I: IntervalIndex> Versions<I> {
         ) {
             self.ended.truncate(ended);
             self.dead.truncate(dead);
+            leave_back(&mut self.indexes, &self.seats, &self.current, &added);
             return Err(error);
         }
         replace(&mut self.current, removed, added, moment);
@@ -165,6 +216,8 @@ impl<I: IntervalIndex> Versions<I> {
         ensures versions { SameBag (live self.new)
             (if self.old.keeps then live self.old else pruned moment (live self.old)) }
     {
+        leave_shut(&mut self.indexes, &self.seats, &self.current, &self.ended);
+        leave_shut(&mut self.indexes, &self.seats, &self.current, &self.dead);
         retire_kept(
             self.keeps,
             &mut self.current,
@@ -173,8 +226,8 @@ impl<I: IntervalIndex> Versions<I> {
             self.memory,
             moment,
         );
-        sweep(&mut self.current, &self.ended);
-        sweep(&mut self.current, &self.dead);
+        sweep(&mut self.current, &mut self.seats, &self.ended);
+        sweep(&mut self.current, &mut self.seats, &self.dead);
         self.ended.clear();
         self.dead.clear();
         self.base = self.current.len();
@@ -187,6 +240,7 @@ impl<I: IntervalIndex> Versions<I> {
         ensures keeps { self.new.keeps ≡ self.old.keeps }
         ensures versions { SameBag (live self.new) (undone moment (live self.old)) }
     {
+        leave_rows(&mut self.indexes, &self.seats, &self.current, self.base);
         self.current.truncate(self.base);
         leave_kept(
             self.keeps,

@@ -1,5 +1,10 @@
-use Rattle.std.proofs.Common.{◌≡◌, ◌≢◌, ◌≤◌, ◌<◌, ℕ, length, filter, get_or}
+use Rattle.std.proofs.Common.{◌≡◌, ◌≢◌, ◌≤◌, ◌<◌, ℕ, List, length, filter, get_or}
+use Rattle.std.specs.Prelude.{Option}
 use Rattle.tql_spec.specs.Bag.{SameBag}
+use Rattle.tql_spec.specs.Period.{Period}
+use Rattle.tql_store_index.specs.Basis.{Basis}
+use Rattle.tql_store_index.specs.ValueIndexes.{IsLinked}
+use Rattle.tql_store_rows.specs.RowsStanding.{open_of}
 use Rattle.tql_store_rows.specs.declared.kept.Kept.{Kept}
 use Rattle.tql_store_rows.specs.Changes.{is_current}
 use Rattle.tql_store_rows.specs.Views.{versions_of}
@@ -12,6 +17,9 @@ invariant-loop-versions l = record {
   shorter : length l.versions.items ≤ length l.fn.versions.items;
   others : (k : ℕ) → k ≢ l.place → k < length l.versions.items → (d : Kept)
       → get_or l.versions.items k d ≡ get_or l.fn.versions.items k d;
+  linked : (basis : Basis) (standing : List (Option Period))
+      → IsLinked (open_of basis (versions_of l.fn.versions.items)) l.fn.seats standing
+      → IsLinked (open_of basis (versions_of l.versions.items)) l.seats standing;
 }
 
 abbrev pub decreases-loop-versions : goal.decreases-loop-versions

@@ -16,6 +16,8 @@ loop-place-preserved c =
       shorter = let a = c.clear_place.ensures.shorter in let b = c.loop-place.invariant.shorter in omega arith;
       listed = listed_step _ _ c.args.places.now c.loop-place.place-index cleared c.loop-place.invariant.listed;
       kept = λ k l h. still_open _ _ _ k cleared l (λ w. c.loop-place.invariant.kept k w h);
+      linked = λ basis standing h. c.clear_place.ensures.linked basis standing
+          (c.loop-place.invariant.linked basis standing h);
     }
 
 pub returns-clause-left : goal.returns-clause-left

@@ -1,9 +1,10 @@
-use Rattle.std.proofs.Common.{◌≡◌, ◌+◌, ◌-◌, rules, arith, ap, sym, ◌∙◌, length, length-append, take, drop}
+use Rattle.std.proofs.Common.{◌≡◌, ◌+◌, ◌-◌, rules, arith, refl, ap, sym, ◌∙◌, length, length-append, take, drop}
 use Rattle.std.proofs.Math.Facts.{to_z-of_z}
 use Rattle.tql_store_rows.specs.TableModel.{TableModel}
 use Rattle.tql_store_rows.specs.Marks.{below}
 use Rattle.tql_store_rows.specs.Views.{versions_of}
 use Rattle.tql_store_rows.proofs.Done.{length-below, sizes}
+use Rattle.tql_store_rows.proofs.Ending.{change_standing}
 use Rattle.tql_store_rows.proofs.Entering.{new_within, new_early, same_joined, same_noted, tail_is}
 use Rattle.tql_store_rows.proofs.versions.Versions.change.Goals as goal
 
@@ -59,3 +60,9 @@ returns-clause-room g c = λ k.
     let m = sizes c.reserve_kept.new.closed.items in
     let k = c.in_ok-reserve_kept.ensures.ok (ap (λ (h : TableModel). h.keeps) c.self.view_is ∙ k) in
     omega arith
+
+pub invariant_of-self-2 : goal.invariant_of-self-2
+invariant_of-self-2 g c =
+    change_standing _ c.enter_rows.new.seats c.enter_rows.new.indexes c.reserve.new.self.items c.reserve.new.self.items
+    c.replace.new.versions.items c.args.removed.now c.args.added.items refl c.replace.ensures
+    c.in_ok-enter_rows.ensures.ok

@@ -1,8 +1,9 @@
-use Rattle.std.proofs.Common.{vec_capacity, rules, sym, ap, ◌∙◌}
+use Rattle.std.proofs.Common.{vec_capacity, take, rules, sym, ap, ◌∙◌}
 use Rattle.std.proofs.Math.Facts.{to_z-of_z}
 use Rattle.std.proofs.lemmas.List.{with_items_is}
 use Rattle.std.specs.Vec.{with_items}
 use Rattle.tql_store_rows.proofs.Done.{rollback_done, front}
+use Rattle.tql_store_rows.proofs.Ending.{rollback_standing}
 use Rattle.tql_store_rows.proofs.Entering.{old_early}
 use Rattle.tql_store_rows.proofs.Resting.{rollback-rest}
 use Rattle.tql_store_rows.proofs.Turns.{rollback-bag}
@@ -51,3 +52,12 @@ returns-clause-versions g c =
     (with_items_is c.truncate.new.self c.end_each.new.versions (search rules)) (search rules) (search rules)
     (search rules) (search rules) (search rules) (search rules) c.leave_kept.ensures in
     rollback-bag c.args.moment c.args.self.now after.current after.closed c.requires done.current done.closed
+
+pub invariant_of-self : goal.invariant_of-self
+invariant_of-self g c =
+    rollback_standing _ c.self.inside.seats c.leave_rows.new.indexes (take c.self.inside.base c.self.inside.current.items)
+    c.truncate.new.self.items c.deref_mut.result.now c.end_each.new.versions
+    (with_items c.truncate.new.self c.end_each.new.versions).items c.deref-3.result.now c.leave_rows.ensures
+    c.truncate.ensures.items
+    c.deref_mut.ensures.value c.end_each.ensures.ends
+    (with_items_is c.truncate.new.self c.end_each.new.versions (search rules))

@@ -1,0 +1,66 @@
+-- Where the rows of a table stand by each of its bases.
+use Rattle.std.specs.Prelude.{◌≡◌, ℕ, ◌+◌, ◌<◌, ◌≤◌, ◌⊎◌, false, if◌then◌else◌, List, map, length, Option, None}
+use Rattle.std.specs.Prelude.{Contains, Vec, slice_index_or}
+use Rattle.tql_spec.specs.Datum.{Row}
+use Rattle.tql_spec.specs.Definition.{Version}
+use Rattle.tql_spec.specs.Period.{Period}
+use Rattle.tql_value.specs.Views.{datum_of_value}
+use Rattle.tql_value.specs.declared.value.Value.{Value}
+use Rattle.tql_store_index.specs.Basis.{Basis, stands_by}
+use Rattle.tql_store_index.specs.Seating.{Seating, seat_at}
+use Rattle.tql_store_index.specs.Standing.{stands}
+use Rattle.tql_store_index.specs.ValueIndexes.{ValueIndex, index_at, IsLinked, IsTurned}
+use Rattle.tql_store_rows.specs.Changes.{is_current, nothing}
+
+-- the cells of versions
+abbrev pub rows_of : List Version → List Row
+rows_of vs = map (λ (v : Version). v.row.cells) vs
+
+-- the cells of rows that come
+abbrev pub cells_of : {A : Type 0} → List (Vec Value A) → List Row
+cells_of rows = map (λ row. map datum_of_value row.items) rows
+
+-- under what rows stand, place by place
+abbrev pub all_of : Basis → List Row → List (Option Period)
+all_of basis rows = map (stands_by basis) rows
+
+-- under what a version stands that is not closed
+abbrev pub open_in : Basis → Version → Option Period
+open_in basis v = if is_current v then stands_by basis v.row.cells else None
+
+-- under what those stand that are not closed
+abbrev pub open_of : Basis → List Version → List (Option Period)
+open_of basis vs = map (open_in basis) vs
+
+-- each row stands, in its seat, where each basis puts it
+pub record AreStanding (s : Seating) (indexes : List ValueIndex) (rows : List Row) : Type 0 where
+  pub each : (i : ℕ) → i < length indexes
+      → IsLinked (all_of (index_at indexes i).basis rows) s (index_at indexes i).standing
+
+-- only those that are not closed do
+pub record AreOpenStanding (s : Seating) (indexes : List ValueIndex) (vs : List Version) : Type 0 where
+  pub each : (i : ℕ) → i < length indexes
+      → IsLinked (open_of (index_at indexes i).basis vs) s (index_at indexes i).standing
+
+-- so many of the rows have come, the first to a place
+pub record IsComing (from j : ℕ) (rows : List Row) (s : Seating) (old new : ValueIndex) : Type 0 where
+  pub turned : IsTurned from (from + j) s old new
+  pub came : (i : ℕ) → i < j → stands new.standing (seat_at s (from + i)) ≡ stands (all_of old.basis rows) i
+
+-- the version at a place
+abbrev pub version_at : List Version → ℕ → Version
+version_at vs k = slice_index_or vs k nothing
+
+-- a closed version stands at a place
+abbrev pub IsShutAt : List Version → ℕ → Type 0
+IsShutAt vs k = (k < length vs) × (is_current (version_at vs k) ≡ false)
+
+-- the seats of closed versions have been left under nothing, those at the places listed among them
+pub record IsShut (vs : List Version) (s : Seating) (places : List ℕ) (old new : ValueIndex) : Type 0 where
+  pub basis : new.basis ≡ old.basis
+  pub even : length new.standing ≡ length old.standing
+  pub beyond : (seat : ℕ) → length s.seats ≤ seat → stands new.standing seat ≡ stands old.standing seat
+  pub kept : (k : ℕ) → k < length s.seats
+      → (stands new.standing (seat_at s k) ≡ stands old.standing (seat_at s k))
+      ⊎ (IsShutAt vs k × (stands new.standing (seat_at s k) ≡ None))
+  pub gone : (k : ℕ) → Contains places k → IsShutAt vs k → stands new.standing (seat_at s k) ≡ None
