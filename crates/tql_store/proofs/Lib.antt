@@ -13,3 +13,5 @@ pub mod Turning
 pub mod Removing
 pub mod Storing
 pub mod Making
+pub mod Searching
+pub mod Putting

@@ -1,10 +1,10 @@
 -- What a change of one table's rows does to the list of all, as the code tells it.
-use Rattle.std.proofs.Common.{◌≡◌, ℕ, ◌<◌, Bool, true, List, ◌++◌, map, filter, length, Result, Ok, Err, refl, sym}
-use Rattle.std.proofs.Common.{ap, subst, ◌∙◌, arith}
-use Rattle.std.specs.Prelude.{ℤ, slice_set, Option, Some, None, OnErr}
+use Rattle.std.proofs.Common.{◌≡◌, ℕ, ◌<◌, Bool, true, List, ◌++◌, map, filter, length, Result, Ok, Err, sym}
+use Rattle.std.proofs.Common.{ap, subst, ◌∙◌}
+use Rattle.std.specs.Prelude.{ℤ, slice_set, Option, Some, OnErr}
 use Rattle.tql_spec.specs.Bag.{SameBag}
 use Rattle.tql_spec.specs.Datum.{Datum}
-use Rattle.tql_spec.specs.Definition.{Stamped, Version}
+use Rattle.tql_spec.specs.Definition.{Stamped}
 use Rattle.tql_store_rows.specs.Changes.{alive, closing, fresh, replaced}
 use Rattle.tql_store_rows.specs.TableModel.{TableModel, AtRest, InTurn, IsJudged, versions, live}
 use Rattle.tql_store.proofs.Numbers.{put-here, put-versions}

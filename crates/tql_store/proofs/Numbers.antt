@@ -1,13 +1,12 @@
 -- The tables of a store by their numbers: one is put or changed, and the others stay.
-use Rattle.std.proofs.Common.{◌≡◌, ◌≢◌, ℕ, zero, suc, ◌+◌, ◌<◌, ◌≤◌, Bool, true, false, List, [], ◌∷◌, ◌++◌, map}
+use Rattle.std.proofs.Common.{◌≡◌, ◌≢◌, ℕ, zero, suc, ◌<◌, ◌≤◌, true, false, List, [], ◌∷◌, ◌++◌, map}
 use Rattle.std.proofs.Common.{length, refl, sym, ap, subst, ◌∙◌, arith, inl, inr}
-use Rattle.std.specs.Prelude.{ℤ, nat_eq, slice_index_or, slice_set, Contains, Option, Some, None, if◌then◌else◌, ◌⊎◌}
+use Rattle.std.specs.Prelude.{nat_eq, slice_index_or, slice_set, Contains, ◌⊎◌}
 use Rattle.std.proofs.lemmas.Bool.Decides.{nat_tests}
 use Rattle.std.proofs.lemmas.List.{get_or_default}
 use Rattle.tql_spec.proofs.Members.{by_bool}
-use Rattle.tql_spec.specs.Definition.{Version}
 use Rattle.tql_store_rows.specs.TableModel.{TableModel, versions}
-use Rattle.tql_store.specs.Orderly.{empty, table_at, touch_at, IsUntouched, IsNoted, IsPut}
+use Rattle.tql_store.specs.Orderly.{empty, table_at, touch_at, IsUntouched, IsNoted}
 use Rattle.tql_store.specs.TableSlots.{slot_at, is_taken, is_kept}
 use Rattle.tql_store.specs.declared.tables.TableSlot.{TableSlot}
 use Rattle.tql_store.specs.declared.tables.TableSlot.TheVariants.{Free, Versioned, Unversioned}

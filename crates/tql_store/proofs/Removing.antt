@@ -1,14 +1,13 @@
 -- The versions that a change of a table takes away, named by the store's ids.
 use Rattle.std.proofs.Common.{◌≡◌, ◌≢◌, ℕ, zero, suc, ◌+◌, ◌<◌, ◌≤◌, Bool, true, false, cond, List, [], ◌∷◌, ◌++◌}
-use Rattle.std.proofs.Common.{map, filter, length, refl, sym, ap, subst, ◌∙◌, arith, inl, inr}
-use Rattle.std.specs.Prelude.{ℤ, ◌<ℤ◌, ◌&&◌, ◌||◌, All, Contains, IsTrue, count_by, int_lt, nat_eq, nat_lt, slice_get}
-use Rattle.std.specs.Prelude.{slice_index_or, Option, Some, None, if◌then◌else◌, ◌⊎◌}
-use Rattle.std.specs.Ordering.{int_eq}
+use Rattle.std.proofs.Common.{map, filter, length, refl, sym, ap, ◌∙◌, arith, inl, inr}
+use Rattle.std.specs.Prelude.{ℤ, ◌<ℤ◌, ◌&&◌, ◌||◌, All, Contains, IsTrue, count_by, nat_eq, nat_lt, slice_get}
+use Rattle.std.specs.Prelude.{slice_index_or, Some}
 use Rattle.std.specs.List.{sum_by}
 use Rattle.std.proofs.lemmas.Bool.Decides.{Decides-int_eq, nat_tests}
 use Rattle.std.proofs.lemmas.Int.{ints}
 use Rattle.std.proofs.lemmas.List.Sums.{sum_by-cons, sum_by-append}
-use Rattle.tql_spec.proofs.Bags.{same-refl, sum-filter}
+use Rattle.tql_spec.proofs.Bags.{sum-filter}
 use Rattle.tql_spec.proofs.Members.{by_bool}
 use Rattle.tql_spec.specs.Bag.{SameBag, In}
 use Rattle.tql_spec.specs.Calendar.{high}
@@ -16,11 +15,10 @@ use Rattle.tql_spec.specs.Datum.{Datum}
 use Rattle.tql_spec.specs.Definition.{Stamped, Version}
 use Rattle.tql_store_rows.proofs.Counting.{once-first, once-tail}
 use Rattle.tql_store_rows.proofs.Turns.{eq_false, lt_true, first_place, later_place}
-use Rattle.tql_store_rows.specs.Changes.{alive, close_at, closing, ended, fresh, is_current, nothing, replaced}
+use Rattle.tql_store_rows.specs.Changes.{alive, close_at, closing, ended, fresh, is_current, nothing}
 use Rattle.tql_store_rows.specs.TableModel as rows
 use Rattle.tql_store_rows.specs.TableModel.{InTurn, IsJudged, versions, live}
 use Rattle.tql_store.proofs.Numbers.{one_number, self_number}
-use Rattle.tql_store.proofs.Turning.{before}
 use Rattle.tql_store.specs.StoreModel.{is_open, is_among}
 
 abbrev pub at : List Version → ℕ → Version

@@ -1,7 +1,7 @@
 -- A store stays orderly where a table's rows change in the open transaction, and where all tables' transaction ends.
-use Rattle.std.proofs.Common.{◌≡◌, ◌≢◌, ℕ, zero, suc, ◌+◌, ◌<◌, ◌≤◌, Bool, true, false, cond, List, [], ◌∷◌, ◌++◌}
-use Rattle.std.proofs.Common.{map, filter, length, refl, sym, ap, subst, ◌∙◌, arith, inl, inr}
-use Rattle.std.specs.Prelude.{ℤ, ◌<ℤ◌, ◌≤ℤ◌, IsTrue, int_lt, nat_eq, slice_index_or, slice_set, Option, Some, None}
+use Rattle.std.proofs.Common.{◌≡◌, ◌≢◌, ℕ, suc, ◌+◌, ◌<◌, Bool, true, false, cond, List, [], ◌∷◌, ◌++◌}
+use Rattle.std.proofs.Common.{filter, length, refl, sym, ap, subst, ◌∙◌, arith, inl, inr}
+use Rattle.std.specs.Prelude.{ℤ, ◌<ℤ◌, ◌≤ℤ◌, int_lt, nat_eq, slice_index_or, slice_set, Option, Some, None}
 use Rattle.std.specs.Prelude.{if◌then◌else◌, ◌⊎◌}
 use Rattle.std.specs.Ordering.{int_eq}
 use Rattle.std.specs.List.{sum_by}
@@ -10,19 +10,17 @@ use Rattle.std.proofs.lemmas.Int.{ints}
 use Rattle.std.proofs.lemmas.List.{get_or_default}
 use Rattle.std.proofs.lemmas.List.Sums.{sum_by-cons}
 use Rattle.tql_spec.proofs.Bags.{same-refl, same-trans}
-use Rattle.tql_spec.proofs.Members.{by_bool, lt_tells}
+use Rattle.tql_spec.proofs.Members.{by_bool}
 use Rattle.tql_spec.specs.Bag.{SameBag, In}
 use Rattle.tql_spec.specs.Calendar.{high}
 use Rattle.tql_spec.specs.Definition.{Version}
-use Rattle.tql_index.specs.Entry.{Entry}
 use Rattle.tql_store_rows.proofs.Beginning.{begin-turn}
 use Rattle.tql_store_rows.proofs.Turns.{eq_false, lt_true}
-use Rattle.tql_store_rows.specs.Changes.{alive, is_current, nothing, Past, Under, pruned, reopened, undone}
-use Rattle.tql_store_rows.specs.Entries.{entries_from}
-use Rattle.tql_store_rows.specs.TableModel.{TableModel, AtRest, InTurn, IsIndexed, Since, versions, live, named}
-use Rattle.tql_store.proofs.Numbers.{one_number, self_number, two_numbers, put-here, put-other, put-length}
-use Rattle.tql_store.proofs.Numbers.{taken_not_free, IsTouched, touched-or, AreApart, Noted, noted}
-use Rattle.tql_store.specs.Orderly.{empty, table_at, touch_at, IsUntouched, IsNoted, IsPut, AreAtRest, AreInTurn}
+use Rattle.tql_store_rows.specs.Changes.{alive, is_current, nothing, Past, Under, pruned, undone}
+use Rattle.tql_store_rows.specs.TableModel.{TableModel, AtRest, InTurn, Since, versions, live, named}
+use Rattle.tql_store.proofs.Numbers.{one_number, two_numbers, put-here, put-other, put-length}
+use Rattle.tql_store.proofs.Numbers.{taken_not_free, IsTouched, touched-or, AreApart, noted}
+use Rattle.tql_store.specs.Orderly.{empty, table_at, touch_at, IsUntouched, IsNoted, AreInTurn}
 use Rattle.tql_store.specs.Orderly.{IsOrderly, IsCommitted, IsUndone, HaveEnded, HasTurned}
 use Rattle.tql_store.specs.TableSlots.{slot_at, is_taken, is_kept, is_brief}
 use Rattle.tql_store.specs.declared.tables.TableSlot.{TableSlot}

@@ -4,7 +4,6 @@ use Rattle.std.specs.Prelude.{◌≡◌, ◌≢◌, ◌⊎◌, ℕ, ◌<◌, ◌
 use Rattle.std.specs.Prelude.{Contains, Option, Some, None, ℤ, ◌<ℤ◌, if◌then◌else◌, nat_eq}
 use Rattle.tql_spec.specs.Bag.{SameBag}
 use Rattle.tql_spec.specs.Calendar.{high}
-use Rattle.tql_spec.specs.Definition.{Version}
 use Rattle.tql_store_rows.specs.Changes.{Under, pruned, undone}
 use Rattle.tql_store_rows.specs.TableModel as rows
 use Rattle.tql_store_rows.specs.TableModel.{AtRest, InTurn, Since}

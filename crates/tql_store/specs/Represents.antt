@@ -2,7 +2,7 @@
 use Rattle.std.specs.Prelude.{◌≡◌, ℕ, ◌+◌, Bool, false, ◌&&◌, List, ◌∷◌, filter, length, ℤ, nat_eq, Option, Some}
 use Rattle.std.specs.Prelude.{None, if◌then◌else◌}
 use Rattle.tql_spec.specs.Bag.{SameBag}
-use Rattle.tql_spec.specs.Datum.{Datum}
+use Rattle.tql_spec.specs.Datum.{Datum, Row}
 use Rattle.tql_spec.specs.Definition.{Stamped, Version}
 use Rattle.tql_spec.specs.History.{TableEntry, When}
 use Rattle.tql_spec.specs.History.{found as versions_found}
@@ -132,3 +132,9 @@ seen_by (Some m) copies working = appended m working copies
 abbrev pub Answers : StoreModel → ℕ → When → List Version → Type 0
 Answers h t when found = (copies : Copies) (working : Working) → Represents h copies working
     → SameBag found (versions_found when (seen_by h.working copies working t))
+
+-- and what one answers that asks for rows which pass a test
+abbrev pub AnswersBy : StoreModel → ℕ → When → (Row → Bool) → List Version → Type 0
+AnswersBy h t when test found = (copies : Copies) (working : Working) → Represents h copies working
+    → SameBag found
+    (filter (λ (v : Version). test v.row.cells) (versions_found when (seen_by h.working copies working t)))

@@ -1,10 +1,15 @@
 -- What the answers of a reading stand for.
-use Rattle.std.specs.Prelude.{◌≡◌, ℕ, Bool, ◌&&◌, List, count_by, nat_eq, Some, if◌then◌else◌}
+use Rattle.std.specs.Prelude.{◌≡◌, ℕ, Bool, ◌&&◌, List, map, filter, count_by, nat_eq, Option, Some, if◌then◌else◌, All}
+use Rattle.tql_spec.specs.Bag.{SameBag}
+use Rattle.tql_spec.specs.Datum.{Row}
 use Rattle.tql_spec.specs.Definition as definition
 use Rattle.tql_store_rows.specs.Changes.{alive}
-use Rattle.tql_store_rows.specs.Readings.{version_shown as version_of}
+use Rattle.tql_store_rows.specs.Readings.{asked, where_open, version_shown as version_of}
 use Rattle.tql_store_rows.specs.declared.version.Version.{Version}
-use Rattle.tql_store.specs.StoreModel.{StoreModel, named}
+use Rattle.tql_value.specs.When.{when_of}
+use Rattle.tql_value.specs.declared.when.When.{When}
+use Rattle.tql_store.specs.Represents.{AnswersBy}
+use Rattle.tql_store.specs.StoreModel.{StoreModel, live, named}
 
 -- an answer's id names its version
 abbrev pub Names : StoreModel → ℕ → Version → Type 0
@@ -14,3 +19,15 @@ Names h table s = named h table s.id ≡ Some (version_of s)
 abbrev pub NamesOnce : StoreModel → ℕ → (definition.Version → Bool) → List Version → Type 0
 NamesOnce h table test found = (id : ℕ) (v : definition.Version) → named h table id ≡ Some v
     → count_by (λ (s : Version). nat_eq s.id id) found ≡ (if alive v && test v then 1 else 0)
+
+-- the versions of a table that are asked for and whose rows pass a test; each under its id, and none twice; so many as
+-- the definitions find in the copies
+pub record IsFound (h : StoreModel) (table : ℕ) (when : When) (test : Row → Bool) (found : List Version) : Type 0 where
+  pub versions : SameBag (map version_of found) (filter (λ v. asked when v && test v.row.cells) (live h table))
+  pub ids : All (Names h table) found
+  pub once : NamesOnce h table (λ v. asked when v && test v.row.cells) found
+  pub copies : AnswersBy h table (when_of when) test (map version_of found)
+
+-- the current version that an id names
+abbrev pub current_named : StoreModel → ℕ → ℕ → Option definition.Version
+current_named h table id = where_open (named h table id)

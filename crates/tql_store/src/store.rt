@@ -1,10 +1,14 @@
 //! The store: the versions of all tables, what a change is to it, and how a transaction begins and ends.
 ghost use Rattle.std.specs.Prelude.{◌≡◌, ◌↔◌, Bool, ℕ, ℤ, ◌||◌, ◌<◌, ◌++◌, ◌+◌, ◌<ℤ◌, nat_eq, if◌then◌else◌, []};
 ghost use Rattle.std.specs.Prelude.{map, filter, length, All, IsNone, IsSome, IsTrue, is_some, Some, None, IfOk, OnOk};
-ghost use Rattle.std.specs.Prelude.{OnErr, IfErr, Err};
+ghost use Rattle.std.specs.Prelude.{OnErr, IfErr, Err, IfSome, option_map};
 ghost use Rattle.tql_spec.specs.Calendar.{high};
 ghost use Rattle.tql_spec.specs.Bag.{SameBag};
-ghost use Rattle.tql_spec.specs.Definition.{Stamped};
+ghost use Rattle.tql_spec.specs.Definition.{Stamped, period_between};
+ghost use Rattle.tql_spec.specs.Period.{holds, share_a_point};
+ghost use Rattle.tql_period.specs.Points.{points_of};
+ghost use Rattle.tql_store_index.specs.Basis.{is_sought, sought_of};
+ghost use Rattle.tql_store_index.specs.Tuple.{is_at};
 ghost use Rattle.tql_store_rows.specs.Changes.{alive, closing, fresh, pruned, replaced, undone};
 ghost use Rattle.tql_store_rows.specs.Changes.{Under};
 ghost use Rattle.tql_store_rows.specs.TableModel.{AtRest, InTurn, AreRemovable as AreRemovableRows, IsJudged};
@@ -16,13 +20,14 @@ ghost use Rattle.tql_store.specs.StoreModel.{is_versioned as table_versioned, ta
 ghost use Rattle.tql_store.specs.Orderly.{table_at, IsNoted, HasTurned};
 ghost use Rattle.tql_store.specs.TableSlots.{slot_at, is_brief};
 ghost use Rattle.tql_store_rows.specs.Readings.{version_shown as version_of};
-ghost use Rattle.tql_store.specs.Views.{Names, NamesOnce};
+ghost use Rattle.tql_store.specs.Views.{Names, NamesOnce, IsFound, current_named};
 ghost use Rattle.tql_store.specs.Represents.{Represents, BeginCopies, ChangeReplaces, CommitAppends, ReplacesVersions};
 ghost use Rattle.tql_store.specs.Represents.{RollbackRestores, AddsTable, AddKeepsCopies, DropEmpties, Takes};
 ghost use Rattle.tql_store.specs.Represents.{Answers};
 ghost use Rattle.tql_store_rows.specs.Readings.{asked};
 ghost use Rattle.tql_store.specs.declared.tables.TableSlot.TheVariants.{Free};
-ghost use Rattle.tql_value.specs.Views.{datum_of_value};
+ghost use Rattle.tql_value.specs.Views.{datum_of_value, datum_of_view};
+ghost use Rattle.tql_value.specs.declared.when.When.TheVariants.{Now};
 ghost use Rattle.tql_value.specs.When.{is_now, when_of};
 ghost use Rattle.tql_value.specs.declared.refusal.Refusal.TheVariants.{OutOfMemory};
 
@@ -32,11 +37,13 @@ use std::alloc::AllocError;
 use std::marker::Model;
 use tql_index::index::IntervalIndex;
 use tql_memory::Memory;
+use tql_period::period::Period;
+use tql_store_index::basis::Sought;
 use tql_store_rows::version::Version;
 use tql_store_rows::versions::Versions;
 use tql_value::refusal::Refusal;
 use tql_value::table::TableId;
-use tql_value::value::Value;
+use tql_value::value::{Value, View};
 use tql_value::when::When;
 
 /// A change of a table: the versions that go, by their ids, and the rows that come, without generated columns.
@@ -211,8 +218,15 @@ impl<I: IntervalIndex> Store<I> {
     }
 
     /// Adds a table, empty at every moment (this project's choice), at a number below 1,000 where none stands.
-    /// Refused where memory is, and then nothing is changed.
-    pub fn add_table(&mut self, versioned: bool) -> Result<TableId, Refusal>
+    /// Its rows are found without looking at all of them by their values in each of these lists of columns, and by the
+    /// period from the first of two columns to the second, if there are two; a column is told by its number among those
+    /// that are stored. Refused where memory is, and then nothing is changed.
+    pub fn add_table(
+        &mut self,
+        versioned: bool,
+        columns: Vec<Vec<usize, Memory>, Memory>,
+        application: Option<(usize, usize)>,
+    ) -> Result<TableId, Refusal>
         requires { tables_there self.old < 1000 }
         ensures ok { IfOk result (λ table. AddsTable versioned table self.old self.new) }
         ensures within { IfOk result (λ table. table < 1000) }
@@ -222,8 +236,8 @@ impl<I: IntervalIndex> Store<I> {
     {
         self.rows.reserve(1)?;
         let table = free_table(&self.places);
+        let rows = Versions::with_indexes(self.memory, versioned, columns, application)?;
         put_table(&mut self.places, table, TableSlot::of_table(versioned))?;
-        let rows = Versions::new(self.memory, versioned);
         put_rows(&mut self.rows, usize::from(table.number()), rows);
         Ok(table)
     }
@@ -333,5 +347,102 @@ impl<I: IntervalIndex> Store<I> {
     {
         let found = self.rows[usize::from(table.number())].found(self.memory, when)?;
         Ok(found)
+    }
+
+    /// The versions of a table that are asked for and whose rows are sought.
+    fn search(
+        &self,
+        table: TableId,
+        when: When,
+        sought: Sought<'_>,
+    ) -> Result<Vec<Version<'_>, Memory>, AllocError>
+        requires there { IsTrue (table_there self.now table) }
+        requires versioned { IsTrue (is_now (when_of when) || table_versioned self.now table) }
+        ensures { IfOk result (λ found. IsFound self.now table when (is_sought (sought_of sought.entry)) found.items) }
+    {
+        let found = self.rows[usize::from(table.number())].search(self.memory, when, sought)?;
+        Ok(found)
+    }
+
+    /// The current rows of a table with these values in these columns; NULL is no value's equal. Each is a version that
+    /// is not closed. Where the table was added with these columns, no other row is looked at, but those that meet by
+    /// chance.
+    pub fn with_key(
+        &self,
+        table: TableId,
+        columns: &[usize],
+        tuple: &[View<'_>],
+    ) -> Result<Vec<Version<'_>, Memory>, AllocError>
+        requires { IsTrue (table_there self.now table) }
+        ensures { IfOk result
+            (λ found. IsFound self.now table Now (is_at columns.now (map datum_of_view tuple.now)) found.items) }
+    {
+        self.search(table, When::Now, Sought::With(columns, tuple))
+    }
+
+    /// The versions of a table that are asked for (FOR SYSTEM_TIME, ISO/IEC 9075-2:2011, 7.6), with these values in
+    /// these columns.
+    pub fn found_with(
+        &self,
+        table: TableId,
+        columns: &[usize],
+        tuple: &[View<'_>],
+        when: When,
+    ) -> Result<Vec<Version<'_>, Memory>, AllocError>
+        requires there { IsTrue (table_there self.now table) }
+        requires versioned { IsTrue (is_now (when_of when) || table_versioned self.now table) }
+        ensures { IfOk result
+            (λ found. IsFound self.now table when (is_at columns.now (map datum_of_view tuple.now)) found.items) }
+    {
+        self.search(table, when, Sought::With(columns, tuple))
+    }
+
+    /// The current rows of a table whose period, from the first column to the second, holds the point, in days or
+    /// microseconds since 1970-01-01.
+    pub fn holding(
+        &self,
+        table: TableId,
+        columns: (usize, usize),
+        point: i64,
+    ) -> Result<Vec<Version<'_>, Memory>, AllocError>
+        requires { IsTrue (table_there self.now table) }
+        ensures { IfOk result
+            (λ found. IsFound self.now table Now
+            (λ row. holds (period_between row columns.0 columns.1) point) found.items) }
+    {
+        self.search(
+            table,
+            When::Now,
+            Sought::Holding(columns.0, columns.1, point),
+        )
+    }
+
+    /// The current rows of a table whose period, from the first column to the second, shares a point with this one.
+    pub fn sharing(
+        &self,
+        table: TableId,
+        columns: (usize, usize),
+        period: Period,
+    ) -> Result<Vec<Version<'_>, Memory>, AllocError>
+        requires { IsTrue (table_there self.now table) }
+        ensures { IfOk result
+            (λ found. IsFound self.now table Now
+            (λ row. share_a_point (period_between row columns.0 columns.1) (points_of period)) found.items) }
+    {
+        self.search(
+            table,
+            When::Now,
+            Sought::Sharing(columns.0, columns.1, period),
+        )
+    }
+
+    /// The current row of a table that an id names, as a version that is not closed; none where it names none. Takes no
+    /// memory, and looks at no other row.
+    pub fn row(&self, table: TableId, id: usize) -> Option<Version<'_>>
+        requires { IsTrue (table_there self.now table) }
+        ensures row { option_map version_of result ≡ current_named self.now table id }
+        ensures id { IfSome result (λ v. v.id ≡ id) }
+    {
+        self.rows[usize::from(table.number())].row(id)
     }
 }

@@ -14,7 +14,7 @@ use tql_store::store::{Delta, Store};
 use tql_store_rows::version::{HIGH, Version};
 use tql_value::refusal::Refusal;
 use tql_value::table::TableId;
-use tql_value::value::Value;
+use tql_value::value::{Value, View};
 use tql_value::when::When;
 
 /// The number in a row, its start and its end.
@@ -40,14 +40,21 @@ fn finds(
     }
 }
 
+/// A row of the number: a day of that number and the tenth after it stand behind it.
+fn row_of(memory: Memory, number: i64) -> Result<Vec<Value, Memory>, Refusal> {
+    let mut row = Vec::new(memory);
+    row.push(Value::Int(number))?;
+    row.push(Value::Day(number))?;
+    row.push(Value::Day(number.saturating_add(10)))?;
+    Ok(row)
+}
+
 /// A change that adds a row of the number.
 fn insertion(memory: Memory, table: TableId, number: i64) -> Result<Delta, Refusal>
     ensures none { IfOk result (λ d. d.removed.items ≡ []) }
 {
-    let mut row = Vec::new(memory);
-    row.push(Value::Int(number))?;
     let mut added = Vec::new(memory);
-    added.push(row)?;
+    added.push(row_of(memory, number)?)?;
     Ok(Delta {
         table,
         removed: Vec::new(memory),
@@ -148,6 +155,86 @@ fn has_history<I: IntervalIndex>(
         && finds(ample, store.found(table, When::Between(10, 9)), None)
 }
 
+/// Whether the current rows are found by their values: by those of an index, by others, and never by NULL.
+fn has_values<I: IntervalIndex>(
+    ample: bool,
+    store: &Store<I>,
+    table: TableId,
+    current: Option<Shown>,
+) -> bool {
+    store.has_table(table)
+        && finds(ample, store.with_key(table, &[0], &[View::Int(7)]), current)
+        && finds(ample, store.with_key(table, &[0], &[View::Int(8)]), None)
+        && finds(ample, store.with_key(table, &[0], &[View::Null]), None)
+        && finds(ample, store.with_key(table, &[0], &[View::Day(7)]), None)
+        && finds(ample, store.with_key(table, &[1, 0], &[View::Day(7), View::Int(7)]), current)
+        && finds(ample, store.with_key(table, &[1, 0], &[View::Day(8), View::Int(7)]), None)
+        && finds(ample, store.with_key(table, &[2], &[View::Day(17)]), current)
+}
+
+/// Whether they are found by the period that begins at day 7 and ends before day 17.
+fn has_period<I: IntervalIndex>(
+    ample: bool,
+    store: &Store<I>,
+    table: TableId,
+    current: Option<Shown>,
+) -> bool {
+    let Some(meeting) = Period::new(17, 18) else {
+        return false;
+    };
+    let Some(sharing) = Period::new(16, 18) else {
+        return false;
+    };
+    store.has_table(table)
+        && finds(ample, store.holding(table, (1, 2), 6), None)
+        && finds(ample, store.holding(table, (1, 2), 7), current)
+        && finds(ample, store.holding(table, (1, 2), 17), None)
+        && finds(ample, store.sharing(table, (1, 2), sharing), current)
+        && finds(ample, store.sharing(table, (1, 2), meeting), None)
+        && finds(ample, store.sharing(table, (2, 1), sharing), None)
+}
+
+/// Whether the versions of one number are found in the history.
+fn has_history_of<I: IntervalIndex>(
+    ample: bool,
+    store: &Store<I>,
+    table: TableId,
+    old: Option<Shown>,
+    current: Option<Shown>,
+) -> bool {
+    let seven = [View::Int(7)];
+    let eight = [View::Int(8)];
+    store.has_table(table)
+        && store.is_versioned(table)
+        && finds(ample, store.found_with(table, &[0], &seven, When::AsOf(9)), None)
+        && finds(ample, store.found_with(table, &[0], &seven, When::AsOf(10)), old)
+        && finds(ample, store.found_with(table, &[0], &eight, When::AsOf(10)), None)
+        && finds(ample, store.found_with(table, &[0], &seven, When::AsOf(30)), current)
+        && finds(ample, store.found_with(table, &[0], &seven, When::Between(0, 10)), old)
+        && finds(ample, store.found_with(table, &[2], &[View::Day(17)], When::FromTo(0, 11)), old)
+        && finds(ample, store.found_with(table, &[0], &seven, When::Now), current)
+}
+
+/// Whether the id of each current row names it, and no other id names one.
+fn names_rows<I: IntervalIndex>(
+    ample: bool,
+    store: &Store<I>,
+    table: TableId,
+    current: Option<Shown>,
+) -> bool {
+    if !store.has_table(table) {
+        return false;
+    }
+    match store.found(table, When::Now) {
+        Ok(found) => {
+            let first = found.first().map_or(0, |version| version.id);
+            store.row(table, first).map(|version| shown(&version)) == current
+                && store.row(table, first.saturating_add(1)).is_none()
+        }
+        Err(AllocError) => !ample,
+    }
+}
+
 /// Whether the store has what `run` leaves, where both of its changes or only the first was made, or none.
 fn is_left<I: IntervalIndex>(
     store: &Store<I>,
@@ -164,8 +251,13 @@ fn is_left<I: IntervalIndex>(
         return false;
     }
     finds(ample, store.found(table, When::Now), current)
+        && has_values(ample, store, table, current)
+        && has_period(ample, store, table, current)
+        && names_rows(ample, store, table, current)
         && versioned == store.is_versioned(table)
-        && (!versioned || has_history(ample, store, table, old, current))
+        && (!versioned
+            || has_history(ample, store, table, old, current)
+                && has_history_of(ample, store, table, old, current))
 }
 
 /// Removes the table, if it can be, and tells whether none is left.
@@ -177,6 +269,19 @@ fn drops<I: IntervalIndex>(store: &mut Store<I>, table: TableId) -> bool {
     store.table_count() == 0
 }
 
+/// The lists of columns by which rows are found: the first, and the second with the first.
+fn lists(memory: Memory) -> Result<Vec<Vec<usize, Memory>, Memory>, Refusal> {
+    let mut one = Vec::new(memory);
+    one.push(0)?;
+    let mut two = Vec::new(memory);
+    two.push(1)?;
+    two.push(0)?;
+    let mut lists = Vec::new(memory);
+    lists.push(one)?;
+    lists.push(two)?;
+    Ok(lists)
+}
+
 /// Whether the whole history of a new store, whose memory is ample or not, is as it should be.
 fn is_right<I: IntervalIndex>(
     rt: &impl Abort,
@@ -186,7 +291,7 @@ fn is_right<I: IntervalIndex>(
     versioned: bool,
 ) -> Result<bool, Fail> {
     assert!(rt; store.table_count() < 1000);
-    match store.add_table(versioned) {
+    match store.add_table(versioned, lists(all)?, Some((1, 2))) {
         Ok(table) => {
             let made = run(rt, all, &mut store, table)?;
             Ok(is_left(&store, table, ample, versioned, made) && drops(&mut store, table))
@@ -222,7 +327,7 @@ fn each_growth_is_refused_in_turn(rt: HostRuntime) -> Result<(), Fail> {
     for (tree, versioned) in [(true, true), (true, false), (false, true), (false, false)] {
         let mut left = 0;
         let mut are_right = is_right_of(&rt, tree, None, all, versioned)?;
-        for granted in 0..48 {
+        for granted in 0..96 {
             let little = memory(rt.alloc(), granted)?;
             are_right = are_right && is_right_of(&rt, tree, Some(little), all, versioned)?;
             left = little.left();
@@ -269,7 +374,7 @@ fn what_the_index_refuses_is_refused(rt: HostRuntime) -> Result<(), Fail> {
     let all = memory(rt.alloc(), u64::MAX)?;
     let mut store: Store<Mute> = Store::new(all);
     assert!(rt; store.table_count() < 1000);
-    let table = store.add_table(true)?;
+    let table = store.add_table(true, lists(all)?, Some((1, 2)))?;
     let (inserted, removed) = run(&rt, all, &mut store, table)?;
     assert!(rt; inserted && removed);
     assert!(rt; store.has_table(table) && store.is_versioned(table));
@@ -277,5 +382,9 @@ fn what_the_index_refuses_is_refused(rt: HostRuntime) -> Result<(), Fail> {
     assert!(rt; store.found(table, When::AsOf(10)).is_err());
     assert!(rt; store.found(table, When::FromTo(0, 11)).is_err());
     assert!(rt; store.found(table, When::Between(0, 10)).is_err());
+    assert!(rt; store.with_key(table, &[0], &[View::Int(7)]).is_err());
+    assert!(rt; store.found_with(table, &[0], &[View::Int(7)], When::AsOf(10)).is_err());
+    assert!(rt; store.holding(table, (1, 2), 7).is_err());
+    assert!(rt; finds(true, store.with_key(table, &[2], &[View::Day(17)]), None));
     Ok(())
 }

@@ -26,7 +26,8 @@ impl Engine {
         ensures err { OnErr result ((s : State) → StandsFor self.old s → StandsFor self.new s) }
         ensures memory { IfErr result (λ e. e ≡ OutOfMemory) }
     {
-        let id = self.store.add_table(definition.is_versioned())?;
+        let columns = Vec::new(self.memory);
+        let id = self.store.add_table(definition.is_versioned(), columns, None)?;
         match self.tables.create(definition, id) {
             Ok(()) => Ok(()),
             Err(refusal) => {

@@ -1,4 +1,4 @@
-use Rattle.std.proofs.Common.{◌≡◌, ℤ, w64, refl, sym, subst, ◌∙◌}
+use Rattle.std.proofs.Common.{ℤ, w64, refl, sym, subst}
 use Rattle.std.proofs.Math.Facts.{to_z-of_z}
 use Rattle.tql_store_rows.specs.TableModel.{TableModel, InTurn}
 use Rattle.tql_store.specs.Orderly.{table_at, touch_at, IsCommitted}

@@ -1,4 +1,4 @@
-use Rattle.std.proofs.Common.{◌≡◌, map, slice_index_or, Vec, rules, sym, ap, ◌∙◌}
+use Rattle.std.proofs.Common.{map, slice_index_or, Vec, sym, ap, ◌∙◌}
 use Rattle.std.proofs.Math.Facts.{to_z-of_z}
 use Rattle.tql_store_rows.specs.TableModel.{versions}
 use Rattle.tql_value.specs.declared.value.Value.{Value}

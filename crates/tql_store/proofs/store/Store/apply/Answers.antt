@@ -1,5 +1,4 @@
-use Rattle.std.proofs.Common.{◌≡◌, map, Vec, Option, None, Some, w64, rules, arith, sym, ap, subst, ◌∙◌}
-use Rattle.std.specs.Vec.{with_items}
+use Rattle.std.proofs.Common.{map, Vec, w64, rules, sym, ap, subst, ◌∙◌}
 use Rattle.std.proofs.Math.Facts.{to_z-of_z}
 use Rattle.std.proofs.lemmas.List.{with_items_is}
 use Rattle.tql_store.specs.StoreModel.{StoreModel}

@@ -1,17 +1,8 @@
-use Rattle.std.proofs.Common.{◌≡◌, false, [], ℕ, ℤ, List, Bool, Option, None, Some, w64, All, map, filter, length}
-use Rattle.std.proofs.Common.{max, rules, refl, arith, sym, ap, subst, ◌∙◌}
-use Rattle.std.specs.Prelude.{◌+◌, slice_index_or}
-use Rattle.std.proofs.Math.Facts.{to_z-of_z}
+use Rattle.std.proofs.Common.{◌≡◌, false, ℕ, List, map, length}
+use Rattle.std.proofs.Common.{rules, refl, arith, sym, ap, subst, ◌∙◌}
 use Rattle.std.specs.Vec.{with_items}
 use Rattle.std.proofs.lemmas.List.{with_items_is}
-use Rattle.tql_spec.specs.Bag.{SameBag}
-use Rattle.tql_spec.specs.Definition.{Version}
 use Rattle.tql_store_rows.specs.TableModel as rows
-use Rattle.tql_store.specs.StoreModel.{StoreModel}
-use Rattle.tql_store.specs.TableSlots.{slot_at, is_kept, is_taken}
-use Rattle.tql_store.specs.Orderly.{table_at, empty}
-use Rattle.tql_store.proofs.Numbers.{element-at, taken-within, kept_taken}
-use Rattle.std.specs.Prelude.{nat_eq, if◌then◌else◌}
 use Rattle.std.proofs.lemmas.Grind.{common_steps}
 use Rattle.tql_store.specs.Orderly.{IsPut, IsOrderly}
 use Rattle.tql_store.specs.Represents.{Takes}

@@ -1,4 +1,4 @@
-use Rattle.std.proofs.Common.{◌≡◌, ℕ, ℤ, List, length, map, Vec, Option, None, Some, w64, rules, arith, sym, ap}
+use Rattle.std.proofs.Common.{ℕ, List, length, map, None, w64, rules, sym, ap}
 use Rattle.std.proofs.Common.{subst, ◌∙◌}
 use Rattle.std.specs.Vec.{with_items}
 use Rattle.std.proofs.Math.Facts.{to_z-of_z}
