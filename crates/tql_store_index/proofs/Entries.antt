@@ -21,7 +21,8 @@ same-list {X} {xs} {ys} e = subst (λ zs. SameBag xs zs) e (same-refl xs)
 
 -- ---- what stands at a seat
 
-pub points_at : (xs : List (Option code.Period)) (s : ℕ) → get_or (map points_if xs) s None ≡ points_if (get_or xs s None)
+pub points_at : (xs : List (Option code.Period)) (s : ℕ) → get_or (map points_if xs) s None ≡ points_if
+    (get_or xs s None)
 points_at [] s = refl
 points_at (x ∷ xs) zero = refl
 points_at (x ∷ xs) (suc s) = points_at xs s
@@ -186,7 +187,8 @@ unlinked xs ys k x false now new h e t f is = absurd (f (somewhere entry now (po
         let t = s.totals (λ y. cond {A = ℕ} (same_entry y entry) 1 0) in
         let u = sum_by-cons (λ (y : Entry). cond {A = ℕ} (same_entry y entry) 1 0) entry
         (entries_from 0 (set xs k None)) in
-        let c : cond {A = ℕ} (same_entry entry entry) 1 0 ≡ 1 = ap (λ (b : Bool). cond {A = ℕ} b 1 0) (entry_self entry) in
+        let c : cond {A = ℕ} (same_entry entry entry) 1 0 ≡ 1 = ap (λ (b : Bool). cond {A = ℕ} b 1 0) (entry_self entry)
+        in
         omega arith
 
 -- a seat under nothing is left there

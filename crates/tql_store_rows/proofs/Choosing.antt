@@ -1,6 +1,8 @@
 -- Which versions those are that are found by their values or their periods.
-use Rattle.std.proofs.Common.{◌≡◌, ◌<◌, ◌≤◌, ℕ, zero, suc, ◌+◌, Bool, true, false, cond, List, [], ◌∷◌, ◌++◌, map, filter}
-use Rattle.std.proofs.Common.{get_or, drop, length, append-nil, append_assoc, refl, sym, ap, subst, ◌∙◌, arith, inl, inr}
+use Rattle.std.proofs.Common.{◌≡◌, ◌<◌, ◌≤◌, ℕ, zero, suc, ◌+◌, Bool, true, false, cond, List, [], ◌∷◌, ◌++◌, map}
+use Rattle.std.proofs.Common.{filter}
+use Rattle.std.proofs.Common.{get_or, drop, length, append-nil, append_assoc, refl, sym, ap, subst, ◌∙◌, arith, inl}
+use Rattle.std.proofs.Common.{inr}
 use Rattle.std.specs.Prelude.{nat_lt, slice_get, Option, Some, None, ◌&&◌, ◌<ℤ◌, Vec, Result, Ok, Err, IfOk, IfSome}
 use Rattle.std.specs.Ordering.{int_eq}
 use Rattle.std.proofs.lemmas.Bool.Decides.{nat_tests}
@@ -325,7 +327,8 @@ now_done when s h found places ks cs seats indexes w e f g sought standing =
     subst (λ (x : When). IsSearch x s h found) (sym w)
     (search_now s h found places
     (g ∙ ap (λ (x : When). chosen_at x s 0 (versions_of ks) places) w
-    ∙ ap (λ (vs : List definition.Version). chosen_at Now s 0 vs places) (ap (λ (js : List Kept). versions_of js) e ∙ f))
+    ∙ ap (λ (vs : List definition.Version). chosen_at Now s 0 vs places)
+    (ap (λ (js : List Kept). versions_of js) e ∙ f))
     (subst (λ (vs : List definition.Version). AreSought s vs places) f (sought (versions_of cs) standing)))
 
 pub all_done : {A : Type 0} (when : When) (s : Sought) (h : TableModel) (first found : List Version)

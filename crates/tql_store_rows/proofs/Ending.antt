@@ -13,7 +13,8 @@ use Rattle.tql_store_index.specs.ValueIndexes.{ValueIndex, index_at, Each, IsLin
 use Rattle.tql_store_index.specs.Basis.{Basis}
 use Rattle.tql_store_index.specs.Seating.{Seating}
 use Rattle.tql_store_rows.proofs.RowsStanding.{standing_open, standing_emptied, standing_all, closing_rows, fresh_rows}
-use Rattle.tql_store_rows.specs.RowsStanding.{AreStanding, AreOpenStanding, IsShut, IsShutAt, version_at, rows_of, open_of}
+use Rattle.tql_store_rows.specs.RowsStanding.{AreStanding, AreOpenStanding, IsShut, IsShutAt, version_at, rows_of}
+use Rattle.tql_store_rows.specs.RowsStanding.{open_of}
 use Rattle.tql_store_rows.specs.Changes.{is_current, closing, emptied, fresh}
 use Rattle.tql_store_rows.specs.TableModel.{TableModel, InTurn, named}
 use Rattle.tql_store_rows.specs.Views.{versions_of}
@@ -67,7 +68,8 @@ pub commit_standing : (m n : ℤ) (h : TableModel) (s t u : Seating) (indexes on
     → IsLinked (open_of basis (versions_of second)) u standing)
     → ((k : ℕ) → k < length (versions_of second) → is_current (version_at (versions_of second) k) ≡ true)
     → AreStanding u two (rows_of (versions_of second))
-commit_standing m n h s t u indexes one two current opened after first second keeps ended again dead turn at same start is is' others
+commit_standing m n h s t u indexes one two current opened after first second keeps ended again dead turn at same start
+    is is' others
     standing shut1 shut2 rest linked1 linked2 all =
     let marked : (k : ℕ) → IsShutAt (versions_of current) k → Contains ended k ⊎ Contains dead k =
     subst (λ (vs : List Version). (k : ℕ) → IsShutAt vs k → Contains ended k ⊎ Contains dead k) (sym start)
@@ -85,7 +87,8 @@ commit_standing m n h s t u indexes one two current opened after first second ke
     let two_open : AreOpenStanding s two (versions_of after) =
     standing_emptied s two keeps n again (versions_of current) (versions_of after)
     (ap (λ (x : ℤ). int_eq x high) at ∙ not_high m turn.below) shut
-    (rest ∙ ap (λ (ks : List Kept). if keeps then emptied n again (versions_of ks) else versions_of ks) same) one_open in
+    (rest ∙ ap (λ (ks : List Kept). if keeps then emptied n again (versions_of ks) else versions_of ks) same) one_open
+    in
     standing_all u two (versions_of second) all
     (swept t u two first second linked2 (swept s t two after first linked1 two_open))
 
@@ -113,4 +116,5 @@ change_standing n s indexes before old new removed rows e f h =
 -- the same rows
 pub same_standing : (s : Seating) (indexes : List ValueIndex) (old new : List Kept) → new ≡ old
     → AreStanding s indexes (rows_of (versions_of old)) → AreStanding s indexes (rows_of (versions_of new))
-same_standing s indexes old new e h = subst (λ (ks : List Kept). AreStanding s indexes (rows_of (versions_of ks))) (sym e) h
+same_standing s indexes old new e h = subst (λ (ks : List Kept). AreStanding s indexes (rows_of (versions_of ks)))
+    (sym e) h

@@ -1,12 +1,12 @@
 -- Rows stand by their values, when they come, when they go, and when they are moved.
-use Rattle.std.proofs.Common.{◌≡◌, ℕ, zero, suc, ◌+◌, ◌-◌, ◌<◌, ◌≤◌, Bool, true, false, List, [], ◌∷◌, ◌++◌, map}
-use Rattle.std.proofs.Common.{get_or, set, take, drop, length, length-append, refl, sym, ap, subst, ◌∙◌, arith, inl, inr}
+use Rattle.std.proofs.Common.{◌≡◌, ℕ, zero, suc, ◌+◌, ◌-◌, ◌<◌, ◌≤◌, Bool, true, false, List, [], ◌∷◌, ◌++◌, map, inr}
+use Rattle.std.proofs.Common.{get_or, set, take, drop, length, length-append, refl, sym, ap, subst, ◌∙◌, arith, inl}
 use Rattle.std.specs.Prelude.{◌⊎◌, ◌≢◌, Option, None, Contains, All, ℤ, if◌then◌else◌, Vec, max}
 use Rattle.std.proofs.lemmas.Bool.{cases_lt}
 use Rattle.std.proofs.lemmas.List.{map-append, length-map, get_or_append_left, get_or-append_right, get_or-map}
 use Rattle.std.specs.List.{swap_remove}
-use Rattle.std.proofs.lemmas.List.{get_or_default, get_or-take, take_more, length-take, length-set}
-use Rattle.std.proofs.lemmas.List.{get_or-set_same, get_or-set_other}
+use Rattle.std.proofs.lemmas.List.{get_or_default, get_or-take, take_more, length-take, length-set, get_or-set_same}
+use Rattle.std.proofs.lemmas.List.{get_or-set_other}
 use Rattle.std.proofs.lemmas.List.Elements.{Contains-append_cases}
 use Rattle.tql_spec.proofs.Members.{by_bool}
 use Rattle.tql_spec.specs.Datum.{Row}
@@ -21,9 +21,8 @@ use Rattle.tql_store_index.specs.ValueIndexes.{IsTurned, nowhere}
 use Rattle.tql_store_index.specs.Basis.{Basis, stands_by}
 use Rattle.tql_store_index.specs.Seating.{Seating, seat_at, AreGrown, AreSwapped}
 use Rattle.tql_store_index.specs.Standing.{stands}
-use Rattle.tql_store_rows.specs.RowsStanding.{AreStanding, AreOpenStanding, IsShut, IsShutAt, version_at, rows_of, all_of, open_in}
-use Rattle.tql_store_rows.specs.RowsStanding.{IsComing, cells_of}
-use Rattle.tql_store_rows.specs.RowsStanding.{open_of}
+use Rattle.tql_store_rows.specs.RowsStanding.{AreStanding, AreOpenStanding, IsShut, IsShutAt, version_at, rows_of}
+use Rattle.tql_store_rows.specs.RowsStanding.{all_of, open_in, open_of, IsComing, cells_of}
 use Rattle.tql_store_rows.specs.Changes.{is_current, close_at, closing, emptied, moved_out, fresh, nothing}
 use Rattle.tql_store_rows.specs.Views.{version_of, versions_of}
 use Rattle.tql_store_rows.specs.declared.kept.Kept.{Kept}
@@ -115,7 +114,8 @@ standing_wider s old new rows e h = standing_grown s s old new rows (grown_none 
 -- where the seats have too
 pub standing_longer : (s t : Seating) (old new : List ValueIndex) (rows : List Row) (to : ℕ) → AreGrown s t
     → length t.seats ≤ max (length s.seats) to → Each IsGrown old new
-    → ((i : ℕ) → i < length old → to ≤ length (index_at new i).standing) → AreStanding s old rows → AreStanding t new rows
+    → ((i : ℕ) → i < length old → to ≤ length (index_at new i).standing) → AreStanding s old rows
+    → AreStanding t new rows
 standing_longer s t old new rows to g most e wide h = standing_grown s t old new rows g e
     (λ i l. let a = (h.each i l).wide in let b = (e.1 i l).longer in let c = wide i l in omega (arith, a, b, c, most)) h
 
@@ -350,7 +350,8 @@ standing_back s old now new rows from to e a b gone h = record {
 }
 
 -- rows behind others have gone
-pub standing_less : (s : Seating) (old new : List ValueIndex) (rows more all : List Row) (from to : ℕ) → length rows ≡ from
+pub standing_less : (s : Seating) (old new : List ValueIndex) (rows more all : List Row) (from to : ℕ)
+    → length rows ≡ from
     → all ≡ rows ++ more → length all ≤ to → Each (IsTurned from to s) old new
     → ((i : ℕ) → i < length old → AreLoose from to s (index_at new i).standing) → AreStanding s old all
     → AreStanding s new rows
@@ -399,7 +400,8 @@ standing_front s old new ks from to l m turned gone h =
 -- ---- closed versions are left
 
 -- nothing is left where no closed version stands
-pub shut_none : (vs : List Version) (s : Seating) (p : ℕ) (k : ValueIndex) → (IsShutAt vs p → ⊥) → IsShut vs s (p ∷ []) k k
+pub shut_none : (vs : List Version) (s : Seating) (p : ℕ) (k : ValueIndex) → (IsShutAt vs p → ⊥)
+    → IsShut vs s (p ∷ []) k k
 shut_none vs s p k f = record {
   basis = refl;
   even = refl;
@@ -467,7 +469,8 @@ shut_both vs s is js a b c room h g = record {
   ];
 }
 
-pub shut_each : (vs : List Version) (s : Seating) (is js : List ℕ) (a b c : List ValueIndex) → length vs ≤ length s.seats
+pub shut_each : (vs : List Version) (s : Seating) (is js : List ℕ) (a b c : List ValueIndex)
+    → length vs ≤ length s.seats
     → Each (IsShut vs s is) a b → Each (IsShut vs s js) b c → Each (IsShut vs s (is ++ js)) a c
 shut_each vs s is js a b c room h g = (
   g.0 ∙ h.0,
@@ -476,7 +479,8 @@ shut_each vs s is js a b c room h g = (
 )
 
 -- each key by itself
-pub each_same : (R : ValueIndex → ValueIndex → Type 0) (indexes : List ValueIndex) → ((k : ValueIndex) → R k k) → Each R indexes indexes
+pub each_same : (R : ValueIndex → ValueIndex → Type 0) (indexes : List ValueIndex) → ((k : ValueIndex) → R k k)
+    → Each R indexes indexes
 each_same R indexes f = (refl, λ i l. f (index_at indexes i))
 
 pub each_other : (P Q : ValueIndex → ValueIndex → Type 0) (old new : List ValueIndex) → Each P old new
@@ -564,7 +568,8 @@ standing_open s indexes one two vs is js first second noted h = record {
         → IsShut vs s js (index_at one i) (index_at two i)
         → IsLinked (all_of (index_at indexes i).basis (rows_of vs)) s (index_at indexes i).standing → k < length s.seats
         → k < length vs → is_current (version_at vs k) ≡ true
-        → stands (index_at two i).standing (seat_at s k) ≡ stands_by (index_at indexes i).basis (version_at vs k).row.cells
+        → stands (index_at two i).standing (seat_at s k) ≡ stands_by (index_at indexes i).basis
+        (version_at vs k).row.cells
     still i k x y g o a t =
         same i k (index_at one i) (index_at two i) js y o (λ z. both (is_current (version_at vs k)) t z.1)
         ∙ same i k (index_at indexes i) (index_at one i) is x o (λ z. both (is_current (version_at vs k)) t z.1)
@@ -627,7 +632,8 @@ emptied-length m (i ∷ is) vs = emptied-length m is (set vs i (moved_out m)) �
     set_length (u ∷ us) zero = refl
     set_length (u ∷ us) (suc k) = ap suc (set_length us k)
 
-pub standing_emptied : (s : Seating) (indexes : List ValueIndex) (keeps : Bool) (m : ℤ) (is : List ℕ) (vs us : List Version)
+pub standing_emptied : (s : Seating) (indexes : List ValueIndex) (keeps : Bool) (m : ℤ) (is : List ℕ)
+    (vs us : List Version)
     → is_current (moved_out m) ≡ false
     → ((j : ℕ) → Contains is j → (j < length vs) × (is_current (version_at vs j) ≡ false))
     → us ≡ (if keeps then emptied m is vs else vs) → AreOpenStanding s indexes vs → AreOpenStanding s indexes us
@@ -673,7 +679,8 @@ dropped old new p r l e =
 
 pub linked_dropped : (basis : Basis) (standing : List (Option Period)) (s t : Seating) (old new : List Kept)
     (p last : ℕ) (r : Kept) → p < length old → last + 1 ≡ length old
-    → (p < length s.seats → last < length s.seats → AreSwapped p last s t) → length new + 1 ≡ length old → r ≡ get_or old p r
+    → (p < length s.seats → last < length s.seats → AreSwapped p last s t) → length new + 1 ≡ length old
+    → r ≡ get_or old p r
     → ((d : Kept) → p + 1 < length old → get_or new p d ≡ get_or old (length old - 1) d)
     → ((k : ℕ) (d : Kept) → k ≢ p → k + 1 < length old → get_or new k d ≡ get_or old k d)
     → is_current (version_of r) ≡ false
@@ -782,7 +789,8 @@ closing_rows m (i ∷ is) vs = closing_rows m is (close_at m i vs) ∙ close_row
 pub fresh_rows : {A : Type 0} (m : ℤ) (vs : List Version) (rows : List (Vec Value A))
     → rows_of (vs ++ map (λ row. fresh m (map datum_of_value row.items)) rows)
     ≡ rows_of vs ++ map (λ row. map datum_of_value row.items) rows
-fresh_rows m vs rows = map-append (λ (v : Version). v.row.cells) vs (map (λ row. fresh m (map datum_of_value row.items)) rows)
+fresh_rows m vs rows = map-append (λ (v : Version). v.row.cells) vs
+    (map (λ row. fresh m (map datum_of_value row.items)) rows)
     ∙ ap (λ xs. rows_of vs ++ xs) (cells rows)
   where
     cells : {A : Type 0} (rs : List (Vec Value A))

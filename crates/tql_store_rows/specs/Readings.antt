@@ -1,6 +1,7 @@
 -- What a reading answers: which versions it asks for, and their ids.
 use Rattle.std.specs.Prelude.{◌≡◌, ℕ, ◌+◌, Bool, false, ◌&&◌, List, [], ◌∷◌, map, filter, length, ℤ, pos, ◌+ℤ◌}
-use Rattle.std.specs.Prelude.{int_le, int_lt, nat_lt, nat_eq, count_by, slice_get, slice_index_or, Option, Some, None, All, ◌<ℤ◌}
+use Rattle.std.specs.Prelude.{int_le, int_lt, nat_lt, nat_eq, count_by, slice_get, slice_index_or, Option, Some, None}
+use Rattle.std.specs.Prelude.{All, ◌<ℤ◌}
 use Rattle.std.specs.Prelude.{if◌then◌else◌}
 use Rattle.std.specs.Int.{int_min}
 use Rattle.tql_spec.specs.Bag.{SameBag, In}

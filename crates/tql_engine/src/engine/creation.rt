@@ -27,7 +27,9 @@ impl Engine {
         ensures memory { IfErr result (λ e. e ≡ OutOfMemory) }
     {
         let columns = Vec::new(self.memory);
-        let id = self.store.add_table(definition.is_versioned(), columns, None)?;
+        let id = self
+            .store
+            .add_table(definition.is_versioned(), columns, None)?;
         match self.tables.create(definition, id) {
             Ok(()) => Ok(()),
             Err(refusal) => {

@@ -55,7 +55,8 @@ returns-clause-versions g c =
 
 pub invariant_of-self : goal.invariant_of-self
 invariant_of-self g c =
-    rollback_standing _ c.self.inside.seats c.leave_rows.new.indexes (take c.self.inside.base c.self.inside.current.items)
+    rollback_standing _ c.self.inside.seats c.leave_rows.new.indexes
+    (take c.self.inside.base c.self.inside.current.items)
     c.truncate.new.self.items c.deref_mut.result.now c.end_each.new.versions
     (with_items c.truncate.new.self c.end_each.new.versions).items c.deref-3.result.now c.leave_rows.ensures
     c.truncate.ensures.items
