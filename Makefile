@@ -6,9 +6,10 @@
 # make earned   looks whether errors of memory are made in tql_memory alone, in a second
 # make bench-index   proves and runs the program that times the two indexes; COUNTS="1000 10000" are its numbers of entries
 # make copies   looks whether the scripts of crates/test_cases/data/cases/copies are what tools/copies.py writes
+# make points   looks whether the scripts of crates/test_cases/data/cases/points are what tools/points.py writes
 # make cost     what each crate weighs in the gate, and which are over a bound
 # make documents   whether the documents name what is there, and which lines are too long, in seconds
-.PHONY: run build test edits lines earned bench-index copies cost documents
+.PHONY: run build test edits lines earned bench-index copies points cost documents
 .NOTPARALLEL:
 SCRIPT ?= crates/test_cases/data/cases/examples/march.sql
 
@@ -35,6 +36,9 @@ bench-index:
 
 copies:
 	@tools/copies.py --look
+
+points:
+	@tools/points.py --look
 
 cost:
 	@tools/cost.py

@@ -14,8 +14,9 @@ from pathlib import Path
 
 FOLDER = Path(__file__).resolve().parent.parent / "crates" / "test_cases" / "data" / "cases" / "points"
 HEAD = "-- Made by a counter (tools/points.py). What holds on a day comes from a machine of that day alone, which knows no period.\n"
-# How many scripts, and how many statements each has before its last questions; the days; the first moment, and the last number.
-SCRIPTS, LENGTH, DAYS, BEGIN, MOST = 100, 30, 40, 1_000_000, 2**63 - 1
+# How many scripts, of which the first are without portions, and how many statements each has before its last questions; the days; the first
+# moment, and the last number.
+SCRIPTS, PLAIN, LENGTH, DAYS, BEGIN, MOST = 100, 50, 30, 40, 1_000_000, 2**63 - 1
 
 E30, E31, E32 = "E30 value out of range", "E31 portion not rising", "E32 null not allowed"
 E40, E41 = "E40 not in this transaction state", "E41 moment not allowed"
@@ -349,9 +350,9 @@ class Counter:
 
 
 def script(which: int) -> tuple:
-    """A script and its text. Of every second one changes have portions."""
+    """A script and its text."""
     database = Database()
-    counter = Counter(which, database, which % 2 == 0)
+    counter = Counter(which, database, which > PLAIN)
     lines = [f"CREATE TABLE {table.name} {table.elements}" for table in (PAY, ROTA)] + [f"AT {clock(BEGIN)}"]
     text = "CREATE TABLE\n" * 2 + "AT\n"
     made = [counter.insert() for _ in range(2)]

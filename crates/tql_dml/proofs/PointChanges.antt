@@ -1,6 +1,5 @@
 -- What is given of a table is, at each point, what the change as the point is given it makes of the slice.
-use Rattle.std.proofs.Common.{◌≡◌, refl, sym, ap, subst, ◌∙◌, ℕ, ◌+◌, Bool, true, false, List, [], ◌∷◌, ◌++◌, map}
-use Rattle.std.proofs.Common.{filter}
+use Rattle.std.proofs.Common.{◌≡◌, refl, sym, ap, subst, ◌∙◌, ℕ, Bool, true, false, List, [], ◌∷◌, ◌++◌, map, filter}
 use Rattle.std.proofs.Common.{cond, inl, inr}
 use Rattle.std.specs.Prelude.{ℤ, not, ◌&&◌, IsTrue, Option, Some, None, Result, Ok, Err, IfOk}
 use Rattle.std.specs.List.{list_all, sum_by}
@@ -36,11 +35,9 @@ use Rattle.tql_store_rows.specs.Readings.{version_shown as version_of}
 use Rattle.tql_store_rows.specs.declared.version.Version.{Version}
 use Rattle.tql_value.specs.Views.{rows_of}
 use Rattle.tql_value.specs.declared.refusal.Refusal.{Refusal}
-use Rattle.tql_dml.specs.Alters.{Gives, Alters, is_yes, gone, coming, fates, modified, inserted, added_rows, tuples_in}
-use Rattle.tql_dml.specs.Alters.{rows_in}
+use Rattle.tql_dml.specs.Alters.{Gives, Alters, gone, coming, fates, modified, inserted, tuples_in, rows_in}
 use Rattle.tql_dml.specs.Alters.{portion_in, work_in, conds_in}
-use Rattle.tql_dml.specs.PointChanges.{rows_added, versions_left, DoesAtPoint, ModifiesAtPoints, InsertsAtPoints}
-use Rattle.tql_dml.specs.PointChanges.{exprs_in}
+use Rattle.tql_dml.specs.PointChanges.{rows_added, versions_left, ModifiesAtPoints, InsertsAtPoints, exprs_in}
 use Rattle.tql_dml.proofs.Modified.{touches, fates_there, made_after}
 
 -- ---- the versions that stay, by their ids
@@ -115,8 +112,8 @@ modify_at_points d id found x delta g scope apart defs p m others h =
     (λ v n. ap (λ is. not (has_number v.id is)) g.removed
     ∙ ap not (id_kept (λ (v : Version). touches d (portion_in x) (conds_in x) (version_of v).row) found
     (once_apart (map (λ (v : Version). v.id) found) apart) v n)))
-    ∙ sym (filter_map (λ r. not (touches d (portion_in x) (conds_in x) r)) (λ (v : Version). (version_of v).row) found)
-    in
+    ∙ sym (filter_map (λ r. not (touches d (portion_in x) (conds_in x) r)) (λ (v : Version). (version_of v).row)
+    found) in
     let reduced = modifications_reduce defs d p m rows others (portion_in x) (work_in x) (conds_in x) h scope in
     let none = none_first (modified d found x m).faults (g.sound m) in
     record {

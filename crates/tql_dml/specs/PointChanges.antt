@@ -30,10 +30,10 @@ abbrev pub versions_left : List Version → Delta → List Version
 versions_left found delta = filter (λ (v : Version). not (has_number v.id delta.removed.items)) found
 
 -- at the point the change that the point is given has no fault, and what it leaves is the slice of these rows
-pub record DoesAtPoint (defs : List TableDef) (d : TableDef) (p : ℤ) (rows : List Stamped) (given : Outcome) : Type 0
-  where
-    pub sound : given.faults ≡ []
-    pub slice : AreSlice d (point_table defs d) p rows given.rows
+pub record DoesAtPoint (defs : List TableDef) (d : TableDef) (p : ℤ) (rows : List Stamped)
+    (given : Outcome) : Type 0 where
+  pub sound : given.faults ≡ []
+  pub slice : AreSlice d (point_table defs d) p rows given.rows
 
 -- UPDATE and DELETE: where SET and WHERE name no period, each point's slice of the table after the change is what the
 -- change as the point is given it makes of the slice before it: without its portion where the point lies in it, and

@@ -141,7 +141,7 @@ apart_once : (is : List ℕ) → Apart is → once is ≡ true
 apart_once [] h = refl
 apart_once (i ∷ is) h = ap (λ b. not b && once is) (not_number i is h.0) ∙ apart_once is h.1
 
-once_apart : (is : List ℕ) → once is ≡ true → Apart is
+pub once_apart : (is : List ℕ) → once is ≡ true → Apart is
 once_apart [] e = tt
 once_apart (i ∷ is) e =
     let s = both_true (not (has_number i is)) (once is) e in
