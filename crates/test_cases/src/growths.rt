@@ -1,12 +1,15 @@
 //! Runs of a script in which each growth is refused in turn, in two ways: no memory is granted from there on, or only
 //! that one growth is refused. A statement that finds no memory has changed nothing: tried again with memory, it and
 //! all later ones are answered as they are listed.
+ghost use Rattle.std.specs.Prelude.{◌≡◌, [], OnOk};
+
 use crate::runs::{Answering, answer};
-use crate::steps::{reply_text, statements_of, step_all};
+use crate::steps::{reply_text, step_all};
 use std::alloc::{AllocError, Global};
 use std::io;
 use tql_engine::engine::Engine;
-use tql_lex::splitter::{Piece, Splitter};
+use tql_lex::piece::Piece;
+use tql_lex::splitter::{PIECE, Splitter};
 use tql_memory::{Memory, memory};
 use tql_run::runner::Fault;
 
@@ -16,18 +19,21 @@ const NO_MEMORY: &[u8] = b"REFUSED E01 out of memory\n";
 /// More growths than a script of the cases makes.
 const MOST_GROWTHS: u64 = 4000;
 
-/// What an engine answers to the statements of a script that end in `;`, where one that finds no memory is tried
-/// again with memory enough.
+/// What an engine answers to the statements that are whole in what was fed, behind what it answered before. One that
+/// finds no memory is tried again with memory enough.
 fn retried_in(
     alloc: Global,
     memory: Memory,
     engine: &mut Engine,
     splitter: &mut Splitter,
-) -> io::Result<Vec<u8>> {
-    let mut text = Vec::new(alloc);
-    for _ in 0..u64::MAX {
-        let Some(Piece::Text(statement)) = splitter.next_statement() else {
-            break;
+    text: &mut Vec<u8>,
+) -> io::Result<()>
+    ensures ended { splitter.new.ended ≡ splitter.old.ended }
+    ensures drained { OnOk result (splitter.new.ready ≡ []) }
+{
+    while let Some(piece) = splitter.next_statement() {
+        let Piece::Text(statement) = piece else {
+            continue;
         };
         let mut reply = reply_text(alloc, engine, statement)?;
         if reply.as_slice() == NO_MEMORY {
@@ -36,15 +42,20 @@ fn retried_in(
         }
         text.extend_from_slice(&reply)?;
     }
-    Ok(text)
+    Ok(())
 }
 
 /// What a new engine answers that is granted so many growths, then refused one, and then granted all.
 fn retried(alloc: Global, script: &[u8], granted: u64) -> io::Result<Vec<u8>> {
-    let mut splitter = statements_of(alloc, script)?;
+    let mut splitter = Splitter::new(memory(alloc, u64::MAX)?)?;
     let memory = memory(alloc, granted)?;
     let mut engine = Engine::new(memory);
-    retried_in(alloc, memory, &mut engine, &mut splitter)
+    let mut text = Vec::new(alloc);
+    for part in script.chunks(PIECE) {
+        splitter.feed(part);
+        retried_in(alloc, memory, &mut engine, &mut splitter, &mut text)?;
+    }
+    Ok(text)
 }
 
 /// The listed text of a script.

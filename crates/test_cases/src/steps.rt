@@ -1,22 +1,15 @@
 //! What an engine answers to the statements of a script one by one, and how many growths the last one makes.
+ghost use Rattle.std.specs.Prelude.{◌≡◌, [], OnOk};
+
 use crate::compare::text_difference;
 use std::alloc::{AllocError, Global};
 use std::io;
 use tql_engine::engine::Engine;
-use tql_lex::splitter::{Piece, Splitter};
-use tql_memory::memory;
+use tql_lex::piece::Piece;
+use tql_lex::splitter::{PIECE, Splitter};
+use tql_memory::{Memory, memory};
 use tql_result::print::write_reply;
 use tql_result::std_sink::StdSink;
-
-/// The statements of a script.
-pub fn statements_of(alloc: Global, script: &[u8]) -> io::Result<Splitter> {
-    let mut splitter = Splitter::new(memory(alloc, u64::MAX)?);
-    if splitter.feed(script).is_err() {
-        return Err(io::Error::from(AllocError));
-    }
-    splitter.finish();
-    Ok(splitter)
-}
 
 /// The text of the reply to a statement.
 pub fn reply_text(alloc: Global, engine: &mut Engine, statement: &[u8]) -> io::Result<Vec<u8>> {
@@ -39,9 +32,33 @@ pub struct Replies {
     pub last_growths: u64,
 }
 
+/// Answers the statements that are whole in what was fed, behind what was answered before.
+fn step_fed(
+    alloc: Global,
+    memory: Memory,
+    engine: &mut Engine,
+    splitter: &mut Splitter,
+    replies: &mut Replies,
+) -> io::Result<()>
+    ensures ended { splitter.new.ended ≡ splitter.old.ended }
+    ensures drained { OnOk result (splitter.new.ready ≡ []) }
+{
+    while let Some(piece) = splitter.next_statement() {
+        let Piece::Text(statement) = piece else {
+            continue;
+        };
+        let before = memory.left();
+        let reply = reply_text(alloc, engine, statement)?;
+        replies.last_growths = before.saturating_sub(memory.left());
+        replies.text.extend_from_slice(&reply)?;
+        replies.ends.push(replies.text.len())?;
+    }
+    Ok(())
+}
+
 /// What a new engine with memory enough answers to the statements of a script that end in `;`.
 pub fn step_all(alloc: Global, script: &[u8]) -> io::Result<Replies> {
-    let mut splitter = statements_of(alloc, script)?;
+    let mut splitter = Splitter::new(memory(alloc, u64::MAX)?)?;
     let memory = memory(alloc, u64::MAX)?;
     let mut engine = Engine::new(memory);
     let mut replies = Replies {
@@ -49,15 +66,9 @@ pub fn step_all(alloc: Global, script: &[u8]) -> io::Result<Replies> {
         ends: vec![in alloc; 0]?,
         last_growths: 0,
     };
-    for _ in 0..u64::MAX {
-        let Some(Piece::Text(statement)) = splitter.next_statement() else {
-            break;
-        };
-        let before = memory.left();
-        let reply = reply_text(alloc, &mut engine, statement)?;
-        replies.last_growths = before.saturating_sub(memory.left());
-        replies.text.extend_from_slice(&reply)?;
-        replies.ends.push(replies.text.len())?;
+    for part in script.chunks(PIECE) {
+        splitter.feed(part);
+        step_fed(alloc, memory, &mut engine, &mut splitter, &mut replies)?;
     }
     Ok(replies)
 }

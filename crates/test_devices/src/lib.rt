@@ -10,11 +10,10 @@ use std::io::{self, Error, ErrorKind, Read, Write};
 pub struct Setting {
     /// How many bytes a read gives at once, at the most.
     pub size: usize,
-    /// How many reads do well, and how many writes.
+    /// How many reads do well, how many writes, and how many flushes.
     pub reads: u64,
     pub writes: u64,
-    /// Whether flushes do.
-    pub flushes: bool,
+    pub flushes: u64,
     /// How many blocks of memory are granted.
     pub granted: u64,
 }
@@ -24,7 +23,7 @@ pub const SOUND: Setting = Setting {
     size: usize::MAX,
     reads: u64::MAX,
     writes: u64::MAX,
-    flushes: true,
+    flushes: u64::MAX,
     granted: u64::MAX,
 };
 
@@ -46,7 +45,7 @@ impl Setting {
             bytes: Vec::new(alloc),
             size: usize::MAX,
             writes_left: self.writes,
-            flushes: self.flushes,
+            flushes_left: self.flushes,
         }
     }
 }
@@ -81,13 +80,13 @@ impl Read for Chunks<'_> {
     }
 }
 
-/// A writer that takes so many bytes at once, and fails where it has no writes left, or at a flush.
+/// A writer that takes so many bytes at once, and fails where it has no writes left, or no flushes.
 #[derive(Drop)]
 pub struct Kept {
     pub bytes: Vec<u8>,
     pub size: usize,
     pub writes_left: u64,
-    pub flushes: bool,
+    pub flushes_left: u64,
 }
 
 impl Write for Kept {
@@ -102,10 +101,10 @@ impl Write for Kept {
     }
 
     fn flush(&mut self) -> io::Result<()> {
-        if self.flushes {
-            Ok(())
-        } else {
-            Err(Error::from(ErrorKind::BrokenPipe))
-        }
+        let Some(flushes_left) = self.flushes_left.checked_sub(1) else {
+            return Err(Error::from(ErrorKind::BrokenPipe));
+        };
+        self.flushes_left = flushes_left;
+        Ok(())
     }
 }

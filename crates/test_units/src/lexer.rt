@@ -1,11 +1,12 @@
 //! The tokens of a text, and the pieces of a script.
-ghost use Rattle.std.specs.Prelude.{◌≡◌, ◌<◌};
+ghost use Rattle.std.specs.Prelude.{◌≡◌, ◌<◌, ◌≤◌, [], OnOk};
 
 use crate::line::Line;
 use crate::parts::{count, sides, two, write_yes};
 use crate::stop::Stop;
 use std::alloc::AllocError;
-use tql_lex::splitter::{Piece, Splitter};
+use tql_lex::piece::Piece;
+use tql_lex::splitter::{PIECE, Splitter};
 use tql_lex::token::{Symbol, Token, TokenKind};
 use tql_lex::tokenizer::tokens;
 use tql_memory::Memory;
@@ -110,7 +111,8 @@ fn write_piece(out: &mut String, piece: Piece<'_>) -> Result<(), AllocError> {
 
 /// Writes all pieces that there are now.
 fn drain(out: &mut String, splitter: &mut Splitter) -> Result<(), AllocError>
-    ensures { splitter.new.ended ≡ splitter.old.ended }
+    ensures ended { splitter.new.ended ≡ splitter.old.ended }
+    ensures drained { OnOk result (splitter.new.ready ≡ []) }
 {
     while let Some(piece) = splitter.next_statement() {
         write_piece(out, piece)?;
@@ -132,11 +134,12 @@ fn bytes_of(memory: Memory, text: &str) -> Result<Vec<u8, Memory>, AllocError> {
 
 /// The pieces of a script that is fed in parts of this size.
 fn write_pieces(out: &mut String, memory: Memory, size: usize, script: &[u8]) -> Result<(), Stop>
-    requires { 0 < size }
+    requires some { 0 < size }
+    requires small { size ≤ 65_536 }
 {
-    let mut splitter = Splitter::new(memory);
+    let mut splitter = Splitter::new(memory)?;
     for part in script.chunks(size) {
-        splitter.feed(part)?;
+        splitter.feed(part);
         drain(out, &mut splitter)?;
     }
     splitter.finish();
@@ -148,7 +151,7 @@ fn write_pieces(out: &mut String, memory: Memory, size: usize, script: &[u8]) ->
 fn cut(out: &mut String, memory: Memory, input: &str) -> Result<(), Stop> {
     let (size, script) = two(input)?;
     let size = count(size)?;
-    if size == 0 {
+    if size == 0 || size > PIECE {
         return Err(Stop::Form);
     }
     let bytes = bytes_of(memory, script)?;

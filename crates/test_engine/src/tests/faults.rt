@@ -40,7 +40,15 @@ fn thirties(reads: u64) -> Setting {
 #[test]
 fn tells_how_a_run_ended(rt: HostRuntime) -> Result<(), Fail> {
     let no_flush = Setting {
-        flushes: false,
+        flushes: 0,
+        ..SOUND
+    };
+    let one_flush = Setting {
+        flushes: 1,
+        ..thirties(u64::MAX)
+    };
+    let two_flushes = Setting {
+        flushes: 2,
         ..SOUND
     };
     for (script, setting, end, text) in [
@@ -57,7 +65,9 @@ fn tells_how_a_run_ended(rt: HostRuntime) -> Result<(), Fail> {
             "CREATE TABLE\nAT\nINSERT 1\n",
         ),
         (SCRIPT, thirties(u64::MAX), Ok(COUNTED), WHOLE),
-        (SCRIPT, no_flush, Err(Fault::Write), WHOLE),
+        (SCRIPT, no_flush, Err(Fault::Write), ""),
+        (SCRIPT, one_flush, Err(Fault::Write), ""),
+        (SCRIPT, two_flushes, Err(Fault::Write), WHOLE),
         ("", no_flush, Err(Fault::Write), ""),
     ] {
         let found = run_script(&rt, script.as_bytes(), setting)?;

@@ -30,5 +30,5 @@ impl Responder for Lengths {
         })
     }
 
-    ghost refuses = { λ _ _ _ _. tt };
+    ghost refuses = { record { at_once = λ _ _ _ _. tt; for_memory = λ _ _. tt } };
 }

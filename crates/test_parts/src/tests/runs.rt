@@ -47,6 +47,11 @@ const THREE: &str = "INSERT 3\nREFUSED E10 not a statement\nINSERT 5\n";
 const WHOLE: &str =
     "INSERT 3\nREFUSED E10 not a statement\nINSERT 5\nREFUSED E12 unfinished statement\n";
 
+/// Each text refused for want of memory.
+const LOST: &str =
+    "REFUSED E01 out of memory\nREFUSED E01 out of memory\nREFUSED E01 out of memory\n\
+    REFUSED E01 out of memory\n";
+
 /// Reads of one byte, and of three.
 const BY_ONE: Setting = Setting { size: 1, ..SOUND };
 
@@ -55,8 +60,9 @@ const BY_THREE: Setting = Setting { size: 3, ..SOUND };
 /// Reads of four bytes.
 const BY_FOUR: Setting = Setting { size: 4, ..SOUND };
 
+/// Flushes that fail from the first on: the one before anything is read.
 const UNFLUSHED: Setting = Setting {
-    flushes: false,
+    flushes: 0,
     ..SOUND
 };
 
@@ -64,7 +70,7 @@ const CUT: &str = "INSERT 1\nREFUSED E12 unfinished statement\n";
 
 const NOT_UTF8: &str = "INSERT 1\nREFUSED E11 not UTF-8\n";
 
-const CASES: [(&[u8], Setting, End, &str); 28] = [
+const CASES: [(&[u8], Setting, End, &str); 33] = [
     // a read fails: what was whole before it is answered
     (
         SCRIPT,
@@ -122,10 +128,37 @@ const CASES: [(&[u8], Setting, End, &str); 28] = [
     ),
     (SCRIPT, BY_FOUR, Ok((4, 2)), WHOLE),
     (SCRIPT, SOUND, Ok((4, 2)), WHOLE),
-    // the flush fails
-    (SCRIPT, UNFLUSHED, Err(Fault::Write), WHOLE),
+    // a flush fails: before the first read, behind what was whole in it, and at the end
+    (SCRIPT, UNFLUSHED, Err(Fault::Write), ""),
     (b"", UNFLUSHED, Err(Fault::Write), ""),
-    // no memory for the buffer, or for what was read
+    (
+        SCRIPT,
+        Setting {
+            flushes: 1,
+            ..SOUND
+        },
+        Err(Fault::Write),
+        THREE,
+    ),
+    (
+        SCRIPT,
+        Setting {
+            flushes: 1,
+            ..BY_FOUR
+        },
+        Err(Fault::Write),
+        FIRST,
+    ),
+    (
+        SCRIPT,
+        Setting {
+            flushes: 2,
+            ..SOUND
+        },
+        Err(Fault::Write),
+        WHOLE,
+    ),
+    // no memory for one of the two buffers, or for the text of a statement
     (
         SCRIPT,
         Setting {
@@ -148,6 +181,24 @@ const CASES: [(&[u8], Setting, End, &str); 28] = [
         SCRIPT,
         Setting {
             granted: 2,
+            ..SOUND
+        },
+        Ok((4, 4)),
+        LOST,
+    ),
+    (
+        SCRIPT,
+        Setting {
+            granted: 2,
+            ..BY_ONE
+        },
+        Ok((4, 4)),
+        LOST,
+    ),
+    (
+        SCRIPT,
+        Setting {
+            granted: 3,
             ..SOUND
         },
         Ok((4, 2)),

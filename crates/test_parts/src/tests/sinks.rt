@@ -22,7 +22,7 @@ fn is_cut(alloc: Global, reply: &Reply, text: &[u8], taken: usize) -> bool {
         bytes: Vec::new(alloc),
         size: 1,
         writes_left: taken as u64,
-        flushes: true,
+        flushes_left: u64::MAX,
     });
     let is_whole = taken == text.len();
     let pushed = write_reply(&mut sink, reply).is_ok();
@@ -83,7 +83,7 @@ fn flushes_that_fail_are_counted(rt: HostRuntime) {
         bytes: Vec::new(rt.alloc()),
         size: 1,
         writes_left: 0,
-        flushes: false,
+        flushes_left: 0,
     });
     let found = (sink.flush(), sink.faults());
     assert_eq!(rt; found, (Err(DeviceFault), 1));

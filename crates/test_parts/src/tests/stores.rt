@@ -167,9 +167,21 @@ fn has_values<I: IntervalIndex>(
         && finds(ample, store.with_key(table, &[0], &[View::Int(8)]), None)
         && finds(ample, store.with_key(table, &[0], &[View::Null]), None)
         && finds(ample, store.with_key(table, &[0], &[View::Day(7)]), None)
-        && finds(ample, store.with_key(table, &[1, 0], &[View::Day(7), View::Int(7)]), current)
-        && finds(ample, store.with_key(table, &[1, 0], &[View::Day(8), View::Int(7)]), None)
-        && finds(ample, store.with_key(table, &[2], &[View::Day(17)]), current)
+        && finds(
+            ample,
+            store.with_key(table, &[1, 0], &[View::Day(7), View::Int(7)]),
+            current,
+        )
+        && finds(
+            ample,
+            store.with_key(table, &[1, 0], &[View::Day(8), View::Int(7)]),
+            None,
+        )
+        && finds(
+            ample,
+            store.with_key(table, &[2], &[View::Day(17)]),
+            current,
+        )
 }
 
 /// Whether they are found by the period that begins at day 7 and ends before day 17.
@@ -206,13 +218,41 @@ fn has_history_of<I: IntervalIndex>(
     let eight = [View::Int(8)];
     store.has_table(table)
         && store.is_versioned(table)
-        && finds(ample, store.found_with(table, &[0], &seven, When::AsOf(9)), None)
-        && finds(ample, store.found_with(table, &[0], &seven, When::AsOf(10)), old)
-        && finds(ample, store.found_with(table, &[0], &eight, When::AsOf(10)), None)
-        && finds(ample, store.found_with(table, &[0], &seven, When::AsOf(30)), current)
-        && finds(ample, store.found_with(table, &[0], &seven, When::Between(0, 10)), old)
-        && finds(ample, store.found_with(table, &[2], &[View::Day(17)], When::FromTo(0, 11)), old)
-        && finds(ample, store.found_with(table, &[0], &seven, When::Now), current)
+        && finds(
+            ample,
+            store.found_with(table, &[0], &seven, When::AsOf(9)),
+            None,
+        )
+        && finds(
+            ample,
+            store.found_with(table, &[0], &seven, When::AsOf(10)),
+            old,
+        )
+        && finds(
+            ample,
+            store.found_with(table, &[0], &eight, When::AsOf(10)),
+            None,
+        )
+        && finds(
+            ample,
+            store.found_with(table, &[0], &seven, When::AsOf(30)),
+            current,
+        )
+        && finds(
+            ample,
+            store.found_with(table, &[0], &seven, When::Between(0, 10)),
+            old,
+        )
+        && finds(
+            ample,
+            store.found_with(table, &[2], &[View::Day(17)], When::FromTo(0, 11)),
+            old,
+        )
+        && finds(
+            ample,
+            store.found_with(table, &[0], &seven, When::Now),
+            current,
+        )
 }
 
 /// Whether the id of each current row names it, and no other id names one.
@@ -383,7 +423,11 @@ fn what_the_index_refuses_is_refused(rt: HostRuntime) -> Result<(), Fail> {
     assert!(rt; store.found(table, When::FromTo(0, 11)).is_err());
     assert!(rt; store.found(table, When::Between(0, 10)).is_err());
     assert!(rt; store.with_key(table, &[0], &[View::Int(7)]).is_err());
-    assert!(rt; store.found_with(table, &[0], &[View::Int(7)], When::AsOf(10)).is_err());
+    assert!(rt;
+        store
+            .found_with(table, &[0], &[View::Int(7)], When::AsOf(10))
+            .is_err()
+    );
     assert!(rt; store.holding(table, (1, 2), 7).is_err());
     assert!(rt; finds(true, store.with_key(table, &[2], &[View::Day(17)]), None));
     Ok(())

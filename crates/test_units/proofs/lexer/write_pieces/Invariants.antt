@@ -1,5 +1,5 @@
-use Rattle.std.proofs.Common.{◌≡◌, false}
+use Rattle.std.proofs.Common.{◌≡◌, [], false}
 use Rattle.test_units.proofs.lexer.write_pieces.Given as goal
 
 abbrev pub invariant-loop-part : goal.invariant-loop-part
-invariant-loop-part l = l.splitter.ended ≡ false
+invariant-loop-part l = record { unended : l.splitter.ended ≡ false; drained : l.splitter.ready ≡ [] }
