@@ -1,6 +1,6 @@
 //! Seats: a number for each row that stays when the row is moved, and the place at which the row stands.
-ghost use Rattle.std.specs.Prelude.{◌≡◌, ◌<◌, ◌≤◌, ◌+◌, ◌==◌, ◌++◌, [], ◌∷◌, OnOk, is_ok};
-ghost use Rattle.std.specs.Prelude.{length, map, max, if◌then◌else◌};
+ghost use Rattle.std.specs.Prelude.{◌≡◌, ◌<◌, ◌≤◌, ◌+◌, ◌==◌, ◌++◌, [], ◌∷◌, OnOk, is_ok, length, map, max};
+ghost use Rattle.std.specs.Prelude.{if◌then◌else◌};
 ghost use Rattle.tql_store_index.specs.Seating.{seat_at, place_of, AreGrown, AreSwapped, AreSeated};
 
 use std::alloc::AllocError;

@@ -1,6 +1,6 @@
 //! Where rows stand by each of several bases: their values in lists of columns, their application period.
-ghost use Rattle.std.specs.Prelude.{◌≡◌, ◌<◌, ◌≤◌, ◌+◌, ◌==◌, [], All, OnOk, OnErr, IfOk};
-ghost use Rattle.std.specs.Prelude.{IfSome, length, map, slice_set};
+ghost use Rattle.std.specs.Prelude.{◌≡◌, ◌<◌, ◌≤◌, ◌+◌, ◌==◌, [], All, OnOk, OnErr, IfOk, IfSome, length, map};
+ghost use Rattle.std.specs.Prelude.{slice_set};
 ghost use Rattle.std.specs.Prelude.{None};
 ghost use Rattle.tql_spec.specs.Bag.{SameBag};
 ghost use Rattle.tql_store_index.specs.Basis.{basis_for, meets, sought_of, stands_by};

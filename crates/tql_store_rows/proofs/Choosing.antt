@@ -327,8 +327,8 @@ now_done when s h found places ks cs seats indexes w e f g sought standing =
     subst (λ (x : When). IsSearch x s h found) (sym w)
     (search_now s h found places
     (g ∙ ap (λ (x : When). chosen_at x s 0 (versions_of ks) places) w
-    ∙ ap (λ (vs : List definition.Version). chosen_at Now s 0 vs places)
-    (ap (λ (js : List Kept). versions_of js) e ∙ f))
+    ∙ ap (λ (vs : List definition.Version). chosen_at Now s 0 vs places) (ap (λ (js : List Kept). versions_of js) e
+    ∙ f))
     (subst (λ (vs : List definition.Version). AreSought s vs places) f (sought (versions_of cs) standing)))
 
 pub all_done : {A : Type 0} (when : When) (s : Sought) (h : TableModel) (first found : List Version)

@@ -1,24 +1,52 @@
 -- Versions stand by their values at the end of a transaction.
-use Rattle.std.proofs.Common.{◌≡◌, ℕ, ◌<◌, Bool, true, false, List, length, sym, ap, subst, ◌∙◌, arith, inl, inr}
+use Rattle.std.proofs.Common.{◌≡◌, ℕ, zero, suc, ◌<◌, Bool, true, false, List, [], ◌∷◌, length, refl, sym, ap, subst}
+use Rattle.std.proofs.Common.{◌∙◌, arith, inl, inr}
 use Rattle.std.specs.Prelude.{◌⊎◌, ◌++◌, ℤ, ◌<ℤ◌, Option, Contains, Vec, map, if◌then◌else◌}
 use Rattle.tql_value.specs.Views.{datum_of_value}
 use Rattle.tql_value.specs.declared.value.Value.{Value}
 use Rattle.std.specs.Ordering.{int_eq}
 use Rattle.std.proofs.lemmas.Bool.{cases_lt}
 use Rattle.std.proofs.lemmas.Int.{ints}
+use Rattle.std.proofs.lemmas.List.{map-append}
 use Rattle.tql_spec.specs.Calendar.{high}
 use Rattle.tql_spec.specs.Definition.{Version}
 use Rattle.tql_spec.specs.Period.{Period}
 use Rattle.tql_store_index.specs.ValueIndexes.{ValueIndex, index_at, Each, IsLinked}
 use Rattle.tql_store_index.specs.Basis.{Basis}
 use Rattle.tql_store_index.specs.Seating.{Seating}
-use Rattle.tql_store_rows.proofs.RowsStanding.{standing_open, standing_emptied, standing_all, closing_rows, fresh_rows}
+use Rattle.tql_store_rows.proofs.RowsStanding.{standing_open, standing_emptied, standing_all}
 use Rattle.tql_store_rows.specs.RowsStanding.{AreStanding, AreOpenStanding, IsShut, IsShutAt, version_at, rows_of}
 use Rattle.tql_store_rows.specs.RowsStanding.{open_of}
-use Rattle.tql_store_rows.specs.Changes.{is_current, closing, emptied, fresh}
+use Rattle.tql_store_rows.specs.Changes.{is_current, close_at, closing, emptied, fresh}
 use Rattle.tql_store_rows.specs.TableModel.{TableModel, InTurn, named}
 use Rattle.tql_store_rows.specs.Views.{versions_of}
 use Rattle.tql_store_rows.specs.declared.kept.Kept.{Kept}
+
+-- ---- ends of versions are no values of rows
+
+close_rows : (m : ℤ) (i : ℕ) (vs : List Version) → rows_of (close_at m i vs) ≡ rows_of vs
+close_rows m i [] = refl
+close_rows m zero (v ∷ vs) = refl
+close_rows m (suc i) (v ∷ vs) = ap (λ xs. v.row.cells ∷ xs) (close_rows m i vs)
+
+pub closing_rows : (m : ℤ) (is : List ℕ) (vs : List Version) → rows_of (closing m is vs) ≡ rows_of vs
+closing_rows m [] vs = refl
+closing_rows m (i ∷ is) vs = closing_rows m is (close_at m i vs) ∙ close_rows m i vs
+
+pub fresh_rows : {A : Type 0} (m : ℤ) (vs : List Version) (rows : List (Vec Value A))
+    → rows_of (vs ++ map (λ row. fresh m (map datum_of_value row.items)) rows)
+    ≡ rows_of vs ++ map (λ row. map datum_of_value row.items) rows
+fresh_rows m vs rows = map-append (λ (v : Version). v.row.cells) vs
+    (map (λ row. fresh m (map datum_of_value row.items)) rows)
+    ∙ ap (λ xs. rows_of vs ++ xs) (cells rows)
+  where
+    cells : {A : Type 0} (rs : List (Vec Value A))
+        → rows_of (map (λ row. fresh m (map datum_of_value row.items)) rs)
+        ≡ map (λ row. map datum_of_value row.items) rs
+    cells [] = refl
+    cells (r ∷ rs) = ap (λ xs. map datum_of_value r.items ∷ xs) (cells rs)
+
+-- ---- the end of a transaction
 
 not_high : (m : ℤ) → m <ℤ high → int_eq m high ≡ false
 not_high m l = grind (arith, ints)
@@ -68,8 +96,8 @@ pub commit_standing : (m n : ℤ) (h : TableModel) (s t u : Seating) (indexes on
     → IsLinked (open_of basis (versions_of second)) u standing)
     → ((k : ℕ) → k < length (versions_of second) → is_current (version_at (versions_of second) k) ≡ true)
     → AreStanding u two (rows_of (versions_of second))
-commit_standing m n h s t u indexes one two current opened after first second keeps ended again dead turn at same start
-    is is' others
+commit_standing m n h s t u indexes one two current opened after first second keeps ended again dead turn at same
+    start is is' others
     standing shut1 shut2 rest linked1 linked2 all =
     let marked : (k : ℕ) → IsShutAt (versions_of current) k → Contains ended k ⊎ Contains dead k =
     subst (λ (vs : List Version). (k : ℕ) → IsShutAt vs k → Contains ended k ⊎ Contains dead k) (sym start)

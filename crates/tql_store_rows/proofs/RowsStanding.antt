@@ -1,12 +1,13 @@
 -- Rows stand by their values, when they come, when they go, and when they are moved.
-use Rattle.std.proofs.Common.{◌≡◌, ℕ, zero, suc, ◌+◌, ◌-◌, ◌<◌, ◌≤◌, Bool, true, false, List, [], ◌∷◌, ◌++◌, map, inr}
+use Rattle.std.proofs.Common.{◌≡◌, ℕ, zero, suc, ◌+◌, ◌-◌, ◌<◌, ◌≤◌, Bool, true, false, List, [], ◌∷◌, ◌++◌, map}
 use Rattle.std.proofs.Common.{get_or, set, take, drop, length, length-append, refl, sym, ap, subst, ◌∙◌, arith, inl}
+use Rattle.std.proofs.Common.{inr}
 use Rattle.std.specs.Prelude.{◌⊎◌, ◌≢◌, Option, None, Contains, All, ℤ, if◌then◌else◌, Vec, max}
 use Rattle.std.proofs.lemmas.Bool.{cases_lt}
 use Rattle.std.proofs.lemmas.List.{map-append, length-map, get_or_append_left, get_or-append_right, get_or-map}
 use Rattle.std.specs.List.{swap_remove}
-use Rattle.std.proofs.lemmas.List.{get_or_default, get_or-take, take_more, length-take, length-set, get_or-set_same}
-use Rattle.std.proofs.lemmas.List.{get_or-set_other}
+use Rattle.std.proofs.lemmas.List.{get_or_default, get_or-take, take_more, length-take, length-set}
+use Rattle.std.proofs.lemmas.List.{get_or-set_same, get_or-set_other}
 use Rattle.std.proofs.lemmas.List.Elements.{Contains-append_cases}
 use Rattle.tql_spec.proofs.Members.{by_bool}
 use Rattle.tql_spec.specs.Datum.{Row}
@@ -22,8 +23,10 @@ use Rattle.tql_store_index.specs.Basis.{Basis, stands_by}
 use Rattle.tql_store_index.specs.Seating.{Seating, seat_at, AreGrown, AreSwapped}
 use Rattle.tql_store_index.specs.Standing.{stands}
 use Rattle.tql_store_rows.specs.RowsStanding.{AreStanding, AreOpenStanding, IsShut, IsShutAt, version_at, rows_of}
-use Rattle.tql_store_rows.specs.RowsStanding.{all_of, open_in, open_of, IsComing, cells_of}
-use Rattle.tql_store_rows.specs.Changes.{is_current, close_at, closing, emptied, moved_out, fresh, nothing}
+use Rattle.tql_store_rows.specs.RowsStanding.{all_of, open_in}
+use Rattle.tql_store_rows.specs.RowsStanding.{IsComing, cells_of}
+use Rattle.tql_store_rows.specs.RowsStanding.{open_of}
+use Rattle.tql_store_rows.specs.Changes.{is_current, emptied, moved_out, nothing}
 use Rattle.tql_store_rows.specs.Views.{version_of, versions_of}
 use Rattle.tql_store_rows.specs.declared.kept.Kept.{Kept}
 
@@ -774,27 +777,3 @@ standing_all s indexes vs all h = record {
   each = λ i l. subst (λ (xs : List (Option Period)). IsLinked xs s (index_at indexes i).standing)
       (open_all (index_at indexes i).basis vs all) (h.each i l);
 }
-
--- ---- ends of versions are no values of rows
-
-close_rows : (m : ℤ) (i : ℕ) (vs : List Version) → rows_of (close_at m i vs) ≡ rows_of vs
-close_rows m i [] = refl
-close_rows m zero (v ∷ vs) = refl
-close_rows m (suc i) (v ∷ vs) = ap (λ xs. v.row.cells ∷ xs) (close_rows m i vs)
-
-pub closing_rows : (m : ℤ) (is : List ℕ) (vs : List Version) → rows_of (closing m is vs) ≡ rows_of vs
-closing_rows m [] vs = refl
-closing_rows m (i ∷ is) vs = closing_rows m is (close_at m i vs) ∙ close_rows m i vs
-
-pub fresh_rows : {A : Type 0} (m : ℤ) (vs : List Version) (rows : List (Vec Value A))
-    → rows_of (vs ++ map (λ row. fresh m (map datum_of_value row.items)) rows)
-    ≡ rows_of vs ++ map (λ row. map datum_of_value row.items) rows
-fresh_rows m vs rows = map-append (λ (v : Version). v.row.cells) vs
-    (map (λ row. fresh m (map datum_of_value row.items)) rows)
-    ∙ ap (λ xs. rows_of vs ++ xs) (cells rows)
-  where
-    cells : {A : Type 0} (rs : List (Vec Value A))
-        → rows_of (map (λ row. fresh m (map datum_of_value row.items)) rs)
-        ≡ map (λ row. map datum_of_value row.items) rs
-    cells [] = refl
-    cells (r ∷ rs) = ap (λ xs. map datum_of_value r.items ∷ xs) (cells rs)

@@ -1,6 +1,6 @@
 //! The versions of one table that are found by their values or their periods.
-ghost use Rattle.std.specs.Prelude.{◌≡◌, ◌<◌, ◌+◌, ◌^◌, ◌++◌, [], ◌∷◌, IfOk, IfSome, OnOk, Some};
-ghost use Rattle.std.specs.Prelude.{map, option_map, length, slice_get};
+ghost use Rattle.std.specs.Prelude.{◌≡◌, ◌<◌, ◌+◌, ◌^◌, ◌++◌, [], ◌∷◌, IfOk, IfSome, OnOk, Some, map, option_map};
+ghost use Rattle.std.specs.Prelude.{length, slice_get};
 ghost use Rattle.tql_store_index.specs.Basis.{sought_of};
 ghost use Rattle.tql_store_rows.specs.Readings.{AreEnded, answer_of, numbered, placed, told_by, version_shown};
 ghost use Rattle.tql_store_rows.specs.Readings.{where_open};

@@ -11,8 +11,8 @@ loop-versions-preserved c = record {
       c.index.result.now (search rules) (search rules) (search rules) c.drop_version.ensures.value
       c.drop_version.ensures.items c.loop-versions.invariant.bag;
   shorter = first_of (search rules, grind (arith, common_steps));
-  others = λ k f l d. c.drop_version.ensures.others k f (let s = c.drop_version.ensures.shorter in omega (arith, l, s))
-      d
+  others = λ k f l d. c.drop_version.ensures.others k f (let s = c.drop_version.ensures.shorter in omega
+      (arith, l, s)) d
       ∙ c.loop-versions.invariant.others k f (let s = c.drop_version.ensures.shorter in omega (arith, l, s)) d;
   linked = λ basis standing h. c.drop_version.ensures.linked basis standing
       (shut_read c.loop-versions.versions.items c.args.place c.drop_version.result c.index.result.now (search rules)
