@@ -1,5 +1,7 @@
 #!/bin/sh
-# How long queries take that join, group and order: a join of 300 by 300 and of 1,000 by 1,000 rows on an equality, each asked 10 times;
+# How long queries take that join, group and order: a join of 300 by 300, of 1,000 by 1,000 and of 10,000 by 10,000 rows on an equality, each
+# asked 10 times, and one of the largest by LEFT JOIN, by a comma, and of three tables by commas; COUNT(*) and one row of 100,000 by a
+# condition without a key;
 # GROUP BY over 100,000 rows in 100 groups with COUNT and SUM; ORDER BY of 100,000 rows; 20 questions AS OF with GROUP BY over a table of
 # 10,000 rows in 40,000 versions. In tql, and the equivalent in sqlite3 over a database in memory, where history is kept by hand with an
 # index of its starts. The replies go to /dev/null; the time of making a table is told first, and is part of what stands below it.
@@ -40,7 +42,7 @@ repeated() {
 
 # ---- joins on an equality: each row has one partner
 
-for count in 300 1000; do
+for count in 300 1000 10000; do
     tables="CREATE TABLE a (x INTEGER, y INTEGER); CREATE TABLE b (x INTEGER, z INTEGER);"
     { echo "$tables START TRANSACTION;"; pairs a $count 1 7; pairs b $count 7 11; echo "COMMIT;"; } > "$folder/join.tql"
     { echo "$tables BEGIN;"; pairs a $count 1 7; pairs b $count 7 11; echo "COMMIT;"; } > "$folder/join.sqlite"
@@ -51,15 +53,28 @@ for count in 300 1000; do
     both join "and joined 10 times on an equality"
 done
 
+for name in tql sqlite; do
+    { cat "$folder/join.$name"; echo "SELECT COUNT(*) FROM a LEFT JOIN b ON a.x = b.x;"; } > "$folder/left.$name"
+    { cat "$folder/join.$name"; echo "SELECT COUNT(*) FROM a, b WHERE a.x = b.x;"; } > "$folder/comma.$name"
+    { cat "$folder/join.$name"; echo "SELECT COUNT(*) FROM a, b, a c WHERE a.x = b.x AND b.x = c.x;"; } > "$folder/three.$name"
+done
+both left "and once by LEFT JOIN"
+both comma "and, without it, once by a comma"
+both three "and, without these, once three tables by commas"
+
 # ---- groups and orders
 
 { echo "CREATE TABLE t (n INTEGER, k INTEGER); START TRANSACTION;"; pairs t "$rows" 7919 100; echo "COMMIT;"; } > "$folder/made.tql"
 { echo "CREATE TABLE t (n INTEGER, k INTEGER); BEGIN;"; pairs t "$rows" 7919 100; echo "COMMIT;"; } > "$folder/made.sqlite"
 both made "$rows rows made"
 for name in tql sqlite; do
+    { cat "$folder/made.$name"; repeated 20 "SELECT COUNT(*) FROM t;"; } > "$folder/count.$name"
+    { cat "$folder/made.$name"; repeated 20 "SELECT k FROM t WHERE n = 77;"; } > "$folder/one.$name"
     { cat "$folder/made.$name"; echo "SELECT k, COUNT(*), SUM(n) FROM t GROUP BY k;"; } > "$folder/group.$name"
     { cat "$folder/made.$name"; echo "SELECT n, k FROM t ORDER BY n DESC;"; } > "$folder/order.$name"
 done
+both count "and 20 times COUNT(*)"
+both one "and, without it, 20 times one row by a condition"
 both group "and one GROUP BY in 100 groups"
 both order "and, without it, one ORDER BY of all rows"
 

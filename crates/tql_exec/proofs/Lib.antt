@@ -1,2 +1,3 @@
 pub mod OverBags
 pub mod Printed
+pub mod Early

@@ -3,6 +3,7 @@
 
 mod headings;
 mod joining;
+mod multiplying;
 mod reading;
 pub mod running;
 mod sorting;

@@ -7,3 +7,4 @@ pub mod Places
 pub mod Printing
 pub mod QueryPrinting
 pub mod Inserted
+pub mod FirstEqual

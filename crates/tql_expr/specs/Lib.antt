@@ -6,3 +6,4 @@ pub mod Evaluated
 pub mod Sets
 pub mod Generated
 pub mod Shown
+pub mod Equalities

@@ -101,6 +101,19 @@ impl Terms {
         value
     }
 
+    /// The value of an operand of a test. A column or a literal, as most are, is read where it is, without a walk.
+    fn operand<'a, C: Columns>(&'a self, at: usize, columns: &'a C) -> Result<View<'a>, Range>
+        requires { at < size self.now }
+        ensures { outcome result
+            ≡ bound.eval (C.group columns.now) (C.values columns.now) (expr_of (term_in (trees self.now) at)) }
+    {
+        match self.node(at) {
+            Node::Column(k) => Ok(columns.column(k)),
+            Node::Literal(k) => Ok(self.literal(k)),
+            _ => self.eval_at(at, columns),
+        }
+    }
+
     fn compare_at<C: Columns>(
         &self,
         sign: Comparison,
@@ -114,8 +127,8 @@ impl Terms {
             (bound.Compare (plain_comparison sign)
             (expr_of (term_in (trees self.now) a)) (expr_of (term_in (trees self.now) b))) }
     {
-        let x = self.eval_at(a, columns)?;
-        let y = self.eval_at(b, columns)?;
+        let x = self.operand(a, columns)?;
+        let y = self.operand(b, columns)?;
         Ok(compare(sign, x, y))
     }
 
@@ -135,10 +148,10 @@ impl Terms {
             (expr_of (term_in (trees self.now) x.0)) (expr_of (term_in (trees self.now) x.1))
             (expr_of (term_in (trees self.now) y.0)) (expr_of (term_in (trees self.now) y.1))) }
     {
-        let from = self.eval_at(x.0, columns)?;
-        let to = self.eval_at(x.1, columns)?;
-        let start = self.eval_at(y.0, columns)?;
-        let end = self.eval_at(y.1, columns)?;
+        let from = self.operand(x.0, columns)?;
+        let to = self.operand(x.1, columns)?;
+        let start = self.operand(y.0, columns)?;
+        let end = self.operand(y.1, columns)?;
         Ok(predicate(which, (from, to), (start, end)))
     }
 
@@ -155,9 +168,9 @@ impl Terms {
             (bound.ContainsPoint (expr_of (term_in (trees self.now) x.0)) (expr_of (term_in (trees self.now) x.1))
             (expr_of (term_in (trees self.now) point))) }
     {
-        let from = self.eval_at(x.0, columns)?;
-        let to = self.eval_at(x.1, columns)?;
-        let at = self.eval_at(point, columns)?;
+        let from = self.operand(x.0, columns)?;
+        let to = self.operand(x.1, columns)?;
+        let at = self.operand(point, columns)?;
         Ok(contains_point((from, to), at))
     }
 
@@ -169,7 +182,7 @@ impl Terms {
     {
         match self.node(at) {
             Node::Compare(sign, a, b) => self.compare_at(sign, a, b, columns),
-            Node::IsNull(a) => Ok(Truth::from(self.eval_at(a, columns)?.is_null())),
+            Node::IsNull(a) => Ok(Truth::from(self.operand(a, columns)?.is_null())),
             Node::Related(which, a, b, c, d) => self.related_at(which, (a, b), (c, d), columns),
             Node::ContainsPoint(a, b, c) => self.contains_at((a, b), c, columns),
             Node::Not(c) => Ok(self.holds_at(c, columns)?.not()),
@@ -215,13 +228,25 @@ impl Terms {
         truth
     }
 
+    /// The truth of a condition. A comparison, as most are, is made without a walk.
+    fn judged_at<C: Columns>(&self, at: usize, columns: &C) -> Result<Truth, Range>
+        requires { at < size self.now }
+        ensures { judged result
+            ≡ bound.judge (C.group columns.now) (C.values columns.now) (cond_of (term_in (trees self.now) at)) }
+    {
+        match self.node(at) {
+            Node::Compare(sign, a, b) => self.compare_at(sign, a, b, columns),
+            _ => self.holds_at(at, columns),
+        }
+    }
+
     /// The value of an expression, or `Range` where an evaluation inside leaves 64 bits.
     pub fn eval<'a, C: Columns>(&'a self, x: ExprId, columns: &'a C) -> Result<View<'a>, Range>
         requires { HasExpr self.now x }
         ensures { outcome result
             ≡ bound.eval (C.group columns.now) (C.values columns.now) (expr self.now x) }
     {
-        self.eval_at(x.place, columns)
+        self.operand(x.place, columns)
     }
 
     /// The truth of a condition, or `Range` where an evaluation inside leaves 64 bits: everything inside is evaluated.
@@ -243,7 +268,7 @@ impl Terms {
     {
         tql_spec::safe_conditions();
         tql_spec::predicates_on_points();
-        self.holds_at(c.place, columns)
+        self.judged_at(c.place, columns)
     }
 
     /// Whether a row passes a list of conjuncts: from the left, each evaluated only where all before it were TRUE.

@@ -20,6 +20,8 @@ pub enum Search<'a> {
     Nested,
     /// A column outside the aggregates that is none of these, by number.
     Loose(&'a [usize]),
+    /// A column outside the aggregates from this number on.
+    From(usize),
 }
 
 /// The two operands of an operation, of an AND or of an OR.
@@ -37,6 +39,7 @@ impl<'a> Search<'a> {
         match self {
             Search::Aggregate | Search::Nested => false,
             Search::Loose(groups) => !groups.contains(&column),
+            Search::From(first) => first <= column,
         }
     }
 }
@@ -80,7 +83,7 @@ impl Terms {
             Node::Aggregate(_, a) => match search {
                 Search::Aggregate => true,
                 Search::Nested => self.finds(Search::Aggregate, ExprId { place: a }),
-                Search::Loose(_) => false,
+                Search::Loose(_) | Search::From(_) => false,
             },
             _ => false,
         }

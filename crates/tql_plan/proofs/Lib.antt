@@ -1,2 +1,4 @@
 pub mod Sources
 pub mod Chains
+pub mod Demanded
+pub mod Asked

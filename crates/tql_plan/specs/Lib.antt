@@ -1,3 +1,5 @@
 pub mod Nodes
 pub mod Meaning
 pub mod Planned
+pub mod Maps
+pub mod Asked

@@ -1,5 +1,8 @@
 //! How a query is answered: which versions are read, and how they are joined. A plan says nothing of the store.
 #![tactic(auto)]
 
+pub mod counts;
 pub mod plan;
 pub mod planner;
+mod products;
+mod widths;
