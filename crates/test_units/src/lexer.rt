@@ -100,12 +100,13 @@ fn write_text(out: &mut String, text: &[u8], mark: char) -> Result<(), AllocErro
     }
 }
 
+/// Writes a piece. One for which memory was refused ends the answer, as any refused growth does.
 fn write_piece(out: &mut String, piece: Piece<'_>) -> Result<(), AllocError> {
     match piece {
         Piece::Text(text) => write_text(out, text, '|'),
         Piece::Unfinished(text) => write_text(out, text, '?'),
         Piece::TooLong => out.push('!'),
-        Piece::NoMemory => out.push('0'),
+        Piece::NoMemory => Err(AllocError),
     }
 }
 
