@@ -9,12 +9,19 @@ use std::alloc::{AllocError, Global};
 use std::io;
 use tql_engine::engine::Engine;
 use tql_lex::piece::Piece;
-use tql_lex::splitter::{PIECE, Splitter};
+use tql_lex::splitter::{LONGEST_PART, Splitter};
 use tql_memory::{Memory, memory};
 use tql_run::runner::Fault;
 
 /// What a statement is answered that finds no memory.
 const NO_MEMORY: &[u8] = b"REFUSED E01 out of memory\n";
+
+/// What a COMMIT and a ROLLBACK are answered, and either where no transaction is open.
+const COMMITTED: &[u8] = b"COMMIT\n";
+
+const ROLLED_BACK: &[u8] = b"ROLLBACK\n";
+
+const NOT_OPEN: &[u8] = b"REFUSED E40 not in this transaction state\n";
 
 /// More growths than a script of the cases makes.
 const MOST_GROWTHS: u64 = 4000;
@@ -51,7 +58,7 @@ fn retried(alloc: Global, script: &[u8], granted: u64) -> io::Result<Vec<u8>> {
     let memory = memory(alloc, granted)?;
     let mut engine = Engine::new(memory);
     let mut text = Vec::new(alloc);
-    for part in script.chunks(PIECE) {
+    for part in script.chunks(LONGEST_PART) {
         splitter.feed(part);
         retried_in(alloc, memory, &mut engine, &mut splitter, &mut text)?;
     }
@@ -90,28 +97,39 @@ fn reply_ends(
     }
 }
 
-/// A text without the replies at its end that tell that there was no memory, and how many these are.
-fn without_refusals(text: &[u8]) -> (&[u8], usize) {
-    let mut begin = text;
-    let mut refusals = 0usize;
-    for _ in 0..u64::MAX {
-        let Some(rest) = begin.strip_suffix(NO_MEMORY) else {
-            break;
-        };
-        begin = rest;
-        refusals = refusals.saturating_add(1);
+/// What lies behind the reply to a statement that found no memory. A COMMIT and a ROLLBACK take none: they are answered
+/// as listed, or that no transaction is open.
+fn behind_refusal<'a>(listed: &[u8], text: &'a [u8]) -> Option<&'a [u8]> {
+    if listed != COMMITTED && listed != ROLLED_BACK && listed != NOT_OPEN {
+        return text.strip_prefix(NO_MEMORY);
     }
-    (begin, refusals)
+    match text.strip_prefix(listed) {
+        Some(rest) => Some(rest),
+        None => text.strip_prefix(NOT_OPEN),
+    }
 }
 
-/// Whether a text has the first of the listed replies, and then for each other statement that it found no memory.
+/// Whether a text has the first of the listed replies, and then for each other statement what it is answered without
+/// memory.
 fn is_beginning(listed: &Listed<'_>, text: &[u8]) -> bool {
-    let (begin, refusals) = without_refusals(text);
-    let place = listed.ends.len().checked_sub(refusals.saturating_add(1));
-    match place.and_then(|place| listed.ends.get(place)) {
-        Some(end) => listed.text.get(..*end) == Some(begin),
-        None => false,
+    let mut left = text;
+    let mut has_memory = true;
+    let mut from = 0usize;
+    for to in &listed.ends {
+        let reply = listed.text.get(from..*to).unwrap_or(&[]);
+        let behind = if has_memory {
+            left.strip_prefix(reply)
+        } else {
+            None
+        };
+        has_memory = behind.is_some();
+        match behind.or_else(|| behind_refusal(reply, left)) {
+            Some(rest) => left = rest,
+            None => return false,
+        }
+        from = *to;
     }
+    left.is_empty()
 }
 
 /// What a run in so much memory shows.

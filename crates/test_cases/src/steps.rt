@@ -6,7 +6,7 @@ use std::alloc::{AllocError, Global};
 use std::io;
 use tql_engine::engine::Engine;
 use tql_lex::piece::Piece;
-use tql_lex::splitter::{PIECE, Splitter};
+use tql_lex::splitter::{LONGEST_PART, Splitter};
 use tql_memory::{Memory, memory};
 use tql_result::print::write_reply;
 use tql_result::std_sink::StdSink;
@@ -66,7 +66,7 @@ pub fn step_all(alloc: Global, script: &[u8]) -> io::Result<Replies> {
         ends: vec![in alloc; 0]?,
         last_growths: 0,
     };
-    for part in script.chunks(PIECE) {
+    for part in script.chunks(LONGEST_PART) {
         splitter.feed(part);
         step_fed(alloc, memory, &mut engine, &mut splitter, &mut replies)?;
     }

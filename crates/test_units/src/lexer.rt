@@ -6,7 +6,7 @@ use crate::parts::{count, sides, two, write_yes};
 use crate::stop::Stop;
 use std::alloc::AllocError;
 use tql_lex::piece::Piece;
-use tql_lex::splitter::{PIECE, Splitter};
+use tql_lex::splitter::{LONGEST_PART, Splitter};
 use tql_lex::token::{Symbol, Token, TokenKind};
 use tql_lex::tokenizer::tokens;
 use tql_memory::Memory;
@@ -152,7 +152,7 @@ fn write_pieces(out: &mut String, memory: Memory, size: usize, script: &[u8]) ->
 fn cut(out: &mut String, memory: Memory, input: &str) -> Result<(), Stop> {
     let (size, script) = two(input)?;
     let size = count(size)?;
-    if size == 0 || size > PIECE {
+    if size == 0 || size > LONGEST_PART {
         return Err(Stop::Form);
     }
     let bytes = bytes_of(memory, script)?;

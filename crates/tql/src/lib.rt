@@ -29,7 +29,7 @@ pub use tql_result::reply::{Reply, Verb};
 pub use tql_result::sink::Sink;
 pub use tql_result::std_sink::StdSink;
 pub use tql_result::vec_sink::VecSink;
-pub use tql_run::device::Source;
+pub use tql_run::device::{Input, Source};
 pub use tql_run::listener::Listener;
 pub use tql_run::note::Note;
 pub use tql_run::notes::Notes;

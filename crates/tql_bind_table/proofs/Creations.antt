@@ -1,8 +1,8 @@
--- A CREATE of columns and periods, by its parts.
-use Rattle.std.specs.Prelude.{◌≡◌, refl, Bool, true, not, ◌||◌, ◌==◌, nat_le, nat_lt, List, [], ◌∷◌, ◌++◌, map}
-use Rattle.std.specs.Prelude.{length, Option, is_some, if◌then◌else◌}
+-- A CREATE without checks, by its parts.
+use Rattle.std.specs.Prelude.{◌≡◌, refl, ℕ, suc, Bool, true, false, not, ◌||◌, ◌==◌, nat_le, nat_lt, List, [], ◌∷◌}
+use Rattle.std.specs.Prelude.{◌++◌, map, length, Option, Some, None, is_some, if◌then◌else◌}
 use Rattle.std.specs.List.{flat_map, list_any, list_all}
-use Rattle.std.proofs.Common.{◌∙◌, sym, append-nil, subst}
+use Rattle.std.proofs.Common.{ap, ◌∙◌, sym, append-nil, subst}
 use Rattle.tql_spec.specs.Refusal.{Refusal, TooManyTablesOrReaders, TableUnknownOrAlreadyThere}
 use Rattle.tql_spec.specs.Refusal.{NameUnknownAmbiguousOrRepeated, TypesDoNotFit, FormNotAllowedHere, fault_if}
 use Rattle.tql_spec.specs.Expression.{Cond}
@@ -10,28 +10,102 @@ use Rattle.tql_spec.specs.Definition as definition
 use Rattle.tql_spec.specs.Definition.{Name, TableDef, Application, System, Key, Reference, place_of}
 use Rattle.tql_spec.specs.Names.{Checked, ◌>>=◌, sound, refuse_for, check_each}
 use Rattle.tql_spec.specs.Syntax.{ColumnTree, Element, ColumnElement, PeriodElement, ConstraintElement, Constraint}
-use Rattle.tql_spec.specs.Creation.{PeriodPart, columns_of, column_names, period_names, starts, stops}
+use Rattle.tql_spec.specs.Syntax.{KeyTree, ForeignTree, CheckTree, RefList}
+use Rattle.tql_spec.specs.Creation.{columns_of, column_names, period_names, starts, stops, listed_columns}
 use Rattle.tql_spec.specs.Creation.{application_parts, system_parts, constraints_of, application_period}
-use Rattle.tql_spec.specs.Creation.{system_period, several, first_of, keys, references, checks, column, part_names}
-use Rattle.tql_spec.specs.Creation.{primary_names, primary_count, has_bad_number, repeats, create}
+use Rattle.tql_spec.specs.Creation.{system_period, several, first_of, keys, references, reference_in, checks, column}
+use Rattle.tql_spec.specs.Creation.{part_names, primary_names, primary_count, has_bad_number, repeats, create}
 use Rattle.tql_spec.specs.Binding.{bind}
 use Rattle.tql_spec.specs.Machine.{Bound, CreateTable}
 use Rattle.tql_spec.specs.Running.{is_plain_element, does_run}
-use Rattle.tql_catalog.specs.Defined.{table_of_parts}
 use Rattle.tql_bind_expr.specs.Gathered.{Gathers}
 use Rattle.tql_bind_expr.proofs.Gathering.{bound, sound_here}
 use Rattle.tql_syntax_tree.specs.Expressions.{name_of}
 use Rattle.tql_syntax_tree.specs.Statements.{create_of}
 use Rattle.tql_syntax_tree.specs.declared.statement.CreateTree.{CreateTree}
-use Rattle.tql_bind_table.specs.NewTables.{elements_in, application_in, system_in, implied_in, whole_in, create_in}
+use Rattle.tql_bind_table.specs.NewTables as new
+use Rattle.tql_bind_table.specs.NewTables.{Written, KeyPart, ReferencePart, elements_in, application_in, system_in}
+use Rattle.tql_bind_table.specs.NewTables.{is_unchecked, list_of, key_parts, reference_parts, written_in, primary_in}
+use Rattle.tql_bind_table.specs.NewTables.{primary_count_in, key_in, reference_at, flat_each, whole_in, table_by}
+use Rattle.tql_bind_table.specs.NewTables.{create_in}
 
--- ---- elements that are columns and periods
+-- ---- elements without checks
 
-no_constraint : (es : List Element) → list_all is_plain_element es ≡ true → constraints_of es ≡ []
-no_constraint [] h = refl
-no_constraint (ColumnElement c ∷ es) h = no_constraint es h
-no_constraint (PeriodElement n s e ∷ es) h = no_constraint es h
-no_constraint (ConstraintElement c ∷ es) h = absurd (cc)
+-- columns and periods are no checks
+plain_unchecked : (es : List Element) → list_all is_plain_element es ≡ true → list_all is_unchecked es ≡ true
+plain_unchecked [] h = refl
+plain_unchecked (ColumnElement c ∷ es) h = plain_unchecked es h
+plain_unchecked (PeriodElement n s e ∷ es) h = plain_unchecked es h
+plain_unchecked (ConstraintElement c ∷ es) h = absurd (cc)
+
+-- a CREATE that runs has no check
+pub runs_unchecked : (c : CreateTree) → does_run (create_of c) ≡ true → list_all is_unchecked (elements_in c) ≡ true
+runs_unchecked c h = plain_unchecked (elements_in c) h
+
+no_checks : (es : List Element) (as' : List Application) (d : TableDef) (left : List Element)
+    → list_all is_unchecked left ≡ true → checks es as' d (constraints_of left) ≡ sound []
+no_checks es as' d [] h = refl
+no_checks es as' d (ColumnElement c ∷ left) h = no_checks es as' d left h
+no_checks es as' d (PeriodElement n s e ∷ left) h = no_checks es as' d left h
+no_checks es as' d (ConstraintElement (KeyTree b n ns p) ∷ left) h = no_checks es as' d left h
+no_checks es as' d (ConstraintElement (ForeignTree c n p) ∷ left) h = no_checks es as' d left h
+no_checks es as' d (ConstraintElement (CheckTree c) ∷ left) h = absurd (cc)
+
+-- ---- keys and references
+
+regrouped : {A B : Type 0} (c : Checked A) (f : A → B) (rest : Checked (List B))
+    → (c >>= λ x. rest >>= λ ys. sound (f x ∷ ys))
+    ≡ ((c >>= λ x. sound (f x)) >>= λ y. rest >>= λ ys. sound (y ∷ ys))
+regrouped {A} {B} c f rest =
+    let made : List Refusal → Checked (List B)
+    = λ fs. record { faults = fs ++ (rest.faults ++ []); value = f c.value ∷ rest.value } in
+    ap made (sym (append-nil c.faults))
+
+keys_are : (es : List Element) (as' : List Application) (cs : List Constraint)
+    → keys es as' cs ≡ check_each (key_in (written_in es) as') (key_parts cs)
+keys_are es as' [] = refl
+keys_are es as' (KeyTree b n ns p ∷ cs) =
+    let columns : Checked (List ℕ) = listed_columns es as' (n ∷ ns) p in
+    let key : List ℕ → Key = λ is. record { columns = is; by_period = is_some p } in
+    let both : Checked (List Key) → Checked (List Key)
+    = λ rest. columns >>= λ is. rest >>= λ ks. sound (key is ∷ ks) in
+    ap both (keys_are es as' cs) ∙ regrouped columns key (check_each (key_in (written_in es) as') (key_parts cs))
+keys_are es as' (ForeignTree c n p ∷ cs) = keys_are es as' cs
+keys_are es as' (CheckTree c ∷ cs) = keys_are es as' cs
+
+reference_is : (defs : List TableDef) (es : List Element) (as' : List Application) (child : RefList) (n : Name)
+    (names : RefList) (o : Option ℕ)
+    → reference_in defs es as' child n names o
+    ≡ reference_at defs (written_in es) as' (record { child = list_of child; parent = n; named = list_of names }) o
+reference_is defs es as' child n names None = refl
+reference_is defs es as' child n names (Some t) = refl
+
+-- the references of a statement are those that are written
+pub references_are : (defs : List TableDef) (es : List Element) (as' : List Application) (cs : List Constraint)
+    → references defs es as' cs ≡ flat_each (new.reference_in defs (written_in es) as') (reference_parts cs)
+references_are defs es as' [] = refl
+references_are defs es as' (ForeignTree child n names ∷ cs) =
+    let both : Checked (List Reference) → Checked (List Reference) → Checked (List Reference)
+    = λ one rest. one >>= λ f. rest >>= λ fs. sound (f ++ fs) in
+    λ j. both (reference_is defs es as' child n names (place_of n defs) j) (references_are defs es as' cs j)
+references_are defs es as' (KeyTree b n ns p ∷ cs) = references_are defs es as' cs
+references_are defs es as' (CheckTree c ∷ cs) = references_are defs es as' cs
+
+names_are : (cs : List Constraint) → primary_names cs ≡ primary_in (key_parts cs)
+names_are [] = refl
+names_are (KeyTree true n ns p ∷ cs) = ap (λ (ms : List Name). (n ∷ ns) ++ ms) (names_are cs)
+names_are (KeyTree false n ns p ∷ cs) = names_are cs
+names_are (ForeignTree c n p ∷ cs) = names_are cs
+names_are (CheckTree c ∷ cs) = names_are cs
+
+count_is : (cs : List Constraint) → primary_count cs ≡ primary_count_in (key_parts cs)
+count_is [] = refl
+count_is (KeyTree true n ns p ∷ cs) = ap suc (count_is cs)
+count_is (KeyTree false n ns p ∷ cs) = count_is cs
+count_is (ForeignTree c n p ∷ cs) = count_is cs
+count_is (CheckTree c ∷ cs) = count_is cs
+
+-- ---- the whole
 
 -- a table by its parts
 abbrev table : Name → List definition.Column → Option Application → Option System → List Key → List Reference
@@ -48,21 +122,23 @@ table n columns a s ks fs bs = record {
 }
 
 -- the table, where these are its faults as a whole, its constraints and the names that take no null
-abbrev create_by : List TableDef → Name → List Element → List Refusal → List Constraint → List Name → Checked TableDef
-create_by defs n es faults cs implied = do
+abbrev create_by : Name → List Element → List Refusal → (List Application → Checked (List Key))
+    → (List Application → Checked (List Reference)) → (List Application → TableDef → Checked (List Cond))
+    → List Name → Checked TableDef
+create_by n es faults ks fs bs implied = do
   u ← refuse_for faults
   as' ← check_each (application_period es) (application_parts es)
   ss ← check_each (system_period es) (system_parts es)
-  ks ← keys es as' cs
-  fs ← references defs es as' cs
-  bs ← checks es as' (table n (map (column implied) (columns_of es)) (first_of as') (first_of ss) ks fs []) cs
-  sound (table n (map (column implied) (columns_of es)) (first_of as') (first_of ss) ks fs bs)
+  k ← ks as'
+  f ← fs as'
+  b ← bs as' (table n (map (column implied) (columns_of es)) (first_of as') (first_of ss) k f [])
+  sound (table n (map (column implied) (columns_of es)) (first_of as') (first_of ss) k f b)
 
 module _ (defs : List TableDef) (n : Name) (es : List Element) (versioned : Bool)
-    (plain : list_all is_plain_element es ≡ true) where
-  -- the faults of the table as a whole but that of its keys and that of too many tables
-  abbrev others : List Refusal
-  others =
+    (unchecked : list_all is_unchecked es ≡ true) where
+  -- the faults of the table as a whole, where it has so many primary keys
+  abbrev whole : ℕ → List Refusal
+  whole count =
       fault_if (is_some (place_of n defs)) TableUnknownOrAlreadyThere
       ++ fault_if (repeats (column_names es ++ period_names es)) NameUnknownAmbiguousOrRepeated
       ++ fault_if (list_any (λ (c : ColumnTree). has_bad_number c.type_name) (columns_of es)) TypesDoNotFit
@@ -71,71 +147,83 @@ module _ (defs : List TableDef) (n : Name) (es : List Element) (versioned : Bool
       ++ fault_if (not (length (system_parts es) == (if versioned then 1 else 0))) FormNotAllowedHere
       ++ fault_if (not (length (starts es) == length (system_parts es)) || not
       (length (stops es) == length (system_parts es))) FormNotAllowedHere
+      ++ fault_if (nat_lt 1 count) FormNotAllowedHere
+      ++ fault_if (nat_le 1000 (length defs)) TooManyTablesOrReaders
 
-  abbrev many : List Refusal
-  many = fault_if (nat_le 1000 (length defs)) TooManyTablesOrReaders
-
-  unconstrained : create defs n es versioned
-      ≡ create_by defs n es (others ++ [] ++ many) [] (implied_in (application_parts es) ++ [])
-  unconstrained = λ j. create_by defs n es
-      (others ++ fault_if (nat_lt 1 (primary_count (no_constraint es plain j))) FormNotAllowedHere ++ many)
-      (no_constraint es plain j)
-      (flat_map part_names (application_parts es) ++ primary_names (no_constraint es plain j))
-
-  -- the definition of columns and periods
-  by_parts : create defs n es versioned ≡ create_in defs n (columns_of es) (application_parts es) (system_parts es)
-      versioned
-  by_parts = unconstrained
-      ∙ (λ j. create_by defs n es (append-nil others j ++ many) [] (append-nil (implied_in (application_parts es)) j))
+  -- the definition of what is written
+  by_parts : create defs n es versioned ≡ create_in defs n (written_in es) versioned
+  by_parts = λ j. create_by n es (whole (count_is (constraints_of es) j))
+      (λ as'. keys_are es as' (constraints_of es) j)
+      (λ as'. references_are defs es as' (constraints_of es) j)
+      (λ as' d. no_checks es as' d es unchecked j)
+      (flat_map part_names (application_parts es) ++ names_are (constraints_of es) j)
 
 -- ---- what is read of the statement
 
--- the name, the columns and the periods are those of the statement
-pub record IsDraft (c : CreateTree) (n : Name) (cs : List ColumnTree) (ps qs : List PeriodPart) : Type 0 where
+-- the name and all that is written are those of the statement
+pub record IsDraft (c : CreateTree) (n : Name) (w : Written) : Type 0 where
   pub name : n ≡ name_of c.table
-  pub columns : cs ≡ columns_of (elements_in c)
-  pub applications : ps ≡ application_parts (elements_in c)
-  pub systems : qs ≡ system_parts (elements_in c)
+  pub columns : w.columns ≡ columns_of (elements_in c)
+  pub applications : w.applications ≡ application_parts (elements_in c)
+  pub systems : w.systems ≡ system_parts (elements_in c)
+  pub keys : w.keys ≡ key_parts (constraints_of (elements_in c))
+  pub references : w.references ≡ reference_parts (constraints_of (elements_in c))
+
+written_same : (c : CreateTree) (n : Name) (w : Written) → IsDraft c n w → w ≡ written_in (elements_in c)
+written_same c n w is = λ j. record {
+  columns = is.columns j;
+  applications = is.applications j;
+  systems = is.systems j;
+  keys = is.keys j;
+  references = is.references j;
+}
 
 -- the definition of the draft is that of the statement
-created : (defs : List TableDef) (c : CreateTree) (n : Name) (cs : List ColumnTree)
-    (applications systems : List PeriodPart) → does_run (create_of c) ≡ true → IsDraft c n cs applications systems
-    → create_in defs n cs applications systems c.is_versioned ≡ create defs (name_of c.table) (elements_in c)
-    c.is_versioned
-created defs c n cs applications systems h is =
-    (λ i. create_in defs (is.name i) (is.columns i) (is.applications i) (is.systems i) c.is_versioned)
+created : (defs : List TableDef) (c : CreateTree) (n : Name) (w : Written)
+    → list_all is_unchecked (elements_in c) ≡ true → IsDraft c n w
+    → create_in defs n w c.is_versioned ≡ create defs (name_of c.table) (elements_in c) c.is_versioned
+created defs c n w h is =
+    (λ j. create_in defs (is.name j) (written_same c n w is j) c.is_versioned)
     ∙ sym (by_parts defs (name_of c.table) (elements_in c) c.is_versioned h)
 
 -- the faults of the draft, gathered part by part, are those of the definition
-pub draft_gathered : (defs : List TableDef) (n : Name) (cs : List ColumnTree)
-    (applications systems : List PeriodPart) (v : Bool) (old m1 m2 new : Option Refusal) (as' : List Application)
-    (ss : List System)
-    → Gathers (refuse_for (whole_in defs n cs applications systems v)) old m1 tt
-    → Gathers (check_each (application_in cs) applications) m1 m2 as'
-    → Gathers (check_each (system_in cs) systems) m2 new ss
-    → Gathers (create_in defs n cs applications systems v) old new
-    (table_of_parts n (map (column (implied_in applications)) cs) (first_of ss) (first_of as'))
-draft_gathered defs n cs applications systems v old m1 m2 new as' ss whole first second =
-    let made : List Application → List System
-    → TableDef = λ xs ys. table_of_parts n (map (column (implied_in applications)) cs) (first_of ys) (first_of xs)
-    in
-    let d = made as' ss in
-    let last = bound (check_each (system_in cs) systems) (λ ys. sound (made as' ys)) m2 new new ss d second
-    (sound_here d new) in
-    let middle = bound (check_each (application_in cs) applications)
-    (λ xs. check_each (system_in cs) systems >>= λ ys. sound (made xs ys)) m1 m2 new as' d first last in
-    bound (refuse_for (whole_in defs n cs applications systems v))
-    (λ u. check_each (application_in cs) applications >>= λ xs. check_each (system_in cs) systems >>= λ ys. sound
-    (made xs ys)) old m1 new tt d whole middle
+pub draft_gathered : (defs : List TableDef) (n : Name) (w : Written) (v : Bool)
+    (old m1 m2 m3 m4 now : Option Refusal) (as' : List Application) (ss : List System) (ks : List Key)
+    (fs : List Reference)
+    → Gathers (refuse_for (whole_in defs n w v)) old m1 tt
+    → Gathers (check_each (application_in w.columns) w.applications) m1 m2 as'
+    → Gathers (check_each (system_in w.columns) w.systems) m2 m3 ss
+    → Gathers (check_each (key_in w as') w.keys) m3 m4 ks
+    → Gathers (flat_each (new.reference_in defs w as') w.references) m4 now fs
+    → Gathers (create_in defs n w v) old now (table_by n w (first_of ss) (first_of as') ks fs)
+draft_gathered defs n w v old m1 m2 m3 m4 now as' ss ks fs whole first second third fourth =
+    let made : List Application → List System → List Key → List Reference
+    → TableDef = λ xs ys zs us. table_by n w (first_of ys) (first_of xs) zs us in
+    let d = made as' ss ks fs in
+    let referring : List Application → List System → List Key → Checked TableDef
+    = λ xs ys zs. flat_each (new.reference_in defs w xs) w.references >>= λ us. sound (made xs ys zs us) in
+    let keyed : List Application → List System → Checked TableDef
+    = λ xs ys. check_each (key_in w xs) w.keys >>= λ zs. referring xs ys zs in
+    let periods : List Application → Checked TableDef
+    = λ xs. check_each (system_in w.columns) w.systems >>= λ ys. keyed xs ys in
+    let from4 : Gathers (referring as' ss ks) m4 now d
+    = bound (flat_each (new.reference_in defs w as') w.references) (λ us. sound (made as' ss ks us)) m4 now now fs d
+    fourth (sound_here d now) in
+    let from3 : Gathers (keyed as' ss) m3 now d
+    = bound (check_each (key_in w as') w.keys) (λ zs. referring as' ss zs) m3 m4 now ks d third from4 in
+    let from2 : Gathers (periods as') m2 now d
+    = bound (check_each (system_in w.columns) w.systems) (λ ys. keyed as' ys) m2 m3 now ss d second from3 in
+    let from1 = bound (check_each (application_in w.columns) w.applications) periods m1 m2 now as' d first from2 in
+    bound (refuse_for (whole_in defs n w v))
+    (λ u. check_each (application_in w.columns) w.applications >>= periods) old m1 now tt d whole from1
 
 -- and those of the statement
-pub bind_gathered : (defs : List TableDef) (c : CreateTree) (n : Name) (cs : List ColumnTree)
-    (applications systems : List PeriodPart) (old new : Option Refusal) (d : TableDef)
-    → does_run (create_of c) ≡ true → IsDraft c n cs applications systems
-    → Gathers (create_in defs n cs applications systems c.is_versioned) old new d
-    → Gathers (bind defs (create_of c)) old new (CreateTable d)
-bind_gathered defs c n cs applications systems old new d h is g =
+pub bind_gathered : (defs : List TableDef) (c : CreateTree) (n : Name) (w : Written) (old now : Option Refusal)
+    (d : TableDef) → list_all is_unchecked (elements_in c) ≡ true → IsDraft c n w
+    → Gathers (create_in defs n w c.is_versioned) old now d
+    → Gathers (bind defs (create_of c)) old now (CreateTable d)
+bind_gathered defs c n w old now d h is g =
     let made : TableDef → Checked Bound = λ t. sound (CreateTable t) in
-    bound (create defs (name_of c.table) (elements_in c) c.is_versioned) made old new new d (CreateTable d)
-    (subst (λ (k : Checked TableDef). Gathers k old new d) (created defs c n cs applications systems h is) g)
-    (sound_here (CreateTable d) new)
+    bound (create defs (name_of c.table) (elements_in c) c.is_versioned) made old now now d (CreateTable d)
+    (subst (λ (k : Checked TableDef). Gathers k old now d) (created defs c n w h is) g)
+    (sound_here (CreateTable d) now)

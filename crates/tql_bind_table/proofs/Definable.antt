@@ -1,63 +1,33 @@
--- Columns and periods that show no fault can be those of a table.
+-- What is written of a table and shows no fault can be its parts.
 use Rattle.std.specs.Prelude.{◌≡◌, refl, ℕ, suc, Bool, true, false, not, ◌&&◌, ◌||◌, ◌==◌, nat_le, nat_lt, IsTrue}
-use Rattle.std.specs.Prelude.{List, [], ◌∷◌, ◌++◌, map, length, Option, Some, None, is_some, slice_index_or}
-use Rattle.std.specs.Prelude.{if◌then◌else◌}
+use Rattle.std.specs.Prelude.{List, [], ◌∷◌, ◌++◌, map, length, Some, None, is_some, slice_index_or}
+use Rattle.std.specs.Prelude.{if◌then◌else◌, ◌<◌}
 use Rattle.std.specs.List.{list_any, list_all}
-use Rattle.std.proofs.Common.{ap, ◌∙◌, sym, arith}
+use Rattle.std.proofs.Common.{ap, ◌∙◌, sym, subst, arith}
 use Rattle.std.proofs.lemmas.Bool.Decides.{nat_tests}
 use Rattle.std.proofs.lemmas.List.{length-map}
 use Rattle.tql_spec.specs.Words.{same_text}
 use Rattle.tql_spec.specs.Datum.{Kind, Ints, Moments, same_kind}
-use Rattle.tql_spec.specs.Refusal.{Refusal, TooManyTablesOrReaders, TableUnknownOrAlreadyThere}
+use Rattle.tql_spec.specs.Refusal.{TooManyTablesOrReaders, TableUnknownOrAlreadyThere}
 use Rattle.tql_spec.specs.Refusal.{NameUnknownAmbiguousOrRepeated, TypesDoNotFit, FormNotAllowedHere, fault_if, first}
 use Rattle.tql_spec.specs.Definition as definition
-use Rattle.tql_spec.specs.Definition.{Name, TableDef, Application, System, place_of}
+use Rattle.tql_spec.specs.Definition.{Name, TableDef, Application, System, Key, Reference, place_of}
 use Rattle.tql_spec.specs.Names.{Checked, check_each}
 use Rattle.tql_spec.specs.Syntax.{ColumnTree}
-use Rattle.tql_spec.specs.Creation.{PeriodPart, number_in, or_first, column_number, has_name, has_number, are_ends}
+use Rattle.tql_spec.specs.Creation.{PeriodPart, number_in, column_number, has_name, has_number, are_ends}
 use Rattle.tql_spec.specs.Creation.{application_name, kind_of_type, has_bad_number, repeats, several, column}
 use Rattle.tql_spec.specs.Creation.{first_of}
 use Rattle.tql_spec.specs.Binding.{generated_columns}
 use Rattle.tql_spec.proofs.Constraints.{same_text-self}
-use Rattle.tql_catalog.specs.Defined.{is_definable, is_system_period, is_application_period}
-use Rattle.tql_bind_table.specs.NewTables.{application_part, names_in, kinds_in, kind_in, starts_in, stops_in}
-use Rattle.tql_bind_table.specs.NewTables.{is_generated_in, application_in, system_in, names_of_periods, implied_in}
-use Rattle.tql_bind_table.specs.NewTables.{whole_in, create_in}
+use Rattle.tql_catalog.specs.Defined.{is_definable, is_system_period, is_application_period, are_constraints}
+use Rattle.tql_bind_table.specs.NewTables.{Written, KeyPart, application_part, names_in, kinds_in, kind_in, starts_in}
+use Rattle.tql_bind_table.specs.NewTables.{stops_in, is_generated_in, application_in, system_in, names_of_periods}
+use Rattle.tql_bind_table.specs.NewTables.{implied_in, primary_count_in, key_in, reference_in, flat_each, whole_in}
+use Rattle.tql_bind_table.specs.NewTables.{create_in}
 use Rattle.tql_bind_table.specs.declared.draft.NewApplication.{NewApplication}
 use Rattle.tql_bind_table.proofs.ColumnNumbers.{within, apart, other_number, required_at, there}
-
--- ---- no fault
-
-nothing_first : (fs : List Refusal) → first fs ≡ None → fs ≡ []
-nothing_first [] e = refl
-nothing_first (f ∷ fs) e = cc
-
-front_none : (xs ys : List Refusal) → xs ++ ys ≡ [] → xs ≡ []
-front_none [] ys e = refl
-front_none (x ∷ xs) ys e = cc
-
-behind_none : (xs ys : List Refusal) → xs ++ ys ≡ [] → ys ≡ []
-behind_none [] ys e = e
-behind_none (x ∷ xs) ys e = cc
-
-never : (f : Refusal) (fs : List Refusal) → f ∷ fs ≡ [] → ⊥
-never f fs e = cc
-
-not_present : (b : Bool) (f : Refusal) → fault_if b f ≡ [] → b ≡ false
-not_present true f e = absurd (never f [] e)
-not_present false f e = refl
-
-or_none : (a b : Bool) → a || b ≡ false → (a ≡ false) × (b ≡ false)
-or_none true b e = cc
-or_none false b e = (refl, e)
-
-not_none : (b : Bool) → not b ≡ false → b ≡ true
-not_none true e = refl
-not_none false e = cc
-
-found : (o : Option ℕ) → (or_first o).faults ≡ [] → o ≡ Some (or_first o).value
-found None e = absurd (never NameUnknownAmbiguousOrRepeated [] e)
-found (Some i) e = refl
+use Rattle.tql_bind_table.proofs.NoFault.{nothing_first, front_none, behind_none, not_present, or_none, not_none, found}
+use Rattle.tql_bind_table.proofs.Listings.{keys_right, references_right}
 
 -- ---- the columns of the definition
 
@@ -180,24 +150,26 @@ or_true : (b : Bool) → b || true ≡ true
 or_true true = refl
 or_true false = refl
 
-implies_start : (p : PeriodPart) (ps : List PeriodPart) → has_name p.start (implied_in (p ∷ ps)) ≡ true
-implies_start p ps = ap (λ (b : Bool). b || has_name p.start (p.end ∷ implied_in ps)) (same_text-self p.start)
+implies_start : (p : PeriodPart) (ps : List PeriodPart) (ks : List KeyPart)
+    → has_name p.start (implied_in (p ∷ ps) ks) ≡ true
+implies_start p ps ks = ap (λ (b : Bool). b || has_name p.start (p.end ∷ implied_in ps ks)) (same_text-self p.start)
 
-implies_end : (p : PeriodPart) (ps : List PeriodPart) → has_name p.end (implied_in (p ∷ ps)) ≡ true
-implies_end p ps = ap (λ (b : Bool). same_text p.end p.start || (b || has_name p.end (implied_in ps)))
+implies_end : (p : PeriodPart) (ps : List PeriodPart) (ks : List KeyPart)
+    → has_name p.end (implied_in (p ∷ ps) ks) ≡ true
+implies_end p ps ks = ap (λ (b : Bool). same_text p.end p.start || (b || has_name p.end (implied_in ps ks)))
     (same_text-self p.end) ∙ or_true (same_text p.end p.start)
 
-application_right : (cs : List ColumnTree) (ps qs : List PeriodPart)
+application_right : (cs : List ColumnTree) (ps qs : List PeriodPart) (ks : List KeyPart)
     → (check_each (application_in cs) ps).faults ≡ [] → (check_each (system_in cs) qs).faults ≡ []
-    → IsTrue (is_application_period (map (column (implied_in ps)) cs) (first_of (check_each (system_in cs) qs).value)
+    → IsTrue (is_application_period (map (column (implied_in ps ks)) cs) (first_of (check_each (system_in cs) qs).value)
     (first_of (check_each (application_in cs) ps).value))
-application_right cs [] qs none sound = refl
-application_right cs (p ∷ ps) qs none sound =
+application_right cs [] qs ks none sound = refl
+application_right cs (p ∷ ps) qs ks none sound =
     let none_here : (application_in cs p).faults ≡ [] = first_each (application_in cs) p ps none in
     let w = sound_parts (names_in cs) p (no_ends cs) (no_application cs p) none_here in
     let s = (application_in cs p).value.start in
     let e = (application_in cs p).value.end in
-    let implied = implied_in (p ∷ ps) in
+    let implied = implied_in (p ∷ ps) ks in
     let columns = map (column implied) cs in
     let required = map (λ (c : definition.Column). c.required) columns in
     let points : are_ends (slice_index_or (map (λ (c : definition.Column). c.kind) columns) s Ints)
@@ -210,8 +182,8 @@ application_right cs (p ∷ ps) qs none sound =
     (required_count implied cs) in
     let to = there e (length required) (length (names_in cs)) (within p.end (names_in cs) e w.end)
     (required_count implied cs) in
-    let first = required_at implied p.start cs s w.start (implies_start p ps) in
-    let second = required_at implied p.end cs e w.end (implies_end p ps) in
+    let first = required_at implied p.start cs s w.start (implies_start p ps ks) in
+    let second = required_at implied p.end cs e w.end (implies_end p ps ks) in
     let left = not_of_system cs qs sound s front.1 in
     let right = not_of_system cs qs sound e forms.1 in
     let differ = apart p.start p.end (names_in cs) s e w.start w.end front.0 in
@@ -236,28 +208,38 @@ names_first cs [] one = refl
 names_first cs (a ∷ []) one = refl
 names_first cs (a ∷ b ∷ as') one = absurd (no_many (length (map application_part as')) one)
 
+named_first : (cs : List ColumnTree) (ps : List PeriodPart) (as' : List NewApplication)
+    → ps ≡ map application_part as' → several ps ≡ false
+    → application_name (first_of (check_each (application_in cs) ps).value) ≡ names_of_periods ps
+named_first cs ps as' e one =
+    subst (λ (qs : List PeriodPart). several qs ≡ false
+    → application_name (first_of (check_each (application_in cs) qs).value) ≡ names_of_periods qs) (sym e)
+    (names_first cs as') one
+
 -- ---- the table
 
 -- what is true of a table without a fault as a whole
-record IsWhole (defs : List TableDef) (cs : List ColumnTree) (applications : List PeriodPart) : Type 0 where
-  once : repeats (names_in cs ++ names_of_periods applications) ≡ false
-  one : several applications ≡ false
+record IsWhole (w : Written) : Type 0 where
+  once : repeats (names_in w.columns ++ names_of_periods w.applications) ≡ false
+  one : several w.applications ≡ false
 
-whole_right : (defs : List TableDef) (n : Name) (cs : List ColumnTree) (applications systems : List PeriodPart)
-    (v : Bool) → whole_in defs n cs applications systems v ≡ [] → IsWhole defs cs applications
-whole_right defs n cs applications systems v none =
-    let w = if v then 1 else 0 in
+whole_right : (defs : List TableDef) (n : Name) (w : Written) (v : Bool) → whole_in defs n w v ≡ [] → IsWhole w
+whole_right defs n w v none =
+    let wanted = if v then 1 else 0 in
     let f1 = fault_if (is_some (place_of n defs)) TableUnknownOrAlreadyThere in
-    let repeated = repeats (names_in cs ++ names_of_periods applications) in
+    let repeated = repeats (names_in w.columns ++ names_of_periods w.applications) in
     let f2 = fault_if repeated NameUnknownAmbiguousOrRepeated in
-    let f3 = fault_if (list_any (λ (c : ColumnTree). has_bad_number c.type_name) cs) TypesDoNotFit in
-    let f4 = fault_if (list_all (λ (c : ColumnTree). is_some c.generated) cs) FormNotAllowedHere in
-    let f5 = fault_if (several applications || several systems) FormNotAllowedHere in
-    let f6 = fault_if (not (length systems == w)) FormNotAllowedHere in
-    let f7 = fault_if (not (length (starts_in cs) == length systems) || not (length (stops_in cs) == length systems))
-    FormNotAllowedHere in
-    let f8 = fault_if (nat_le 1000 (length defs)) TooManyTablesOrReaders in
-    let n7 = front_none (f1 ++ f2 ++ f3 ++ f4 ++ f5 ++ f6 ++ f7) f8 none in
+    let f3 = fault_if (list_any (λ (c : ColumnTree). has_bad_number c.type_name) w.columns) TypesDoNotFit in
+    let f4 = fault_if (list_all (λ (c : ColumnTree). is_some c.generated) w.columns) FormNotAllowedHere in
+    let many_periods = several w.applications || several w.systems in
+    let f5 = fault_if many_periods FormNotAllowedHere in
+    let f6 = fault_if (not (length w.systems == wanted)) FormNotAllowedHere in
+    let f7 = fault_if (not (length (starts_in w.columns) == length w.systems)
+    || not (length (stops_in w.columns) == length w.systems)) FormNotAllowedHere in
+    let f8 = fault_if (nat_lt 1 (primary_count_in w.keys)) FormNotAllowedHere in
+    let f9 = fault_if (nat_le 1000 (length defs)) TooManyTablesOrReaders in
+    let n8 = front_none (f1 ++ f2 ++ f3 ++ f4 ++ f5 ++ f6 ++ f7 ++ f8) f9 none in
+    let n7 = front_none (f1 ++ f2 ++ f3 ++ f4 ++ f5 ++ f6 ++ f7) f8 n8 in
     let n6 = front_none (f1 ++ f2 ++ f3 ++ f4 ++ f5 ++ f6) f7 n7 in
     let n5 = front_none (f1 ++ f2 ++ f3 ++ f4 ++ f5) f6 n6 in
     let n4 = front_none (f1 ++ f2 ++ f3 ++ f4) f5 n5 in
@@ -265,32 +247,61 @@ whole_right defs n cs applications systems v none =
     let n2 = front_none (f1 ++ f2) f3 n3 in
     record {
       once = not_present repeated NameUnknownAmbiguousOrRepeated (behind_none f1 f2 n2);
-      one = (or_none (several applications) (several systems)
-          (not_present (several applications || several systems) FormNotAllowedHere
-          (behind_none (f1 ++ f2 ++ f3 ++ f4) f5 n5))).0;
+      one = (or_none (several w.applications) (several w.systems)
+          (not_present many_periods FormNotAllowedHere (behind_none (f1 ++ f2 ++ f3 ++ f4) f5 n5))).0;
     }
 
--- without a fault the columns and the periods can be those of a table
-pub definable : (defs : List TableDef) (n : Name) (cs : List ColumnTree) (as' : List NewApplication)
-    (systems : List PeriodPart) (v : Bool) (t : TableDef)
-    → first (create_in defs n cs (map application_part as') systems v).faults ≡ None
-    → t ≡ (create_in defs n cs (map application_part as') systems v).value
-    → IsTrue (is_definable t.columns t.system t.application)
-definable defs n cs as' systems v t none is =
-    let applications = map application_part as' in
-    let all = create_in defs n cs applications systems v in
+-- a column that is there and not generated is one of the definition that users assign
+open_at : (implied : List Name) (cs : List ColumnTree) (qs : List PeriodPart)
+    → (check_each (system_in cs) qs).faults ≡ [] → (i : ℕ) → i < length (names_in cs)
+    → is_generated_in cs i ≡ false
+    → nat_lt i (length (map (column implied) cs)) && not (has_number i
+    (generated_columns (first_of (check_each (system_in cs) qs).value))) ≡ true
+open_at implied cs qs none i h free =
+    let count : length (map (column implied) cs) ≡ length (names_in cs) = length-map cs (column implied)
+    ∙ sym (length-map cs (λ (c : ColumnTree). c.name)) in
+    let inside = there i (length (map (column implied) cs)) (length (names_in cs)) h count in
+    let outside = not_of_system cs qs none i free in
+    λ j. inside j && not (outside j)
+
+-- what is true of the table: its columns and periods can be those of one, and so can its keys and references
+pub record CanStand (t : TableDef) : Type 0 where
+  pub definable : IsTrue (is_definable t.columns t.system t.application)
+  pub constrained : IsTrue (are_constraints t t.keys t.references [])
+
+-- it is true where no fault is present
+pub can_stand : (defs : List TableDef) (n : Name) (w : Written) (as' : List NewApplication)
+    → w.applications ≡ map application_part as' → (v : Bool) (t : TableDef)
+    → first (create_in defs n w v).faults ≡ None → t ≡ (create_in defs n w v).value → CanStand t
+can_stand defs n w as' parts v t none is =
+    let all = create_in defs n w v in
     let empty = nothing_first all.faults none in
-    let whole = whole_right defs n cs applications systems v
-    (front_none (whole_in defs n cs applications systems v) _ empty) in
-    let rest = behind_none (whole_in defs n cs applications systems v) _ empty in
-    let applied = front_none (check_each (application_in cs) applications).faults _ rest in
-    let last = behind_none (check_each (application_in cs) applications).faults _ rest in
-    let versioned = front_none (check_each (system_in cs) systems).faults [] last in
-    let implied = implied_in applications in
-    let names : repeats (map (λ (c : definition.Column). c.name) (map (column implied) cs) ++ application_name
-    (first_of (check_each (application_in cs) applications).value)) ≡ false =
-    (λ i. repeats (names_same implied cs i ++ names_first cs as' whole.one i)) ∙ whole.once in
-    let system = system_right implied cs systems versioned in
-    let application = application_right cs applications systems applied versioned in
-    ap (λ (d : TableDef). is_definable d.columns d.system d.application) is
-    ∙ (λ i. not (names i) && system i && application i)
+    let periods : Checked (List Application) = check_each (application_in w.columns) w.applications in
+    let systems : Checked (List System) = check_each (system_in w.columns) w.systems in
+    let keys : Checked (List Key) = check_each (key_in w periods.value) w.keys in
+    let references : Checked (List Reference) = flat_each (reference_in defs w periods.value) w.references in
+    let whole = whole_right defs n w v (front_none (whole_in defs n w v) _ empty) in
+    let n1 = behind_none (whole_in defs n w v) _ empty in
+    let applied = front_none periods.faults _ n1 in
+    let n2 = behind_none periods.faults _ n1 in
+    let versioned = front_none systems.faults _ n2 in
+    let n3 = behind_none systems.faults _ n2 in
+    let keyed = front_none keys.faults _ n3 in
+    let referring = front_none references.faults [] (behind_none keys.faults _ n3) in
+    let implied = implied_in w.applications w.keys in
+    let single : application_name (first_of periods.value) ≡ names_of_periods w.applications =
+    named_first w.columns w.applications as' parts whole.one in
+    let names : repeats (map (λ (c : definition.Column). c.name) (map (column implied) w.columns) ++ application_name
+    (first_of periods.value)) ≡ false =
+    (λ i. repeats (names_same implied w.columns i ++ single i)) ∙ whole.once in
+    let system = system_right implied w.columns w.systems versioned in
+    let application = application_right w.columns w.applications w.systems w.keys applied versioned in
+    let opened = open_at implied w.columns w.systems versioned in
+    let right_keys = keys_right w all.value opened periods.value w.keys keyed in
+    let right_references = references_right w all.value opened defs periods.value w.references referring in
+    record {
+      definable = ap (λ (d : TableDef). is_definable d.columns d.system d.application) is
+          ∙ (λ i. not (names i) && system i && application i);
+      constrained = ap (λ (d : TableDef). are_constraints d d.keys d.references []) is
+          ∙ (λ i. right_keys i && right_references i && true);
+    }

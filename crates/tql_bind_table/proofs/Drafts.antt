@@ -1,8 +1,10 @@
--- Columns and periods, element by element.
+-- Columns, periods, keys and references, element by element.
 use Rattle.std.specs.Prelude.{◌≡◌, refl, List, [], ◌∷◌, ◌++◌, Some, None}
 use Rattle.std.proofs.Common.{ap, ◌∙◌, sym, append_assoc}
-use Rattle.tql_spec.specs.Syntax.{ColumnTree, Element, ColumnElement, PeriodElement, ConstraintElement}
-use Rattle.tql_spec.specs.Creation.{PeriodPart, columns_of, application_parts, system_parts}
+use Rattle.tql_spec.specs.Syntax.{ColumnTree, Element, ColumnElement, PeriodElement, ConstraintElement, KeyTree}
+use Rattle.tql_spec.specs.Syntax.{ForeignTree, CheckTree}
+use Rattle.tql_spec.specs.Creation.{PeriodPart, columns_of, application_parts, system_parts, constraints_of}
+use Rattle.tql_bind_table.specs.NewTables.{KeyPart, ReferencePart, key_parts, reference_parts}
 
 columns_split : (e : Element) (es : List Element) → columns_of (e ∷ es) ≡ columns_of (e ∷ []) ++ columns_of es
 columns_split (ColumnElement c) es = refl
@@ -39,3 +41,34 @@ pub systems_more : (ps : List PeriodPart) (e : Element) (es : List Element)
     → (ps ++ system_parts (e ∷ [])) ++ system_parts es ≡ ps ++ system_parts (e ∷ es)
 systems_more ps e es = append_assoc ps (system_parts (e ∷ [])) (system_parts es)
     ∙ ap (λ (xs : List PeriodPart). ps ++ xs) (sym (systems_split e es))
+
+keys_split : (e : Element) (es : List Element) → key_parts (constraints_of (e ∷ es))
+    ≡ key_parts (constraints_of (e ∷ [])) ++ key_parts (constraints_of es)
+keys_split (ColumnElement c) es = refl
+keys_split (PeriodElement n s t) es = refl
+keys_split (ConstraintElement (KeyTree b n ns p)) es = refl
+keys_split (ConstraintElement (ForeignTree c n p)) es = refl
+keys_split (ConstraintElement (CheckTree c)) es = refl
+
+references_split : (e : Element) (es : List Element) → reference_parts (constraints_of (e ∷ es))
+    ≡ reference_parts (constraints_of (e ∷ [])) ++ reference_parts (constraints_of es)
+references_split (ColumnElement c) es = refl
+references_split (PeriodElement n s t) es = refl
+references_split (ConstraintElement (KeyTree b n ns p)) es = refl
+references_split (ConstraintElement (ForeignTree c n p)) es = refl
+references_split (ConstraintElement (CheckTree c)) es = refl
+
+-- and the keys
+pub keys_more : (ks : List KeyPart) (e : Element) (es : List Element)
+    → (ks ++ key_parts (constraints_of (e ∷ []))) ++ key_parts (constraints_of es)
+    ≡ ks ++ key_parts (constraints_of (e ∷ es))
+keys_more ks e es = append_assoc ks (key_parts (constraints_of (e ∷ []))) (key_parts (constraints_of es))
+    ∙ ap (λ (xs : List KeyPart). ks ++ xs) (sym (keys_split e es))
+
+-- and the references
+pub references_more : (fs : List ReferencePart) (e : Element) (es : List Element)
+    → (fs ++ reference_parts (constraints_of (e ∷ []))) ++ reference_parts (constraints_of es)
+    ≡ fs ++ reference_parts (constraints_of (e ∷ es))
+references_more fs e es = append_assoc fs (reference_parts (constraints_of (e ∷ [])))
+    (reference_parts (constraints_of es))
+    ∙ ap (λ (xs : List ReferencePart). fs ++ xs) (sym (references_split e es))

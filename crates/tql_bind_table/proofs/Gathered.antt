@@ -1,5 +1,5 @@
 -- The faults of a new table, gathered part by part.
-use Rattle.std.specs.Prelude.{◌≡◌, refl, ℕ, Bool, List, ◌++◌, Option, None, Some, Ok, Err}
+use Rattle.std.specs.Prelude.{◌≡◌, ℕ, Bool, List, ◌++◌, Option, None, Some, Ok, Err}
 use Rattle.std.proofs.Common.{ap, sym, ◌∙◌}
 use Rattle.tql_spec.specs.Refusal as spec
 use Rattle.tql_spec.specs.Refusal.{TypesDoNotFit, FormNotAllowedHere, fault_if, first}

@@ -1,6 +1,13 @@
 pub mod Drafts
 pub mod ColumnLaws
 pub mod ColumnNumbers
+pub mod ListLaws
+pub mod Sequences
+pub mod Places
 pub mod Gathered
 pub mod Creations
+pub mod NoFault
+pub mod ReferenceLaws
+pub mod Listings
 pub mod Definable
+pub mod ParentLaws

@@ -1,14 +1,13 @@
 //! New tables: the faults that a CREATE TABLE shows, and the definition that it gives.
 ghost use Rattle.std.specs.Prelude.{◌≡◌, ◌||◌, ◌==◌, IsTrue, map, not, IfOk, string_bytes, length, nat_le, is_some};
-ghost use Rattle.std.specs.Prelude.{if◌then◌else◌};
+ghost use Rattle.std.specs.Prelude.{if◌then◌else◌, nat_lt};
+ghost use Rattle.std.specs.List.{list_all};
 ghost use Rattle.tql_spec.specs.Binding.{bind};
 ghost use Rattle.tql_spec.specs.Creation as spec;
 ghost use Rattle.tql_spec.specs.Creation.{several};
 ghost use Rattle.tql_spec.specs.Definition.{place_of};
 ghost use Rattle.tql_spec.specs.Machine.{CreateTable};
 ghost use Rattle.tql_spec.specs.Names.{refuse_for};
-ghost use Rattle.tql_spec.specs.Running.{does_run};
-ghost use Rattle.tql_catalog.specs.Defined.{is_definable};
 ghost use Rattle.tql_catalog.specs.Definitions as catalog;
 ghost use Rattle.tql_catalog.specs.Tables.{definitions_of};
 ghost use Rattle.tql_bind_expr.specs.Gathered.{Gathers};
@@ -16,22 +15,80 @@ ghost use Rattle.tql_syntax_tree.specs.Statements.{create_of};
 ghost use Rattle.tql_bind_table.specs.Binds.{Binds};
 ghost use Rattle.tql_bind_table.specs.NewTables.{column_of, application_part, columns_in, applications_in, systems_in};
 ghost use Rattle.tql_bind_table.specs.NewTables.{implied_in, starts_in, stops_in, whole_in, create_in, table_of};
+ghost use Rattle.tql_bind_table.specs.NewTables.{key_part, keys_in, written_of, primary_count_in, elements_in};
+ghost use Rattle.tql_bind_table.specs.NewTables.{is_unchecked};
 
 use crate::columns::{are_all_generated, end_count, has_misfit, kind_of, limit_of, start_count};
-use crate::draft::{Draft, NewApplication, NewColumn, draft_of};
+use crate::draft::{Draft, NewApplication, NewColumn, NewKey, draft_of};
+use crate::keys::{bound_keys, primary_count};
 use crate::names::{has_repeated_name, is_implied};
-use crate::periods::{
-    Periods, application_periods, first_application, first_system, system_periods,
-};
+use crate::periods::{application_periods, first_application, first_system, system_periods};
+use crate::references::bound_references;
 use std::alloc::AllocError;
 use tql_bind_expr::faults::Faults;
 use tql_bind_expr::texts::meant;
 use tql_catalog::catalog::Catalog;
-use tql_catalog::definition::Column;
+use tql_catalog::constraint::{Checks, Key, Reference};
+use tql_catalog::definition::{Application, Column, System};
 use tql_catalog::table_def::TableDef;
 use tql_memory::Memory;
 use tql_syntax_tree::statement::CreateTree;
 use tql_value::refusal::Refusal;
+
+/// The periods, keys and references of a new table, by the numbers of their columns, in the order of the statement.
+pub struct Parts {
+    pub applications: Vec<Application, Memory>,
+    pub systems: Vec<System, Memory>,
+    pub keys: Vec<Key, Memory>,
+    pub references: Vec<Reference, Memory>,
+}
+
+impl Drop for Parts {
+    fn drop(self) {
+        let Parts {
+            applications,
+            systems,
+            keys,
+            references,
+        } = self;
+        drop(applications);
+        drop(systems);
+        drop(keys);
+        drop(references);
+    }
+}
+
+impl Parts {
+    ghost use Rattle.std.specs.Prelude.{◌≡◌, [], IfOk, IsTrue, string_bytes};
+    ghost use Rattle.tql_catalog.specs.Defined.{are_constraints, is_definable};
+    ghost use Rattle.tql_bind_table.specs.NewTables.{table_of};
+
+    /// The definition, where these can be the parts of a table. The only error is a refused growth.
+    fn definition(
+        self,
+        memory: Memory,
+        name: String<Memory>,
+        draft: &Draft<'_>,
+    ) -> Result<TableDef, AllocError>
+        requires definable { let t = table_of (string_bytes name) draft.now self in IsTrue
+            (is_definable t.columns t.system t.application) }
+        requires constrained { let t = table_of (string_bytes name) draft.now self in IsTrue
+            (are_constraints t t.keys t.references []) }
+        ensures { IfOk result (λ d. d ≡ table_of (string_bytes name.entry) draft.now self) }
+    {
+        let Parts {
+            applications,
+            systems,
+            keys,
+            references,
+        } = self;
+        let columns = definitions(memory, &draft.columns, &draft.applications, &draft.keys)?;
+        let system = first_system(&systems);
+        let application = first_application(memory, &applications)?;
+        let table = TableDef::new(memory, name, columns, system, application)?;
+        Ok(table.with_constraints(keys, references, Checks::none(memory)))
+    }
+}
 
 /// Whether there are several periods of one sort.
 fn has_several(draft: &Draft<'_>) -> bool
@@ -54,6 +111,13 @@ fn has_wrong_ends(draft: &Draft<'_>) -> bool
 {
     start_count(&draft.columns) != draft.systems.len()
         || end_count(&draft.columns) != draft.systems.len()
+}
+
+/// Whether there are several primary keys.
+fn has_several_primaries(draft: &Draft<'_>) -> bool
+    ensures { result ≡ nat_lt 1 (primary_count_in (keys_in draft.now)) }
+{
+    1 < primary_count(&draft.keys)
 }
 
 /// Whether a thousand tables are there.
@@ -79,8 +143,7 @@ fn whole_faults(
     faults: &mut Faults,
 )
     ensures { Gathers (refuse_for
-        (whole_in (definitions_of tables.now) name.now (columns_in draft.now) (applications_in draft.now)
-        (systems_in draft.now) is_versioned))
+        (whole_in (definitions_of tables.now) name.now (written_of draft.now) is_versioned))
         faults.old faults.new tt }
 {
     faults.refuse_if(is_there(tables, name), Refusal::TableUnknownOrAlreadyThere);
@@ -99,24 +162,28 @@ fn whole_faults(
         Refusal::FormNotAllowedHere,
     );
     faults.refuse_if(has_wrong_ends(draft), Refusal::FormNotAllowedHere);
+    faults.refuse_if(has_several_primaries(draft), Refusal::FormNotAllowedHere);
     faults.refuse_if(is_full(tables), Refusal::TooManyTablesOrReaders);
 }
 
-/// The column of the definition: it takes no null where it is NOT NULL or a column of an application period.
+/// The column of the definition: it takes no null where it is NOT NULL or a column of an application period or of a
+/// primary key.
 fn definition_column(
     memory: Memory,
     column: &NewColumn<'_>,
     periods: &[NewApplication],
+    keys: &[NewKey],
 ) -> Result<Column, AllocError>
     ensures { IfOk result
         (λ c. catalog.column_of c
-        ≡ spec.column (implied_in (map application_part periods.now)) (column_of column.now)) }
+        ≡ spec.column (implied_in (map application_part periods.now) (map key_part keys.now))
+        (column_of column.now)) }
 {
     Ok(Column {
         name: column.name.clone()?,
         kind: kind_of(column.type_name),
         limit: limit_of(column.type_name),
-        is_required: column.is_required || is_implied(periods, &column.name),
+        is_required: column.is_required || is_implied(periods, keys, &column.name),
     })
 }
 
@@ -125,81 +192,79 @@ fn definitions(
     memory: Memory,
     columns: &[NewColumn<'_>],
     periods: &[NewApplication],
+    keys: &[NewKey],
 ) -> Result<Vec<Column, Memory>, AllocError>
     ensures { IfOk result
         (λ cs. map catalog.column_of cs.items
-        ≡ map (spec.column (implied_in (map application_part periods.now))) (map column_of columns.now)) }
+        ≡ map (spec.column (implied_in (map application_part periods.now) (map key_part keys.now)))
+        (map column_of columns.now)) }
 {
     let mut definitions = Vec::with_capacity(memory, columns.len())?;
     for column in columns {
-        definitions.push(definition_column(memory, column, periods)?)?;
+        definitions.push(definition_column(memory, column, periods, keys)?)?;
     }
     Ok(definitions)
 }
 
-/// The periods of a new table, with every fault of its definition.
-fn periods_of(
+/// The periods, keys and references of a new table, with every fault of its definition.
+fn parts_of(
     memory: Memory,
     tables: &Catalog,
     name: &str,
     draft: &Draft<'_>,
     is_versioned: bool,
     faults: &mut Faults,
-) -> Result<Periods, AllocError>
+) -> Result<Parts, AllocError>
     ensures { IfOk result
-        (λ p. Gathers (create_in (definitions_of tables.now) name.now (columns_in draft.now)
-        (applications_in draft.now) (systems_in draft.now) is_versioned)
+        (λ p. Gathers (create_in (definitions_of tables.now) name.now (written_of draft.now) is_versioned)
         faults.old faults.new (table_of name.now draft.now p)) }
 {
     whole_faults(tables, name, draft, is_versioned, faults);
     let applications = application_periods(memory, &draft.columns, &draft.applications, faults)?;
     let systems = system_periods(memory, &draft.columns, &draft.systems, faults)?;
-    Ok(Periods {
+    let keys = bound_keys(memory, draft, &applications, &draft.keys, faults)?;
+    let references = bound_references(
+        memory,
+        tables,
+        draft,
+        &applications,
+        &draft.references,
+        faults,
+    )?;
+    Ok(Parts {
         applications,
         systems,
+        keys,
+        references,
     })
 }
 
-/// The definition of columns and periods that can be those of a table. The only error is a refused growth.
-fn definition(
-    memory: Memory,
-    name: String<Memory>,
-    draft: &Draft<'_>,
-    periods: &Periods,
-) -> Result<TableDef, AllocError>
-    requires { let t = table_of (string_bytes name) draft.now periods.now in IsTrue
-        (is_definable t.columns t.system t.application) }
-    ensures { IfOk result (λ d. d ≡ table_of (string_bytes name.entry) draft.now periods.now) }
-{
-    let columns = definitions(memory, &draft.columns, &draft.applications)?;
-    let system = first_system(&periods.systems);
-    let application = first_application(memory, &periods.applications)?;
-    TableDef::new(memory, name, columns, system, application)
-}
-
-/// The definition that a CREATE TABLE of columns and periods gives. Refused are, the first of them: a table of that
-/// name is there; a name that stands twice among those of the columns and of the application periods, or a column of
-/// a period unknown; a length or a precision that is not allowed, columns of an application period that are not both
-/// DATE and not both TIMESTAMP, or a column of the system period that is no TIMESTAMP; a form not allowed (no column
-/// that a user can assign, several application periods or system periods, a period that names one column twice, an
-/// application period that names a generated column, a system period without WITH SYSTEM VERSIONING or the reverse,
-/// generated columns other than one ROW START and one ROW END that the system period names in that order); a thousand
-/// tables. Where memory runs out, that is the refusal.
+/// The definition that a CREATE TABLE without CHECK gives. Refused are, the first of them: a table of that name is
+/// there, or the parent of a reference is not; a name that stands twice among those of the columns and of the
+/// application periods, or in the list of a key or of a reference, and a column or a period unknown; a length or a
+/// precision that is not allowed, columns of an application period that are not both DATE and not both TIMESTAMP, a
+/// column of the system period that is no TIMESTAMP, or two sides of a reference whose types differ; a form not allowed
+/// (no column that a user can assign, several application periods, system periods or primary keys, a period that names
+/// one column twice, an application period, a key or a reference that names a generated column, a key or a reference
+/// that names a column of its own period, a reference that names a period on one side alone or columns that are no key
+/// of its parent, a system period without WITH SYSTEM VERSIONING or the reverse, generated columns other than one ROW
+/// START and one ROW END that the system period names in that order); a thousand tables. Where memory runs out, that is
+/// the refusal.
 pub fn new_table(
     memory: Memory,
     tables: &Catalog,
     create: &CreateTree<'_>,
 ) -> Result<TableDef, Refusal>
-    requires { IsTrue (does_run (create_of create.now)) }
+    requires { IsTrue (list_all is_unchecked (elements_in create.now)) }
     ensures { Binds CreateTable (bind (definitions_of tables.now) (create_of create.now)) result }
 {
     let name = meant(memory, create.table)?;
     let draft = draft_of(memory, create)?;
     let mut faults = Faults::none();
     let is_versioned = create.is_versioned;
-    let periods = periods_of(memory, tables, &name, &draft, is_versioned, &mut faults)?;
+    let parts = parts_of(memory, tables, &name, &draft, is_versioned, &mut faults)?;
     match faults.least() {
         Some(fault) => Err(fault),
-        None => Ok(definition(memory, name, &draft, &periods)?),
+        None => Ok(parts.definition(memory, name, &draft)?),
     }
 }

@@ -1,17 +1,19 @@
-//! The columns and the periods of a new table, under the names that are meant.
-ghost use Rattle.std.specs.Prelude.{◌≡◌, ◌++◌, ◌∷◌, [], Some, None, IfOk, OnOk};
-ghost use Rattle.tql_spec.specs.Creation.{columns_of, application_parts, system_parts};
+//! The columns, periods, keys and references of a new table, under the names that are meant.
+ghost use Rattle.std.specs.Prelude.{◌≡◌, ◌++◌, ◌∷◌, [], Some, None, IfOk, OnOk, map, option_map, string_bytes};
+ghost use Rattle.tql_spec.specs.Creation.{columns_of, application_parts, system_parts, constraints_of};
 ghost use Rattle.tql_syntax_tree.specs.Expressions.{name_of};
 ghost use Rattle.tql_syntax_tree.specs.Statements as tree;
 ghost use Rattle.tql_bind_table.specs.NewTables.{column_of, application_part, system_part, columns_in, applications_in};
-ghost use Rattle.tql_bind_table.specs.NewTables.{systems_in, elements_in};
+ghost use Rattle.tql_bind_table.specs.NewTables.{systems_in, elements_in, list_part, key_part, reference_part};
+ghost use Rattle.tql_bind_table.specs.NewTables.{keys_in, references_in, key_parts, reference_parts};
 
 use std::alloc::AllocError;
 use tql_bind_expr::texts::meant;
 use tql_memory::Memory;
 use tql_syntax_tree::expression::Name;
 use tql_syntax_tree::statement::{
-    ColumnTree, CreateTree, Element, Generated, PeriodTree, TypeName,
+    ColumnTree, Constraint, CreateTree, Element, ForeignTree, Generated, KeyTree, PeriodTree,
+    TypeName,
 };
 
 /// A column as it is written, under the name that is meant.
@@ -38,12 +40,37 @@ pub struct NewSystem {
     pub end: String<Memory>,
 }
 
-/// The columns and the periods of a new table, in the order of the statement.
+/// A list of columns as it is written, and its period, under the names that are meant.
+#[derive(Drop)]
+pub struct NewList {
+    pub columns: Vec<String<Memory>, Memory>,
+    pub period: Option<String<Memory>>,
+}
+
+/// A key as it is written, under the names that are meant.
+#[derive(Drop)]
+pub struct NewKey {
+    pub is_primary: bool,
+    pub list: NewList,
+}
+
+/// A reference as it is written, under the names that are meant: its columns, the table that it is to, and the columns
+/// there.
+#[derive(Drop)]
+pub struct NewReference {
+    pub child: NewList,
+    pub parent: String<Memory>,
+    pub named: NewList,
+}
+
+/// The columns, periods, keys and references of a new table, in the order of the statement.
 #[derive(Drop)]
 pub struct Draft<'a> {
     pub columns: Vec<NewColumn<'a>, Memory>,
     pub applications: Vec<NewApplication, Memory>,
     pub systems: Vec<NewSystem, Memory>,
+    pub keys: Vec<NewKey, Memory>,
+    pub references: Vec<NewReference, Memory>,
 }
 
 /// The column under the name that is meant.
@@ -93,6 +120,74 @@ fn new_system(memory: Memory, period: PeriodTree<'_>) -> Result<NewSystem, Alloc
     })
 }
 
+/// The names that are meant.
+fn meant_names(
+    memory: Memory,
+    first: Name<'_>,
+    more: &[Name<'_>],
+) -> Result<Vec<String<Memory>, Memory>, AllocError>
+    ensures { IfOk result (λ texts. map string_bytes texts.items ≡ name_of first.entry ∷ map name_of more.now) }
+{
+    let mut texts = Vec::new(memory);
+    texts.push(meant(memory, first)?)?;
+    for name in more {
+        texts.push(meant(memory, *name)?)?;
+    }
+    Ok(texts)
+}
+
+/// The name that is meant, where there is one.
+fn meant_name(memory: Memory, name: Option<Name<'_>>) -> Result<Option<String<Memory>>, AllocError>
+    ensures { IfOk result (λ text. option_map string_bytes text ≡ option_map name_of name.entry) }
+{
+    match name {
+        Some(name) => Ok(Some(meant(memory, name)?)),
+        None => Ok(None),
+    }
+}
+
+/// The list of these columns, with its period.
+fn new_list(
+    memory: Memory,
+    first: Name<'_>,
+    more: &[Name<'_>],
+    period: Option<Name<'_>>,
+) -> Result<NewList, AllocError>
+    ensures { IfOk result
+        (λ l. list_part l ≡ record {
+          columns = name_of first.entry ∷ map name_of more.now;
+          period = option_map name_of period.entry;
+        }) }
+{
+    Ok(NewList {
+        columns: meant_names(memory, first, more)?,
+        period: meant_name(memory, period)?,
+    })
+}
+
+/// The key under the names that are meant.
+fn new_key(memory: Memory, key: &KeyTree<'_>) -> Result<NewKey, AllocError>
+    ensures { IfOk result (λ k. key_part k ∷ [] ≡ key_parts (tree.key_of key.now ∷ [])) }
+{
+    Ok(NewKey {
+        is_primary: key.is_primary,
+        list: new_list(memory, key.first, &key.more, key.period)?,
+    })
+}
+
+/// The reference under the names that are meant.
+fn new_reference(memory: Memory, foreign: &ForeignTree<'_>) -> Result<NewReference, AllocError>
+    ensures { IfOk result (λ f. reference_part f ∷ [] ≡ reference_parts (tree.foreign_of foreign.now ∷ [])) }
+{
+    let child = &foreign.child;
+    let named = &foreign.parent;
+    Ok(NewReference {
+        child: new_list(memory, child.first, &child.more, child.period)?,
+        parent: meant(memory, foreign.table)?,
+        named: new_list(memory, named.first, &named.more, named.period)?,
+    })
+}
+
 impl<'a> Draft<'a> {
     /// Adds the period, where it has a name as an application period.
     fn add_period(&mut self, memory: Memory, period: PeriodTree<'_>) -> Result<(), AllocError>
@@ -102,6 +197,8 @@ impl<'a> Draft<'a> {
             ++ application_parts (tree.period_of period.entry ∷ [])) }
         ensures systems { OnOk result
             (systems_in self.new ≡ systems_in self.old ++ system_parts (tree.period_of period.entry ∷ [])) }
+        ensures keys { OnOk result (keys_in self.new ≡ keys_in self.old) }
+        ensures references { OnOk result (references_in self.new ≡ references_in self.old) }
     {
         match period.name {
             Some(name) => self
@@ -112,7 +209,32 @@ impl<'a> Draft<'a> {
         Ok(())
     }
 
-    /// Adds the element, where it is a column or a period.
+    /// Adds the constraint, where it is a key or a reference.
+    fn add_constraint(
+        &mut self,
+        memory: Memory,
+        constraint: &Constraint<'_>,
+    ) -> Result<(), AllocError>
+        ensures columns { OnOk result (columns_in self.new ≡ columns_in self.old) }
+        ensures applications { OnOk result (applications_in self.new ≡ applications_in self.old) }
+        ensures systems { OnOk result (systems_in self.new ≡ systems_in self.old) }
+        ensures keys { OnOk result
+            (keys_in self.new ≡ keys_in self.old ++ key_parts (tree.constraint_of constraint.now ∷ [])) }
+        ensures references { OnOk result
+            (references_in self.new ≡ references_in self.old
+            ++ reference_parts (tree.constraint_of constraint.now ∷ [])) }
+    {
+        match constraint {
+            Constraint::Key(key) => self.keys.push(new_key(memory, key)?)?,
+            Constraint::Foreign(foreign) => {
+                self.references.push(new_reference(memory, foreign)?)?
+            }
+            Constraint::Check(_) => {}
+        }
+        Ok(())
+    }
+
+    /// Adds the element, where it is no check.
     fn add(&mut self, memory: Memory, element: &Element<'a>) -> Result<(), AllocError>
         ensures columns { OnOk result
             (columns_in self.new ≡ columns_in self.old ++ columns_of (tree.element_of element.now ∷ [])) }
@@ -121,27 +243,38 @@ impl<'a> Draft<'a> {
             ++ application_parts (tree.element_of element.now ∷ [])) }
         ensures systems { OnOk result
             (systems_in self.new ≡ systems_in self.old ++ system_parts (tree.element_of element.now ∷ [])) }
+        ensures keys { OnOk result
+            (keys_in self.new ≡ keys_in self.old
+            ++ key_parts (constraints_of (tree.element_of element.now ∷ []))) }
+        ensures references { OnOk result
+            (references_in self.new ≡ references_in self.old
+            ++ reference_parts (constraints_of (tree.element_of element.now ∷ []))) }
     {
         match element {
             Element::Column(column) => self.columns.push(new_column(memory, *column)?)?,
             Element::Period(period) => self.add_period(memory, *period)?,
-            Element::Constraint(_) => {}
+            Element::Constraint(constraint) => self.add_constraint(memory, constraint)?,
         }
         Ok(())
     }
 }
 
-/// The columns and the periods of the statement. The only error is a refused growth.
-#[tactic(auto, using(crate::proofs::Drafts::columns_more, crate::proofs::Drafts::applications_more, crate::proofs::Drafts::systems_more))]
+/// The columns, periods, keys and references of the statement. The only error is a refused growth.
+#[tactic(auto, using(crate::proofs::Drafts::columns_more, crate::proofs::Drafts::applications_more, crate::proofs::Drafts::systems_more, crate::proofs::Drafts::keys_more, crate::proofs::Drafts::references_more))]
 pub fn draft_of<'a>(memory: Memory, create: &CreateTree<'a>) -> Result<Draft<'a>, AllocError>
     ensures columns { IfOk result (λ d. columns_in d ≡ columns_of (elements_in create.now)) }
     ensures applications { IfOk result (λ d. applications_in d ≡ application_parts (elements_in create.now)) }
     ensures systems { IfOk result (λ d. systems_in d ≡ system_parts (elements_in create.now)) }
+    ensures keys { IfOk result (λ d. keys_in d ≡ key_parts (constraints_of (elements_in create.now))) }
+    ensures references { IfOk result
+        (λ d. references_in d ≡ reference_parts (constraints_of (elements_in create.now))) }
 {
     let mut draft = Draft {
         columns: Vec::new(memory),
         applications: Vec::new(memory),
         systems: Vec::new(memory),
+        keys: Vec::new(memory),
+        references: Vec::new(memory),
     };
     draft.add(memory, &create.first)?;
     for element in &create.more {

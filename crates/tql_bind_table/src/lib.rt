@@ -4,5 +4,9 @@
 mod columns;
 pub mod create;
 mod draft;
+mod keys;
+mod lists;
 mod names;
+mod parents;
 mod periods;
+mod references;

@@ -1,15 +1,18 @@
 //! The names of a new table: those of its columns and of its application periods.
 ghost use Rattle.std.specs.Prelude.{◌≡◌, ◌++◌, map};
+ghost use Rattle.std.specs.List.{flat_map};
 ghost use Rattle.tql_spec.specs.Creation as spec;
+ghost use Rattle.tql_spec.specs.Creation.{part_names};
 ghost use Rattle.tql_bind_table.specs.NewTables.{column_of, application_part, names_in, names_of_periods, implied_in};
-ghost use Rattle.tql_bind_table.specs.NewTables.{columns_in, applications_in};
+ghost use Rattle.tql_bind_table.specs.NewTables.{columns_in, applications_in, key_part};
 
 use crate::columns::has_column;
-use crate::draft::{Draft, NewApplication, NewColumn};
+use crate::draft::{Draft, NewApplication, NewColumn, NewKey};
+use crate::keys::is_in_primary;
 use tql_bind_expr::texts::is_same_text;
 
 /// Whether an application period has this name.
-fn has_period(periods: &[NewApplication], name: &str) -> bool
+pub(crate) fn has_period(periods: &[NewApplication], name: &str) -> bool
     ensures { result ≡ spec.has_name name.now (names_of_periods (map application_part periods.now)) }
 {
     for period in periods {
@@ -57,8 +60,8 @@ pub fn has_repeated_name(draft: &Draft<'_>) -> bool
 }
 
 /// Whether a column of this name is one of an application period.
-pub fn is_implied(periods: &[NewApplication], name: &str) -> bool
-    ensures { result ≡ spec.has_name name.now (implied_in (map application_part periods.now)) }
+fn is_of_period(periods: &[NewApplication], name: &str) -> bool
+    ensures { result ≡ spec.has_name name.now (flat_map part_names (map application_part periods.now)) }
 {
     for period in periods {
         if is_same_text(name, &period.start) || is_same_text(name, &period.end) {
@@ -66,4 +69,13 @@ pub fn is_implied(periods: &[NewApplication], name: &str) -> bool
         }
     }
     false
+}
+
+/// Whether a column of this name is one of an application period or of a primary key.
+#[tactic(auto, using(crate::proofs::ListLaws::implied_by))]
+pub fn is_implied(periods: &[NewApplication], keys: &[NewKey], name: &str) -> bool
+    ensures { result ≡ spec.has_name name.now
+        (implied_in (map application_part periods.now) (map key_part keys.now)) }
+{
+    is_of_period(periods, name) || is_in_primary(keys, name)
 }

@@ -21,15 +21,8 @@ use tql_memory::Memory;
 use tql_value::refusal::Refusal;
 use tql_value::value::Kind;
 
-/// The periods of a new table, in the order of the statement.
-#[derive(Drop)]
-pub struct Periods {
-    pub applications: Vec<Application, Memory>,
-    pub systems: Vec<System, Memory>,
-}
-
 /// The number of the column of this name. A fault where there is none.
-fn column_number(columns: &[NewColumn<'_>], name: &str, faults: &mut Faults) -> usize
+pub(crate) fn column_number(columns: &[NewColumn<'_>], name: &str, faults: &mut Faults) -> usize
     ensures { Gathers (spec.column_number (names_in (map column_of columns.now)) name.now)
         faults.old faults.new result }
 {

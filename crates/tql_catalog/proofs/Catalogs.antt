@@ -3,7 +3,7 @@ use Rattle.std.proofs.Common.{◌≡◌, ◌≢◌, refl, ap, sym, ◌∙◌, �
 use Rattle.std.proofs.Common.{Some, None, ◌+◌, ◌<◌, length, map, arith, length-append}
 use Rattle.std.specs.Prelude.{◌||◌, String, string_bytes, string_eq, position, if◌then◌else◌, is_some, nat_le, remove}
 use Rattle.std.specs.Prelude.{slice_get, All, Option, option_map}
-use Rattle.std.specs.List.{position_from, list_any}
+use Rattle.std.specs.List.{position_from, list_any, list_all}
 use Rattle.std.specs.Map.{keys_of, values_of}
 use Rattle.std.specs.Str.{bytes_eq}
 use Rattle.std.proofs.lemmas.Bool.Decides.{nat_tests}
@@ -25,8 +25,10 @@ use Rattle.tql_spec.specs.Binding.{is_referenced}
 use Rattle.tql_spec.proofs.Constraints.{same_text-self}
 use Rattle.tql_value.specs.Refusals.{refusal_of}
 use Rattle.tql_value.specs.declared.refusal.Refusal.{Refusal}
-use Rattle.tql_catalog.specs.Tables.{definitions_of, IsFree, IsCatalog, IsByName, creation_faults}
+use Rattle.tql_catalog.specs.Tables.{definitions_of, IsFree, IsCatalog, IsByName, creation_faults, can_have}
+use Rattle.tql_catalog.specs.Tables.{have_parents}
 use Rattle.tql_catalog.specs.declared.catalog.Table.{Table}
+use Rattle.tql_catalog.proofs.Parents.{parents_more, parents_less}
 
 -- whether this is the table of the name
 abbrev is_called : Name → Table → Bool
@@ -129,8 +131,9 @@ no_fault_told defs n m o e f told = ap (λ (k : Name). first (creation_faults de
 -- with a table that shows no fault, under a number that is free
 pub one_more : (tables : List Table) (d : TableDef) (id : ℕ) → IsCatalog tables
     → first (creation_faults (definitions_of tables) d.name) ≡ None → IsFree id tables
+    → list_all (can_have (definitions_of tables)) d.references ≡ true
     → IsCatalog (tables ++ record { definition = d; id = id } ∷ [])
-one_more tables d id c f free =
+one_more tables d id c f free met =
     let table : Table = record { definition = d; id = id } in
     let none = no_fault (is_some (place_of d.name (definitions_of tables)))
     (nat_le 1000 (length (definitions_of tables))) f in
@@ -141,6 +144,8 @@ one_more tables d id c f free =
           (none_called d.name tables none.0);
       ids = all_pairs_push (λ (t u : Table). t.id ≢ u.id) tables table c.ids free;
       count = omega (arith, few, length-append tables (table ∷ []));
+      parents = ap (have_parents []) (map-append (λ (t : Table). t.definition) tables (table ∷ []))
+          ∙ parents_more [] (definitions_of tables) d c.parents met;
     }
 
 nothing_there : {X : Type 0} (o : Option X) → is_some o ≡ false → o ≡ None
@@ -173,11 +178,16 @@ by_name_more es k t named by_name =
 
 -- ---- a table taken out
 
-pub one_less : (tables : List Table) (i : ℕ) → i < length tables → IsCatalog tables → IsCatalog (remove tables i)
-one_less tables i l c = record {
+pub one_less : (tables : List Table) (i : ℕ) → i < length tables
+    → is_referenced (table_at (definitions_of tables) i).name (definitions_of tables) ≡ false → IsCatalog tables
+    → IsCatalog (remove tables i)
+one_less tables i l free c = record {
   names = all_pairs_remove (λ (t u : Table). t.definition.name ≢ u.definition.name) tables i l c.names;
   ids = all_pairs_remove (λ (t u : Table). t.id ≢ u.id) tables i l c.ids;
   count = omega (arith, c.count, length-remove tables i l);
+  parents = ap (have_parents []) (map-remove (λ (t : Table). t.definition) tables i)
+      ∙ parents_less [] (definitions_of tables) i
+      (omega (arith, l, length-map tables (λ (t : Table). t.definition))) free c.parents;
 }
 
 -- without the table at a place

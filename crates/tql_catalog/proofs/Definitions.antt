@@ -9,6 +9,10 @@ use Rattle.tql_spec.specs.Creation.{kinds_of, repeats, application_name}
 use Rattle.tql_catalog.specs.Defined.{IsDefinition, table_of_parts, is_definable, is_system_period}
 use Rattle.tql_catalog.specs.Defined.{is_application_period}
 use Rattle.tql_catalog.specs.Rows.{has_system}
+use Rattle.std.specs.List.{list_all}
+use Rattle.tql_spec.specs.Definition.{Key, Reference}
+use Rattle.tql_spec.specs.Expression.{Cond}
+use Rattle.tql_catalog.specs.Defined.{is_key, is_reference, is_check, are_constraints, with_constraints}
 
 and_left : (a b : Bool) → IsTrue (a && b) → IsTrue a
 and_left true b h = refl
@@ -32,6 +36,22 @@ right n cs s a h =
       keys = refl;
       references = refl;
       checks = refl;
+    }
+
+-- with constraints that can be those of the table it is right too
+pub constrained : (d : TableDef) (ks : List Key) (fs : List Reference) (cs : List Cond) → IsDefinition d
+    → IsTrue (are_constraints d ks fs cs) → IsDefinition (with_constraints d ks fs cs)
+constrained d ks fs cs r h =
+    let keys : Bool = list_all (is_key d) ks in
+    let references : Bool = list_all (is_reference d) fs in
+    let checks : Bool = list_all (is_check d) cs in
+    record {
+      columns = r.columns;
+      system = r.system;
+      application = r.application;
+      keys = and_left keys references (and_left (keys && references) checks h);
+      references = and_right keys references (and_left (keys && references) checks h);
+      checks = and_right (keys && references) checks h;
     }
 
 within : (kinds : List Kind) (s : Option System) → IsTrue (is_system_period kinds s)

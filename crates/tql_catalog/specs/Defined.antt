@@ -1,10 +1,14 @@
 -- What is true of the definition of each table, part by part.
-use Rattle.std.specs.Prelude.{◌≡◌, ℕ, Bool, true, false, not, ◌&&◌, ◌==◌, ◌++◌, nat_lt, IsTrue, List, [], map, length}
-use Rattle.std.specs.Prelude.{Option, Some, None, slice_index_or}
+use Rattle.std.specs.Prelude.{◌≡◌, ℕ, Bool, true, false, not, ◌&&◌, ◌||◌, ◌==◌, ◌++◌, nat_lt, IsTrue, List, [], map}
+use Rattle.std.specs.Prelude.{length, Option, Some, None, slice_index_or}
+use Rattle.std.specs.List.{list_all}
 use Rattle.tql_spec.specs.Datum.{Kind, Ints, Moments, same_kind}
-use Rattle.tql_spec.specs.Definition.{Name, Column, System, Application, TableDef}
-use Rattle.tql_spec.specs.Creation.{names_of, kinds_of, repeats, has_number, are_ends, application_name}
-use Rattle.tql_spec.specs.Binding.{generated_columns}
+use Rattle.tql_spec.specs.Expression.{Cond}
+use Rattle.tql_spec.specs.Definition.{Name, Column, System, Application, Key, Reference, TableDef}
+use Rattle.tql_spec.specs.Creation.{names_of, kinds_of, repeats, has_number, are_ends, application_name, has_expr}
+use Rattle.tql_spec.specs.Creation.{has_aggregate, uses_column}
+use Rattle.tql_spec.specs.Binding.{generated_columns, is_generated}
+use Rattle.tql_catalog.specs.Rows.{are_assignable}
 
 -- whether a column of this number is there and holds moments
 abbrev pub is_moment_at : List Kind → ℕ → Bool
@@ -47,17 +51,29 @@ HasSystemPeriod d = IsTrue (is_system_period (kinds_of d) d.system)
 abbrev pub HasApplicationPeriod : TableDef → Type 0
 HasApplicationPeriod d = IsTrue (is_application_period d.columns d.system d.application)
 
--- no table has one yet
+-- whether the columns of a key are columns of the table, none generated and none twice
+abbrev pub is_key : TableDef → Key → Bool
+is_key d k = are_assignable d k.columns
+
+-- whether the columns of a reference are such columns
+abbrev pub is_reference : TableDef → Reference → Bool
+is_reference d f = are_assignable d f.columns
+
+-- whether neither an aggregate nor a generated column stands in a check
+abbrev pub is_check : TableDef → Cond → Bool
+is_check d c = not (has_expr has_aggregate c || has_expr (uses_column (is_generated d)) c)
+
+-- each of its keys is one
 abbrev pub HasKeys : TableDef → Type 0
-HasKeys d = d.keys ≡ []
+HasKeys d = IsTrue (list_all (is_key d) d.keys)
 
--- no table has one yet
+-- each of its references is one
 abbrev pub HasReferences : TableDef → Type 0
-HasReferences d = d.references ≡ []
+HasReferences d = IsTrue (list_all (is_reference d) d.references)
 
--- no table has one yet
+-- each of its checks is one
 abbrev pub HasChecks : TableDef → Type 0
-HasChecks d = d.checks ≡ []
+HasChecks d = IsTrue (list_all (is_check d) d.checks)
 
 -- a definition whose parts are all right
 pub record IsDefinition (d : TableDef) : Type 0 where
@@ -68,7 +84,7 @@ pub record IsDefinition (d : TableDef) : Type 0 where
   pub references : HasReferences d
   pub checks : HasChecks d
 
--- ---- tables of columns and periods
+-- ---- tables of columns and periods, and their constraints
 
 -- such a table
 abbrev pub table_of_parts : Name → List Column → Option System → Option Application → TableDef
@@ -82,7 +98,16 @@ table_of_parts n cs s a = record {
   checks = [];
 }
 
--- whether they can be those of a table
+-- the table with these keys, references and checks in place of its own
+abbrev pub with_constraints : TableDef → List Key → List Reference → List Cond → TableDef
+with_constraints d ks fs cs = record d { keys = ks; references = fs; checks = cs }
+
+-- whether they can be those of the table
+abbrev pub are_constraints : TableDef → List Key → List Reference → List Cond → Bool
+are_constraints d ks fs cs =
+    list_all (is_key d) ks && list_all (is_reference d) fs && list_all (is_check d) cs
+
+-- whether columns and periods can be those of a table
 abbrev pub is_definable : List Column → Option System → Option Application → Bool
 is_definable cs s a =
     not (repeats (map (λ (c : Column). c.name) cs ++ application_name a)) && is_system_period

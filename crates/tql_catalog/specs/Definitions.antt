@@ -1,10 +1,15 @@
 -- The parts of definitions that those of the code stand for.
-use Rattle.std.specs.Prelude.{string_bytes}
+use Rattle.std.specs.Prelude.{List, map, string_bytes}
 use Rattle.tql_spec.specs.Definition as definition
+use Rattle.tql_spec.specs.Expression.{Cond}
 use Rattle.tql_value.specs.Views.{plain_kind}
+use Rattle.tql_expr.specs.Meaning.{cond}
 use Rattle.tql_catalog.specs.declared.definition.Column.{Column}
 use Rattle.tql_catalog.specs.declared.definition.System.{System}
 use Rattle.tql_catalog.specs.declared.definition.Application.{Application}
+use Rattle.tql_catalog.specs.declared.constraint.Key.{Key}
+use Rattle.tql_catalog.specs.declared.constraint.Reference.{Reference}
+use Rattle.tql_catalog.specs.declared.constraint.Checks.{Checks}
 
 -- the column
 abbrev pub column_of : Column → definition.Column
@@ -17,3 +22,20 @@ system_of s = record { start = s.start; end = s.end }
 -- the application period
 abbrev pub application_of : Application → definition.Application
 application_of a = record { name = string_bytes a.name; start = a.start; end = a.end }
+
+-- the key
+abbrev pub key_of : Key → definition.Key
+key_of k = record { columns = k.columns.items; by_period = k.by_period }
+
+-- the reference
+abbrev pub reference_of : Reference → definition.Reference
+reference_of f = record {
+  columns = f.columns.items;
+  by_period = f.by_period;
+  parent = string_bytes f.parent;
+  parent_columns = f.parent_columns.items;
+}
+
+-- the checks
+abbrev pub checks_of : Checks → List Cond
+checks_of c = map (cond c.terms) c.conditions.items

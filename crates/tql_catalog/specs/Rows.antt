@@ -49,3 +49,9 @@ numbers_repeat (i ∷ is) = has_number i is || numbers_repeat is
 abbrev pub are_assignable : TableDef → List ℕ → Bool
 are_assignable d is = list_all (λ i. nat_lt i (length d.columns) && not (is_generated d i)) is && not
     (numbers_repeat is)
+
+-- what stands in this column of a row of the table, whichever moments stand in the generated ones, is the cell of this
+-- number among those that are stored
+abbrev pub IsStoredAt : TableDef → ℕ → ℕ → Type 0
+IsStoredAt d i k = (cells : Row) (start end : ℤ) → length cells ≡ stored_width d
+    → cell (with_generated d.system cells start end) i ≡ cell cells k

@@ -1,11 +1,13 @@
 -- The tables that are there, in the order of their creation.
-use Rattle.std.specs.Prelude.{◌≡◌, ◌≢◌, ◌≤◌, refl, ℕ, ◌++◌, List, map, length, nat_le, is_some, String, string_bytes}
+use Rattle.std.specs.Prelude.{◌≡◌, ◌≢◌, ◌≤◌, refl, ℕ, ◌++◌, List, [], ◌∷◌, map, length, nat_le, is_some, String}
+use Rattle.std.specs.Prelude.{string_bytes, Bool, true, false, ◌&&◌, IsTrue}
 use Rattle.std.specs.Prelude.{All, Option, Some, None, Result, Ok, Err, ⊤}
-use Rattle.std.specs.List.{AllPairs}
+use Rattle.std.specs.List.{AllPairs, list_all}
 use Rattle.std.specs.Coded.{Coded, code_by, coded×, coded_ℕ, coded_list}
 use Rattle.tql_spec.specs.Refusal as spec
 use Rattle.tql_spec.specs.Refusal.{TooManyTablesOrReaders, TableUnknownOrAlreadyThere, fault_if}
-use Rattle.tql_spec.specs.Definition.{Name, TableDef, place_of}
+use Rattle.tql_spec.specs.Definition.{Name, TableDef, Reference, place_of, table_at}
+use Rattle.tql_spec.specs.Creation.{is_declared_key}
 use Rattle.tql_value.specs.Refusals.{refusal_of}
 use Rattle.tql_value.specs.declared.refusal.Refusal.{Refusal}
 use Rattle.tql_value.specs.declared.refusal.Refusal.TheVariants.{OutOfMemory}
@@ -28,11 +30,27 @@ definitions_of tables = map (λ (t : Table). t.definition) tables
 abbrev pub IsFree : ℕ → List Table → Type 0
 IsFree id tables = All (λ (t : Table). t.id ≢ id) tables
 
--- no two have one name, no two are kept at one number, and they are at most 1,000
+-- whether a table's columns there are a key of it, where the table is there
+abbrev pub has_key_at : List TableDef → Reference → Option ℕ → Bool
+has_key_at defs f None = false
+has_key_at defs f (Some p) = is_declared_key (table_at defs p) f.by_period f.parent_columns
+
+-- whether a new table can have this reference: it is to a key of one of the tables that are there
+abbrev pub can_have : List TableDef → Reference → Bool
+can_have defs f = has_key_at defs f (place_of f.parent defs)
+
+-- whether each reference of tables is to a key of a table before its own; these are before them all
+abbrev pub have_parents : List TableDef → List TableDef → Bool
+have_parents before [] = true
+have_parents before (d ∷ ds) = list_all (can_have before) d.references && have_parents (before ++ d ∷ []) ds
+
+-- no two have one name, no two are kept at one number, they are at most 1,000, and each reference is to a key of an
+-- earlier table
 pub record IsCatalog (tables : List Table) : Type 0 where
   pub names : AllPairs (λ (t u : Table). t.definition.name ≢ u.definition.name) tables
   pub ids : AllPairs (λ (t u : Table). t.id ≢ u.id) tables
   pub count : length tables ≤ 1000
+  pub parents : IsTrue (have_parents [] (definitions_of tables))
 
 -- what is kept under a text is the table of this name
 abbrev pub IsByName : {Z : Type 0} → List (String Z × Table) → Type 0

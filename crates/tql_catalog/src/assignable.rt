@@ -1,11 +1,13 @@
 //! The columns to which a user may give values, by their numbers from 0.
 ghost use Rattle.std.specs.Prelude.{◌≡◌, ◌++◌, ◌<◌, [], ◌∷◌, not, filter, length, option_map, IfOk, OnOk, true, ◌&&◌};
-ghost use Rattle.std.specs.Prelude.{nat_lt, false};
+ghost use Rattle.std.specs.Prelude.{nat_lt, false, IsTrue, ℤ, ◌+◌};
 ghost use Rattle.std.specs.List.{range_with_len, list_all};
 ghost use Rattle.tql_spec.specs.Creation.{has_number};
+ghost use Rattle.tql_spec.specs.Datum.{Row};
+ghost use Rattle.tql_spec.specs.Definition.{cell, with_generated};
 ghost use Rattle.tql_spec.specs.Binding.{generated_columns};
 ghost use Rattle.tql_catalog.specs.Definitions.{system_of};
-ghost use Rattle.tql_catalog.specs.Rows.{numbers_repeat};
+ghost use Rattle.tql_catalog.specs.Rows.{has_system, numbers_repeat};
 
 use crate::definition::System;
 use std::alloc::AllocError;
@@ -50,6 +52,25 @@ pub(crate) fn assignable_numbers(
         add_assignable(&mut numbers, system, number)?;
     }
     Ok(numbers)
+}
+
+/// The number that a column which is not generated has among the stored ones, from 0, in a table of so many columns.
+pub(crate) fn stored_number(width: usize, system: Option<System>, column: usize) -> usize
+    requires there { IsTrue (has_system (option_map system_of system) width) }
+    requires stored { has_number column (generated_columns (option_map system_of system)) ≡ false }
+    ensures { (cells : Row) (start end : ℤ)
+        → length cells + length (generated_columns (option_map system_of system)) ≡ width
+        → cell (with_generated (option_map system_of system) cells start end) column ≡ cell cells result }
+{
+    match system {
+        Some(system) => match (system.start < column, system.end < column) {
+            (false, false) => column,
+            (true, false) => column - 1,
+            (false, true) => column - 1,
+            (true, true) => column - 2,
+        },
+        None => column,
+    }
 }
 
 /// Whether a number stands twice.

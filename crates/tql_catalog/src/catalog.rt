@@ -1,13 +1,16 @@
 //! The tables that are there.
 ghost use Rattle.std.specs.Prelude.{◌≡◌, ◌≢◌, ◌↔◌, ◌<◌, ◌++◌, [], ◌∷◌, length, slice_get, All, IsTrue, OnOk, OnErr};
-ghost use Rattle.std.specs.Prelude.{Some, option_map, remove};
+ghost use Rattle.std.specs.Prelude.{Some, option_map, remove, false};
+ghost use Rattle.std.specs.List.{list_all};
 ghost use Rattle.std.specs.Option.{ForSome};
 ghost use Rattle.tql_spec.specs.Binding as binding;
 ghost use Rattle.tql_spec.specs.Definition as spec;
 ghost use Rattle.tql_spec.specs.Refusal.{first};
 ghost use Rattle.tql_value.specs.Refusals.{refusal_of};
-ghost use Rattle.tql_catalog.specs.Tables.{definitions_of, IsFree, IsCatalog, creation_faults, Tells};
+ghost use Rattle.tql_catalog.specs.Definitions.{reference_of};
+ghost use Rattle.tql_catalog.specs.Tables.{can_have, definitions_of, IsFree, IsCatalog, creation_faults, Tells};
 
+use crate::constraint::Reference;
 use crate::table_def::TableDef;
 use indexmap::IndexMap;
 use std::hash::{BuildHasherDefault, FoldHasher};
@@ -34,8 +37,8 @@ impl Drop for Table {
 type Tables = IndexMap<String<Memory>, Table, BuildHasherDefault<FoldHasher>, Memory>;
 
 /// The tables that are there, in the order of their creation: at most 1,000, each of a name and with a number of its
-/// own. Contracts see the list of them. A table is found by its name in a time that on average does not grow with
-/// their number.
+/// own; each reference of a table is to a key of an earlier one. Contracts see the list of them. A table is found by
+/// its name in a time that on average does not grow with their number.
 pub struct Catalog {
     tables: Tables,
 }
@@ -129,10 +132,35 @@ impl Catalog {
         }
     }
 
+    /// Whether each reference of a new table is to a key of a table that is there: it tests what `create` requires, for
+    /// hosts whose binder does not prove it.
+    pub fn can_hold(&self, definition: &TableDef) -> bool
+        ensures { result ≡ list_all (can_have (definitions_of self.now)) definition.now.references }
+    {
+        definition
+            .references()
+            .iter()
+            .all(|reference| self.has_key_of(reference))
+    }
+
+    /// Whether the parent of a reference is there, with the key that the reference is to.
+    fn has_key_of(&self, reference: &Reference) -> bool
+        ensures { result ≡ can_have (definitions_of self.now) (reference_of reference.now) }
+    {
+        match self.place_of(reference.parent.as_str()) {
+            Some(place) => self
+                .table(place)
+                .definition
+                .has_key(reference.by_period, &reference.parent_columns),
+            None => false,
+        }
+    }
+
     /// Adds a table behind the others, under a number that no other has. Refused, the first of them: a table of that
     /// name is there; 1,000 tables are there; memory. A refusal changes nothing.
     pub fn create(&mut self, definition: TableDef, id: TableId) -> Result<(), Refusal>
-        requires { IsFree id self.old }
+        requires free { IsFree id self.old }
+        requires parents { IsTrue (list_all (can_have (definitions_of self.old)) definition.references) }
         ensures created { OnOk result (self.new ≡ self.old ++ record { definition = definition; id = id } ∷ []) }
         ensures kept { OnErr result (self.new ≡ self.old) }
         ensures told { Tells (first (creation_faults (definitions_of self.old) definition.name)) result }
@@ -154,9 +182,11 @@ impl Catalog {
             .any(|table| table.definition.is_referring_to(name))
     }
 
-    /// Takes the table at a place out; the others stay in their order. Takes no memory.
+    /// Takes the table at a place out, which no reference names; the others stay in their order. Takes no memory.
     pub fn remove(&mut self, place: usize) -> Table
-        requires { place < length self.old }
+        requires within { place < length self.old }
+        requires unreferenced { binding.is_referenced (spec.table_at (definitions_of self.old) place).name
+            (definitions_of self.old) ≡ false }
         ensures taken { slice_get self.old place ≡ Some result }
         ensures others { self.new ≡ remove self.old place }
     {

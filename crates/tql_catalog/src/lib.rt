@@ -3,6 +3,7 @@
 
 mod assignable;
 pub mod catalog;
+pub mod constraint;
 mod definable;
 pub mod definition;
 pub mod table_def;

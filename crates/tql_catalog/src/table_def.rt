@@ -1,30 +1,42 @@
 //! The definition of a table.
-ghost use Rattle.std.specs.Prelude.{◌≡◌, ◌++◌, map, option_map, is_some, string_bytes, IsTrue, IfOk};
-ghost use Rattle.std.specs.List.{list_any};
+ghost use Rattle.std.specs.Prelude.{◌≡◌, ◌++◌, ◌<◌, false, length, map, option_map, is_some, string_bytes, IsTrue};
+ghost use Rattle.std.specs.Prelude.{IfOk};
+ghost use Rattle.std.specs.List.{list_any, list_all};
 ghost use Rattle.tql_spec.specs.Binding as binding;
+ghost use Rattle.tql_spec.specs.Creation.{has_expr, is_declared_key, uses_column};
 ghost use Rattle.tql_spec.specs.Definition.{no_table};
 ghost use Rattle.tql_spec.specs.Words.{same_text};
 ghost use Rattle.tql_catalog.specs.Defined as defined;
-ghost use Rattle.tql_catalog.specs.Defined.{IsDefinition, table_of_parts};
-ghost use Rattle.tql_catalog.specs.Definitions.{column_of, system_of, application_of};
+ghost use Rattle.tql_catalog.specs.Defined.{IsDefinition, table_of_parts, with_constraints};
+ghost use Rattle.tql_catalog.specs.Definitions.{column_of, system_of, application_of, key_of, reference_of};
+ghost use Rattle.tql_catalog.specs.Definitions.{checks_of};
 ghost use Rattle.tql_catalog.specs.Rows as rows;
+ghost use Rattle.tql_catalog.specs.Rows.{IsStoredAt};
+ghost use Rattle.tql_expr.specs.Meaning.{cond, HasCond};
 
-use crate::assignable::{are_open, assignable_numbers, has_repeated, is_generated};
+use crate::assignable::{are_open, assignable_numbers, has_repeated, is_generated, stored_number};
+use crate::constraint::{Checks, Key, Reference};
 use crate::definable::is_definable;
 use crate::definition::{Application, Column, System};
 use std::alloc::AllocError;
 use std::marker::Model;
+use tql_expr::search::Search;
+use tql_expr::terms::{CondId, Terms};
 use tql_memory::Memory;
 
-/// The definition of a table: its name, its columns, its system period where it is system-versioned, and its
-/// application period where it has one. No name stands twice among those of the columns and that of the application
-/// period; the generated columns are two columns of the table that hold moments; those of the application period are
-/// two others, which take no null and hold days, or moments.
+/// The definition of a table: its name, its columns, its system period where it is system-versioned, its application
+/// period where it has one, and its constraints. No name stands twice among those of the columns and that of the
+/// application period; the generated columns are two columns of the table that hold moments; those of the application
+/// period are two others, which take no null and hold days, or moments; a key or a reference lists columns of the table
+/// that are not generated, none of them twice; in no check stands an aggregate or a generated column.
 pub struct TableDef {
     name: String<Memory>,
     columns: Vec<Column, Memory>,
     system: Option<System>,
     application: Option<Application>,
+    keys: Vec<Key, Memory>,
+    references: Vec<Reference, Memory>,
+    checks: Checks,
     assignable: Vec<usize, Memory>,
 }
 
@@ -35,11 +47,17 @@ impl Drop for TableDef {
             columns,
             system: _,
             application,
+            keys,
+            references,
+            checks,
             assignable,
         } = self;
         drop(name);
         drop(columns);
         drop(application);
+        drop(keys);
+        drop(references);
+        drop(checks);
         drop(assignable);
     }
 }
@@ -49,20 +67,25 @@ impl Model for TableDef {
     ghost use Rattle.tql_spec.specs.Binding.{all_assignable};
     ghost use Rattle.tql_spec.specs.Definition as spec;
     ghost use Rattle.tql_catalog.specs.Codes.{table_def_code};
-    ghost use Rattle.tql_catalog.specs.Defined.{IsDefinition, table_of_parts};
-    ghost use Rattle.tql_catalog.specs.Definitions.{column_of, system_of, application_of};
+    ghost use Rattle.tql_catalog.specs.Defined.{IsDefinition, table_of_parts, with_constraints};
+    ghost use Rattle.tql_catalog.specs.Definitions.{column_of, system_of, application_of, key_of, reference_of};
+    ghost use Rattle.tql_catalog.specs.Definitions.{checks_of};
 
     ghost Value = { spec.TableDef };
 
     ghost coded = { table_def_code };
 
-    ghost view = { λ d. table_of_parts (string_bytes d.name) (map column_of d.columns.items)
+    ghost view = { λ d. with_constraints
+        (table_of_parts (string_bytes d.name) (map column_of d.columns.items)
         (option_map system_of d.system)
-        (option_map application_of d.application) };
+        (option_map application_of d.application))
+        (map key_of d.keys.items) (map reference_of d.references.items) (checks_of d.checks) };
 
     ghost invariant = { λ d.
-        let table = table_of_parts (string_bytes d.name) (map column_of d.columns.items) (option_map system_of d.system)
-        (option_map application_of d.application) in
+        let table = with_constraints
+        (table_of_parts (string_bytes d.name) (map column_of d.columns.items) (option_map system_of d.system)
+        (option_map application_of d.application))
+        (map key_of d.keys.items) (map reference_of d.references.items) (checks_of d.checks) in
         IsDefinition table × (d.assignable.items ≡ all_assignable table) };
 }
 
@@ -82,7 +105,7 @@ impl TableDef {
         is_definable(columns, system, application)
     }
 
-    /// The definition of a table, where its columns and its periods can be those of one table.
+    /// The definition of a table without constraints, where its columns and its periods can be those of one table.
     pub fn new(
         memory: Memory,
         name: String<Memory>,
@@ -103,8 +126,100 @@ impl TableDef {
             columns,
             system,
             application,
+            keys: Vec::new(memory),
+            references: Vec::new(memory),
+            checks: Checks::none(memory),
             assignable,
         })
+    }
+
+    /// Whether keys, references and checks can be those of the table: the columns of a key or of a reference are columns
+    /// of the table, none generated and none twice, and neither an aggregate nor a generated column stands in a check.
+    /// It tests what `with_constraints` requires, for hosts whose own binder does not prove it.
+    pub fn are_constraints(&self, keys: &[Key], references: &[Reference], checks: &Checks) -> bool
+        ensures { result ≡ defined.are_constraints self.now (map key_of keys.now) (map reference_of references.now)
+            (checks_of checks.now) }
+    {
+        self.are_keys(keys) && self.are_references(references) && self.are_checks(checks)
+    }
+
+    /// Whether the columns of each key are such columns.
+    fn are_keys(&self, keys: &[Key]) -> bool
+        ensures { result ≡ list_all (defined.is_key self.now) (map key_of keys.now) }
+    {
+        keys.iter().all(|key| self.are_assignable(&key.columns))
+    }
+
+    /// Whether the columns of each reference are such columns.
+    fn are_references(&self, references: &[Reference]) -> bool
+        ensures { result ≡ list_all (defined.is_reference self.now) (map reference_of references.now) }
+    {
+        references
+            .iter()
+            .all(|reference| self.are_assignable(&reference.columns))
+    }
+
+    /// Whether neither an aggregate nor a generated column stands in these checks.
+    fn are_checks(&self, checks: &Checks) -> bool
+        ensures { result ≡ list_all (defined.is_check self.now) (checks_of checks.now) }
+    {
+        checks
+            .conditions
+            .iter()
+            .all(|check| self.is_check(&checks.terms, *check))
+    }
+
+    /// Whether neither an aggregate nor a generated column stands in a condition.
+    fn is_check(&self, terms: &Terms, check: CondId) -> bool
+        requires { HasCond terms.now check }
+        ensures { result ≡ defined.is_check self.now (cond terms.now check) }
+    {
+        !(terms.finds_in(Search::Aggregate, check) || self.uses_generated(terms, check))
+    }
+
+    /// Whether a generated column stands outside the aggregates of a condition.
+    fn uses_generated(&self, terms: &Terms, check: CondId) -> bool
+        requires { HasCond terms.now check }
+        ensures { result ≡ has_expr (uses_column (binding.is_generated self.now)) (cond terms.now check) }
+    {
+        match self.system {
+            Some(system) => terms.finds_in(Search::OneOf(&[system.start, system.end]), check),
+            None => terms.finds_in(Search::OneOf(&[]), check),
+        }
+    }
+
+    /// The table with these keys, references and checks in place of its own.
+    pub fn with_constraints(
+        self,
+        keys: Vec<Key, Memory>,
+        references: Vec<Reference, Memory>,
+        checks: Checks,
+    ) -> TableDef
+        requires { IsTrue (defined.are_constraints self (map key_of keys.items) (map reference_of references.items)
+            (checks_of checks)) }
+        ensures { result ≡ with_constraints self (map key_of keys.entry.items)
+            (map reference_of references.entry.items) (checks_of checks) }
+    {
+        let TableDef {
+            name,
+            columns,
+            system,
+            application,
+            keys: _,
+            references: _,
+            checks: _,
+            assignable,
+        } = self;
+        TableDef {
+            name,
+            columns,
+            system,
+            application,
+            keys,
+            references,
+            checks,
+            assignable,
+        }
     }
 
     /// What stands in the place of a table that is not there: no name, no column. Takes no memory.
@@ -116,6 +231,9 @@ impl TableDef {
             columns: Vec::new(memory),
             system: None,
             application: None,
+            keys: Vec::new(memory),
+            references: Vec::new(memory),
+            checks: Checks::none(memory),
             assignable: Vec::new(memory),
         }
     }
@@ -127,13 +245,44 @@ impl TableDef {
         self.name.as_str()
     }
 
-    /// Whether a reference of this table names the table of this name. No table has references yet.
-    pub fn is_referring_to(&self, _name: &str) -> bool
-        ensures { result ≡ list_any (λ f. same_text _name.now f.parent) self.now.references }
+    /// Whether a reference of this table names the table of this name.
+    pub fn is_referring_to(&self, name: &str) -> bool
+        ensures { result ≡ list_any (λ f. same_text name.now f.parent) self.now.references }
     {
-        // a definition that is read is known to be right, and so to have none
-        let _definition = &self.columns;
-        false
+        self.references
+            .iter()
+            .any(|reference| reference.is_to(name))
+    }
+
+    /// Whether it has a key of these columns, in this order, that has WITHOUT OVERLAPS or not, as told.
+    pub fn has_key(&self, by_period: bool, columns: &[usize]) -> bool
+        ensures { result ≡ is_declared_key self.now by_period columns.now }
+    {
+        self.keys.iter().any(|key| key.is_of(by_period, columns))
+    }
+
+    /// The keys, in the order of their declaration.
+    pub fn keys(&self) -> &[Key]
+        ensures keys { map key_of result.now ≡ self.now.keys }
+        ensures right { IsDefinition self.now }
+    {
+        self.keys.as_slice()
+    }
+
+    /// The references, in the order of their declaration.
+    pub fn references(&self) -> &[Reference]
+        ensures references { map reference_of result.now ≡ self.now.references }
+        ensures right { IsDefinition self.now }
+    {
+        self.references.as_slice()
+    }
+
+    /// The checks, in the order of their declaration.
+    pub fn checks(&self) -> &Checks
+        ensures checks { checks_of result.now ≡ self.now.checks }
+        ensures right { IsDefinition self.now }
+    {
+        &self.checks
     }
 
     /// The columns, in order.
@@ -191,6 +340,15 @@ impl TableDef {
         ensures right { IsDefinition self.now }
     {
         self.assignable.as_slice()
+    }
+
+    /// The number that a column which is not generated has among the stored ones, from 0.
+    pub fn stored_number(&self, column: usize) -> usize
+        requires within { column < length self.now.columns }
+        requires stored { binding.is_generated self.now column ≡ false }
+        ensures { IsStoredAt self.now column result }
+    {
+        stored_number(self.columns.len(), self.system, column)
     }
 
     /// Whether a user may give values to the columns of these numbers: each is there, none is generated, and none

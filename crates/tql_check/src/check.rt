@@ -61,7 +61,7 @@ impl Responder for Checker {
 /// each answer to the sink. The source is pulled only where no whole statement is left, and where the sink has passed
 /// on all answers before. A device that fails ends the check as it ends a run, and a refused statement ends nothing;
 /// the listener is told of it. The summary counts the answers, and the refusals among them.
-pub fn check_script<I: Source, O: Sink, L: Listener>(
+pub fn check_script<I: Source<O>, O: Sink, L: Listener>(
     memory: Memory,
     source: &mut I,
     sink: &mut O,

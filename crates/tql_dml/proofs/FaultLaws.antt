@@ -3,26 +3,28 @@ use Rattle.std.specs.Prelude.{◌≡◌, refl, ℕ, zero, suc, ◌+◌, ◌<◌,
 use Rattle.std.specs.Prelude.{nat_lt, List, [], ◌∷◌, ◌++◌, map, length, insert, remove, slice_index_or, zip, Option}
 use Rattle.std.specs.Prelude.{Some, None, Vec, if◌then◌else◌}
 use Rattle.std.specs.List.{list_any, flat_map}
-use Rattle.std.proofs.Common.{sym, ap, ◌∙◌, arith, append_assoc}
-use Rattle.std.proofs.lemmas.List.{append-nil}
+use Rattle.std.proofs.Common.{sym, ap, ◌∙◌, arith, append_assoc, append-nil, drop, get_or}
+use Rattle.std.proofs.lemmas.List.{at_drop_more, drop_all}
 use Rattle.std.proofs.lemmas.List.Edits.{length-insert, length-remove}
 use borrow.Author.Tests.{ltb-true, ltb-false}
+use Rattle.tql_spec.specs.Words.{listed}
 use Rattle.tql_spec.specs.Datum.{Row, Moment, is_null}
-use Rattle.tql_spec.specs.Refusal.{Refusal, ValueOutOfRange, NullNotAllowed, PeriodNotRising, first, earlier, fault_if}
+use Rattle.tql_spec.specs.Refusal.{Refusal, ValueOutOfRange, NullNotAllowed, PeriodNotRising, first, fault_if}
 use Rattle.tql_spec.specs.Period.{rises}
 use Rattle.tql_spec.specs.Definition.{Column, System, Application, TableDef, Stamped, with_generated, shown, cell}
 use Rattle.tql_spec.specs.Definition.{period_by}
 use Rattle.tql_spec.specs.Calendar.{high}
-use Rattle.tql_spec.specs.Expression.{judge}
-use Rattle.tql_spec.specs.Change.{is_too_long, cell_faults, row_faults, period_faults, period_faults_by, check_fault}
+use Rattle.tql_spec.specs.Change.{is_too_long, cell_faults, row_faults, period_faults, period_faults_by}
+use Rattle.tql_spec.proofs.FirstFaults.{sooner, first_append}
 use Rattle.tql_catalog.specs.Defined.{IsDefinition}
-use Rattle.tql_catalog.proofs.Definitions.{has_its_system}
 use Rattle.tql_catalog.specs.Rows.{has_system}
-use Rattle.tql_value.specs.Views.{datum_of_value, row_of, rows_of}
+use Rattle.tql_catalog.proofs.Definitions.{has_its_system}
+use Rattle.tql_catalog.proofs.Kept.{kept, Within, within, two_less}
+use Rattle.tql_value.specs.Views.{datum_of_value, row_of}
 use Rattle.tql_value.specs.declared.value.Value.{Value}
-use Rattle.tql_dml.specs.Cells.{no_column, columns_at, stored_columns, has_long_text, lacks_a_value, falls, falls_by}
-use Rattle.tql_dml.specs.Cells.{has_falling_period, rows_faults}
-use Rattle.tql_dml.proofs.Kept.{kept, Within, within, two_less}
+use Rattle.tql_dml.specs.Cells.{no_column, columns_at, has_long_text, lacks_a_value, falls, falls_by, unstamped}
+use Rattle.tql_dml.specs.Cells.{faults_by}
+use Rattle.tql_dml.proofs.CheckLaws.{checks_law}
 use Rattle.tql_dml.proofs.Unstamped.{SameEnds, ends_stay}
 
 -- ---- the generated cells have no fault
@@ -89,106 +91,109 @@ same_fall (Some a) row other e = λ i. falls (e.start i) (e.end i)
 
 -- whichever moments stand in the generated columns
 period_law : (d : TableDef) (r : Stamped) → IsDefinition d → length r.cells ≡ length (kept d.system d.columns)
-    → period_faults d (shown d r) ≡ fault_if (has_falling_period d r.cells) PeriodNotRising
+    → period_faults d (shown d r) ≡ fault_if (falls_by d.application (unstamped d r.cells)) PeriodNotRising
 period_law d r h k =
     falls_as d.application d (shown d r) refl
     ∙ ap (λ b. fault_if b PeriodNotRising)
-    (same_fall d.application (shown d r) (with_generated d.system r.cells (pos 0) high)
-    (ends_stay d r.cells r.start high (pos 0) high h k))
+    (same_fall d.application (shown d r) (unstamped d r.cells) (ends_stay d r.cells r.start high (pos 0) high h k))
 
 -- the faults of a row of a table are those of its stored cells
 pub plain_faults : (d : TableDef) (r : Stamped) → IsDefinition d → length r.cells ≡ length (kept d.system d.columns)
-    → row_faults d (shown d r) ≡ cell_faults (kept d.system d.columns) r.cells ++ fault_if
-    (has_falling_period d r.cells) PeriodNotRising
+    → row_faults d (shown d r) ≡ faults_by (kept d.system d.columns) d.checks d r.cells
 plain_faults d r h k =
-    let row : Row = shown d r in
-    let faults : List Refusal = cell_faults d.columns row ++ period_faults d row in
-    let plain : row_faults d row ≡ faults ++ [] =
-    λ i. faults ++ flat_map (λ c. check_fault (judge [] row c)) (h.checks i) in
-    plain ∙ append-nil faults
-    ∙ (λ i. shown_law d.system d.columns r.cells r.start high (has_its_system d h) k i ++ period_law d r h k i)
+    let cells = shown_law d.system d.columns r.cells r.start high (has_its_system d h) k in
+    λ i. cells i ++ period_law d r h k i ++ checks_law d r h k i
 
--- ---- the first fault
+-- ---- the first fault of a row's cells
 
--- which fault comes first, where a text is too long, a value is missing, or a period falls
-abbrev pub verdict : Bool → Bool → Bool → Option Refusal
-verdict true b c = Some ValueOutOfRange
-verdict false true c = Some NullNotAllowed
-verdict false false true = Some PeriodNotRising
-verdict false false false = None
+-- by whether some text is too long, and whether some value is missing
+abbrev pub verdict : Bool → Bool → Option Refusal
+verdict true b = Some ValueOutOfRange
+verdict false true = Some NullNotAllowed
+verdict false false = None
 
--- a fault where it is present, before another
-abbrev among : Bool → Refusal → Option Refusal → Option Refusal
-among true e o = Some (earlier e o)
-among false e o = o
+one_cell : (p q a b : Bool)
+    → sooner (first (fault_if p ValueOutOfRange ++ fault_if q NullNotAllowed)) (verdict a b)
+    ≡ verdict (p || a) (q || b)
+one_cell true true true b = refl
+one_cell true true false true = refl
+one_cell true true false false = refl
+one_cell true false true b = refl
+one_cell true false false true = refl
+one_cell true false false false = refl
+one_cell false true true b = refl
+one_cell false true false true = refl
+one_cell false true false false = refl
+one_cell false false a b = refl
 
-one_more_long : (p a b c : Bool) → among p ValueOutOfRange (verdict a b c) ≡ verdict (p || a) b c
-one_more_long false a b c = refl
-one_more_long true true b c = refl
-one_more_long true false true c = refl
-one_more_long true false false true = refl
-one_more_long true false false false = refl
-
-one_more_missing : (p a b c : Bool) → among p NullNotAllowed (verdict a b c) ≡ verdict a (p || b) c
-one_more_missing false a b c = refl
-one_more_missing true true b c = refl
-one_more_missing true false true c = refl
-one_more_missing true false false true = refl
-one_more_missing true false false false = refl
-
-one_more_falling : (p a b c : Bool) → among p PeriodNotRising (verdict a b c) ≡ verdict a b (p || c)
-one_more_falling false a b c = refl
-one_more_falling true true b c = refl
-one_more_falling true false true c = refl
-one_more_falling true false false true = refl
-one_more_falling true false false false = refl
-
-first_among : (p : Bool) (e : Refusal) (rest : List Refusal) → first (fault_if p e ++ rest) ≡ among p e (first rest)
-first_among true e rest = refl
-first_among false e rest = refl
-
-one_cell : (p q a b c : Bool) (rest : List Refusal) → first rest ≡ verdict a b c
-    → first (fault_if p ValueOutOfRange ++ fault_if q NullNotAllowed ++ rest) ≡ verdict (p || a) (q || b) c
-one_cell p q a b c rest h =
-    ap first (append_assoc (fault_if p ValueOutOfRange) (fault_if q NullNotAllowed) rest)
-    ∙ first_among p ValueOutOfRange (fault_if q NullNotAllowed ++ rest)
-    ∙ ap (among p ValueOutOfRange) (first_among q NullNotAllowed rest ∙ ap (among q NullNotAllowed) h
-    ∙ one_more_missing q a b c)
-    ∙ one_more_long p a (q || b) c
-
-or_assoc : (a b c : Bool) → a || (b || c) ≡ (a || b) || c
-or_assoc true b c = refl
-or_assoc false b c = refl
-
-one_row : (cs : List Column) (row : Row) (a b c : Bool) (rest : List Refusal) → first rest ≡ verdict a b c
-    → first (cell_faults cs row ++ rest) ≡ verdict (has_long_text cs row || a) (lacks_a_value cs row || b) c
-one_row [] row a b c rest h = h
-one_row (k ∷ ks) [] a b c rest h = h
-one_row (k ∷ ks) (v ∷ vs) a b c rest h =
+pub cells_first : (cs : List Column) (row : Row)
+    → first (cell_faults cs row) ≡ verdict (has_long_text cs row) (lacks_a_value cs row)
+cells_first [] row = refl
+cells_first (k ∷ ks) [] = refl
+cells_first (k ∷ ks) (v ∷ vs) =
     let p = is_too_long k.limit v in
     let q = k.required && is_null v in
-    ap first (append_assoc (fault_if p ValueOutOfRange ++ fault_if q NullNotAllowed) (cell_faults ks vs) rest)
-    ∙ one_cell p q (has_long_text ks vs || a) (lacks_a_value ks vs || b) c (cell_faults ks vs ++ rest)
-    (one_row ks vs a b c rest h)
-    ∙ (λ i. verdict (or_assoc p (has_long_text ks vs) a i) (or_assoc q (lacks_a_value ks vs) b i) c)
+    let here : List Refusal = fault_if p ValueOutOfRange ++ fault_if q NullNotAllowed in
+    first_append here (cell_faults ks vs) ∙ ap (sooner (first here)) (cells_first ks vs)
+    ∙ one_cell p q (has_long_text ks vs) (lacks_a_value ks vs)
 
--- the first fault of rows
-pub first_law : (d : TableDef) (rows : List Row)
-    → first (rows_faults d rows)
-    ≡ verdict (list_any (has_long_text (stored_columns d)) rows) (list_any (lacks_a_value (stored_columns d)) rows)
-    (list_any (has_falling_period d) rows)
-first_law d [] = refl
-first_law d (row ∷ rows) =
-    let cs : List Column = stored_columns d in
-    let a : Bool = list_any (has_long_text cs) rows in
-    let b : Bool = list_any (lacks_a_value cs) rows in
-    let c : Bool = list_any (has_falling_period d) rows in
-    let p : Bool = has_falling_period d row in
-    let falling : first (fault_if p PeriodNotRising ++ rows_faults d rows) ≡ verdict a b (p || c) =
-    first_among p PeriodNotRising (rows_faults d rows) ∙ ap (among p PeriodNotRising) (first_law d rows)
-    ∙ one_more_falling p a b c in
-    ap first (append_assoc (cell_faults cs row) (fault_if p PeriodNotRising) (rows_faults d rows))
-    ∙ one_row cs row a b (p || c) (fault_if p PeriodNotRising ++ rows_faults d rows) falling
+-- what the two tests say, of the columns as the code has them
+pub verdict_is : (cs stored : List Column) (row : Row) (a b : Bool) → cs ≡ stored → a ≡ has_long_text cs row
+    → b ≡ lacks_a_value cs row → verdict a b ≡ first (cell_faults stored row)
+verdict_is cs stored row a b is e f =
+    (λ i. verdict (e i) (f i)) ∙ sym (cells_first cs row) ∙ ap (λ ks. first (cell_faults ks row)) is
+
+-- ---- the first fault of lists one behind the other
+
+first_listed : (o : Option Refusal) → first (listed o) ≡ o
+first_listed None = refl
+first_listed (Some e) = refl
+
+-- their first faults stand for them
+pub first_of_both : (xs ys : List Refusal) (o p : Option Refusal) → o ≡ first xs → p ≡ first ys
+    → first (listed o ++ listed p) ≡ first (xs ++ ys)
+first_of_both xs ys o p e f =
+    first_append (listed o) (listed p)
+    ∙ (λ i. sooner ((first_listed o ∙ e) i) ((first_listed p ∙ f) i))
+    ∙ sym (first_append xs ys)
+
+-- what was found so far stands before what is left
+abbrev pub Finds : {X Y : Type 0} → (Y → List Refusal) → (X → Y) → List X → Option Refusal → ℕ → Type 0
+Finds f g xs found i =
+    first (listed found ++ flat_map f (map g (drop i xs))) ≡ first (flat_map f (map g xs))
+
+-- one more is found, at an index
+pub find_at : {X Y : Type 0} (f : Y
+    → List Refusal) (g : X → Y) (xs : List X) (i : ℕ) (x : X) (found here next : Option Refusal)
+    → i < length xs → here ≡ first (f (g (get_or xs i x))) → next ≡ first (listed found ++ listed here)
+    → Finds f g xs found i → Finds f g xs next (i + 1)
+find_at f g xs i x found here next inside h n l =
+    let now : List Refusal = f (g (get_or xs i x)) in
+    let rest : List Refusal = flat_map f (map g (drop (i + 1) xs)) in
+    let both : first (listed found ++ listed here) ≡ first (listed found ++ now) =
+    first_of_both (listed found) now found here (sym (first_listed found)) h in
+    first_append (listed next) rest
+    ∙ ap (λ o. sooner o (first rest)) (first_listed next ∙ n ∙ both)
+    ∙ sym (first_append (listed found ++ now) rest)
+    ∙ ap first (append_assoc (listed found) now rest)
+    ∙ sym (at_drop_more (λ ys. first (listed found ++ flat_map f (map g ys))) xs i x inside)
+    ∙ l
+
+-- one more is found, which stands there
+pub find_one : {X Y : Type 0} (f : Y
+    → List Refusal) (g : X → Y) (xs : List X) (i : ℕ) (x : X) (found here next : Option Refusal)
+    → i < length xs → x ≡ get_or xs i x → here ≡ first (f (g x)) → next ≡ first (listed found ++ listed here)
+    → Finds f g xs found i → Finds f g xs next (i + 1)
+find_one f g xs i x found here next inside is h n l =
+    find_at f g xs i x found here next inside (h ∙ ap (λ y. first (f (g y))) is) n l
+
+-- none is left
+pub found_all : {X Y : Type 0} (f : Y
+    → List Refusal) (g : X → Y) (xs : List X) (i : ℕ) (found : Option Refusal) → length xs ≤ i
+    → Finds f g xs found i → found ≡ first (flat_map f (map g xs))
+found_all f g xs i found past l =
+    sym (first_listed found) ∙ ap first (sym (append-nil (listed found)))
+    ∙ ap (λ ys. first (listed found ++ flat_map f (map g ys))) (sym (drop_all i xs past)) ∙ l
 
 -- ---- cells with the numbers of their columns
 
@@ -208,56 +213,6 @@ lacking_by_number cs (i ∷ is) [] = refl
 lacking_by_number cs (i ∷ is) (v ∷ vs) =
     ap (λ b. ((slice_index_or cs i no_column).required && is_null (datum_of_value v)) || b) (lacking_by_number cs is vs)
 
--- a test of rows, told of their data
-pub any_of_rows : {A : Type 0} (test : Row → Bool) (rows : List A) (data_of : A → Row)
-    → list_any (λ r. test (data_of r)) rows ≡ list_any test (map data_of rows)
-any_of_rows test [] f = refl
-any_of_rows test (r ∷ rs) f = ap (λ b. test (f r) || b) (any_of_rows test rs f)
-
 -- the data of a row
 abbrev pub cells_in : {A : Type 0} → Vec Value A → Row
 cells_in row = row_of row.items
-
--- what a test of each row says of their data
-pub long_rows : {A : Type 0} (cs : List Column) (rows : List (Vec Value A)) (b : Bool)
-    → b ≡ list_any (λ r. has_long_text cs (cells_in r)) rows → list_any (has_long_text cs) (rows_of rows) ≡ b
-long_rows cs rows b e = sym (e ∙ any_of_rows (has_long_text cs) rows cells_in)
-
-pub lacking_rows : {A : Type 0} (cs : List Column) (rows : List (Vec Value A)) (b : Bool)
-    → b ≡ list_any (λ r. lacks_a_value cs (cells_in r)) rows → list_any (lacks_a_value cs) (rows_of rows) ≡ b
-lacking_rows cs rows b e = sym (e ∙ any_of_rows (lacks_a_value cs) rows cells_in)
-
-pub first_is : (d : TableDef) (cs : List Column) (rows : List Row) (a b c : Bool) → cs ≡ stored_columns d
-    → list_any (has_long_text cs) rows ≡ a → list_any (lacks_a_value cs) rows ≡ b
-    → list_any (has_falling_period d) rows ≡ c → verdict a b c ≡ first (rows_faults d rows)
-first_is d cs rows a b c is e f g =
-    sym (first_law d rows
-    ∙ (λ i. verdict (list_any (has_long_text (sym is i)) rows) (list_any (lacks_a_value (sym is i)) rows) (g i))
-    ∙ (λ i. verdict (e i) (f i) c))
-
-pub long_is_first : (d : TableDef) (cs : List Column) (rows : List Row) → cs ≡ stored_columns d
-    → list_any (has_long_text cs) rows ≡ true → Some ValueOutOfRange ≡ first (rows_faults d rows)
-long_is_first d cs rows is e =
-    first_is d cs rows true (list_any (lacks_a_value cs) rows) (list_any (has_falling_period d) rows) is e refl refl
-
-pub lacking_is_first : (d : TableDef) (cs : List Column) (rows : List Row) → cs ≡ stored_columns d
-    → list_any (has_long_text cs) rows ≡ false → list_any (lacks_a_value cs) rows ≡ true
-    → Some NullNotAllowed ≡ first (rows_faults d rows)
-lacking_is_first d cs rows is e f = first_is d cs rows false true (list_any (has_falling_period d) rows) is e f refl
-
--- ---- rows with falling periods
-
--- a table without an application period
-pub none_falls : (d : TableDef) (rows : List Row) → d.application ≡ None → false ≡ list_any (has_falling_period d) rows
-none_falls d [] e = refl
-none_falls d (row ∷ rows) e =
-    none_falls d rows e ∙ ap
-    (λ o. falls_by o (with_generated d.system row (pos 0) high) || list_any (has_falling_period d) rows) (sym e)
-
--- one with this period
-pub some_falls : {A : Type 0} (d : TableDef) (a : Application) (rows : List (Vec Value A)) → d.application ≡ Some a
-    → list_any (λ r. falls_by (Some a) (with_generated d.system (cells_in r) (pos 0) high)) rows ≡ list_any
-    (has_falling_period d) (rows_of rows)
-some_falls d a [] e = refl
-some_falls d a (row ∷ rows) e =
-    λ i. falls_by (sym e i) (with_generated d.system (cells_in row) (pos 0) high) || some_falls d a rows e i

@@ -20,7 +20,7 @@ use Rattle.tql_expr.proofs.Printing.{printable_cell}
 use Rattle.tql_value.specs.Views.{datum_of_value, row_of, rows_of}
 use Rattle.tql_value.specs.declared.value.Value.{Value}
 use Rattle.tql_dml.specs.Cells.{stored_cells}
-use Rattle.tql_dml.proofs.Kept.{kept, kept_law, and_left, and_right, not_is}
+use Rattle.tql_catalog.proofs.Kept.{kept, kept_law, and_left, and_right, not_is}
 
 pub length-filled : (row : Row) (js : List ℕ) (vs : Row) → length (filled row js vs) ≡ length row
 length-filled row [] vs = refl

@@ -5,14 +5,14 @@ use Rattle.std.proofs.Common.{sym, ap, ◌∙◌}
 use Rattle.std.proofs.lemmas.List.{length-map}
 use Rattle.tql_spec.specs.Datum.{Row}
 use Rattle.tql_spec.specs.Refusal as spec
-use Rattle.tql_spec.specs.Refusal.{PeriodNotRising, first, fault_if}
+use Rattle.tql_spec.specs.Refusal.{first}
 use Rattle.tql_spec.specs.Definition.{TableDef, Stamped, stamped, shown}
-use Rattle.tql_spec.specs.Change.{row_faults, new_row, cell_faults}
+use Rattle.tql_spec.specs.Change.{row_faults, new_row}
 use Rattle.tql_spec.specs.Binding.{all_assignable}
 use Rattle.tql_catalog.specs.Defined.{IsDefinition}
 use Rattle.tql_catalog.proofs.Definitions.{has_its_system}
-use Rattle.tql_dml.specs.Cells.{no_column, stored_columns, stored_cells, has_falling_period, stored_faults, rows_faults}
-use Rattle.tql_dml.proofs.Kept.{kept, kept_law}
+use Rattle.tql_dml.specs.Cells.{no_column, stored_columns, stored_cells, faults_by, stored_faults, rows_faults}
+use Rattle.tql_catalog.proofs.Kept.{kept, kept_law}
 use Rattle.tql_dml.proofs.FaultLaws.{plain_faults}
 use Rattle.tql_dml.proofs.Filling.{length-stored}
 
@@ -41,8 +41,7 @@ one_row d m js vs s =
     let wide : length (stored_cells d js vs) ≡ length (kept d.system d.columns) = length-stored d js vs s
     ∙ sym (length-map (all_assignable d) _) ∙ ap length (sym (kept_columns d s)) in
     plain_faults d (stamped d m (new_row d js vs)) s wide
-    ∙ ap (λ cs. cell_faults cs (stored_cells d js vs) ++ fault_if (has_falling_period d (stored_cells d js vs))
-    PeriodNotRising) (kept_columns d s)
+    ∙ ap (λ cs. faults_by cs d.checks d (stored_cells d js vs)) (kept_columns d s)
 
 faults_are : (d : TableDef) (m : ℤ) (js : List ℕ) (tuples : List Row) → IsDefinition d
     → new_faults d m js tuples ≡ rows_faults d (map (stored_cells d js) tuples)

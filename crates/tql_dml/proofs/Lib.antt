@@ -1,5 +1,5 @@
-pub mod Kept
 pub mod Unstamped
+pub mod CheckLaws
 pub mod FaultLaws
 pub mod Filling
 pub mod Removals

@@ -1,5 +1,5 @@
 -- What a modification makes of the rows of a table, from what it made of the versions that were read.
-use Rattle.std.proofs.Common.{◌≡◌, refl, ap, sym, subst, ◌∙◌, ℕ, Bool, true, false, List, [], ◌∷◌, ◌++◌, map, filter}
+use Rattle.std.proofs.Common.{◌≡◌, refl, ap, sym, subst, ◌∙◌, Bool, true, false, List, [], ◌∷◌, ◌++◌, map, filter}
 use Rattle.std.proofs.Common.{cond, Option, Some, None}
 use Rattle.std.specs.Prelude.{ℤ, not}
 use Rattle.std.proofs.lemmas.List.{map-append}
@@ -11,7 +11,7 @@ use Rattle.tql_spec.specs.Period.{Period}
 use Rattle.tql_spec.specs.Refusal.{first}
 use Rattle.tql_spec.specs.Definition.{Stamped, TableDef, shown, stamped}
 use Rattle.tql_spec.specs.Expression.{Cond}
-use Rattle.tql_spec.specs.Change.{Outcome, Fate, Untouched, Replaced, Work, fate, fate_where, made_of, pieces}
+use Rattle.tql_spec.specs.Change.{Fate, Untouched, Replaced, Work, fate, fate_where, made_of, pieces}
 use Rattle.tql_spec.specs.Change.{is_touched, after_fates, new_rows, outcome_of, modify}
 use Rattle.tql_spec.specs.ChangeLaws.{goes, SameOutcome, ChangesKeepNoOrder, ChangesByParts}
 use Rattle.tql_store.specs.Changes.{starting, rows_after}

@@ -1,12 +1,12 @@
 -- What a change of a portion makes of a row has values that have texts: each part's period lies within the row's.
-use Rattle.std.specs.Prelude.{◌≡◌, refl, ℕ, ℤ, ◌≤ℤ◌, Bool, true, false, IsTrue, List, [], ◌∷◌, ◌++◌, map, All, Option}
+use Rattle.std.specs.Prelude.{◌≡◌, refl, ℤ, ◌≤ℤ◌, Bool, true, false, IsTrue, List, [], ◌∷◌, ◌++◌, map, All, Option}
 use Rattle.std.specs.Prelude.{Some, None, if◌then◌else◌}
 use Rattle.std.proofs.Common.{sym, ap, subst, ◌∙◌, arith, inl, inr}
 use Rattle.std.proofs.lemmas.Int.{ints, clamps}
 use Rattle.std.proofs.lemmas.List.Elements.{All-set}
 use Rattle.tql_spec.specs.Bag.{In}
 use Rattle.tql_spec.specs.Creation.{kinds_of, are_ends}
-use Rattle.tql_spec.specs.Datum.{Datum, Row, Kind, Ints, Texts, Days, Moments, Day, Moment}
+use Rattle.tql_spec.specs.Datum.{Row, Kind, Ints, Texts, Days, Moments}
 use Rattle.tql_spec.specs.Definition.{TableDef, Application, cell, period_of, point_like, with_period, with_period_by}
 use Rattle.tql_spec.specs.Change.{Work, made_of, pieces}
 use Rattle.tql_spec.specs.Period.{Period, rises, share_a_point, before, inside, after, if_any}

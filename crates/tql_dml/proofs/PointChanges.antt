@@ -1,30 +1,24 @@
 -- What is given of a table is, at each point, what the change as the point is given it makes of the slice.
 use Rattle.std.proofs.Common.{◌≡◌, refl, sym, ap, subst, ◌∙◌, ℕ, Bool, true, false, List, [], ◌∷◌, ◌++◌, map, filter}
 use Rattle.std.proofs.Common.{cond, inl, inr}
-use Rattle.std.specs.Prelude.{ℤ, not, ◌&&◌, IsTrue, Option, Some, None, Result, Ok, Err, IfOk}
-use Rattle.std.specs.List.{list_all, sum_by}
-use Rattle.tql_spec.specs.Words.{map_all}
+use Rattle.std.specs.Prelude.{ℤ, not, Option, Some, None, Result, Ok, Err, IfOk}
+use Rattle.std.specs.List.{sum_by}
 use Rattle.tql_spec.specs.Bag.{In, SameBag}
 use Rattle.tql_spec.specs.Datum.{Row}
 use Rattle.tql_spec.specs.Refusal.{first}
-use Rattle.tql_spec.specs.Expression.{eval}
 use Rattle.tql_spec.specs.Definition.{TableDef, Stamped, shown, stamped}
 use Rattle.tql_spec.specs.Creation.{has_number}
-use Rattle.tql_spec.specs.Change.{Fate, after_fates, new_rows, outcome_of, is_touched, insert, modify, new_row}
-use Rattle.tql_spec.specs.ChangeLaws.{ChangesKeepNoOrder, ChangesByParts}
+use Rattle.tql_spec.specs.Change.{Fate, after_fates, new_rows, outcome_of, insert, new_row}
 use Rattle.tql_spec.proofs.ChangeBags.{by_parts, no_order}
 use Rattle.tql_spec.proofs.FirstFaults.{none_first}
 use Rattle.tql_spec.proofs.MemberLists.{in_map, in_image, in_kept}
 use Rattle.tql_spec.proofs.Members.{by_bool}
-use Rattle.tql_points.specs.Slice.{slice, payloads}
-use Rattle.tql_points.specs.PointTable.{point_table}
-use Rattle.tql_points.specs.Scope.{IsPointTable, is_free_work, is_free_cond, are_filled}
-use Rattle.tql_points.specs.ChangeLaw.{HasSlice}
-use Rattle.tql_points.specs.RefusalLaw.{once}
+use Rattle.tql_points.specs.Slice.{slice}
+use Rattle.tql_points.specs.Scope.{IsPointTable}
 use Rattle.tql_points.proofs.Changes.{modifications_reduce, slice_total}
 use Rattle.tql_points.proofs.Fates.{weight_at}
 use Rattle.tql_points.proofs.Insertions.{insertions_reduce}
-use Rattle.tql_points.proofs.Numbers.{Apart, number_in, in_number, not_number, kept_in}
+use Rattle.tql_points.proofs.Numbers.{Apart, in_number, not_number, kept_in}
 use Rattle.tql_points.proofs.Tables.{filter_map}
 use Rattle.tql_points.proofs.WrittenChanges.{once_apart}
 use Rattle.tql_bound.specs.declared.change.Insertion.{Insertion}

@@ -1,10 +1,10 @@
 -- Rows without a fault fit their table: their application periods rise.
-use Rattle.std.specs.Prelude.{◌≡◌, refl, ℕ, zero, suc, ◌<◌, ℤ, pos, Bool, true, false, not, ◌&&◌, int_lt, IsTrue}
+use Rattle.std.specs.Prelude.{◌≡◌, refl, ℕ, zero, suc, ◌<◌, pos, Bool, true, false, not, ◌&&◌, int_lt, IsTrue}
 use Rattle.std.specs.Prelude.{List, [], ◌∷◌, ◌++◌, map, length, slice_index_or, All, Option, Some, None}
 use Rattle.std.proofs.Common.{sym, ap, ◌∙◌, arith}
 use Rattle.std.proofs.lemmas.List.Elements.{All-nil, All-cons}
 use Rattle.tql_spec.specs.Calendar.{high}
-use Rattle.tql_spec.specs.Datum.{Datum, Row, is_null}
+use Rattle.tql_spec.specs.Datum.{Row, is_null}
 use Rattle.tql_spec.specs.Refusal.{Refusal, ValueOutOfRange, NullNotAllowed, PeriodNotRising, first, fault_if}
 use Rattle.tql_spec.specs.Definition.{Column, Application, TableDef, with_generated, cell, point_of}
 use Rattle.tql_spec.specs.Change.{cell_faults, is_too_long}
@@ -12,11 +12,11 @@ use Rattle.tql_catalog.specs.Defined.{IsDefinition, is_application_period}
 use Rattle.tql_catalog.specs.Rows.{IsRowOf, HasRisingPeriod, RisesBy}
 use Rattle.tql_catalog.proofs.Definitions.{has_its_system}
 use Rattle.tql_value.specs.Points.{IsPrintable}
-use Rattle.tql_dml.specs.Cells.{stored_columns, falls, falls_by, has_falling_period, stored_faults, rows_faults}
+use Rattle.tql_dml.specs.Cells.{stored_columns, falls_by, unstamped, checks_faults, stored_faults, rows_faults}
 use Rattle.tql_dml.proofs.FaultLaws.{shown_law}
 use Rattle.tql_dml.proofs.Unstamped.{SameEnds, are_ends, ends_stay}
 use Rattle.tql_dml.proofs.Inserting.{kept_columns}
-use Rattle.tql_dml.proofs.Kept.{kept}
+use Rattle.tql_catalog.proofs.Kept.{kept}
 use Rattle.tql_dml.proofs.Rows.{Fit, kept_width, shown_width}
 
 left_none : {X : Type 0} (xs ys : List X) → xs ++ ys ≡ [] → xs ≡ []
@@ -82,15 +82,17 @@ risen_by (Some a) d row shown p h w f same =
 risen : (d : TableDef) (cells : Row) → IsDefinition d → length cells ≡ length (kept d.system d.columns)
     → stored_faults d cells ≡ [] → HasRisingPeriod d cells
 risen d cells h k none = λ m e.
-    let shown : Row = with_generated d.system cells (pos 0) high in
+    let shown : Row = unstamped d cells in
+    let own : List Refusal = cell_faults (stored_columns d) cells in
+    let fallen : List Refusal = fault_if (falls_by d.application shown) PeriodNotRising in
+    let plain : own ++ fallen ≡ [] = left_none (own ++ fallen) (checks_faults d.checks shown) none in
     let quiet : cell_faults d.columns shown ≡ [] =
     shown_law d.system d.columns cells (pos 0) high (has_its_system d h) k
     ∙ ap (λ cs. cell_faults cs cells) (kept_columns d h)
-    ∙ left_none (cell_faults (stored_columns d) cells) _ none in
+    ∙ left_none own fallen plain in
     risen_by d.application d (with_generated d.system cells m e) shown h.application quiet
     (shown_width d (record { cells = cells; start = pos 0 }) h (k ∙ kept_width d h))
-    (not_present (has_falling_period d cells) PeriodNotRising
-    (right_none (cell_faults (stored_columns d) cells) _ none))
+    (not_present (falls_by d.application shown) PeriodNotRising (right_none own fallen plain))
     (ends_stay d cells m e (pos 0) high h k)
 
 -- ---- rows

@@ -1,10 +1,10 @@
 -- The widths of rows: as they are stored, as they are shown, and of those that replace others; and the faults of rows
 -- of their width.
 use Rattle.std.specs.Prelude.{◌≡◌, refl, ℕ, ◌+◌, ◌<◌, ◌≤◌, ◌≢◌, ℤ, Bool, true, false, nat_lt, List, [], ◌∷◌, ◌++◌}
-use Rattle.std.specs.Prelude.{map, length, insert, slice_set, All, Option, Some, None, ⊤, if◌then◌else◌}
+use Rattle.std.specs.Prelude.{map, length, insert, All, Option, Some, None, ⊤, if◌then◌else◌}
 use Rattle.std.specs.List.{flat_map, AllByRecursion}
 use Rattle.std.proofs.Common.{sym, ap, ◌∙◌, arith, inl, inr}
-use Rattle.std.proofs.lemmas.List.{length-map, length-set}
+use Rattle.std.proofs.lemmas.List.{length-map}
 use Rattle.std.proofs.lemmas.List.Edits.{length-insert}
 use Rattle.std.proofs.lemmas.List.Elements.{All-head, All-tail, All-append, All-nil, All-from_recursion}
 use borrow.Author.Tests.{ltb-true, ltb-false}
@@ -13,8 +13,7 @@ use Rattle.tql_spec.specs.Datum.{Row, Moment}
 use Rattle.tql_spec.specs.Calendar.{high}
 use Rattle.tql_spec.specs.Definition.{Column, System, TableDef, Stamped, with_generated, without_generated, shown, cell}
 use Rattle.tql_spec.specs.Expression.{Cond}
-use Rattle.tql_spec.specs.Refusal.{PeriodNotRising, fault_if}
-use Rattle.tql_spec.specs.Change.{Work, made_of, pieces, is_touched, row_faults, cell_faults}
+use Rattle.tql_spec.specs.Change.{Work, made_of, pieces, is_touched, row_faults}
 use Rattle.tql_spec.specs.Period.{Period}
 use Rattle.tql_spec.proofs.Widths.{AllWide, made_wide, pieces_wide}
 use Rattle.tql_spec.specs.Binding.{all_assignable}
@@ -24,12 +23,12 @@ use Rattle.tql_catalog.proofs.Definitions.{has_its_system}
 use Rattle.tql_store_rows.specs.Readings.{version_shown as version_of}
 use Rattle.tql_store_rows.specs.declared.version.Version.{Version}
 use Rattle.tql_value.specs.Views.{datum_of_value}
-use Rattle.tql_dml.specs.Cells.{stored_columns, has_falling_period, stored_faults as faults_of, rows_faults}
+use Rattle.tql_dml.specs.Cells.{faults_by, stored_faults as faults_of, rows_faults}
 use Rattle.tql_dml.specs.Parts.{Parts, before, touched_part, part_where, part_of, parts}
 use Rattle.tql_dml.proofs.FaultLaws.{plain_faults}
 use Rattle.tql_dml.proofs.Filling.{kept_cells}
 use Rattle.tql_dml.proofs.Inserting.{kept_columns}
-use Rattle.tql_dml.proofs.Kept.{kept, Within, within, two_less}
+use Rattle.tql_catalog.proofs.Kept.{kept, Within, within, two_less}
 
 -- so many columns are stored
 pub kept_width : (d : TableDef) → IsDefinition d → length (kept d.system d.columns) ≡ stored_width d
@@ -141,6 +140,5 @@ stored_faults d (r ∷ rs) s h =
     All-head (λ (cells : Row). length cells ≡ stored_width d) r.cells _ h ∙ sym (kept_width d s) in
     let here : row_faults d (shown d r) ≡ faults_of d r.cells =
     plain_faults d r s wide
-    ∙ ap (λ cs. cell_faults cs r.cells ++ fault_if (has_falling_period d r.cells) PeriodNotRising)
-    (kept_columns d s) in
+    ∙ ap (λ cs. faults_by cs d.checks d r.cells) (kept_columns d s) in
     λ i. here i ++ stored_faults d rs s (All-tail (λ (cells : Row). length cells ≡ stored_width d) r.cells _ h) i

@@ -1,6 +1,6 @@
 -- What stands in the columns of a stored row that are not generated, whichever moments stand in the others.
-use Rattle.std.proofs.Common.{◌≡◌, ℕ, ◌+◌, ◌-◌, ◌<◌, ◌≤◌, min, Bool, true, false, List, [], ◌∷◌, length, map, refl}
-use Rattle.std.proofs.Common.{ap, sym, subst, ◌∙◌, inl, inr, arith}
+use Rattle.std.proofs.Common.{◌≡◌, ℕ, ◌+◌, ◌-◌, ◌<◌, ◌≤◌, Bool, true, false, List, length, map, refl}
+use Rattle.std.proofs.Common.{sym, subst, ◌∙◌, inl, inr, arith}
 use Rattle.std.specs.Prelude.{◌≢◌, ℤ, not, ◌&&◌, ◌||◌, ◌==◌, nat_lt, IsTrue, insert, slice_index_or, Option, Some}
 use Rattle.std.specs.Prelude.{None, if◌then◌else◌}
 use Rattle.std.proofs.lemmas.Bool.{cases_lt}
@@ -14,7 +14,7 @@ use Rattle.tql_catalog.specs.Defined.{IsDefinition, is_end_at, is_application_pe
 use Rattle.tql_catalog.specs.Rows.{has_system}
 use Rattle.tql_catalog.proofs.Definitions.{has_its_system}
 use Rattle.tql_expr.proofs.Inserted.{length_inserted, read_before, read_behind}
-use Rattle.tql_dml.proofs.Kept.{kept, Within, within, two_less}
+use Rattle.tql_catalog.proofs.Kept.{kept, Within, within, two_less}
 
 -- ---- the columns of an application period
 
@@ -125,7 +125,7 @@ neither_right true b h = absurd cc
 neither_right false b h = h
 
 -- a column that is not generated
-others_stay : (s : Option System) (columns : List Column) (cells : Row) (m e n f : ℤ) (i : ℕ)
+pub others_stay : (s : Option System) (columns : List Column) (cells : Row) (m e n f : ℤ) (i : ℕ)
     → IsTrue (has_system s (length columns)) → length cells ≡ length (kept s columns)
     → has_number i (generated_columns s) ≡ false
     → cell (with_generated s cells m e) i ≡ cell (with_generated s cells n f) i

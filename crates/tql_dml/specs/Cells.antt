@@ -6,7 +6,8 @@ use Rattle.tql_spec.specs.Calendar.{high}
 use Rattle.tql_spec.specs.Datum.{Datum, Row, Ints, is_null}
 use Rattle.tql_spec.specs.Refusal.{Refusal, PeriodNotRising, fault_if}
 use Rattle.tql_spec.specs.Definition.{TableDef, Column, Application, without_generated, with_generated, point_of, cell}
-use Rattle.tql_spec.specs.Change.{is_too_long, cell_faults, new_row}
+use Rattle.tql_spec.specs.Expression.{Cond, judge}
+use Rattle.tql_spec.specs.Change.{is_too_long, cell_faults, check_fault, new_row}
 use Rattle.tql_spec.specs.Binding.{all_assignable}
 
 -- the column that is read where none is there: it takes every value
@@ -46,13 +47,23 @@ abbrev pub falls_by : Option Application → Row → Bool
 falls_by None row = false
 falls_by (Some a) row = falls (cell row a.start) (cell row a.end)
 
--- and for that of cells that are stored; no end of it is generated, so any moments may stand in the generated columns
-abbrev pub has_falling_period : TableDef → Row → Bool
-has_falling_period d cells = falls_by d.application (with_generated d.system cells (pos 0) high)
+-- the row that stored cells are, with these moments in the generated columns: no test of a row reads those
+abbrev pub unstamped : TableDef → Row → Row
+unstamped d cells = with_generated d.system cells (pos 0) high
+
+-- the faults of a row by its table's checks
+abbrev pub checks_faults : List Cond → Row → List Refusal
+checks_faults checks row = flat_map (λ c. check_fault (judge [] row c)) checks
+
+-- the faults of a row by its stored cells, with these columns and checks
+abbrev pub faults_by : List Column → List Cond → TableDef → Row → List Refusal
+faults_by columns checks d cells =
+    cell_faults columns cells ++ fault_if (falls_by d.application (unstamped d cells)) PeriodNotRising
+    ++ checks_faults checks (unstamped d cells)
 
 -- the faults of a row by its stored cells
 abbrev pub stored_faults : TableDef → Row → List Refusal
-stored_faults d cells = cell_faults (stored_columns d) cells ++ fault_if (has_falling_period d cells) PeriodNotRising
+stored_faults d cells = faults_by (stored_columns d) d.checks d cells
 
 -- the faults of rows
 abbrev pub rows_faults : TableDef → List Row → List Refusal

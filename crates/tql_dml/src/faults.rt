@@ -1,28 +1,32 @@
 //! The tests of new rows.
-ghost use Rattle.std.specs.Prelude.{◌≡◌, ◌&&◌, map, option_map, slice_index_or, pos, Some};
-ghost use Rattle.std.specs.List.{list_any};
-ghost use Rattle.tql_spec.specs.Calendar.{high};
+ghost use Rattle.std.specs.Prelude.{◌≡◌, ◌&&◌, ◌++◌, All, map, option_map, slice_index_or};
 ghost use Rattle.tql_spec.specs.Datum.{is_null};
-ghost use Rattle.tql_spec.specs.Definition.{with_generated};
-ghost use Rattle.tql_spec.specs.Refusal.{first};
-ghost use Rattle.tql_spec.specs.Change.{is_too_long as too_long};
+ghost use Rattle.tql_spec.specs.Refusal.{PeriodNotRising, first, fault_if};
+ghost use Rattle.tql_spec.specs.Change.{is_too_long as too_long, cell_faults, check_fault};
+ghost use Rattle.tql_spec.specs.Words.{listed};
 ghost use Rattle.tql_catalog.specs.Defined.{IsDefinition};
-ghost use Rattle.tql_catalog.specs.Definitions.{column_of, application_of};
+ghost use Rattle.tql_catalog.specs.Definitions.{column_of, checks_of};
+ghost use Rattle.tql_expr.specs.Meaning.{cond, judged, HasCond};
+ghost use Rattle.tql_expr.specs.Shown.{shown_by};
 ghost use Rattle.tql_value.specs.Refusals.{refusal_of};
 ghost use Rattle.tql_value.specs.Views.{datum_of_value, datum_of_view, row_of, rows_of};
-ghost use Rattle.tql_dml.specs.Cells.{no_column, columns_at, rows_faults, has_long_text as long_in};
-ghost use Rattle.tql_dml.specs.Cells.{lacks_a_value as lacking_in};
-ghost use Rattle.tql_dml.specs.Cells.{falls as falling, falls_by, has_falling_period as falling_in};
+ghost use Rattle.tql_dml.specs.Cells.{no_column, columns_at, stored_columns, has_long_text as long_in};
+ghost use Rattle.tql_dml.specs.Cells.{lacks_a_value as lacking_in, falls as falling, falls_by, checks_faults};
+ghost use Rattle.tql_dml.specs.Cells.{faults_by, rows_faults};
 
 use crate::periods::point;
-use tql_catalog::definition::{Application, Column};
+use tql_catalog::constraint::Checks;
+use tql_catalog::definition::Column;
 use tql_catalog::table_def::TableDef;
 use tql_expr::columns::Columns;
 use tql_expr::stored::StoredRow;
+use tql_expr::terms::{CondId, Terms};
 use tql_memory::Memory;
 use tql_store_rows::version::HIGH;
+use tql_value::arithmetic::Range;
 use tql_value::refusal::Refusal;
 use tql_value::text::characters;
+use tql_value::truth::Truth;
 use tql_value::value::{Value, View};
 
 /// Whether a value is a text of more characters than its column takes.
@@ -91,11 +95,74 @@ fn falls(start: View<'_>, end: View<'_>) -> bool
     !start.is_null() && !end.is_null() && point(end) <= point(start)
 }
 
-/// Whether a row's application period is without NULL and does not rise. The row has the cells of the columns that are
-/// not generated.
-fn has_falling_period(definition: &TableDef, application: &Application, cells: &[Value]) -> bool
-    ensures { result ≡ falls_by (Some (application_of application.now))
-        (with_generated definition.now.system (row_of cells.now) (pos 0) high) }
+/// The first fault of a row's cells: a text longer than its column takes, then NULL in a column that takes none. They
+/// are the cells of the columns that are not generated.
+fn cell_fault(definition: &TableDef, cells: &[Value]) -> Option<Refusal>
+    ensures { option_map refusal_of result ≡ first (cell_faults (stored_columns definition.now) (row_of cells.now)) }
+{
+    let columns = definition.columns();
+    let stored = definition.assignable();
+    if has_long_text(columns, stored, cells) {
+        return Some(Refusal::ValueOutOfRange);
+    }
+    if lacks_a_value(columns, stored, cells) {
+        return Some(Refusal::NullNotAllowed);
+    }
+    None
+}
+
+/// The fault of a row's application period: it is without NULL and does not rise.
+fn period_fault(definition: &TableDef, row: &StoredRow<'_>) -> Option<Refusal>
+    ensures { option_map refusal_of result
+        ≡ first (fault_if (falls_by definition.now.application (shown_by row.now)) PeriodNotRising) }
+{
+    match definition.application() {
+        Some(a) if falls(row.column(a.start), row.column(a.end)) => Some(Refusal::PeriodNotRising),
+        _ => None,
+    }
+}
+
+/// The fault of a CHECK: it is out of range, or FALSE. UNKNOWN passes.
+fn truth_fault(truth: Result<Truth, Range>) -> Option<Refusal>
+    ensures { option_map refusal_of result ≡ first (check_fault (judged truth)) }
+{
+    match truth {
+        Err(_) => Some(Refusal::ValueOutOfRange),
+        Ok(Truth::False) => Some(Refusal::CheckFailed),
+        Ok(_) => None,
+    }
+}
+
+/// The first of two faults in the order of report, where they are there.
+fn sooner(fault: Option<Refusal>, other: Option<Refusal>) -> Option<Refusal>
+    ensures { option_map refusal_of result
+        ≡ first (listed (option_map refusal_of fault) ++ listed (option_map refusal_of other)) }
+{
+    match (fault, other) {
+        (Some(fault), Some(other)) => Some(fault.earlier(other)),
+        (Some(fault), None) => Some(fault),
+        (None, other) => other,
+    }
+}
+
+/// The first fault of a row by CHECKs. Each is evaluated.
+fn checks_fault(terms: &Terms, checks: &[CondId], row: &StoredRow<'_>) -> Option<Refusal>
+    requires { All (HasCond terms.now) checks.now }
+    ensures { option_map refusal_of result
+        ≡ first (checks_faults (map (cond terms.now) checks.now) (shown_by row.now)) }
+{
+    let mut found = None;
+    for check in checks {
+        found = sooner(found, truth_fault(terms.holds(*check, row)));
+    }
+    found
+}
+
+/// The first fault of a row. It has the cells of the columns that are not generated; no test reads a generated one, so
+/// that any moments may stand there.
+fn row_fault(definition: &TableDef, checks: &Checks, cells: &[Value]) -> Option<Refusal>
+    ensures { option_map refusal_of result
+        ≡ first (faults_by (stored_columns definition.now) (checks_of checks.now) definition.now (row_of cells.now)) }
 {
     let row = StoredRow {
         cells,
@@ -103,38 +170,23 @@ fn has_falling_period(definition: &TableDef, application: &Application, cells: &
         start: 0,
         end: HIGH,
     };
-    falls(row.column(application.start), row.column(application.end))
+    let cell = cell_fault(definition, cells);
+    let plain = sooner(cell, period_fault(definition, &row));
+    let checked = checks_fault(&checks.terms, &checks.conditions, &row);
+    sooner(plain, checked)
 }
 
-/// Whether the table has an application period, and it does not rise in some row where neither of its ends is NULL.
-fn some_period_falls(definition: &TableDef, rows: &[Vec<Value, Memory>]) -> bool
-    ensures { result ≡ list_any (falling_in definition.now) (rows_of rows.now) }
-{
-    match definition.application() {
-        None => false,
-        Some(application) => rows
-            .iter()
-            .any(|row| has_falling_period(definition, application, row)),
-    }
-}
-
-/// The first fault of rows of a table, in the order of report: a text that is too long in any of them, then NULL in a
-/// column that takes none, and then an application period that does not rise. The rows have the cells of the columns
-/// that are not generated.
+/// The first fault of rows of a table, in the order of report: in any of them a text that is too long or a CHECK that
+/// is out of range, then NULL in a column that takes none, an application period that does not rise, and a CHECK that
+/// is FALSE. The rows have the cells of the columns that are not generated.
 pub fn first_fault(definition: &TableDef, rows: &[Vec<Value, Memory>]) -> Option<Refusal>
     ensures fault { option_map refusal_of result ≡ first (rows_faults definition.now (rows_of rows.now)) }
     ensures right { IsDefinition definition.now }
 {
-    let columns = definition.columns();
-    let stored = definition.assignable();
-    if rows.iter().any(|row| has_long_text(columns, stored, row)) {
-        return Some(Refusal::ValueOutOfRange);
+    let checks = definition.checks();
+    let mut found = None;
+    for row in rows {
+        found = sooner(found, row_fault(definition, checks, row));
     }
-    if rows.iter().any(|row| lacks_a_value(columns, stored, row)) {
-        return Some(Refusal::NullNotAllowed);
-    }
-    if some_period_falls(definition, rows) {
-        return Some(Refusal::PeriodNotRising);
-    }
-    None
+    found
 }

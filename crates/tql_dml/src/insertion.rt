@@ -17,9 +17,9 @@ use tql_value::refusal::Refusal;
 use tql_value::value::Value;
 
 /// The change that adds a row for each list of values: the values in the columns that are given them, and NULL in the
-/// others. Refused, the first of them over all rows: a text longer than its column takes, a NULL in a column that
-/// takes none, an application period that does not rise; memory. Nothing is changed. The rows that come fit the
-/// table.
+/// others. Refused, the first of them over all rows: a text longer than its column takes or a CHECK that is out of
+/// range, a NULL in a column that takes none, an application period that does not rise, a CHECK that is FALSE; memory.
+/// Nothing is changed. Each CHECK is evaluated on each row. The rows that come fit the table.
 pub fn insert_rows(
     memory: Memory,
     table: &Table,

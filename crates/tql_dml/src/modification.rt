@@ -192,10 +192,12 @@ fn changes(
 /// go, and under UPDATE the row that each becomes comes. Of a change of a portion a row is touched where its
 /// application period shares a point with the portion; what it becomes is kept within the portion, and its old values
 /// come before and after it (ISO/IEC 9075-2:2011, 14.9 and 14.14). Refused, the first of them over all rows: an
-/// evaluation out of range, a text longer than its column takes, a NULL in a column that takes none, an application
-/// period that does not rise; memory. Nothing is changed. Where the versions are rows of the table, and a portion's
-/// values are of their columns' kinds, so are those that come. Where SET and WHERE name no period, at each point of
-/// time what stays and what comes is what the plain change makes of the rows that hold there.
+/// evaluation out of range, a text longer than its column takes or a CHECK that is out of range, a NULL in a column
+/// that takes none, an application period that does not rise, a CHECK that is FALSE; memory. Nothing is changed. Each
+/// CHECK is evaluated on each row that comes, the parts before and after a portion among them. Where the versions are
+/// rows of the table, and a portion's values are of their columns' kinds, so are those that come. Where SET and WHERE
+/// name no period, at each point of time what stays and what comes is what the plain change makes of the rows that hold
+/// there.
 pub fn modify(
     memory: Memory,
     table: &Table,

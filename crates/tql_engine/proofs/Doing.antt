@@ -14,7 +14,7 @@ use Rattle.tql_spec.specs.Change.{Outcome, insert}
 use Rattle.tql_spec.specs.Refusal.{Refusal, NotInThisTransactionState, MomentNotAllowed, ValueOutOfRange, first}
 use Rattle.tql_spec.specs.Machine.{State, Reply, Refused, Done, Table, CreatedTable, DroppedTable, ClockSet, Inserted}
 use Rattle.tql_spec.specs.Machine.{Started, Committed, RolledBack, Change, CreateTable, DropTable, SetClock, Start}
-use Rattle.tql_spec.specs.Machine.{Commit, Rollback, ChangeRows, AnswerQuery, step, changed, unless_refused}
+use Rattle.tql_spec.specs.Machine.{Commit, Rollback, ChangeRows, AnswerQuery, step, changed, outcome}
 use Rattle.tql_spec.specs.Machine.{is_not_later}
 use Rattle.tql_spec.specs.Machine.{is_clock_at_end, with_table, without_table, with_commit, working, asked, bag_of}
 use Rattle.tql_exec.specs.Found.{ordered}
@@ -25,7 +25,13 @@ use Rattle.tql_catalog.specs.declared.catalog.Table.{Table as CatalogTable}
 use Rattle.tql_catalog.specs.Defined.{IsDefinition}
 use Rattle.tql_bound.specs.Changes.{insertion_of}
 use Rattle.tql_bound.specs.declared.change.Insertion.{Insertion}
-use Rattle.tql_dml.specs.Alters.{tuples_in, inserted}
+use Rattle.tql_dml.specs.Alters.{Gives, tuples_in, inserted}
+use Rattle.tql_result.specs.declared.reply.Verb.TheVariants as variants
+use Rattle.tql_store.proofs.StoreLaws.{same-list}
+use Rattle.tql_spec.proofs.FirstFaults.{none_first}
+use Rattle.tql_store.specs.Represents.{Judged}
+use Rattle.tql_store.specs.declared.store.Delta.{Delta}
+use Rattle.tql_value.specs.Views.{rows_of}
 use Rattle.tql_store.specs.StoreModel.{StoreModel}
 use Rattle.tql_store.specs.Represents.{BeginCopies, CommitAppends, RollbackRestores}
 use Rattle.tql_engine.specs.Stands.{EngineModel, StandsFor, open_moment}
@@ -35,9 +41,10 @@ use Rattle.tql_engine.proofs.Faults.{refused, create_step, drop_step, clock_step
 use Rattle.tql_engine.proofs.Faults.{rollback_step, alter_step}
 use Rattle.tql_engine.proofs.Standing.{closed_law, open_law, last_law, clock_law, definition_law}
 use Rattle.tql_engine.proofs.Copies.{chosen, passed}
-use Rattle.tql_engine.proofs.Added.{rows_begun, altered_by, insert_outcome, insert_faults}
-use Rattle.tql_engine.proofs.ChangeKeeps.{working_now, working_rows, with_table_rows, begun_at, AreRowsOf, change_law}
-use Rattle.tql_engine.proofs.ChangeKeeps.{only_added, none_judged}
+use Rattle.tql_engine.specs.Making.{Changes}
+use Rattle.tql_engine.proofs.Added.{rows_begun, altered_refused, insert_outcome, insert_faults}
+use Rattle.tql_engine.proofs.ChangeKeeps.{working_now, working_rows, only_added, none_judged}
+use Rattle.tql_engine.proofs.EarlyFaults.{insert_early}
 use Rattle.tql_engine.proofs.TransactionKeeps.{begun_law, ended_law, undone_law}
 
 -- ---- what is done, by an equal step
@@ -188,16 +195,13 @@ abbrev insert_outcome_of : State → CatalogTable → Insertion → Outcome
 insert_outcome_of s p x =
     insert p.definition (working_now s).moment (working_rows s x.table) x.columns.items (tuples_in x)
 
--- what the machine does
-insert_is : (h : EngineModel) (s : State) (p : CatalogTable) (x : Insertion) → StandsFor h s
-    → slice_get h.tables x.table ≡ Some p → (IsNone h.store.working → h.next <ℤ high)
-    → (let o = insert_outcome_of s p x in step s (ChangeRows (insertion_of x)) ≡ unless_refused (first o.faults) s
-    (Done Inserted (Some o.count)) (with_table_rows s x.table o.rows))
-insert_is h s p x st e below =
-    change_step h s (insertion_of x) st below
-    ∙ altered_by s (insertion_of x) (insert_outcome_of s p x) (defined_all h s st)
-    (ap {B = Outcome} (λ d. insert d (working_now s).moment (working_rows s x.table) x.columns.items (tuples_in x))
-    (definition_law h s x.table p st e))
+-- it is the machine's
+insert_made : (h : EngineModel) (s : State) (p : CatalogTable) (x : Insertion) → StandsFor h s
+    → slice_get h.tables x.table ≡ Some p
+    → outcome s (working_now s).moment (working_now s).copy (insertion_of x) ≡ insert_outcome_of s p x
+insert_made h s p x st e =
+    ap {B = Outcome} (λ d. insert d (working_now s).moment (working_rows s x.table) x.columns.items (tuples_in x))
+    (definition_law h s x.table p st e)
 
 -- the first fault of the new rows
 pub insert_refused : (h : EngineModel) (s : State) (p : CatalogTable) (x : Insertion) (f : Refusal) → StandsFor h s
@@ -206,77 +210,40 @@ pub insert_refused : (h : EngineModel) (s : State) (p : CatalogTable) (x : Inser
     → Does h (Refused f) (step s (ChangeRows (insertion_of x)))
 insert_refused h s p x f st e below k =
     let m : ℤ = (working_now s).moment in
-    let o : Outcome = insert_outcome_of s p x in
+    let rows = working_rows s x.table in
     by_step h (Refused f) (step s (ChangeRows (insertion_of x))) (refused f s)
-    (insert_is h s p x st e below
-    ∙ ap (λ q. unless_refused q s (Done Inserted (Some o.count)) (with_table_rows s x.table o.rows))
-    (ap first (insert_faults p.definition m (working_rows s x.table) x.columns.items (tuples_in x)) ∙ k m))
+    (change_step h s (insertion_of x) st below
+    ∙ altered_refused s (insertion_of x) (insert_outcome_of s p x) f (insert_made h s p x st e)
+    (insert_early p.definition m rows x.columns.items (tuples_in x))
+    (ap first (insert_faults p.definition m rows x.columns.items (tuples_in x)) ∙ k m))
     (refuses h s f st)
 
--- the state with rows added
-abbrev pub with_rows_added : State → ℕ → List Row → State
-with_rows_added s t rows = with_table_rows s t (working_rows s t ++ begun_at (working_now s).moment rows)
-
-pub rows_added : (h : EngineModel) (s : State) (t : ℕ) (p : CatalogTable) (rows : List Row) (removed : List ℕ)
-    (r : StoreModel) (after : ℤ) → StandsFor h s → slice_get h.tables t ≡ Some p
-    → (IsNone h.store.working → h.next <ℤ high) → AreRowsOf p.definition rows → removed ≡ []
-    → ChangesRows h.store.working h.next after p.id removed rows h.store r
-    → StandsFor (record { tables = h.tables; store = r; next = after }) (with_rows_added s t rows)
-rows_added h s t p rows removed r after st e below fit none c =
-    subst (λ (xs : List Stamped). StandsFor (record {
-      tables = h.tables;
-      store = r;
-      next = after;
-    }) (with_table_rows s t xs)) (only_added (working_now s).moment rows (working_rows s t))
-    (change_law h s t p (λ (x : Stamped). false) [] rows r after st e below fit (none_judged h.store p.id)
-    (subst (λ is. ChangesRows h.store.working h.next after p.id is rows h.store r) none c))
-
--- what the machine does where there is no fault
-inserted_is : (h : EngineModel) (s : State) (p : CatalogTable) (x : Insertion) (rows : List Row) (count : ℕ)
-    → StandsFor h s
-    → slice_get h.tables x.table ≡ Some p → (IsNone h.store.working → h.next <ℤ high)
-    → ((m : ℤ) → map (λ (r : Stamped). r.cells) (inserted p.definition x m).rows ≡ rows)
-    → ((m : ℤ) → first (inserted p.definition x m).faults ≡ None)
-    → ((m : ℤ) → count ≡ (inserted p.definition x m).count)
-    → step s (ChangeRows (insertion_of x)) ≡ (Done Inserted (Some count), with_rows_added s x.table rows)
-inserted_is h s p x rows count st e below cells sound n =
+-- where there is none, what is computed is the machine's change
+pub insert_makes : (h : EngineModel) (s : State) (p : CatalogTable) (x : Insertion) (delta : Delta) → StandsFor h s
+    → slice_get h.tables x.table ≡ Some p
+    → Gives p.id [] (λ m. (inserted p.definition x m).rows) (inserted p.definition x) delta
+    → Changes h x.table delta variants.Inserted (insertion_of x) s
+insert_makes h s p x delta st e gives =
     let m : ℤ = (working_now s).moment in
-    let made : Outcome = inserted p.definition x m in
-    let new : List Stamped → State = λ xs. with_table_rows s x.table (working_rows s x.table ++ xs) in
-    insert_is h s p x st e below
-    ∙ ap (λ (o : Outcome). unless_refused (first o.faults) s (Done Inserted (Some o.count))
-    (with_table_rows s x.table o.rows))
-    (insert_outcome p.definition m (working_rows s x.table) x.columns.items (tuples_in x) (sound m))
-    ∙ ap (λ q. unless_refused q s (Done Inserted (Some made.count)) (new made.rows)) (sound m)
-    ∙ (λ i. (
-      Done Inserted (Some (sym (n m) i)),
-      new
-          (rows_begun p.definition m x.columns.items (tuples_in x) rows (cells m) i),
-    ))
-
--- and the reply
-pub insert_does : (h : EngineModel) (s : State) (p : CatalogTable) (x : Insertion) (rows : List Row) (removed : List ℕ)
-    (r : StoreModel) (after : ℤ) (count : ℕ)
-    → StandsFor h s → slice_get h.tables x.table ≡ Some p → (IsNone h.store.working → h.next <ℤ high)
-    → AreRowsOf p.definition rows → removed ≡ []
-    → ChangesRows h.store.working h.next after p.id removed rows h.store r
-    → ((m : ℤ) → map (λ (y : Stamped). y.cells) (inserted p.definition x m).rows ≡ rows)
-    → ((m : ℤ) → first (inserted p.definition x m).faults ≡ None)
-    → ((m : ℤ) → count ≡ (inserted p.definition x m).count)
-    → Does (record {
-      tables = h.tables;
-      store = r;
-      next = after;
-    }) (Done Inserted (Some count)) (step s (ChangeRows (insertion_of x)))
-insert_does h s p x rows removed r after count st e below fit none c cells sound n =
-    by_step (record {
-      tables = h.tables;
-      store = r;
-      next = after;
-    }) (Done Inserted (Some count)) (step s (ChangeRows (insertion_of x)))
-    (Done Inserted (Some count), with_rows_added s x.table rows)
-    (inserted_is h s p x rows count st e below cells sound n)
-    (record { replies = refl; stands = rows_added h s x.table p rows removed r after st e below fit none c })
+    let rows = working_rows s x.table in
+    let added = rows_of delta.added.items in
+    let sum = insert_outcome p.definition m rows x.columns.items (tuples_in x) (gives.sound m) in
+    record {
+      place = refl;
+      made = insert_outcome_of s p x;
+      is = insert_made h s p x st e;
+      gone = λ r. false;
+      judged = subst (λ is. Judged h.store delta.table (λ r. false) is) (sym gives.removed)
+          (none_judged h.store delta.table);
+      rows = same-list (ap (λ (o : Outcome). o.rows) sum
+          ∙ ap (λ xs. rows ++ xs)
+          (rows_begun p.definition m x.columns.items (tuples_in x) added (gives.added m))
+          ∙ sym (only_added m added rows));
+      sound = none_first (insert_outcome_of s p x).faults
+          (ap first (insert_faults p.definition m rows x.columns.items (tuples_in x)) ∙ gives.sound m);
+      count = ap (λ (o : Outcome). o.count) sum ∙ sym (gives.count m);
+      word = refl;
+    }
 
 -- ---- the newest copy
 

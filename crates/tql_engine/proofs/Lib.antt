@@ -1,3 +1,6 @@
+pub mod SameFaults
+pub mod EarlyFaults
+pub mod Holding
 pub mod Added
 pub mod Asked
 pub mod ChangeKeeps
@@ -24,3 +27,5 @@ pub mod Joining
 pub mod StateFaults
 pub mod Bytes
 pub mod PointRuns
+pub mod Making
+pub mod Ending

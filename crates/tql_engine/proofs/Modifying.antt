@@ -16,8 +16,9 @@ use Rattle.tql_spec.specs.Change.{Outcome, modify}
 use Rattle.tql_spec.specs.ChangeLaws.{SameOutcome, ChangesKeepNoOrder, ChangesByParts}
 use Rattle.tql_spec.specs.Refusal as spec
 use Rattle.tql_spec.specs.Refusal.{first}
-use Rattle.tql_spec.specs.Machine.{State, Done, Refused, ChangeRows, step, unless_refused, entries, newest_copy}
-use Rattle.tql_spec.specs.Machine.{verb_of_work}
+use Rattle.tql_spec.specs.Machine.{State, Refused, ChangeRows, step, entries, newest_copy, verb_of_work}
+use Rattle.tql_spec.specs.Machine.{outcome as machine_outcome}
+use Rattle.tql_spec.proofs.FirstFaults.{none_first}
 use Rattle.tql_bound.specs.Changes.{modification_of}
 use Rattle.tql_bound.specs.Works.{work_of}
 use Rattle.tql_bound.specs.declared.change.Modification.{Modification}
@@ -26,7 +27,8 @@ use Rattle.tql_catalog.specs.declared.catalog.Table.{Table}
 use Rattle.tql_dml.specs.Alters.{Alters, Gives, gone, fates, coming, modified, portion_in, conds_in, IsVersionOf}
 use Rattle.tql_dml.specs.Alters as dml
 use Rattle.tql_store.specs.StoreModel.{StoreModel, AreRemovable}
-use Rattle.tql_store.specs.Changes.{rows_after}
+use Rattle.tql_result.specs.Replies.{plain_verb}
+use Rattle.tql_result.specs.declared.reply.Verb.{Verb}
 use Rattle.tql_store.specs.Represents.{Answers, Judged}
 use Rattle.tql_store_rows.specs.Readings.{version_shown as version_of}
 use Rattle.tql_store.specs.declared.store.Delta.{Delta}
@@ -35,20 +37,21 @@ use Rattle.tql_store.proofs.Judging.{judged, removable}
 use Rattle.tql_value.specs.Refusals.{refusal_of}
 use Rattle.tql_value.specs.declared.refusal.Refusal.{Refusal}
 use Rattle.tql_value.specs.declared.refusal.Refusal.TheVariants as r
-use Rattle.tql_engine.specs.Committing.{ChangesRows}
+use Rattle.tql_engine.specs.Making.{Changes}
 use Rattle.tql_engine.specs.Effects.{Does, Refuses}
 use Rattle.tql_engine.specs.Fitting.{RowsFit, CopyFits}
 use Rattle.tql_engine.specs.Modifying.{Made, Makes}
 use Rattle.tql_engine.specs.Stands.{EngineModel, StandsFor, copies_of, working_of}
 use Rattle.tql_engine.proofs.Asked.{rows_fit, seen_law}
-use Rattle.tql_engine.proofs.ChangeKeeps.{working_now, working_rows, with_table_rows, AreRowsOf, begun_at, change_law}
-use Rattle.tql_engine.proofs.ChangeKeeps.{last_fits, rows_both, rows_left, begun_fit}
-use Rattle.tql_engine.proofs.Added.{altered_by}
+use Rattle.tql_engine.proofs.ChangeKeeps.{working_now, working_rows, last_fits}
+use Rattle.tql_engine.proofs.Added.{altered_refused}
+use Rattle.tql_engine.proofs.EarlyFaults.{modify_early}
 use Rattle.tql_engine.proofs.Faults.{refused}
 use Rattle.tql_engine.proofs.Standing.{definition_law}
-use Rattle.tql_engine.proofs.Doing.{by_step, refuses, none_there, defined_all, change_step}
+use Rattle.tql_engine.proofs.Doing.{by_step, refuses, none_there, change_step}
 use Rattle.tql_dml.proofs.Modified.{touches, rows_made}
-use Rattle.tql_engine.proofs.Swapping.{rows_fit_same, swapped}
+use Rattle.tql_engine.proofs.Swapping.{rows_fit_same}
+use Rattle.tql_value.specs.Views.{rows_of}
 
 -- ---- the rows that a change sees
 
@@ -64,7 +67,10 @@ now_by : (defs : List TableDef) (es : List Entry) (next : ℤ) (t : ℕ) (o : Op
 now_by defs es next t None = newest_now defs t es
 now_by defs es next t (Some e) = refl
 
-rows_of_completed : (rows : List Stamped) → map (λ (v : Version). v.row) (completed still rows) ≡ rows
+pub now_is : (s : State) (t : ℕ) → current (table_history t (entries s)) ≡ completed still (working_rows s t)
+now_is s t = now_by s.definitions s.history s.next t s.transaction
+
+pub rows_of_completed : (rows : List Stamped) → map (λ (v : Version). v.row) (completed still rows) ≡ rows
 rows_of_completed [] = refl
 rows_of_completed (x ∷ xs) = ap {B = List Stamped} (λ ys. x ∷ ys) (rows_of_completed xs)
 
@@ -77,11 +83,9 @@ pub same_rows : (h : EngineModel) (s : State) (t : ℕ) (p : Table) (found : Lis
     → slice_get h.tables t ≡ Some p → Answers h.store p.id Now (map version_of found)
     → SameBag (dml.rows_in found) (working_rows s t)
 same_rows h s t p found st e answers =
-    let now : current (table_history t (entries s)) ≡ completed still (working_rows s t) =
-    now_by s.definitions s.history s.next t s.transaction in
     let same : SameBag (map version_of found) (completed still (working_rows s t)) =
     subst (SameBag (map version_of found)) (ap current (seen_law h s t p st e)
-    ∙ now) (answers (copies_of h.tables s.history) (working_of h.tables s.transaction) st.stands) in
+    ∙ now_is s t) (answers (copies_of h.tables s.history) (working_of h.tables s.transaction) st.stands) in
     subst (λ xs. SameBag xs (working_rows s t)) (sym (rows_read found))
     (subst (SameBag (map (λ (v : Version). v.row) (map version_of found))) (rows_of_completed (working_rows s t))
     (same-map (λ (v : Version). v.row) same))
@@ -148,13 +152,10 @@ module _ (no_order : ChangesKeepNoOrder) (by_parts : ChangesByParts) (h : Engine
   abbrev outcome : Outcome
   outcome = modify p.definition moment rows (portion_in x) work (conds_in x)
 
-  modify_is : step s (ChangeRows (modification_of x)) ≡ unless_refused (first outcome.faults) s
-      (Done (verb_of_work work) (Some outcome.count)) (with_table_rows s x.table outcome.rows)
-  modify_is =
-      change_step h s (modification_of x) st below
-      ∙ altered_by s (modification_of x) outcome (defined_all h s st)
-      (ap {B = Outcome} (λ d. modify d moment rows (portion_in x) work (conds_in x))
-      (definition_law h s x.table p st there))
+  -- it is the machine's
+  modify_made : machine_outcome s moment (working_now s).copy (modification_of x) ≡ outcome
+  modify_made = ap {B = Outcome} (λ d. modify d moment rows (portion_in x) work (conds_in x))
+      (definition_law h s x.table p st there)
 
   module _ (found : List code.Version) (answers : Answers h.store p.id Now (map version_of found)) where
     same : SameOutcome (modified p.definition found x moment) outcome
@@ -166,60 +167,31 @@ module _ (no_order : ChangesKeepNoOrder) (by_parts : ChangesByParts) (h : Engine
         → Does h (Refused f) (step s (ChangeRows (modification_of x)))
     modify_refused f k =
         by_step h (Refused f) (step s (ChangeRows (modification_of x))) (refused f s)
-        (modify_is ∙ ap (λ q. unless_refused q s (Done (verb_of_work work) (Some outcome.count))
-        (with_table_rows s x.table outcome.rows)) (sym same.fault ∙ k moment)) (refuses h s f st)
+        (change_step h s (modification_of x) st below
+        ∙ altered_refused s (modification_of x) outcome f modify_made
+        (modify_early p.definition moment rows (portion_in x) work (conds_in x)) (sym same.fault ∙ k moment))
+        (refuses h s f st)
 
-    -- the state after it
-    pub rows_modified : (added : List Row) (removed : List ℕ) (r : StoreModel) (after : ℤ)
-        → AreRowsOf p.definition added → Judged h.store p.id (touches p.definition (portion_in x) (conds_in x)) removed
-        → ChangesRows h.store.working h.next after p.id removed added h.store r
-        → ((m : ℤ) → map (λ (y : Stamped). y.cells) (coming (fates p.definition found x m)) ≡ added)
-        → ((m : ℤ) → first (modified p.definition found x m).faults ≡ None)
-        → StandsFor (record { tables = h.tables; store = r; next = after }) (with_table_rows s x.table outcome.rows)
-    rows_modified added removed r after fit judged c cells sound =
-        let gone : Stamped → Bool = touches p.definition (portion_in x) (conds_in x) in
-        let old : RowsFit p.definition rows =
-        rows_fit h.tables x.table p there (working_now s).copy (copy_fits h s st) in
-        let bag : SameBag (rows_after moment gone added rows) outcome.rows =
-        rows_made no_order by_parts p.definition moment (portion_in x) work (conds_in x) (dml.rows_in found) rows
-        added (same_rows h s x.table p found st there answers) (sound moment) (cells moment) in
-        let changed : StandsFor (record { tables = h.tables; store = r; next = after })
-        (with_table_rows s x.table (rows_after moment gone added rows)) =
-        change_law h s x.table p gone removed added r after st there below fit judged c in
-        let news : RowsFit p.definition (rows_after moment gone added rows) =
-        rows_both p.definition (filter (λ y. not (gone y)) rows) (begun_at moment added)
-        (rows_left p.definition (λ y. not (gone y)) rows old)
-        (begun_fit p.definition moment added dated.0 dated.1 fit) in
-        swapped (record { tables = h.tables; store = r; next = after }) x.table p there
-        (rows_after moment gone added rows) outcome.rows bag
-        (rows_fit_same p.definition (rows_after moment gone added rows) outcome.rows bag news) s (copy_fits h s st)
-        changed
-      where
-        dated : (first_moment ≤ℤ moment) × (moment <ℤ high)
-        dated = moment_dated h s st below
-
-    -- and the reply
-    pub modify_does : (added : List Row) (removed : List ℕ) (r : StoreModel) (after : ℤ) (count : ℕ)
-        → AreRowsOf p.definition added → Judged h.store p.id (touches p.definition (portion_in x) (conds_in x)) removed
-        → ChangesRows h.store.working h.next after p.id removed added h.store r
-        → ((m : ℤ) → map (λ (y : Stamped). y.cells) (coming (fates p.definition found x m)) ≡ added)
-        → ((m : ℤ) → first (modified p.definition found x m).faults ≡ None)
-        → ((m : ℤ) → count ≡ (modified p.definition found x m).count)
-        → Does (record { tables = h.tables; store = r; next = after }) (Done (verb_of_work work) (Some count))
-        (step s (ChangeRows (modification_of x)))
-    modify_does added removed r after count fit judged c cells sound n =
-        by_step (record { tables = h.tables; store = r; next = after }) (Done (verb_of_work work) (Some count))
-        (step s (ChangeRows (modification_of x)))
-        (Done (verb_of_work work) (Some count), with_table_rows s x.table outcome.rows)
-        (modify_is
-        ∙ ap (λ q. unless_refused q s (Done (verb_of_work work) (Some outcome.count))
-        (with_table_rows s x.table outcome.rows)) (sym same.fault ∙ sound moment)
-        ∙ (λ i. (
-          Done (verb_of_work work) (Some (sym (n moment ∙ same.count) i)),
-          with_table_rows s x.table
-              outcome.rows,
-        )))
-        (record { replies = refl; stands = rows_modified added removed r after fit judged c cells sound })
+    -- where there is none, what is computed is the machine's change
+    pub modify_makes : (delta : Delta) (verb : Verb)
+        → verb_of_work work ≡ plain_verb verb
+        → Judged h.store delta.table (touches p.definition (portion_in x) (conds_in x)) delta.removed.items
+        → Gives p.id (gone p.definition x found) (λ m. coming (fates p.definition found x m))
+        (modified p.definition found x) delta
+        → Changes h x.table delta verb (modification_of x) s
+    modify_makes delta verb word judged gives = record {
+      place = refl;
+      made = outcome;
+      is = modify_made;
+      gone = touches p.definition (portion_in x) (conds_in x);
+      judged = judged;
+      rows = same-sym (rows_made no_order by_parts p.definition moment (portion_in x) work (conds_in x)
+          (dml.rows_in found) rows (rows_of delta.added.items)
+          (same_rows h s x.table p found st there answers) (gives.sound moment) (gives.added moment));
+      sound = none_first outcome.faults (sym same.fault ∙ gives.sound moment);
+      count = sym same.count ∙ sym (gives.count moment);
+      word = word;
+    }
 
   -- whatever it was refused for
   pub modify_errs : (e : Refusal) → Makes h.store p x (Err e) → Refuses h s e (step s (ChangeRows (modification_of x)))

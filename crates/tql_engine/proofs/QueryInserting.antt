@@ -1,14 +1,14 @@
 -- INSERT from a query, from what was made of the rows that it answers.
-use Rattle.std.proofs.Common.{◌≡◌, refl, ap, sym, subst, ◌∙◌, ℕ, List, [], ◌++◌, map, Option, Some, None, Ok, Err}
-use Rattle.std.proofs.Common.{inl, inr}
-use Rattle.std.specs.Prelude.{ℤ, ◌≤ℤ◌, ◌<ℤ◌, ◌⊎◌, All, IfOk, IsNone, slice_get, Result}
+use Rattle.std.proofs.Common.{◌≡◌, refl, ap, sym, subst, ◌∙◌, ℕ, List, [], ◌++◌, Option, Some, None, Ok, Err}
+use Rattle.std.proofs.Common.{inl, inr, false}
+use Rattle.std.specs.Prelude.{ℤ, ◌<ℤ◌, ◌⊎◌, All, IfOk, IsNone, slice_get, Result}
 use Rattle.tql_spec.specs.Bag.{SameBag}
-use Rattle.tql_spec.specs.Calendar.{first_moment, high}
+use Rattle.tql_spec.specs.Calendar.{high}
 use Rattle.tql_spec.specs.Change.{Outcome, insert}
 use Rattle.tql_spec.specs.ChangeLaws.{InsertsKeepNoOrder, SameOutcome}
 use Rattle.tql_spec.specs.Datum.{Row}
-use Rattle.tql_spec.specs.Definition.{Stamped, TableDef}
-use Rattle.tql_spec.specs.Machine.{State, Done, Inserted, Refused, ChangeRows, bag_of, step, unless_refused}
+use Rattle.tql_spec.specs.Definition.{Stamped}
+use Rattle.tql_spec.specs.Machine.{State, Refused, ChangeRows, bag_of, outcome, step}
 use Rattle.tql_spec.specs.Query.{OrderKey, answer, in_order}
 use Rattle.tql_spec.specs.Refusal as spec
 use Rattle.tql_spec.specs.Refusal.{ValueOutOfRange, first}
@@ -21,26 +21,26 @@ use Rattle.tql_spec.proofs.OrderBags.{ordered_bag}
 use Rattle.tql_exec.specs.Found.{ordered}
 use Rattle.tql_expr.specs.Evaluated.{Fails}
 use Rattle.tql_dml.specs.Alters.{Alters, Gives, added_rows}
-use Rattle.tql_store.specs.StoreModel.{StoreModel}
+use Rattle.tql_spec.proofs.Bags.{same-sym, same-trans}
+use Rattle.tql_spec.proofs.FirstFaults.{none_first}
+use Rattle.tql_result.specs.declared.reply.Verb.TheVariants as variants
+use Rattle.tql_store.proofs.StoreLaws.{same-list}
+use Rattle.tql_store.specs.Represents.{Judged}
 use Rattle.tql_store.specs.declared.store.Delta.{Delta}
 use Rattle.tql_value.specs.Refusals.{refusal_of}
 use Rattle.tql_value.specs.Views.{rows_of}
 use Rattle.tql_value.specs.declared.refusal.Refusal.{Refusal}
 use Rattle.tql_value.specs.declared.refusal.Refusal.TheVariants as r
 use Rattle.tql_engine.specs.Adding.{Added, Adds}
-use Rattle.tql_engine.specs.Committing.{ChangesRows}
 use Rattle.tql_engine.specs.Effects.{Does, Refuses}
-use Rattle.tql_engine.specs.Fitting.{RowsFit}
+use Rattle.tql_engine.specs.Making.{Changes}
 use Rattle.tql_engine.specs.Stands.{EngineModel, StandsFor}
-use Rattle.tql_engine.proofs.Added.{altered_by, insert_faults, rows_begun}
-use Rattle.tql_engine.proofs.Asked.{rows_fit}
-use Rattle.tql_engine.proofs.ChangeKeeps.{AreRowsOf, begun_at, begun_fit, rows_both, with_table_rows, working_now}
-use Rattle.tql_engine.proofs.ChangeKeeps.{working_rows}
-use Rattle.tql_engine.proofs.Doing.{by_step, change_step, defined_all, refuses, rows_added}
+use Rattle.tql_engine.proofs.Added.{altered_refused, insert_faults, rows_begun}
+use Rattle.tql_engine.proofs.ChangeKeeps.{begun_at, none_judged, only_added, working_now, working_rows}
+use Rattle.tql_engine.proofs.Doing.{by_step, change_step, refuses}
+use Rattle.tql_engine.proofs.EarlyFaults.{insert_early}
 use Rattle.tql_engine.proofs.Faults.{refused}
-use Rattle.tql_engine.proofs.Modifying.{copy_fits, moment_dated}
 use Rattle.tql_engine.proofs.Standing.{definition_law}
-use Rattle.tql_engine.proofs.Swapping.{rows_fit_same, swapped}
 
 -- ---- what is made of the rows
 
@@ -109,24 +109,24 @@ module _ (no_order : InsertsKeepNoOrder) (h : EngineModel) (s : State) (p : Tabl
   abbrev pub outcome_of : Option (List Row) → Outcome
   outcome_of o = insert p.definition moment rows columns o
 
-  insert_is : step s (ChangeRows (query_insertion_of x)) ≡ unless_refused (first (outcome_of answers).faults) s
-      (Done Inserted (Some (outcome_of answers).count)) (with_table_rows s x.table (outcome_of answers).rows)
-  insert_is =
-      change_step h s (query_insertion_of x) st below
-      ∙ altered_by s (query_insertion_of x) (outcome_of answers) (defined_all h s st)
-      (ap {B = Outcome} (λ d. insert d moment rows columns answers) (definition_law h s x.table p st there))
+  -- it is the machine's
+  insert_made : (o : Option (List Row)) → answers ≡ o
+      → outcome s moment (working_now s).copy (query_insertion_of x) ≡ outcome_of o
+  insert_made o e =
+      ap {B = Outcome} (λ d. insert d moment rows columns answers) (definition_law h s x.table p st there)
+      ∙ ap {B = Outcome} outcome_of e
 
-  answered_is : (o : Option (List Row)) → answers ≡ o
-      → step s (ChangeRows (query_insertion_of x)) ≡ unless_refused (first (outcome_of o).faults) s
-      (Done Inserted (Some (outcome_of o).count)) (with_table_rows s x.table (outcome_of o).rows)
-  answered_is o e =
-      insert_is ∙ ap (λ q. unless_refused (first (outcome_of q).faults) s (Done Inserted (Some (outcome_of q).count))
-      (with_table_rows s x.table (outcome_of q).rows)) e
+  refused_as : (o : Option (List Row)) → answers ≡ o → (f : spec.Refusal) → first (outcome_of o).faults ≡ Some f
+      → Does h (Refused f) (step s (ChangeRows (query_insertion_of x)))
+  refused_as o e f k =
+      by_step h (Refused f) (step s (ChangeRows (query_insertion_of x))) (refused f s)
+      (change_step h s (query_insertion_of x) st below
+      ∙ altered_refused s (query_insertion_of x) (outcome_of o) f (insert_made o e)
+      (insert_early p.definition moment rows columns o) k) (refuses h s f st)
 
   -- refused, where the query is out of range
   out_of_range : answers ≡ None → Does h (Refused ValueOutOfRange) (step s (ChangeRows (query_insertion_of x)))
-  out_of_range e = by_step h (Refused ValueOutOfRange) (step s (ChangeRows (query_insertion_of x)))
-      (refused ValueOutOfRange s) (answered_is None e) (refuses h s ValueOutOfRange st)
+  out_of_range e = refused_as None e ValueOutOfRange refl
 
   module _ (bag got : List Row) (answered : answers ≡ Some bag) (same : SameBag got bag) where
     same_made : SameOutcome (outcome_of (Some got)) (outcome_of (Some bag))
@@ -137,72 +137,33 @@ module _ (no_order : InsertsKeepNoOrder) (h : EngineModel) (s : State) (p : Tabl
         → ((m : ℤ) → first (added_rows p.definition columns (Some got) m).faults ≡ Some f)
         → Does h (Refused f) (step s (ChangeRows (query_insertion_of x)))
     row_refused f k =
-        by_step h (Refused f) (step s (ChangeRows (query_insertion_of x))) (refused f s)
-        (answered_is (Some bag) answered
-        ∙ ap (λ q. unless_refused q s (Done Inserted (Some (outcome_of (Some bag)).count))
-        (with_table_rows s x.table (outcome_of (Some bag)).rows))
-        (sym same_made.fault ∙ ap first (insert_faults p.definition moment rows columns (Some got)) ∙ k moment))
-        (refuses h s f st)
+        refused_as (Some bag) answered f
+        (sym same_made.fault ∙ ap first (insert_faults p.definition moment rows columns (Some got)) ∙ k moment)
 
-    -- the state after it
-    pub rows_inserted : (added : List Row) (removed : List ℕ) (r : StoreModel) (after : ℤ)
-        → AreRowsOf p.definition added → removed ≡ []
-        → ChangesRows h.store.working h.next after p.id removed added h.store r
-        → ((m : ℤ) → map (λ (y : Stamped). y.cells) (added_rows p.definition columns (Some got) m).rows ≡ added)
-        → StandsFor (record {
-          tables = h.tables;
-          store = r;
-          next = after;
-        }) (with_table_rows s x.table (outcome_of (Some bag)).rows)
-    rows_inserted added removed r after fit none c cells =
-        let old : RowsFit p.definition rows =
-        rows_fit h.tables x.table p there (working_now s).copy (copy_fits h s st) in
-        let made : rows ++ begun_at moment added ≡ (outcome_of (Some got)).rows =
-        ap (λ xs. rows ++ xs) (sym (rows_begun p.definition moment columns (Some got) added (cells moment))) in
-        let both : SameBag (rows ++ begun_at moment added) (outcome_of (Some bag)).rows =
-        subst (λ xs. SameBag xs (outcome_of (Some bag)).rows) (sym made) same_made.rows in
-        let dated = moment_dated h s st below in
-        let news : RowsFit p.definition (rows ++ begun_at moment added) =
-        rows_both p.definition rows (begun_at moment added) old
-        (begun_fit p.definition moment added dated.0 dated.1 fit) in
-        swapped (record {
-          tables = h.tables;
-          store = r;
-          next = after;
-        }) x.table p there (rows ++ begun_at moment added) (outcome_of (Some bag)).rows both
-        (rows_fit_same p.definition (rows ++ begun_at moment added) (outcome_of (Some bag)).rows both news) s
-        (copy_fits h s st)
-        (rows_added h s x.table p added removed r after st there below fit none c)
-
-    -- and the reply
-    pub query_inserts : (added : List Row) (removed : List ℕ) (r : StoreModel) (after : ℤ) (count : ℕ)
-        → AreRowsOf p.definition added → removed ≡ []
-        → ChangesRows h.store.working h.next after p.id removed added h.store r
-        → ((m : ℤ) → map (λ (y : Stamped). y.cells) (added_rows p.definition columns (Some got) m).rows ≡ added)
-        → ((m : ℤ) → first (added_rows p.definition columns (Some got) m).faults ≡ None)
-        → ((m : ℤ) → count ≡ (added_rows p.definition columns (Some got) m).count)
-        → Does (record {
-          tables = h.tables;
-          store = r;
-          next = after;
-        }) (Done Inserted (Some count)) (step s (ChangeRows (query_insertion_of x)))
-    query_inserts added removed r after count fit none c cells sound n =
-        by_step (record {
-          tables = h.tables;
-          store = r;
-          next = after;
-        }) (Done Inserted (Some count)) (step s (ChangeRows (query_insertion_of x)))
-        (Done Inserted (Some count), with_table_rows s x.table (outcome_of (Some bag)).rows)
-        (answered_is (Some bag) answered
-        ∙ ap (λ q. unless_refused q s (Done Inserted (Some (outcome_of (Some bag)).count))
-        (with_table_rows s x.table (outcome_of (Some bag)).rows))
-        (sym same_made.fault ∙ ap first (insert_faults p.definition moment rows columns (Some got)) ∙ sound moment)
-        ∙ (λ i. (
-          Done Inserted (Some (sym (n moment ∙ same_made.count) i)),
-          with_table_rows s x.table
-              (outcome_of (Some bag)).rows,
-        )))
-        (record { replies = refl; stands = rows_inserted added removed r after fit none c cells })
+    -- where there is none, what is computed is the machine's change
+    pub query_makes : (delta : Delta)
+        → Gives p.id [] (λ m. (added_rows p.definition columns (Some got) m).rows)
+        (added_rows p.definition columns (Some got)) delta
+        → Changes h x.table delta variants.Inserted (query_insertion_of x) s
+    query_makes delta gives =
+        let added = rows_of delta.added.items in
+        let made : (outcome_of (Some got)).rows ≡ rows ++ begun_at moment added =
+        ap (λ xs. rows ++ xs) (rows_begun p.definition moment columns (Some got) added (gives.added moment)) in
+        record {
+          place = refl;
+          made = outcome_of (Some bag);
+          is = insert_made (Some bag) answered;
+          gone = λ r. false;
+          judged = subst (λ is. Judged h.store delta.table (λ r. false) is) (sym gives.removed)
+              (none_judged h.store delta.table);
+          rows = same-trans (same-sym same_made.rows)
+              (same-list (made ∙ sym (only_added moment added rows)));
+          sound = none_first (outcome_of (Some bag)).faults
+              (sym same_made.fault ∙ ap first (insert_faults p.definition moment rows columns (Some got))
+              ∙ gives.sound moment);
+          count = sym same_made.count ∙ sym (gives.count moment);
+          word = refl;
+        }
 
   -- ---- whatever it was refused for
 

@@ -9,7 +9,7 @@ use Rattle.tql_spec.specs.Bag.{In, SameBag}
 use Rattle.tql_spec.specs.Creation.{kinds_of}
 use Rattle.tql_spec.specs.Definition.{Stamped, TableDef, shown, table_at}
 use Rattle.tql_spec.specs.History.{Entry, Now, rows_in}
-use Rattle.tql_spec.specs.Machine.{State, Bound, Reply, step, newest_copy}
+use Rattle.tql_spec.specs.Machine.{State, Bound, DropTable, Reply, step, newest_copy}
 use Rattle.tql_spec.specs.Typing.{AreOfKinds, IsTyped, IsTypedDefinition, IsTypedState}
 use Rattle.tql_spec.specs.TypingLaws.{IsTypedBound, IsTypedChange, IsTypedWork}
 use Rattle.tql_spec.proofs.KindRuns.{steps_keep}
@@ -26,6 +26,8 @@ use Rattle.tql_engine.specs.Effects.{Does}
 use Rattle.tql_engine.specs.Stands.{EngineModel, StandsFor, IsSound}
 use Rattle.tql_engine.proofs.ChangeKeeps.{working_rows}
 use Rattle.tql_engine.proofs.Doing.{none_there}
+use Rattle.tql_engine.proofs.Holding.{steps_hold}
+use Rattle.tql_engine.specs.Dropping.{IsDropped}
 use Rattle.tql_engine.proofs.Modifying.{same_rows}
 use Rattle.tql_engine.proofs.Standing.{definition_law}
 use Rattle.tql_engine.proofs.Swapping.{member_of_same}
@@ -34,13 +36,16 @@ use Rattle.tql_engine.proofs.Swapping.{member_of_same}
 
 pub sound_after : (old new : EngineModel) (sound : IsSound old) (b : Bound) (reply : Reply)
     → IsTypedBound (definitions_of old.tables) b
+    → ((t : ℕ) → b ≡ DropTable t → IsDropped (definitions_of old.tables) t)
     → Does new reply (step sound.state b) → IsSound new
-sound_after old new sound b reply bound does =
+sound_after old new sound b reply bound dropped does =
     let same = sym sound.stands.fits.definitions in
     record {
       state = (step sound.state b).1;
       stands = does.stands;
       typed = steps_keep.steps sound.state b sound.typed (subst (λ (ds : List TableDef). IsTypedBound ds b) same bound);
+      holds = steps_hold sound.state b
+          (λ t e. subst (λ (ds : List TableDef). IsDropped ds t) same (dropped t e)) sound.holds;
     }
 
 -- ---- what a change reads

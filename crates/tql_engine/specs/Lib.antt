@@ -8,3 +8,6 @@ pub mod Sense
 pub mod Bytes
 pub mod Modifying
 pub mod PointRuns
+pub mod Making
+pub mod Dropping
+pub mod Ending

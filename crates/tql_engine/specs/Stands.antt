@@ -7,6 +7,7 @@ use Rattle.tql_spec.specs.Calendar.{first_moment, high}
 use Rattle.tql_spec.specs.Definition.{Stamped}
 use Rattle.tql_spec.specs.History.{Copy, Entry, FallingFrom}
 use Rattle.tql_spec.specs.Machine.{State}
+use Rattle.tql_spec.specs.Run.{ConstraintsHold}
 use Rattle.tql_spec.specs.Typing.{IsTypedState}
 use Rattle.tql_catalog.specs.Tables.{definitions_of, tables_code}
 use Rattle.tql_catalog.specs.declared.catalog.Table.{Table}
@@ -89,8 +90,10 @@ pub record StandsFor (h : EngineModel) (s : State) : Type 0 where
   pub count : table_count h.store ≡ length h.tables
 
 -- what is true of every engine: it stands for some state of the machine, and in each copy of it, the working one too,
--- values are of their columns' kinds, so that the ends of a row's application period are points of its kind
+-- values are of their columns' kinds, so that the ends of a row's application period are points of its kind, and keys
+-- and references hold
 pub record IsSound (h : EngineModel) : Type 0 where
   pub state : State
   pub stands : StandsFor h state
   pub typed : IsTypedState state
+  pub holds : ConstraintsHold state

@@ -19,6 +19,7 @@ use tql_memory::Memory;
 use tql_result::answer::Answer;
 use tql_result::reply::Reply;
 use tql_run::responder::Responder;
+use tql_syntax::ending::{TransactionEnd, transaction_end};
 use tql_syntax_tree::statement::Statement;
 use tql_value::calendar::FIRST_MOMENT;
 use tql_value::refusal::Refusal;
@@ -61,7 +62,10 @@ impl Model for Engine {
 }
 
 impl Engine {
-    ghost use Rattle.tql_spec.specs.Machine.{State, new_state, step};
+    ghost use Rattle.std.specs.Prelude.{ℕ};
+    ghost use Rattle.std.specs.List.{list_all};
+    ghost use Rattle.tql_spec.specs.Definition.{TableDef};
+    ghost use Rattle.tql_spec.specs.Machine.{State, CreateTable, DropTable, new_state, step};
     ghost use Rattle.tql_spec.specs.Run.{Answers, finished, respond};
     ghost use Rattle.tql_spec.specs.Running.{does_run};
     ghost use Rattle.tql_spec.specs.Syntax.{is_too_wide};
@@ -69,10 +73,12 @@ impl Engine {
     ghost use Rattle.tql_syntax_tree.specs.Statements.{statement_of};
     ghost use Rattle.tql_run.specs.Responding.{Answered};
     ghost use Rattle.tql_bound.specs.Bounds.{IsSound, bound_of};
-    ghost use Rattle.tql_catalog.specs.Tables.{definitions_of};
+    ghost use Rattle.tql_catalog.specs.Tables.{can_have, definitions_of};
     ghost use Rattle.tql_result.specs.Replies.{reply_of, IsPrintableReply};
     ghost use Rattle.tql_engine.specs.Stands.{StandsFor};
     ghost use Rattle.tql_engine.specs.Allowed.{IsAllowed};
+    ghost use Rattle.tql_engine.specs.Dropping.{IsDropped};
+    ghost use Rattle.tql_engine.specs.Ending.{EndsTransaction, IsEnded};
     ghost use Rattle.tql_engine.specs.Effects.{DoesStep, reply_by};
 
     /// An engine without tables, whose clock stands at the first moment.
@@ -102,6 +108,9 @@ impl Engine {
         requires sound { IsSound (definitions_of self.old.tables) bound }
         requires allowed { IsAllowed self.old bound }
         requires typed { IsTypedBound (definitions_of self.old.tables) (bound_of bound) }
+        requires dropped { (t : ℕ) → bound_of bound ≡ DropTable t → IsDropped (definitions_of self.old.tables) t }
+        requires parents { (d : TableDef) → bound_of bound ≡ CreateTable d
+            → IsTrue (list_all (can_have (definitions_of self.old.tables)) d.references) }
         ensures { (s : State) → StandsFor self.old s → DoesStep self.new s result (step s (bound_of bound)) }
     {
         match bound {
@@ -135,8 +144,8 @@ impl Engine {
         }
     }
 
-    /// Runs the statement of a text.
-    fn try_step(&mut self, text: &[u8]) -> Result<Reply, Refusal>
+    /// Runs the statement of a text that is read into memory.
+    fn run_text(&mut self, text: &[u8]) -> Result<Reply, Refusal>
         ensures answered { (s : State) → StandsFor self.old s
             → Answered Answers s (finished text.now) (reply_by result) (StandsFor self.new) }
         ensures printable { IfOk result (λ reply. IsPrintableReply (reply_of reply)) }
@@ -147,13 +156,28 @@ impl Engine {
         }
     }
 
+    /// Runs the statement of a text. One that ends a transaction is told by its text, which takes no memory.
+    fn try_step(&mut self, text: &[u8]) -> Result<Reply, Refusal>
+        ensures answered { (s : State) → StandsFor self.old s
+            → Answered Answers s (finished text.now) (reply_by result) (StandsFor self.new) }
+        ensures printable { IfOk result (λ reply. IsPrintableReply (reply_of reply)) }
+        ensures ends { EndsTransaction text.now → IsEnded (reply_by result) }
+    {
+        match transaction_end(text) {
+            Some(TransactionEnd::Commit) => self.commit(),
+            Some(TransactionEnd::Rollback) => self.rollback(),
+            None => self.run_text(text),
+        }
+    }
+
     /// Answers one finished statement by its text, without its `;`. Any bytes are taken: more than 1,048,576 of them,
     /// bytes that are not UTF-8, and texts that are no statement that runs are refused. A refused statement changes
-    /// nothing.
+    /// nothing. COMMIT and ROLLBACK, with WORK or without, take no memory, so a transaction can always be ended.
     pub fn step(&mut self, text: &[u8]) -> Reply
         ensures answered { (s : State) → StandsFor self.old s
             → Answered Answers s (finished text.now) (reply_of result) (StandsFor self.new) }
         ensures printable { IsPrintableReply (reply_of result) }
+        ensures ends { EndsTransaction text.now → IsEnded (reply_of result) }
     {
         match self.try_step(text) {
             Ok(reply) => reply,

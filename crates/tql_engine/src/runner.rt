@@ -15,12 +15,12 @@ use tql_result::vec_sink::VecSink;
 use tql_run::device::Source;
 use tql_run::listener::Listener;
 use tql_run::responder::Responder;
-use tql_run::runner::{Fault, Summary};
+use tql_run::runner::{Fault, MOST_PULLS, Summary};
 use tql_run::silence::Silence;
 use tql_run::slice_source::SliceSource;
 
 /// From so many bytes on a script in memory is not read, as a source of so many is not: `run` says `Read` of both.
-const TOO_MANY_BYTES: usize = 281_474_976_710_655;
+const TOO_MANY_BYTES: usize = MOST_PULLS as usize;
 
 /// Runs the statements of a script one after another, writes each reply to the sink, and tells the listener of those
 /// that are refused, behind the push of the reply. Each statement runs as soon as it is whole: the source is pulled
@@ -29,7 +29,7 @@ const TOO_MANY_BYTES: usize = 281_474_976_710_655;
 /// statement runs behind the one whose reply it did not take, and the run says `Write`. A refused statement does not
 /// stop the run. Memory for a whole script is not asked for: where a statement finds none it is refused, and `Memory`
 /// is said only of what a run takes at its start.
-pub fn run<I: Source, O: Sink, L: Listener>(
+pub fn run<I: Source<O>, O: Sink, L: Listener>(
     engine: &mut Engine,
     source: &mut I,
     sink: &mut O,

@@ -22,6 +22,8 @@ pub enum Search<'a> {
     Loose(&'a [usize]),
     /// A column outside the aggregates from this number on.
     From(usize),
+    /// A column outside the aggregates that is one of these, by number.
+    OneOf(&'a [usize]),
 }
 
 /// The two operands of an operation, of an AND or of an OR.
@@ -40,6 +42,7 @@ impl<'a> Search<'a> {
             Search::Aggregate | Search::Nested => false,
             Search::Loose(groups) => !groups.contains(&column),
             Search::From(first) => first <= column,
+            Search::OneOf(columns) => columns.contains(&column),
         }
     }
 }
@@ -83,7 +86,7 @@ impl Terms {
             Node::Aggregate(_, a) => match search {
                 Search::Aggregate => true,
                 Search::Nested => self.finds(Search::Aggregate, ExprId { place: a }),
-                Search::Loose(_) | Search::From(_) => false,
+                Search::Loose(_) | Search::From(_) | Search::OneOf(_) => false,
             },
             _ => false,
         }

@@ -14,7 +14,7 @@ use Rattle.tql_spec.proofs.LineLaws.{pieces_placed, lead_parts}
 use Rattle.tql_lex.specs.Cutting.{state_behind, end_from, finished_piece, unfinished_piece, is_comment}
 use Rattle.tql_lex.specs.Stream.{Kept, Nothing, Dash, Whole, Overlong, Lost, Stream, is_begun, kept_now, one_if, to_do}
 use Rattle.tql_lex.specs.Stream.{capped}
-use Rattle.tql_lex.specs.Drafts.{Keeps, Ends}
+use Rattle.tql_lex.specs.Pending.{Keeps, Ends}
 use Rattle.tql_lex.specs.Holding.{Shows, Reads, Holds}
 use Rattle.tql_lex.specs.Pieces.{Says, MayFollow, IsFirst, HasNone, Takes, GivesOne, GivesNone}
 use Rattle.tql_lex.specs.Ready.{TakesByte}
@@ -56,7 +56,7 @@ begun_filled Nothing text shows e = let no : false ≡ true = e in absurd cc
 begun_filled Dash text shows e = omega (arith, ap length shows)
 begun_filled (Whole t) text shows e = shows.1.filled
 begun_filled Overlong text shows e = shows.1.filled
-begun_filled Lost text shows e = shows.filled
+begun_filled Lost text shows e = shows.1.filled
 
 -- what has not begun has none
 no_text : (kept : Kept) (text : List ℕ) → Shows kept text → is_begun kept ≡ false → text ≡ []
@@ -176,7 +176,7 @@ ended_text Dash new text shows e = (of_keeps new e, λ _. subst (λ (t : List �
   of_keeps Lost h = refl
 ended_text (Whole t) new text shows e = (ap is_begun e, λ _. subst (Keeps text) (sym e) (shows.0, shows.2))
 ended_text Overlong new text shows e = (ap is_begun e, λ _. subst (Keeps text) (sym e) shows.0)
-ended_text Lost new text shows e = (ap is_begun e, λ _. subst (Keeps text) (sym e) tt)
+ended_text Lost new text shows e = (ap is_begun e, λ _. subst (Keeps text) (sym e) shows.0)
 
 -- a piece that ends with this byte
 placed_close : (ahead looked rest more : List ℕ) (b : ℕ) → end_from Outside looked ≡ None

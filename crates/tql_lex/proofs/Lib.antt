@@ -7,3 +7,4 @@ pub mod TokensLemmas
 pub mod EdgeLemmas
 pub mod PlaceLemmas
 pub mod WordLemmas
+pub mod SoleWordLemmas

@@ -9,7 +9,7 @@ use Rattle.tql_spec.specs.Script.{is_blank, begins_comment, without_lead}
 use Rattle.tql_spec.proofs.TokenLaws.{blank_no_comment}
 use Rattle.tql_lex.specs.Cutting.{state_behind, end_from, is_comment}
 use Rattle.tql_lex.specs.Stream.{Kept, Nothing, Dash, Whole, Overlong, Lost, is_begun}
-use Rattle.tql_lex.specs.Drafts.{Keeps, Looks}
+use Rattle.tql_lex.specs.Pending.{Keeps, Looks}
 use Rattle.tql_lex.specs.Holding.{HasBegun, Shows}
 use Rattle.tql_lex.proofs.CuttingLemmas.{ends, none_is, some_none}
 use Rattle.tql_lex.proofs.GapLemmas.{dash_first, dash_next}
@@ -192,7 +192,7 @@ shows_kept text Nothing h k = absurd k
 shows_kept text Dash h k = absurd k
 shows_kept text (Whole t) h k = (k.0, h, k.1)
 shows_kept text Overlong h k = (k, h)
-shows_kept text Lost h k = h
+shows_kept text Lost h k = (k, h)
 
 -- what has begun goes on
 goes_on : (b : ℕ) (looked ahead text : List ℕ) (was new : Kept) → is_begun was ≡ true → looked ≡ ahead ++ text
@@ -312,5 +312,6 @@ looked_more b c looked ahead text Overlong new parts is comment shows looks =
     (subst (λ (k : Kept). Shows k (text ++ b ∷ [])) (sym looks)
     (omega (arith, shows.0, length-append text (b ∷ [])), begun_more text b shows.1))
 looked_more b c looked ahead text Lost new parts is comment shows looks =
-    goes_on b looked ahead text Lost new refl parts is shows
-    (subst (λ (k : Kept). Shows k (text ++ b ∷ [])) (sym looks) (begun_more text b shows))
+    goes_on b looked ahead text Lost new refl parts is shows.1
+    (subst (λ (k : Kept). Shows k (text ++ b ∷ [])) (sym looks)
+    (omega (arith, shows.0, length-append text (b ∷ [])), begun_more text b shows.1))

@@ -5,7 +5,7 @@ use Rattle.std.specs.Prelude.{IsTrue, IsFalse, if◌then◌else◌}
 use Rattle.tql_spec.specs.Script as script
 use Rattle.tql_lex.specs.Stream.{Stream, is_begun, kept_now, to_do, capped}
 use Rattle.tql_lex.specs.Cutting.{is_comment}
-use Rattle.tql_lex.specs.Drafts.{Looks, Ends}
+use Rattle.tql_lex.specs.Pending.{Looks, Ends}
 use Rattle.tql_lex.specs.Holding.{Holds}
 use Rattle.tql_lex.specs.Pieces.{GivesOne, GivesNone, Says}
 

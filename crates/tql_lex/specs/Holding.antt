@@ -4,7 +4,7 @@ use Rattle.tql_spec.specs.Script.{Outside, without_lead}
 use Rattle.tql_spec.specs.Lines.{placed_from, line_feeds}
 use Rattle.tql_lex.specs.Cutting.{state_behind, end_from}
 use Rattle.tql_lex.specs.Stream.{Kept, Nothing, Dash, Whole, Overlong, Lost, Stream, kept_now, capped}
-use Rattle.tql_lex.specs.Drafts.{longest}
+use Rattle.tql_lex.specs.Pending.{longest, room}
 
 -- a text that has begun: whatever follows, its first byte is neither a blank nor in a comment
 pub record HasBegun (text : List ℕ) : Type 0 where
@@ -17,7 +17,7 @@ Shows Nothing text = text ≡ []
 Shows Dash text = text ≡ 45 ∷ []
 Shows (Whole t) text = (t ≡ text) × HasBegun text × (length text ≤ longest)
 Shows Overlong text = (longest < length text) × HasBegun text
-Shows Lost text = HasBegun text
+Shows Lost text = (room < length text) × HasBegun text
 
 -- behind these bytes, these were looked at, and no `;` in them ends a piece
 pub record Reads (s : Stream) (before looked : List ℕ) : Type 0 where

@@ -1,6 +1,6 @@
 pub mod Stream
 pub mod Cutting
-pub mod Drafts
+pub mod Pending
 pub mod Ready
 pub mod Holding
 pub mod Pieces
@@ -8,4 +8,5 @@ pub mod Feeding
 pub mod Lending
 pub mod Tokens
 pub mod Reading
+pub mod SoleWords
 pub mod Tests

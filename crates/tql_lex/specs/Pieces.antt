@@ -6,16 +6,16 @@ use Rattle.tql_spec.specs.Script as script
 use Rattle.tql_spec.specs.Script.{statements}
 use Rattle.tql_spec.specs.Lines.{placed_from, line_of}
 use Rattle.tql_lex.specs.Stream.{Kept, Stream, to_do, capped}
-use Rattle.tql_lex.specs.Drafts.{longest, Keeps}
+use Rattle.tql_lex.specs.Pending.{longest, room, Keeps}
 use Rattle.tql_lex.specs.Holding.{Holds}
 use Rattle.tql_lex.specs.declared.piece.Piece.{Piece}
 use Rattle.tql_lex.specs.declared.piece.Piece.TheVariants.{Text, TooLong, NoMemory, Unfinished}
 
--- the piece stands for the statement; that memory was refused stands for any
+-- the piece stands for the statement; that memory was refused stands for any that has more bytes than there is room for
 abbrev pub StandsFor : Piece → script.Piece → Type 0
 StandsFor (Text t) p = (p.text ≡ t.now) × IsTrue p.finished × (length t.now ≤ longest)
 StandsFor TooLong p = longest < length p.text
-StandsFor NoMemory p = Unit {0}
+StandsFor NoMemory p = room < length p.text
 StandsFor (Unfinished t) p = (p.text ≡ t.now) × IsFalse p.finished × (length t.now ≤ longest)
 
 -- what is kept of a text that has ended, by a `;` or without one, is that of the statement

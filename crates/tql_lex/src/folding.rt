@@ -20,7 +20,7 @@ fn upper(byte: u8) -> u8
 
 /// Whether bytes are these in upper case.
 #[tactic(auto, using(crate::proofs::WordLemmas::same_bytes))]
-pub(crate) fn is_folded(bytes: &[u8], wanted: &[u8]) -> bool
+pub fn is_folded(bytes: &[u8], wanted: &[u8]) -> bool
     ensures { result ≡ same_text (map token.upper bytes.now) wanted.now }
 {
     let mut left = bytes;

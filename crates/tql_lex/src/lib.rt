@@ -1,9 +1,9 @@
 //! The statements of a script, and the tokens of a statement.
 #![tactic(auto)]
 
-mod draft;
 mod extent;
 pub mod folding;
+mod pending;
 pub mod piece;
 mod ready;
 mod reserved;
@@ -12,3 +12,4 @@ mod scan_state;
 pub mod splitter;
 pub mod token;
 pub mod tokenizer;
+pub mod words;

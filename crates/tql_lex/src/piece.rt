@@ -7,7 +7,7 @@ pub enum Piece<'a> {
     Text(&'a [u8]),
     /// A statement of more than 1,048,576 bytes.
     TooLong,
-    /// A statement that found no memory.
+    /// A statement of more than 65,536 bytes that found no memory.
     NoMemory,
     /// The text at the end of the input, which no `;` ends.
     Unfinished(&'a [u8]),

@@ -1,14 +1,14 @@
-//! The piece of a stream that is still to be looked at.
+//! The part of a stream that is still to be looked at.
 ghost use Rattle.std.specs.Prelude.{◌≡◌, ◌≤◌, length, IfOk, [], List};
 ghost use Rattle.tql_spec.specs.Words.{is_empty};
 ghost use Rattle.tql_lex.specs.Ready.{TakesByte};
 
-use crate::splitter::PIECE;
+use crate::splitter::LONGEST_PART;
 use std::alloc::AllocError;
 use std::marker::Model;
 use tql_memory::Memory;
 
-/// The bytes that were fed and not looked at: one piece at the most.
+/// The bytes that were fed and not looked at: one part at the most.
 #[derive(Drop)]
 pub(crate) struct Ready {
     bytes: Vec<u8, Memory>,
@@ -26,22 +26,22 @@ impl Model for Ready {
 }
 
 impl Ready {
-    /// No bytes, and room for a piece.
+    /// No bytes, and room for a part.
     pub(crate) fn new(memory: Memory) -> Result<Ready, AllocError>
         ensures { IfOk result (λ r. r ≡ List.[]) }
     {
-        let bytes = Vec::with_capacity(memory, PIECE)?;
+        let bytes = Vec::with_capacity(memory, LONGEST_PART)?;
         Ok(Ready { bytes, next: 0 })
     }
 
-    /// Takes a piece in the place of what there was. There is room for it.
-    pub(crate) fn fill(&mut self, piece: &[u8])
-        requires { length piece.now ≤ 65_536 }
-        ensures { self.new ≡ piece.now }
+    /// Takes a part in the place of what there was. There is room for it.
+    pub(crate) fn fill(&mut self, part: &[u8])
+        requires { length part.now ≤ 65_536 }
+        ensures { self.new ≡ part.now }
     {
         self.next = 0;
         self.bytes.clear();
-        let _taken = self.bytes.extend_from_slice(piece);
+        let _taken = self.bytes.extend_from_slice(part);
     }
 
     /// Takes the next byte.

@@ -3,7 +3,7 @@ ghost use Rattle.std.specs.Prelude.{◌≡◌, ◌≤◌, length, List, IsFalse,
 ghost use Rattle.tql_spec.specs.Words.{is_empty};
 ghost use Rattle.tql_lex.specs.Feeding.{Feeds, Finishes, LooksAt, Closes, TakesOn, Advances, forgotten};
 
-use crate::draft::Draft;
+use crate::pending::PendingText;
 use crate::piece::Piece;
 use crate::ready::Ready;
 use crate::scan_state::{ScanState, can_end, is_comment, state_after};
@@ -15,15 +15,15 @@ use tql_memory::Memory;
 pub const LONGEST: usize = 1_048_576;
 
 /// The most bytes that a splitter is fed at once.
-pub const PIECE: usize = 65_536;
+pub const LONGEST_PART: usize = 65_536;
 
 /// Cuts a stream of bytes, which comes in parts, into statements. How the bytes were cut into parts does not matter. It
 /// keeps one part, and of the text that was begun the bytes that have come, up to 1,048,576.
 #[derive(Drop)]
 pub struct Splitter {
     ready: Ready,
-    draft: Draft,
-    /// Whether the draft was given out.
+    pending: PendingText,
+    /// Whether the pending text was given out.
     given: bool,
     /// Where the next byte stands.
     place: ScanState,
@@ -43,7 +43,7 @@ impl Model for Splitter {
     ghost Value = { Stream };
 
     ghost view = { λ s. record {
-      kept = s.draft;
+      kept = s.pending;
       given = s.given;
       place = state_of s.place;
       ready = s.ready;
@@ -60,16 +60,18 @@ impl Splitter {
     ghost use Rattle.tql_lex.specs.Holding.{Holds};
     ghost use Rattle.tql_lex.specs.Lending.{EndsAs};
 
-    /// A splitter that was fed nothing. It takes room for one part, and keeps the memory that a text grows in.
+    /// A splitter that was fed nothing. It takes room for one part and for a text of 65,536 bytes, and keeps the memory
+    /// that a longer text grows in.
     pub fn new(memory: Memory) -> Result<Splitter, AllocError>
         ensures holds { IfOk result (λ s. Holds s List.[] List.[]) }
         ensures ready { IfOk result (λ s. s.ready ≡ List.[]) }
         ensures open { IfOk result (λ s. IsFalse s.ended) }
     {
         let ready = Ready::new(memory)?;
+        let pending = PendingText::new(memory)?;
         Ok(Splitter {
             ready,
-            draft: Draft::new(memory),
+            pending,
             given: false,
             place: ScanState::Outside,
             ended: false,
@@ -124,7 +126,7 @@ impl Splitter {
         ensures { self.new ≡ forgotten self.old }
     {
         if self.given {
-            self.draft.clear();
+            self.pending.clear();
             self.given = false;
         }
     }
@@ -133,10 +135,10 @@ impl Splitter {
     fn look(&mut self, byte: u8)
         ensures { LooksAt byte self.old self.new }
     {
-        if !self.draft.is_begun() {
+        if !self.pending.is_begun() {
             self.begun = self.feeds;
         }
-        self.draft.look(byte, is_comment(self.place));
+        self.pending.look(byte, is_comment(self.place));
         self.place = state_after(self.place, byte);
         if byte == b'\n' {
             self.feeds = self.feeds.saturating_add(1);
@@ -147,9 +149,9 @@ impl Splitter {
     fn close(&mut self) -> bool
         ensures { Closes result self.old self.new }
     {
-        self.draft.end();
+        self.pending.end();
         self.place = ScanState::Outside;
-        self.given = self.draft.is_begun();
+        self.given = self.pending.is_begun();
         if self.given {
             self.line = self.begun.saturating_add(1);
         }
@@ -179,7 +181,7 @@ impl Splitter {
                 return Some(true);
             }
         }
-        if self.ended && self.draft.is_begun() {
+        if self.ended && self.pending.is_begun() {
             self.close();
             return Some(false);
         }
@@ -189,13 +191,13 @@ impl Splitter {
     /// The next statement: its text from the first byte that is neither a blank nor in a comment up to its `;`.
     /// It is None where the bytes that were fed hold no whole statement, and then the next part may be fed. Once the
     /// input has ended, what no `;` ends is given as unfinished. A text of more than 1,048,576 bytes is not kept, and
-    /// is given as too long, once, where it ends. Where memory is refused for a text, its bytes are let go, and
-    /// `NoMemory` is given, once, where it ends. The limit, and that a `;` in a text, a quoted name or a comment ends
-    /// nothing, are this project's choice.
+    /// is given as too long, once, where it ends. Where memory is refused for a text of more than 65,536 bytes, its
+    /// bytes are let go, and `NoMemory` is given, once, where it ends; a shorter one asks for none. The limits, and
+    /// that a `;` in a text, a quoted name or a comment ends nothing, are this project's choice.
     pub fn next_statement(&mut self) -> Option<Piece<'_>>
         ensures* next { sem 𝓛 (EndsAs self.entry result) }
     {
         let finished = self.advance()?;
-        Some(self.draft.piece(finished))
+        Some(self.pending.piece(finished))
     }
 }

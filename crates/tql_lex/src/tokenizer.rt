@@ -12,7 +12,7 @@ use tql_memory::Memory;
 use tql_value::refusal::Refusal;
 
 /// Where the first byte from here on stands that is neither a blank nor in a comment.
-fn next_start(text: &str, from: usize) -> Option<usize>
+pub(crate) fn next_start(text: &str, from: usize) -> Option<usize>
     requires { from ≤ length text.now }
     ensures { IsNextStart text.now from result }
 {
@@ -26,7 +26,7 @@ fn next_start(text: &str, from: usize) -> Option<usize>
 }
 
 /// The token that starts here.
-fn token_at(text: &str, start: usize) -> Option<Token<'_>>
+pub(crate) fn token_at(text: &str, start: usize) -> Option<Token<'_>>
     requires { start ≤ length text.now }
     ensures { IsTokenAt text.now start result }
 {

@@ -15,7 +15,7 @@ use crate::piece::answer_piece;
 use crate::pushed::Pushed;
 use crate::responder::Responder;
 use std::alloc::AllocError;
-use tql_lex::splitter::{PIECE, Splitter};
+use tql_lex::splitter::{LONGEST_PART, Splitter};
 use tql_result::answer::Answer;
 use tql_result::device::DeviceFault;
 use tql_result::reply::Reply;
@@ -155,7 +155,7 @@ fn answer_flushed<R: Responder, O: Sink, L: Listener>(
 
 /// Pulls the next bytes, which a source may wait for. So all statements that are whole have been answered, and the sink
 /// has passed their answers on: this is the one place where a run pulls.
-fn pull_flushed<I: Source, O: Sink>(
+fn pull_flushed<I: Source<O>, O: Sink>(
     source: &mut I,
     splitter: &Splitter,
     sink: &O,
@@ -167,7 +167,7 @@ fn pull_flushed<I: Source, O: Sink>(
     ensures pulls { Pulls result (length buffer.old) (taken result buffer.new)
         (source_change I.left I.failures I.ended source.old source.new) }
 {
-    source.pull(buffer)
+    source.pull(sink, buffer)
 }
 
 /// Answers what is left of a script that was read to its end.
@@ -194,7 +194,7 @@ fn answer_rest<R: Responder, O: Sink, L: Listener>(
 }
 
 /// Reads a script from the source, and answers each of its statements as `run` does.
-fn converse<R: Responder, I: Source, O: Sink, L: Listener>(
+fn converse<R: Responder, I: Source<O>, O: Sink, L: Listener>(
     responder: &mut R,
     source: &mut I,
     sink: &mut O,
@@ -243,7 +243,7 @@ fn converse<R: Responder, I: Source, O: Sink, L: Listener>(
 /// passed on all answers before. Where the source fails, the statements that came whole before that are answered and
 /// stand, and the run says `Read`; where the sink fails, no statement runs behind the one whose answer it did not take,
 /// and the run says `Write`. A refused statement does not stop the run.
-pub fn run<R: Responder, I: Source, O: Sink, L: Listener>(
+pub fn run<R: Responder, I: Source<O>, O: Sink, L: Listener>(
     responder: &mut R,
     source: &mut I,
     sink: &mut O,
@@ -256,7 +256,7 @@ pub fn run<R: Responder, I: Source, O: Sink, L: Listener>(
 {
     let memory = responder.memory();
     let mut splitter = Splitter::new(memory)?;
-    let mut buffer = vec![in memory; 0u8; PIECE]?;
+    let mut buffer = vec![in memory; 0u8; LONGEST_PART]?;
     converse(
         responder,
         source,

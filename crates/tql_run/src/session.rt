@@ -7,7 +7,7 @@ use crate::responder::Responder;
 use crate::runner::answer_next;
 use std::alloc::AllocError;
 use std::marker::Model;
-use tql_lex::splitter::{PIECE, Splitter};
+use tql_lex::splitter::{LONGEST_PART, Splitter};
 use tql_memory::Memory;
 use tql_result::answer::Answer;
 
@@ -29,8 +29,8 @@ impl Model for Session {
 impl Session {
     ghost use Rattle.tql_lex.specs.Holding.{Holds};
 
-    /// A session that was fed nothing. It takes room for one part of 65,536 bytes, and keeps the memory that a
-    /// statement's text grows in.
+    /// A session that was fed nothing. It takes room for one part of 65,536 bytes and for a statement's text of as
+    /// many, and keeps the memory that a longer text grows in.
     pub fn new(memory: Memory) -> Result<Session, AllocError>
         ensures holds { IfOk result (λ s. Holds s [] []) }
         ensures ready { IfOk result (λ s. s.ready ≡ []) }
@@ -50,7 +50,7 @@ impl Session {
         if self.splitter.is_finished() || !self.splitter.is_drained() {
             return 0;
         }
-        let count = bytes.len().min(PIECE);
+        let count = bytes.len().min(LONGEST_PART);
         self.splitter.feed(&bytes[..count]);
         count
     }

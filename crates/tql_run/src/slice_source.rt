@@ -1,8 +1,9 @@
 //! A source over bytes in memory.
 ghost use Rattle.std.specs.Prelude.{◌≡◌, Some, IsFalse};
 
-use crate::device::Source;
+use crate::device::{Input, Source};
 use tql_result::device::DeviceFault;
+use tql_result::sink::Sink;
 
 /// A source over bytes in memory. It tells what it has left, and never fails.
 #[derive(Drop)]
@@ -16,18 +17,18 @@ pub struct SliceSource<'a> {
 impl<'a> SliceSource<'a> {
     /// A source of these bytes, as many at once as there is room for.
     pub fn new(bytes: &'a [u8]) -> SliceSource<'a>
-        ensures left { ⟦<SliceSource<'a> as Source>⟧.left result ≡ Some bytes.now }
-        ensures failures { ⟦<SliceSource<'a> as Source>⟧.failures result ≡ 0 }
-        ensures ended { IsFalse (⟦<SliceSource<'a> as Source>⟧.ended result) }
+        ensures left { ⟦<SliceSource<'a> as Input>⟧.left result ≡ Some bytes.now }
+        ensures failures { ⟦<SliceSource<'a> as Input>⟧.failures result ≡ 0 }
+        ensures ended { IsFalse (⟦<SliceSource<'a> as Input>⟧.ended result) }
     {
         SliceSource::in_pieces(bytes, usize::MAX)
     }
 
     /// A source of these bytes, at most `size` at once; a size of 0 counts as 1.
     pub fn in_pieces(bytes: &'a [u8], size: usize) -> SliceSource<'a>
-        ensures left { ⟦<SliceSource<'a> as Source>⟧.left result ≡ Some bytes.now }
-        ensures failures { ⟦<SliceSource<'a> as Source>⟧.failures result ≡ 0 }
-        ensures ended { IsFalse (⟦<SliceSource<'a> as Source>⟧.ended result) }
+        ensures left { ⟦<SliceSource<'a> as Input>⟧.left result ≡ Some bytes.now }
+        ensures failures { ⟦<SliceSource<'a> as Input>⟧.failures result ≡ 0 }
+        ensures ended { IsFalse (⟦<SliceSource<'a> as Input>⟧.ended result) }
     {
         SliceSource {
             left: bytes,
@@ -37,23 +38,25 @@ impl<'a> SliceSource<'a> {
     }
 }
 
-impl Source for SliceSource<'_> {
+impl Input for SliceSource<'_> {
     ghost left = { λ s. Some s.left.now };
 
     ghost failures = { λ _. 0 };
 
     ghost ended = { λ s. s.ended };
 
-    fn pull(&mut self, buffer: &mut [u8]) -> Result<usize, DeviceFault> {
+    fn faults(&self) -> u64 {
+        0
+    }
+}
+
+impl<O: Sink> Source<O> for SliceSource<'_> {
+    fn pull(&mut self, _sink: &O, buffer: &mut [u8]) -> Result<usize, DeviceFault> {
         let count = self.size.max(1).min(self.left.len()).min(buffer.len());
         let (given, left) = self.left.split_at(count);
         buffer[..count].copy_from_slice(given);
         self.left = left;
         self.ended = count == 0 && !buffer.is_empty();
         Ok(count)
-    }
-
-    fn faults(&self) -> u64 {
-        0
     }
 }

@@ -5,9 +5,10 @@ ghost use Rattle.std.specs.Io.{ReadsAtMost};
 ghost use Rattle.std.specs.Io.KnownBytes.{ReadConsumes};
 ghost use Rattle.tql_result.specs.Devices.{HasFailed};
 
-use crate::device::Source;
+use crate::device::{Input, Source};
 use std::io::{self, Error, ErrorKind, Read};
 use tql_result::device::DeviceFault;
+use tql_result::sink::Sink;
 
 // One read, and again where a signal interrupts it. It gives up where 2^64 - 1 reads in turn are interrupted.
 fn read_again<R: Read>(reader: &mut R, buffer: &mut [u8]) -> io::Result<usize>
@@ -37,9 +38,9 @@ pub struct StdSource<R> {
 impl<R: Read + Drop> StdSource<R> {
     /// A source that has counted no failure, and has not said that its input has ended.
     pub fn new(reader: R) -> StdSource<R>
-        ensures left { ⟦<StdSource<R> as Source>⟧.left result ≡ R.remaining reader }
-        ensures failures { ⟦<StdSource<R> as Source>⟧.failures result ≡ 0 }
-        ensures ended { IsFalse (⟦<StdSource<R> as Source>⟧.ended result) }
+        ensures left { ⟦<StdSource<R> as Input>⟧.left result ≡ R.remaining reader }
+        ensures failures { ⟦<StdSource<R> as Input>⟧.failures result ≡ 0 }
+        ensures ended { IsFalse (⟦<StdSource<R> as Input>⟧.ended result) }
     {
         StdSource {
             reader,
@@ -59,14 +60,20 @@ impl<R: Read + Drop> StdSource<R> {
     }
 }
 
-impl<R: Read + Drop> Source for StdSource<R> {
+impl<R: Read + Drop> Input for StdSource<R> {
     ghost left = { λ s. R.remaining s.reader };
 
     ghost failures = { λ s. s.failures };
 
     ghost ended = { λ s. s.ended };
 
-    fn pull(&mut self, buffer: &mut [u8]) -> Result<usize, DeviceFault> {
+    fn faults(&self) -> u64 {
+        self.failures
+    }
+}
+
+impl<R: Read + Drop, O: Sink> Source<O> for StdSource<R> {
+    fn pull(&mut self, _sink: &O, buffer: &mut [u8]) -> Result<usize, DeviceFault> {
         match read_again(&mut self.reader, buffer) {
             Ok(count) => {
                 self.ended = count == 0 && !buffer.is_empty();
@@ -74,9 +81,5 @@ impl<R: Read + Drop> Source for StdSource<R> {
             }
             Err(_) => Err(self.fail()),
         }
-    }
-
-    fn faults(&self) -> u64 {
-        self.failures
     }
 }

@@ -15,3 +15,4 @@ pub mod Beginning
 pub mod RowsStanding
 pub mod Choosing
 pub mod Ending
+pub mod PastRows

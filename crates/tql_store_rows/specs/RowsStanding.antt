@@ -1,5 +1,6 @@
 -- Where the rows of a table stand by each of its bases.
-use Rattle.std.specs.Prelude.{◌≡◌, ℕ, ◌+◌, ◌<◌, ◌≤◌, ◌⊎◌, false, if◌then◌else◌, List, map, length, Option, None}
+use Rattle.std.specs.Prelude.{◌≡◌, ℕ, ◌+◌, ◌<◌, ◌≤◌, ◌⊎◌, false, if◌then◌else◌, List, [], ◌++◌, map, length}
+use Rattle.std.specs.Prelude.{Bool, Option, None}
 use Rattle.std.specs.Prelude.{Contains, Vec, slice_index_or}
 use Rattle.tql_spec.specs.Datum.{Row}
 use Rattle.tql_spec.specs.Definition.{Version}
@@ -20,6 +21,10 @@ rows_of vs = map (λ (v : Version). v.row.cells) vs
 abbrev pub cells_of : {A : Type 0} → List (Vec Value A) → List Row
 cells_of rows = map (λ row. map datum_of_value row.items) rows
 
+-- the rows at these places
+abbrev pub rows_at : List ℕ → List Row → List Row
+rows_at is rows = map (λ i. slice_index_or rows i []) is
+
 -- under what rows stand, place by place
 abbrev pub all_of : Basis → List Row → List (Option Period)
 all_of basis rows = map (stands_by basis) rows
@@ -36,6 +41,22 @@ open_of basis vs = map (open_in basis) vs
 pub record AreStanding (s : Seating) (indexes : List ValueIndex) (rows : List Row) : Type 0 where
   pub each : (i : ℕ) → i < length indexes
       → IsLinked (all_of (index_at indexes i).basis rows) s (index_at indexes i).standing
+
+-- so many rows stand
+pub record IsFilled (n : ℕ) (s : Seating) (indexes : List ValueIndex) : Type 0 where
+  pub rows : List Row
+  pub size : length rows ≡ n
+  pub standing : AreStanding s indexes rows
+
+-- the rows of closed versions, and behind them those of what the open transaction ended, where the history is kept
+abbrev pub past_rows : Bool → List Version → List ℕ → List Version → List Row
+past_rows keeps current ended closed = rows_of closed ++ (if keeps then rows_at ended (rows_of current) else [])
+
+-- each current row stands, and each past one
+pub record AllStand (keeps : Bool) (s : Seating) (indexes : List ValueIndex) (t : Seating) (past : List ValueIndex)
+    (current : List Version) (ended : List ℕ) (closed : List Version) : Type 0 where
+  pub current_ones : AreStanding s indexes (rows_of current)
+  pub past_ones : AreStanding t past (past_rows keeps current ended closed)
 
 -- only those that are not closed do
 pub record AreOpenStanding (s : Seating) (indexes : List ValueIndex) (vs : List Version) : Type 0 where

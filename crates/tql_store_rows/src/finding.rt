@@ -4,7 +4,7 @@ ghost use Rattle.std.specs.Prelude.{length, slice_get};
 ghost use Rattle.tql_store_index.specs.Basis.{sought_of};
 ghost use Rattle.tql_store_rows.specs.Readings.{AreEnded, answer_of, numbered, placed, told_by, version_shown};
 ghost use Rattle.tql_store_rows.specs.Readings.{where_open};
-ghost use Rattle.tql_store_rows.specs.RowsStanding.{AreStanding, rows_of};
+ghost use Rattle.tql_store_rows.specs.RowsStanding.{AreStanding};
 ghost use Rattle.tql_store_rows.specs.TableModel.{versions as all_versions};
 ghost use Rattle.tql_store_rows.specs.Views.{version_of, versions_of};
 ghost use Rattle.tql_store_rows.specs.Wanted.{AreSought, IsSearch, chosen, chosen_at, chosen_of};
@@ -142,8 +142,8 @@ fn places_of<I: IntervalIndex>(
     seats: &Seats,
     sought: Sought<'_>,
 ) -> Result<Option<Vec<usize, Memory>>, AllocError>
-    ensures { IfOk result (λ places. (vs : _) → AreStanding seats.now indexes.now (rows_of vs)
-        → AreSought (sought_of sought.entry) vs places) }
+    ensures { IfOk result (λ places. (rows : _) → AreStanding seats.now indexes.now rows
+        → AreSought (sought_of sought.entry) rows places) }
 {
     indexes.find(seats, sought)
 }
@@ -161,9 +161,9 @@ fn if_open(id: usize, version: &Kept) -> Option<Version<'_>>
 }
 
 impl<I: IntervalIndex> Versions<I> {
-    /// The versions that are asked for and whose rows are sought (FOR SYSTEM_TIME, ISO/IEC 9075-2:2011, 7.6). The
-    /// current ones are found by an index, where the table keeps one of these columns, and looked for one by one where
-    /// it does not; so are closed ones.
+    /// The versions that are asked for and whose rows are sought (FOR SYSTEM_TIME, ISO/IEC 9075-2:2011, 7.6). They are
+    /// found by an index, where the table keeps one of these columns, and looked for one by one where it does not; so
+    /// are closed ones that are sought by their periods.
     pub fn search(
         &self,
         memory: Memory,
@@ -177,7 +177,15 @@ impl<I: IntervalIndex> Versions<I> {
         if let When::Now = when {
             return Ok(found);
         }
-        push_all(&mut found, self.current.len(), &self.closed, when, sought)?;
+        let past = places_of(&self.past, &self.past_seats, sought)?;
+        push_found(
+            &mut found,
+            self.current.len(),
+            &self.closed,
+            past,
+            when,
+            sought,
+        )?;
         Ok(found)
     }
 

@@ -4,6 +4,7 @@
 mod entries;
 mod finding;
 mod kept;
+mod past;
 mod readings;
 mod standing;
 pub mod version;

@@ -15,7 +15,7 @@ use tql_store_index::value_indexes::ValueIndexes;
 use tql_value::value::Value;
 
 /// Indexes of the values in each of these lists of columns, in which no row stands yet.
-fn value_indexes<I: IntervalIndex>(
+pub fn value_indexes<I: IntervalIndex>(
     memory: Memory,
     lists: Vec<Vec<usize, Memory>, Memory>,
 ) -> Result<ValueIndexes<I>, AllocError>

@@ -11,6 +11,7 @@ ghost use Rattle.tql_value.specs.Views.{datum_of_value};
 
 use crate::entries::{enter_kept, leave_kept};
 use crate::kept::{Kept, end_each, mark_each, replace, reserve_kept, retire_kept, sweep};
+use crate::past::{leave_past, past_indexes};
 use crate::standing::{enter_rows, leave_back, leave_rows, leave_shut, row_indexes};
 use crate::version::HIGH;
 use std::alloc::AllocError;
@@ -36,6 +37,10 @@ pub struct Versions<I: IntervalIndex> {
     pub(crate) seats: Seats,
     /// Where the current versions stand by their values in lists of columns, and by their application periods.
     pub(crate) indexes: ValueIndexes<I>,
+    /// The seats of the closed versions, and behind them of those that the open transaction ended: none is ever moved.
+    pub(crate) past_seats: Seats,
+    /// Where these stand by their values, of a table that keeps its history.
+    pub(crate) past: ValueIndexes<I>,
 }
 
 impl<I: IntervalIndex> Model for Versions<I> {
@@ -57,9 +62,10 @@ impl<I: IntervalIndex> Model for Versions<I> {
       entries = I.entries r.index;
     } };
 
-    ghost use Rattle.tql_store_rows.specs.RowsStanding.{AreStanding, rows_of};
+    ghost use Rattle.tql_store_rows.specs.RowsStanding.{AllStand};
 
-    ghost invariant = { λ r. AreStanding r.seats r.indexes (rows_of (versions_of r.current.items)) };
+    ghost invariant = { λ r. AllStand r.keeps r.seats r.indexes r.past_seats r.past (versions_of r.current.items)
+        r.ended.items (versions_of r.closed.items) };
 }
 
 impl<I: IntervalIndex> Versions<I> {
@@ -89,11 +95,13 @@ impl<I: IntervalIndex> Versions<I> {
             index: I::new(memory),
             seats: Seats::new(memory),
             indexes: ValueIndexes::new(memory),
+            past_seats: Seats::new(memory),
+            past: ValueIndexes::new(memory),
         }
     }
 
-    /// The same, whose current rows can be found by their values in each of these lists of columns, and by the period
-    /// from the first of two columns to the second.
+    /// The same, whose rows can be found by their values in each of these lists of columns, the closed ones too where
+    /// it keeps its history, and whose current rows by the period from the first of two columns to the second.
     pub fn with_indexes(
         memory: Memory,
         keeps: bool,
@@ -113,6 +121,7 @@ impl<I: IntervalIndex> Versions<I> {
             })) }
         ensures rest { IfOk result (AtRest None) }
     {
+        let past = past_indexes(memory, keeps, &lists)?;
         let indexes = row_indexes(memory, lists, application)?;
         Ok(Versions {
             memory,
@@ -125,6 +134,8 @@ impl<I: IntervalIndex> Versions<I> {
             index: I::new(memory),
             seats: Seats::new(memory),
             indexes,
+            past_seats: Seats::new(memory),
+            past,
         })
     }
 
@@ -193,6 +204,8 @@ impl<I: IntervalIndex> Versions<I> {
         if let Err(error) = enter_kept(
             self.keeps,
             &mut self.index,
+            &mut self.past_seats,
+            &mut self.past,
             &self.current,
             &self.ended[ended..],
             moment,
@@ -242,13 +255,16 @@ impl<I: IntervalIndex> Versions<I> {
     {
         leave_rows(&mut self.indexes, &self.seats, &self.current, self.base);
         self.current.truncate(self.base);
+        let from = self.closed.len();
+        let to = from + self.ended.len();
+        leave_past(&self.past_seats, &mut self.past, from, to);
         leave_kept(
             self.keeps,
             &mut self.index,
             &self.current,
             &self.ended,
             moment,
-            self.closed.len(),
+            from,
         );
         end_each(&mut self.current, &self.ended, HIGH);
         self.ended.clear();

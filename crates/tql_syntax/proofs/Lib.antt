@@ -1,3 +1,4 @@
 pub mod NestingLemmas
 pub mod Outcomes
 pub mod TextLaws
+pub mod EndingLaws

@@ -1,3 +1,4 @@
 pub mod Nesting
 pub mod Parses
 pub mod Texts
+pub mod Endings

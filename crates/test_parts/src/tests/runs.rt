@@ -47,10 +47,11 @@ const THREE: &str = "INSERT 3\nREFUSED E10 not a statement\nINSERT 5\n";
 const WHOLE: &str =
     "INSERT 3\nREFUSED E10 not a statement\nINSERT 5\nREFUSED E12 unfinished statement\n";
 
-/// Each text refused for want of memory.
-const LOST: &str =
-    "REFUSED E01 out of memory\nREFUSED E01 out of memory\nREFUSED E01 out of memory\n\
-    REFUSED E01 out of memory\n";
+/// A text refused for want of memory.
+const LOST: &str = "REFUSED E01 out of memory\n";
+
+/// A text that no `;` ends.
+const UNFINISHED: &str = "REFUSED E12 unfinished statement\n";
 
 /// Reads of one byte, and of three.
 const BY_ONE: Setting = Setting { size: 1, ..SOUND };
@@ -158,7 +159,7 @@ const CASES: [(&[u8], Setting, End, &str); 33] = [
         Err(Fault::Write),
         WHOLE,
     ),
-    // no memory for one of the two buffers, or for the text of a statement
+    // no memory for one of the three buffers; a text that they hold asks for none
     (
         SCRIPT,
         Setting {
@@ -183,23 +184,23 @@ const CASES: [(&[u8], Setting, End, &str); 33] = [
             granted: 2,
             ..SOUND
         },
-        Ok((4, 4)),
-        LOST,
-    ),
-    (
-        SCRIPT,
-        Setting {
-            granted: 2,
-            ..BY_ONE
-        },
-        Ok((4, 4)),
-        LOST,
+        Err(Fault::Memory),
+        "",
     ),
     (
         SCRIPT,
         Setting {
             granted: 3,
             ..SOUND
+        },
+        Ok((4, 2)),
+        WHOLE,
+    ),
+    (
+        SCRIPT,
+        Setting {
+            granted: 3,
+            ..BY_ONE
         },
         Ok((4, 2)),
         WHOLE,
@@ -228,6 +229,18 @@ fn runs_end_and_write(rt: HostRuntime) -> Result<(), Fail> {
         let outcome = run_script(&rt, script, setting)?;
         let is_right = outcome.end == end && outcome.text.as_slice() == text.as_bytes();
         assert!(rt; is_right, "case {case}");
+    }
+    Ok(())
+}
+
+/// A text of more bytes than there is room for at the start is refused where its growth is.
+#[test]
+fn long_texts_grow(rt: HostRuntime) -> Result<(), Fail> {
+    let script = vec![in rt.alloc(); b'a'; 70_000]?;
+    for (granted, text) in [(3, LOST), (4, UNFINISHED)] {
+        let outcome = run_script(&rt, &script, Setting { granted, ..SOUND })?;
+        let is_right = outcome.end == Ok((1, 1)) && outcome.text.as_slice() == text.as_bytes();
+        assert!(rt; is_right, "with {granted} growths");
     }
     Ok(())
 }

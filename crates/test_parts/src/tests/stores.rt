@@ -74,6 +74,20 @@ fn ids_of(memory: Memory, found: &[Version<'_>]) -> Result<Vec<usize, Memory>, R
     Ok(ids)
 }
 
+/// The ids of all current rows.
+pub fn current_ids<I: IntervalIndex>(
+    memory: Memory,
+    store: &Store<I>,
+    table: TableId,
+) -> Result<Vec<usize, Memory>, Refusal>
+    requires { IsTrue (table_there store.now table) }
+    ensures { IfOk result (λ ids. AreRemovable store.now table ids.items) }
+{
+    let found = store.found(table, When::Now)?;
+    let ids = ids_of(memory, &found)?;
+    Ok(ids)
+}
+
 /// A change that removes all rows.
 fn removal<I: IntervalIndex>(
     memory: Memory,
@@ -83,8 +97,7 @@ fn removal<I: IntervalIndex>(
     requires { IsTrue (table_there store.now table) }
     ensures { IfOk result (λ d. AreRemovable store.now d.table d.removed.items) }
 {
-    let found = store.found(table, When::Now)?;
-    let removed = ids_of(memory, &found)?;
+    let removed = current_ids(memory, store, table)?;
     Ok(Delta {
         table,
         removed,
@@ -310,7 +323,7 @@ fn drops<I: IntervalIndex>(store: &mut Store<I>, table: TableId) -> bool {
 }
 
 /// The lists of columns by which rows are found: the first, and the second with the first.
-fn lists(memory: Memory) -> Result<Vec<Vec<usize, Memory>, Memory>, Refusal> {
+pub fn lists(memory: Memory) -> Result<Vec<Vec<usize, Memory>, Memory>, Refusal> {
     let mut one = Vec::new(memory);
     one.push(0)?;
     let mut two = Vec::new(memory);

@@ -10,6 +10,7 @@ use crate::engine::Engine;
 use tql_bound::change::{Insertion, Modification, QueryInsertion, Work};
 use tql_dml::insertion::{insert_rows, insert_tuples};
 use tql_dml::modification::modify;
+use tql_keys::check::check;
 use tql_result::reply::{Reply, Verb};
 use tql_spec::{changes_by_parts, changes_keep_no_order, inserts_keep_no_order};
 use tql_store::store::Delta;
@@ -35,11 +36,42 @@ impl Engine {
     ghost use Rattle.tql_bound.specs.Queries.{bound_query_of};
     ghost use Rattle.tql_catalog.specs.declared.catalog.Table.{Table};
     ghost use Rattle.tql_engine.specs.Adding.{Adds};
+    ghost use Rattle.tql_engine.specs.Making.{Changes, IsMade};
     ghost use Rattle.tql_engine.specs.Modifying.{Makes};
     ghost use Rattle.tql_catalog.specs.Tables.{definitions_of};
     ghost use Rattle.tql_engine.specs.Stands.{StandsFor};
     ghost use Rattle.tql_engine.specs.Allowed.{IsIdle, HasTimeLeft};
     ghost use Rattle.tql_engine.specs.Effects.{DoesStep};
+
+    /// Makes a change of the table at a place, in the open transaction or in one of its own at the clock's moment. It
+    /// is refused where a key fails after it, else where a reference does, and where memory is, with nothing changed.
+    fn make(&mut self, place: usize, delta: Delta, verb: Verb) -> Result<Reply, Refusal>
+        requires within { place < length self.old.tables }
+        requires made { IsMade self.old place delta verb }
+        requires below { IsIdle self.old → HasTimeLeft self.old }
+        ensures { (s : State) (c : machine.Change) → StandsFor self.old s → Changes self.old place delta verb c s
+            → DoesStep self.new s result (step s (machine.ChangeRows c)) }
+    {
+        let tested = check(
+            self.memory,
+            &self.tables,
+            &self.store,
+            place,
+            &delta,
+            self.next,
+        );
+        if let Err(refusal) = tested {
+            return Err(refusal);
+        }
+        let count = delta.count;
+        match change_rows(&mut self.store, self.next, delta) {
+            Ok(next) => {
+                self.next = next;
+                Ok(Reply::Done(verb, Some(count)))
+            }
+            Err(refusal) => Err(refusal),
+        }
+    }
 
     /// INSERT of tuples. The rows begin at the clock's moment, which is that of an open transaction.
     pub(super) fn insert(&mut self, insertion: &Insertion) -> Result<Reply, Refusal>
@@ -49,16 +81,8 @@ impl Engine {
         ensures { (s : State) → StandsFor self.old s
             → DoesStep self.new s result (step s (machine.ChangeRows (insertion_of insertion.now))) }
     {
-        let delta = match insert_tuples(self.memory, self.table_at(insertion.table), insertion) {
-            Ok(delta) => delta,
-            Err(refusal) => return Err(refusal),
-        };
-        let count = delta.count;
-        match change_rows(&mut self.store, self.next, delta) {
-            Ok(next) => {
-                self.next = next;
-                Ok(Reply::Done(Verb::Inserted, Some(count)))
-            }
+        match insert_tuples(self.memory, self.table_at(insertion.table), insertion) {
+            Ok(delta) => self.make(insertion.table, delta, Verb::Inserted),
             Err(refusal) => Err(refusal),
         }
     }
@@ -88,16 +112,8 @@ impl Engine {
             → DoesStep self.new s result (step s (machine.ChangeRows (query_insertion_of insertion.now))) }
     {
         inserts_keep_no_order();
-        let delta = match self.query_delta(insertion) {
-            Ok(delta) => delta,
-            Err(refusal) => return Err(refusal),
-        };
-        let inserted = delta.count;
-        match change_rows(&mut self.store, self.next, delta) {
-            Ok(next) => {
-                self.next = next;
-                Ok(Reply::Done(Verb::Inserted, Some(inserted)))
-            }
+        match self.query_delta(insertion) {
+            Ok(delta) => self.make(insertion.table, delta, Verb::Inserted),
             Err(refusal) => Err(refusal),
         }
     }
@@ -123,16 +139,9 @@ impl Engine {
     {
         changes_keep_no_order();
         changes_by_parts();
-        let delta = match self.delta_of(modification) {
-            Ok(delta) => delta,
-            Err(refusal) => return Err(refusal),
-        };
-        let count = delta.count;
-        match change_rows(&mut self.store, self.next, delta) {
-            Ok(next) => {
-                self.next = next;
-                Ok(Reply::Done(verb_of(&modification.work), Some(count)))
-            }
+        let verb = verb_of(&modification.work);
+        match self.delta_of(modification) {
+            Ok(delta) => self.make(modification.table, delta, verb),
             Err(refusal) => Err(refusal),
         }
     }

@@ -1,5 +1,6 @@
 //! CREATE TABLE.
-ghost use Rattle.std.specs.Prelude.{◌≡◌, OnOk, OnErr, IfErr};
+ghost use Rattle.std.specs.List.{list_all};
+ghost use Rattle.std.specs.Prelude.{◌≡◌, OnOk, OnErr, IfErr, IsTrue};
 
 use crate::engine::Engine;
 use tql_catalog::table_def::TableDef;
@@ -11,7 +12,7 @@ impl Engine {
     ghost use Rattle.tql_spec.specs.Machine as machine;
     ghost use Rattle.tql_spec.specs.Machine.{State, step, with_table};
     ghost use Rattle.tql_spec.specs.Typing.{IsTypedDefinition};
-    ghost use Rattle.tql_catalog.specs.Tables.{definitions_of};
+    ghost use Rattle.tql_catalog.specs.Tables.{can_have, definitions_of};
     ghost use Rattle.tql_value.specs.declared.refusal.Refusal.TheVariants.{OutOfMemory};
     ghost use Rattle.tql_bound.specs.Bounds.{IsSoundTable};
     ghost use Rattle.tql_engine.specs.Stands.{StandsFor};
@@ -23,6 +24,7 @@ impl Engine {
         requires closed { IsIdle self.old }
         requires sound { IsSoundTable (definitions_of self.old.tables) definition }
         requires typed { IsTypedDefinition definition }
+        requires parents { IsTrue (list_all (can_have (definitions_of self.old.tables)) definition.references) }
         ensures ok { OnOk result ((s : State) → StandsFor self.old s → StandsFor self.new (with_table definition s)) }
         ensures err { OnErr result ((s : State) → StandsFor self.old s → StandsFor self.new s) }
         ensures memory { IfErr result (λ e. e ≡ OutOfMemory) }
@@ -45,6 +47,7 @@ impl Engine {
         requires closed { IsIdle self.old }
         requires sound { IsSoundTable (definitions_of self.old.tables) definition }
         requires typed { IsTypedDefinition definition }
+        requires parents { IsTrue (list_all (can_have (definitions_of self.old.tables)) definition.references) }
         ensures { (s : State) → StandsFor self.old s
             → DoesStep self.new s result (step s (machine.CreateTable definition)) }
     {

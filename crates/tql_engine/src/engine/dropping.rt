@@ -11,6 +11,7 @@ impl Engine {
     ghost use Rattle.tql_result.specs.Replies.{reply_of};
     ghost use Rattle.tql_engine.specs.Stands.{StandsFor};
     ghost use Rattle.tql_engine.specs.Allowed.{IsIdle};
+    ghost use Rattle.tql_engine.specs.Dropping.{IsDropped};
     ghost use Rattle.tql_engine.specs.Effects.{Does};
 
     /// DROP TABLE: the table at this place is gone, with its rows at every moment (this project's choice). It is no
@@ -18,6 +19,7 @@ impl Engine {
     pub(super) fn drop_table(&mut self, place: usize) -> Reply
         requires closed { IsIdle self.old }
         requires there { place < length (definitions_of self.old.tables) }
+        requires dropped { IsDropped (definitions_of self.old.tables) place }
         ensures { (s : State) → StandsFor self.old s
             → Does self.new (reply_of result) (step s (machine.DropTable place)) }
     {

@@ -1,5 +1,5 @@
 //! START TRANSACTION, COMMIT and ROLLBACK. None of them takes memory, so none is refused for want of it.
-ghost use Rattle.std.specs.Prelude.{◌≡◌, IfErr};
+ghost use Rattle.std.specs.Prelude.{◌≡◌, IfErr, IfOk, None};
 
 use crate::engine::Engine;
 use tql_result::reply::{Reply, Verb};
@@ -28,6 +28,7 @@ impl Engine {
     /// commit statement.
     pub fn commit(&mut self) -> Result<Reply, Refusal>
         ensures answered { (s : State) → StandsFor self.old s → DoesStep self.new s result (step s machine.Commit) }
+        ensures done { IfOk result (λ reply. reply_of reply ≡ machine.Done machine.Committed None) }
         ensures reason { IfErr result (λ e. e ≡ Refusal.NotInThisTransactionState) }
     {
         if !self.store.has_transaction() {
@@ -42,6 +43,7 @@ impl Engine {
     /// nothing changed, where no transaction is open. ISO/IEC 9075-2:2011, rollback statement.
     pub fn rollback(&mut self) -> Result<Reply, Refusal>
         ensures answered { (s : State) → StandsFor self.old s → DoesStep self.new s result (step s machine.Rollback) }
+        ensures done { IfOk result (λ reply. reply_of reply ≡ machine.Done machine.RolledBack None) }
         ensures reason { IfErr result (λ e. e ≡ Refusal.NotInThisTransactionState) }
     {
         if !self.store.has_transaction() {

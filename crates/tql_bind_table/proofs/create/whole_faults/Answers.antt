@@ -32,12 +32,15 @@ returns c =
     c.has_wrong_systems.ensures c.refuse_if-6.ensures in
     let f7 = asked c.has_wrong_ends.result _ FormNotAllowedHere c.refuse_if-6.new.self c.refuse_if-7.new.self
     c.has_wrong_ends.ensures c.refuse_if-7.ensures in
-    let f8 = asked c.is_full.result _ TooManyTablesOrReaders c.refuse_if-7.new.self c.refuse_if-8.new.self
-    c.is_full.ensures c.refuse_if-8.ensures in
+    let f8 = asked c.has_several_primaries.result _ FormNotAllowedHere c.refuse_if-7.new.self c.refuse_if-8.new.self
+    c.has_several_primaries.ensures c.refuse_if-8.ensures in
+    let f9 = asked c.is_full.result _ TooManyTablesOrReaders c.refuse_if-8.new.self c.refuse_if-9.new.self
+    c.is_full.ensures c.refuse_if-9.ensures in
     let m2 = more _ _ _ _ _ f1 f2 in
     let m3 = more _ _ _ _ _ m2 f3 in
     let m4 = more _ _ _ _ _ m3 f4 in
     let m5 = more _ _ _ _ _ m4 f5 in
     let m6 = more _ _ _ _ _ m5 f6 in
     let m7 = more _ _ _ _ _ m6 f7 in
-    record { value = refl; least = more _ _ _ _ _ m7 f8 }
+    let m8 = more _ _ _ _ _ m7 f8 in
+    record { value = refl; least = more _ _ _ _ _ m8 f9 }

@@ -1,7 +1,8 @@
 use Rattle.std.proofs.Common.{◌≡◌, ◌++◌, drop, map}
-use Rattle.tql_spec.specs.Creation.{columns_of, application_parts, system_parts}
+use Rattle.tql_spec.specs.Creation.{columns_of, application_parts, system_parts, constraints_of}
 use Rattle.tql_syntax_tree.specs.Statements.{element_of}
-use Rattle.tql_bind_table.specs.NewTables.{columns_in, applications_in, systems_in, elements_in}
+use Rattle.tql_bind_table.specs.NewTables.{columns_in, applications_in, systems_in, elements_in, keys_in}
+use Rattle.tql_bind_table.specs.NewTables.{references_in, key_parts, reference_parts}
 use Rattle.tql_bind_table.proofs.draft.draft_of.Given as goal
 
 abbrev pub invariant-loop-element : goal.invariant-loop-element
@@ -12,4 +13,9 @@ invariant-loop-element l = record {
       ≡ application_parts (elements_in l.fn.create);
   systems : systems_in l.draft ++ system_parts (map element_of (drop l.element-index l.element-items)) ≡ system_parts
       (elements_in l.fn.create);
+  keys : keys_in l.draft ++ key_parts (constraints_of (map element_of (drop l.element-index l.element-items)))
+      ≡ key_parts (constraints_of (elements_in l.fn.create));
+  references : references_in l.draft
+      ++ reference_parts (constraints_of (map element_of (drop l.element-index l.element-items)))
+      ≡ reference_parts (constraints_of (elements_in l.fn.create));
 }

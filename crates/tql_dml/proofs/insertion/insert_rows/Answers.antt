@@ -1,5 +1,4 @@
-use Rattle.std.proofs.Common.{rules, ◌≡◌, ◌∙◌, ap, map, List}
-use Rattle.tql_spec.specs.Datum.{Row}
+use Rattle.std.proofs.Common.{rules, ◌∙◌, ap}
 use Rattle.tql_spec.specs.Refusal.{first}
 use Rattle.tql_dml.specs.Cells.{rows_faults}
 use Rattle.tql_value.specs.Views.{rows_of}

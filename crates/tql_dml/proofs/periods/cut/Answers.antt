@@ -1,4 +1,4 @@
-use Rattle.std.proofs.Common.{◌≡◌, sym, ap, subst, ◌∙◌, Option, None}
+use Rattle.std.proofs.Common.{sym, ap, subst, ◌∙◌, Option, None}
 use Rattle.std.specs.Prelude.{option_map}
 use Rattle.tql_period.specs.Points.{points_of}
 use Rattle.tql_period.specs.declared.period.Period.{Period}

@@ -29,7 +29,7 @@ returns-in-Err-pull_flushed g c s st =
     (record {
       unmet = p.told;
       cause = inl (subst (λ (n : ℕ). HasFailed n
-          (g.I.Source.failures c.pull_flushed.new.source)) i.reads.steady p.counted);
+          (g.I.Input.failures c.pull_flushed.new.source)) i.reads.steady p.counted);
     })
     c.in-Ok.ensures.flushed
     (c.in-Ok.ensures.answers s i.script _ _ _ (script_short _ i.script _ few i.reads) (i.wrote s st))

@@ -1,7 +1,8 @@
 use Rattle.std.proofs.Common.{rules, tests, ◌≡◌, ◌∙◌, ◌++◌, [], ◌∷◌, List, string_bytes, ap, sym, subst, None}
+use Rattle.std.specs.List.{list_all}
 use Rattle.std.specs.Map.{values_of}
 use Rattle.tql_spec.specs.Refusal.{first}
-use Rattle.tql_catalog.specs.Tables.{definitions_of, IsFree, IsCatalog, IsByName, creation_faults}
+use Rattle.tql_catalog.specs.Tables.{definitions_of, IsFree, IsCatalog, IsByName, creation_faults, can_have}
 use Rattle.tql_catalog.specs.declared.catalog.Table.{Table}
 use Rattle.tql_catalog.proofs.Catalogs.{one_more, no_fault_told, put_last, tables_more, by_name_more}
 use Rattle.tql_catalog.proofs.catalog.Catalog.create.Goals as goal
@@ -23,7 +24,9 @@ invariant_of-self-2 c =
     ∙ put_last c.self.inside.tables name table named c.self.invariant.1 there in (
       subst IsCatalog (sym (ap values_of new ∙ tables_more entries name table))
           (one_more (values_of entries) c.args.definition c.args.id c.self.invariant.0 there
-          (subst (IsFree c.args.id) (sym c.self.view_is) c.requires)),
+          (subst (IsFree c.args.id) (sym c.self.view_is) c.requires.free)
+          (ap (λ (ts : List Table). list_all (can_have (definitions_of ts)) c.args.definition.references)
+          c.self.view_is ∙ c.requires.parents)),
       subst IsByName (sym new) (by_name_more entries name table named c.self.invariant.1),
     )
 

@@ -1,10 +1,11 @@
 use Rattle.std.proofs.Common.{◌<◌, ℕ, Bool, ◌∙◌, sym, subst, List, Err}
-use Rattle.std.specs.Prelude.{ℤ, IsNone, Option}
+use Rattle.std.specs.List.{list_all}
+use Rattle.std.specs.Prelude.{ℤ, IsNone, IsTrue, Option}
 use Rattle.std.proofs.lemmas.List.{length-map}
 use Rattle.tql_spec.specs.Machine.{CreateTable}
 use Rattle.tql_spec.specs.Refusal as spec
 use Rattle.tql_store.specs.Represents.{AddsTable}
-use Rattle.tql_catalog.specs.Tables.{definitions_of, Tells}
+use Rattle.tql_catalog.specs.Tables.{can_have, definitions_of, Tells}
 use Rattle.tql_catalog.specs.declared.catalog.Table.{Table}
 use Rattle.tql_bound.specs.Bounds.{IsSoundTable}
 use Rattle.tql_engine.specs.Stands.{EngineModel, StandsFor}
@@ -21,12 +22,17 @@ add_table-requires c =
     subst (λ (n : ℕ). n < 1000) (length-map c.self.inside.tables (λ (t : Table). t.definition)
     ∙ sym c.self.invariant.stands.count) sound.room
 
-pub create-requires : goal.create-requires
-create-requires c =
+pub create-requires-clause-free : goal.create-requires-clause-free
+create-requires-clause-free c =
     let table : Table = record { definition = c.args.definition; id = c.in_ok-id.id } in
     free_number c.self.inside.store c.add_table.new.self table
     (subst (λ (b : Bool). AddsTable b c.in_ok-id.id c.self.inside.store c.add_table.new.self)
     c.is_versioned.ensures.versioned c.in_ok-id.ensures.ok) c.self.inside.tables c.self.invariant.stands.placed
+
+pub create-requires-clause-parents : goal.create-requires-clause-parents
+create-requires-clause-parents c =
+    subst (λ (h : EngineModel). IsTrue (list_all (can_have (definitions_of h.tables)) c.args.definition.references))
+    (sym c.self.view_is) c.requires.parents
 
 pub drop_table-requires-clause-closed : goal.drop_table-requires-clause-closed
 drop_table-requires-clause-closed c =
@@ -45,7 +51,7 @@ invariant_of-self-in-Ok c =
     let d = c.args.definition in
     let table : Table = record { definition = d; id = c.in_ok-id.id } in
     let closed = subst (λ (h : EngineModel). IsNone h.store.working) (sym c.self.view_is) c.requires.closed in
-    sound_after _ _ c.self.invariant (CreateTable d) _ c.requires.typed
+    sound_after _ _ c.self.invariant (CreateTable d) _ c.requires.typed (λ t e. absurd (cc))
     (create_does _ _ c.self.invariant.state d c.self.invariant.stands closed
     (made_law c.self.invariant.state c.self.inside.tables _ table c.self.inside.store _ _ _ c.self.invariant.stands
     closed c.is_versioned.ensures.right c.requires.sound.narrow c.in_ok-id.ensures.ok c.in_ok-id.ensures.copies
@@ -69,6 +75,7 @@ invariant_of-self-in-Err c =
           c.drop_table.ensures.copies c.self.invariant.state c.self.inside.tables c.self.inside.next
           c.self.invariant.stands c.in_ok-id.ensures.copies);
       typed = c.self.invariant.typed;
+      holds = c.self.invariant.holds;
     }
 
 pub returns-in-Ok-clause-ok : goal.returns-in-Ok-clause-ok

@@ -22,5 +22,5 @@ invariant_of-self c =
     let s : State = c.self.invariant.state in
     let closed = subst (λ (h : EngineModel). IsNone h.store.working) (sym c.self.view_is) c.requires.closed in
     rw (to_z-of_z c.ranges.moment)
-    (sound_after _ _ c.self.invariant (SetClock c.args.moment) _ tt
+    (sound_after _ _ c.self.invariant (SetClock c.args.moment) _ tt (λ t e. absurd (cc))
     (clock_set _ s _ c.self.invariant.stands closed (search rules) c.requires.moment.0 c.requires.moment.1))

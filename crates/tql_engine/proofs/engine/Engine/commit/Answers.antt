@@ -15,7 +15,7 @@ invariant_of-self c =
     let is_open = sym c.has_transaction.ensures ∙ c.if-not-has_transaction.false in
     let e = open_entry _ s st is_open in
     rw (clock_steps _ s st (dated_below _ s e.0 st e.1))
-    (sound_after _ _ c.self.invariant Commit _ tt
+    (sound_after _ _ c.self.invariant Commit _ tt (λ t e. absurd (cc))
     (commit_does _ s c.commit.new.self st is_open c.commit.ensures.copies (c.commit.ensures.working)
     (c.commit.ensures.tables)))
 

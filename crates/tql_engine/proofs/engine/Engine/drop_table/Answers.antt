@@ -1,12 +1,32 @@
-use Rattle.std.proofs.Common.{sym, subst}
+use Rattle.std.proofs.Common.{◌≡◌, ◌<◌, ℕ, false, length, sym, subst}
 use Rattle.std.specs.Prelude.{IsNone}
 use Rattle.tql_spec.specs.Machine.{State, DropTable}
+use Rattle.tql_catalog.specs.Tables.{definitions_of}
+use Rattle.tql_engine.specs.Dropping.{IsDropped}
 use Rattle.tql_engine.specs.Stands.{EngineModel, StandsFor}
-use Rattle.tql_engine.proofs.Standing.{there_law}
+use Rattle.tql_spec.specs.Binding.{is_referenced}
+use Rattle.tql_engine.proofs.Holding.{name_there}
+use Rattle.tql_engine.proofs.Standing.{place_law, there_law}
 use Rattle.tql_engine.proofs.DropKeeps.{drop_law}
 use Rattle.tql_engine.proofs.Doing.{drop_does}
 use Rattle.tql_engine.proofs.Typed.{sound_after}
 use Rattle.tql_engine.proofs.engine.Engine.drop_table.Goals as goal
+
+the_place : (i t : ℕ) → DropTable i ≡ DropTable t → i ≡ t
+the_place i t e = cc
+
+pub remove-table-requires-clause-within : goal.remove-table-requires-clause-within
+remove-table-requires-clause-within c =
+    subst (λ (h : EngineModel). c.args.place < length h.tables) (sym c.self.view_is)
+    (place_law c.args.self.now.tables c.args.place c.requires.there)
+
+pub remove-table-requires-clause-unreferenced : goal.remove-table-requires-clause-unreferenced
+remove-table-requires-clause-unreferenced c =
+    let k : IsDropped (definitions_of c.self.inside.tables) c.args.place =
+    subst (λ (h : EngineModel). IsDropped (definitions_of h.tables) c.args.place) (sym c.self.view_is)
+    c.requires.dropped in
+    subst (λ n. is_referenced n (definitions_of c.self.inside.tables) ≡ false)
+    (name_there (definitions_of c.self.inside.tables) c.args.place k.name k.there) k.free
 
 pub drop_table-requires-clause-closed : goal.drop_table-requires-clause-closed
 drop_table-requires-clause-closed c =
@@ -22,6 +42,9 @@ invariant_of-self c =
     let s : State = c.self.invariant.state in
     let closed = subst (λ (h : EngineModel). IsNone h.store.working) (sym c.self.view_is) c.requires.closed in
     sound_after _ _ c.self.invariant (DropTable c.args.place) _ tt
+    (λ t e. subst (IsDropped (definitions_of c.self.inside.tables)) (the_place c.args.place t e)
+    (subst (λ (h : EngineModel). IsDropped (definitions_of h.tables) c.args.place) (sym c.self.view_is)
+    c.requires.dropped))
     (drop_does _ _ s c.args.place c.self.invariant.stands closed
     (drop_law _ s c.args.place c.remove-table.result _ _ c.self.invariant.stands closed c.remove-table.ensures.taken
     c.remove-table.ensures.others

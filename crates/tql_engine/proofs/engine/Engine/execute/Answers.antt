@@ -1,5 +1,6 @@
 use Rattle.std.proofs.Common.{◌≡◌, ◌∙◌, sym, ap, subst, List, Some, None, Err}
-use Rattle.std.specs.Prelude.{option_map}
+use Rattle.std.specs.List.{list_all}
+use Rattle.std.specs.Prelude.{option_map, IsTrue}
 use Rattle.tql_spec.specs.Binding.{bind}
 use Rattle.tql_spec.specs.Definition.{TableDef}
 use Rattle.tql_spec.specs.Refusal.{first}
@@ -9,12 +10,15 @@ use Rattle.tql_spec.proofs.QueryKinds.{bound_typed}
 use Rattle.tql_syntax_tree.specs.Statements.{statement_of}
 use Rattle.tql_value.specs.Refusals.{refusal_of}
 use Rattle.tql_bound.specs.Bounds.{IsSound, bound_of}
-use Rattle.tql_catalog.specs.Tables.{definitions_of}
+use Rattle.tql_catalog.specs.Tables.{can_have, definitions_of}
 use Rattle.std.proofs.lemmas.List.Elements.{All-from_recursion}
+use Rattle.tql_engine.specs.Dropping.{IsDropped}
 use Rattle.tql_engine.specs.Fitting.{IsNarrow}
 use Rattle.tql_engine.specs.Stands.{EngineModel, StandsFor}
 use Rattle.tql_engine.proofs.Printing.{does_print}
 use Rattle.tql_bind_table.specs.Binds.{Binds}
+use Rattle.tql_engine.proofs.Creating.{parents_there}
+use Rattle.tql_engine.proofs.Holding.{dropped}
 use Rattle.tql_engine.proofs.Joining.{state_does, bound_allowed, bound_does, refusal_does}
 use Rattle.tql_engine.proofs.engine.Engine.execute.Goals as goal
 
@@ -27,6 +31,21 @@ pub perform-requires-clause-sound : goal.perform-requires-clause-sound
 perform-requires-clause-sound c =
     let tables = ap (λ (h : EngineModel). definitions_of h.tables) (sym c.self.view_is) in
     subst (λ (ds : List TableDef). IsSound ds c.in-Ok.bound) (sym tables) c.in-Ok.ensures.sound
+
+pub perform-requires-clause-dropped : goal.perform-requires-clause-dropped
+perform-requires-clause-dropped c = λ t e.
+    let ds = definitions_of c.self.inside.tables in
+    let tree = statement_of c.args.statement.now in
+    let binds = c.in-Ok.ensures.binds in
+    subst (λ (h : EngineModel). IsDropped (definitions_of h.tables) t) c.self.view_is
+    (dropped ds tree (none_first (bind ds tree).faults binds.0) t (binds.1 ∙ e))
+
+pub perform-requires-clause-parents : goal.perform-requires-clause-parents
+perform-requires-clause-parents c = λ d e.
+    let ds = definitions_of c.self.inside.tables in
+    let tree = statement_of c.args.statement.now in
+    subst (λ (h : EngineModel). IsTrue (list_all (can_have (definitions_of h.tables)) d.references)) c.self.view_is
+    (parents_there ds tree d c.requires.runs (c.in-Ok.ensures.binds.1 ∙ e))
 
 pub perform-requires-clause-typed : goal.perform-requires-clause-typed
 perform-requires-clause-typed c =

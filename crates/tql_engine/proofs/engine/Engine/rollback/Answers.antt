@@ -11,7 +11,7 @@ invariant_of-self c =
     let s : State = c.self.invariant.state in
     let st = c.self.invariant.stands in
     let is_open = sym c.has_transaction.ensures ∙ c.if-not-has_transaction.false in
-    sound_after _ _ c.self.invariant Rollback _ tt
+    sound_after _ _ c.self.invariant Rollback _ tt (λ t e. absurd (cc))
     (rollback_does _ s c.rollback.new.self st is_open c.rollback.ensures.copies (c.rollback.ensures.working)
     (c.rollback.ensures.tables))
 

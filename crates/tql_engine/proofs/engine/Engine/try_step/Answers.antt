@@ -1,12 +1,18 @@
-use Rattle.tql_syntax_tree.specs.Trees.{tree_of}
-use Rattle.tql_engine.proofs.Stepping.{result_answered, unread_answered}
+use Rattle.std.proofs.Common.{refl, rules, tests}
+use Rattle.tql_spec.specs.Machine as machine
+use Rattle.tql_spec.specs.Syntax.{CommitTree, RollbackTree}
+use Rattle.tql_spec.proofs.FirstFaults.{bound_steps}
+use Rattle.tql_engine.proofs.Ending.{step_answered}
 use Rattle.tql_engine.proofs.engine.Engine.try_step.Goals as goal
 
-pub returns-in-Ok-clause-answered : goal.returns-in-Ok-clause-answered
-returns-in-Ok-clause-answered c s st =
-    result_answered _ s c.args.text.now (tree_of c.in-Ok.tree) c.execute.result c.in-Ok.ensures
-    (c.execute.ensures.answered s st)
+pub returns-in-Some-Commit-clause-answered : goal.returns-in-Some-Commit-clause-answered
+returns-in-Some-Commit-clause-answered c s st =
+    step_answered _ s c.args.text.now CommitTree machine.Commit c.commit.result refl
+    (c.transaction_end.ensures.commits.0 (search (rules, tests))) (bound_steps s CommitTree refl)
+    (c.commit.ensures.answered s st)
 
-pub returns-in-Err-clause-answered : goal.returns-in-Err-clause-answered
-returns-in-Err-clause-answered c s st =
-    unread_answered c.args.self.now s st c.args.text.now c.in-Err.refusal c.in-Err.ensures
+pub returns-in-Some-Rollback-clause-answered : goal.returns-in-Some-Rollback-clause-answered
+returns-in-Some-Rollback-clause-answered c s st =
+    step_answered _ s c.args.text.now RollbackTree machine.Rollback c.rollback.result refl
+    (c.transaction_end.ensures.rolls_back.0 (search (rules, tests))) (bound_steps s RollbackTree refl)
+    (c.rollback.ensures.answered s st)

@@ -1,4 +1,5 @@
-use Rattle.std.proofs.Common.{◌≡◌, ◌+◌, ◌-◌, rules, arith, refl, ap, sym, ◌∙◌, length, length-append, take, drop}
+use Rattle.std.proofs.Common.{ℕ, List, ◌++◌, ◌≡◌, ◌+◌, ◌-◌, rules, arith, refl, ap, sym, ◌∙◌, length, length-append}
+use Rattle.std.proofs.Common.{take, drop}
 use Rattle.std.proofs.Math.Facts.{to_z-of_z}
 use Rattle.tql_store_rows.specs.TableModel.{TableModel}
 use Rattle.tql_store_rows.specs.Marks.{below}
@@ -6,6 +7,9 @@ use Rattle.tql_store_rows.specs.Views.{versions_of}
 use Rattle.tql_store_rows.proofs.Done.{length-below, sizes}
 use Rattle.tql_store_rows.proofs.Ending.{change_standing}
 use Rattle.tql_store_rows.proofs.Entering.{new_within, new_early, same_joined, same_noted, tail_is}
+use Rattle.tql_store_rows.proofs.PastRows.{change_past, cut_back, made_of, more_stand, past_filled}
+use Rattle.tql_store_rows.proofs.PastRows.{next_number, past_size, refused_stand}
+use Rattle.tql_store_rows.specs.RowsStanding.{past_rows}
 use Rattle.tql_store_rows.proofs.versions.Versions.change.Goals as goal
 
 pub enter_kept-requires-clause-within : goal.enter_kept-requires-clause-within
@@ -16,6 +20,15 @@ enter_kept-requires-clause-within g c =
     new_within c.deref-2.result.now c.reserve-2.new.self.items c.args.removed.now c.self.inside.base
     c.len-ended.result _ _ (search rules) (search rules) (sym (ap length shown)
     ∙ sizes c.deref.result.now) c.requires.within
+
+pub enter_kept-requires-clause-filled : goal.enter_kept-requires-clause-filled
+enter_kept-requires-clause-filled g c =
+    let number = next_number c.self.inside.closed.items c.reserve_kept.new.closed.items c.self.inside.ended.items
+    c.reserve-2.new.self.items c.len-2.result c.len-ended.result c.reserve_kept.ensures.items
+    c.reserve-2.ensures.items (search rules) (search rules) in
+    past_filled c.self.inside.keeps c.self.inside.past_seats c.self.inside.past
+    (versions_of c.self.inside.current.items) c.self.inside.ended.items c.self.inside.closed.items
+    (c.len-2.result + c.len-ended.result) number c.self.invariant.past_ones
 
 pub enter_kept-requires-clause-early : goal.enter_kept-requires-clause-early
 enter_kept-requires-clause-early g c =
@@ -63,6 +76,62 @@ returns-clause-room g c = λ k.
 
 pub invariant_of-self-2 : goal.invariant_of-self-2
 invariant_of-self-2 g c =
-    change_standing _ c.enter_rows.new.seats c.enter_rows.new.indexes c.reserve.new.self.items c.reserve.new.self.items
-    c.replace.new.versions.items c.args.removed.now c.args.added.items refl c.replace.ensures
-    c.in_ok-enter_rows.ensures.ok
+    let shown : versions_of c.self.inside.current.items ≡ c.args.self.now.current =
+    ap (λ (h : TableModel). h.current) c.self.view_is in
+    let kept : c.reserve.new.self.items ≡ c.self.inside.current.items = c.reserve.ensures.items in
+    let all : c.mark_each.new.ended.items ≡ c.self.inside.ended.items ++ below c.self.inside.base c.args.removed.now =
+    c.mark_each.ensures.ended ∙ ap (λ (is : List ℕ). is ++ below c.self.inside.base c.args.removed.now)
+    c.reserve-2.ensures.items in
+    let number = next_number c.self.inside.closed.items c.reserve_kept.new.closed.items c.self.inside.ended.items
+    c.reserve-2.new.self.items c.len-2.result c.len-ended.result c.reserve_kept.ensures.items
+    c.reserve-2.ensures.items (search rules) (search rules) in
+    record {
+      current_ones = change_standing _ c.enter_rows.new.seats c.enter_rows.new.indexes c.reserve.new.self.items
+          c.reserve.new.self.items
+          c.replace.new.versions.items c.args.removed.now c.args.added.items refl c.replace.ensures
+          c.in_ok-enter_rows.ensures.ok;
+      past_ones = change_past c.self.inside.keeps c.args.moment _ c.args.self.now c.enter_kept.new.seats
+          c.enter_kept.new.past c.self.inside.current.items c.reserve.new.self.items c.replace.new.versions.items
+          c.args.removed.now c.self.inside.base c.self.inside.ended.items c.mark_each.new.ended.items
+          c.reserve_kept.new.closed.items c.args.added.items c.requires.turn shown
+          (ap (λ (h : TableModel). h.ended) c.self.view_is) c.requires.within all kept c.replace.ensures
+          (more_stand c.self.inside.keeps c.enter_kept.new.seats c.enter_kept.new.past c.self.inside.current.items
+          c.deref.result.now c.args.removed.now c.self.inside.base c.self.inside.ended.items
+          (take (length c.deref-2.result.now - c.len-ended.result) (drop c.len-ended.result c.deref-2.result.now))
+          c.mark_each.new.ended.items c.self.inside.closed.items c.reserve_kept.new.closed.items
+          (c.deref.ensures.value ∙ kept)
+          (tail_is c.deref-2.result.now c.reserve-2.new.self.items (below c.self.inside.base c.args.removed.now)
+          c.len-ended.result (search rules) (search rules)) all c.reserve_kept.ensures.items
+          (c.in_default.ensures.stands (past_rows c.self.inside.keeps (versions_of c.self.inside.current.items)
+          c.self.inside.ended.items (versions_of c.self.inside.closed.items)) (past_size c.self.inside.keeps
+          (versions_of c.self.inside.current.items) c.self.inside.ended.items c.self.inside.closed.items
+          (c.len-2.result + c.len-ended.result) number) c.self.invariant.past_ones));
+    }
+
+pub invariant_of-self-in-Err : goal.invariant_of-self-in-Err
+invariant_of-self-in-Err g c =
+    let number = next_number c.self.inside.closed.items c.reserve_kept.new.closed.items c.self.inside.ended.items
+    c.reserve-2.new.self.items c.len-2.result c.len-ended.result c.reserve_kept.ensures.items
+    c.reserve-2.ensures.items (search rules) (search rules) in
+    let s = ap length c.reserve-2.ensures.items in
+    let old : c.len-ended.result ≡ length c.self.inside.ended.items = omega (arith, s) in
+    refused_stand c.self.inside.keeps c.enter_rows.new.seats c.enter_kept.new.seats c.leave_back.new.indexes
+    c.enter_kept.new.past c.self.inside.current.items c.reserve.new.self.items c.self.inside.closed.items
+    c.reserve_kept.new.closed.items c.self.inside.ended.items c.truncate.new.self.items c.reserve.ensures.items
+    c.reserve_kept.ensures.items
+    (cut_back c.mark_each.new.ended.items c.self.inside.ended.items (below c.self.inside.base c.args.removed.now)
+    c.truncate.new.self.items c.len-ended.result
+    (c.mark_each.ensures.ended ∙ ap (λ (is : List ℕ). is ++ below c.self.inside.base c.args.removed.now)
+    c.reserve-2.ensures.items) old c.truncate.ensures.items)
+    c.leave_back.ensures
+    (c.in-Err.ensures.err_stands (past_rows c.self.inside.keeps (versions_of c.self.inside.current.items)
+    c.self.inside.ended.items (versions_of c.self.inside.closed.items)) (past_size c.self.inside.keeps
+    (versions_of c.self.inside.current.items) c.self.inside.ended.items c.self.inside.closed.items
+    (c.len-2.result + c.len-ended.result) number) c.self.invariant.past_ones)
+
+pub returns-clause-current : goal.returns-clause-current
+returns-clause-current g c =
+    made_of _ c.args.moment c.args.removed.now c.reserve.new.self.items c.self.inside.current.items
+    c.args.self.now.current (versions_of c.replace.new.versions.items) c.args.added.items
+    (to_z-of_z c.ranges.moment) c.reserve.ensures.items (ap (λ (h : TableModel). h.current) c.self.view_is)
+    c.replace.ensures

@@ -1,0 +1,224 @@
+//! tql_store: what readings by values find of a history, beside what a reading of all versions finds.
+ghost use Rattle.std.specs.Prelude.{IfOk, IsTrue};
+ghost use Rattle.tql_store.specs.StoreModel.{has_table as table_there, AreRemovable};
+
+use crate::tests::stores::{current_ids, lists};
+use std::alloc::AllocError;
+use std::process::Abort;
+use std::test::Fail;
+use tql_index::tree_index::TreeIndex;
+use tql_memory::{Memory, memory};
+use tql_store::store::{Delta, Store};
+use tql_store_rows::version::{HIGH, Version};
+use tql_value::refusal::Refusal;
+use tql_value::table::TableId;
+use tql_value::value::{Value, View};
+use tql_value::when::When;
+
+/// A row for each number below so many: the day of the round and that of the number stand behind it.
+fn rows_of(
+    memory: Memory,
+    count: i64,
+    round: i64,
+) -> Result<Vec<Vec<Value, Memory>, Memory>, Refusal> {
+    let mut rows = Vec::new(memory);
+    for number in 0..count {
+        let mut row = Vec::new(memory);
+        row.push(Value::Int(number))?;
+        row.push(Value::Day(round))?;
+        row.push(Value::Day(number))?;
+        rows.push(row)?;
+    }
+    Ok(rows)
+}
+
+/// A change that removes all rows and adds those of the round.
+fn renewal(
+    memory: Memory,
+    store: &Store<TreeIndex>,
+    table: TableId,
+    count: i64,
+    round: i64,
+) -> Result<Delta, Refusal>
+    requires { IsTrue (table_there store.now table) }
+    ensures { IfOk result (λ d. AreRemovable store.now d.table d.removed.items) }
+{
+    let added = rows_of(memory, count, round)?;
+    let removed = current_ids(memory, store, table)?;
+    Ok(Delta {
+        table,
+        removed,
+        added,
+        count: 1,
+    })
+}
+
+/// Whether a version has the number, and the day of the round, if there is one.
+fn is_of(version: &Version<'_>, number: i64, round: Option<i64>) -> bool {
+    let is_numbered = match version.row.first() {
+        Some(Value::Int(own)) => *own == number,
+        _ => false,
+    };
+    let is_of_round = match version.row.get(1) {
+        Some(Value::Day(day)) => round.is_none_or(|round| *day == round),
+        _ => false,
+    };
+    is_numbered && is_of_round
+}
+
+/// Whether these are the ones with the number, and of the round, among all that were found.
+fn are_those(
+    found: &[Version<'_>],
+    those: &[Version<'_>],
+    number: i64,
+    round: Option<i64>,
+) -> bool {
+    let count = found
+        .iter()
+        .filter(|version| is_of(version, number, round))
+        .count();
+    count == those.len()
+        && those.iter().all(|one| {
+            is_of(one, number, round)
+                && found.iter().any(|version| {
+                    version.id == one.id && version.start == one.start && version.end == one.end
+                })
+        })
+}
+
+/// Whether the versions of every seventh number are found by it, and by it and the day of the first round.
+fn agree(
+    store: &Store<TreeIndex>,
+    table: TableId,
+    count: i64,
+    when: When,
+) -> Result<bool, AllocError> {
+    if !store.has_table(table) || !store.is_versioned(table) {
+        return Ok(false);
+    }
+    let found = store.found(table, when)?;
+    let mut are_right = true;
+    for number in 0..count {
+        if number % 7 == 0 {
+            let tuple = [View::Day(1), View::Int(number)];
+            let by_number = store.found_with(table, &[0], &tuple[1..], when)?;
+            let by_both = store.found_with(table, &[1, 0], &tuple, when)?;
+            are_right = are_right
+                && are_those(&found, &by_number, number, None)
+                && are_those(&found, &by_both, number, Some(1));
+        }
+    }
+    Ok(are_right)
+}
+
+/// Whether they are in each kind of reading.
+fn all_agree(store: &Store<TreeIndex>, table: TableId, count: i64) -> Result<bool, AllocError> {
+    Ok(
+        agree(store, table, count, When::Now)?
+            && agree(store, table, count, When::AsOf(10))?
+            && agree(store, table, count, When::AsOf(25))?
+            && agree(store, table, count, When::FromTo(0, HIGH))?
+            && agree(store, table, count, When::Between(20, 30))?,
+    )
+}
+
+/// Renews the rows in the open transaction, where so many growths are granted. Tells whether it was done.
+fn renews(
+    rt: &impl Abort,
+    memories: (Memory, Memory),
+    store: &mut Store<TreeIndex>,
+    table: TableId,
+    (count, round): (i64, i64),
+    granted: u64,
+) -> Result<bool, Fail> {
+    let (little, all) = memories;
+    assert!(rt; store.has_transaction() && store.has_table(table));
+    let delta = renewal(all, store, table, count, round)?;
+    assert!(rt; store.has_table(delta.table));
+    little.grant(granted);
+    let made = store.apply(delta).is_ok();
+    little.grant(u64::MAX);
+    Ok(made)
+}
+
+/// Renews the rows in a transaction of the round, where so many growths are granted at first, and all after that. Tells
+/// whether the first try was made, and whether all that was found after each step was right.
+fn transacts(
+    rt: &impl Abort,
+    memories: (Memory, Memory),
+    store: &mut Store<TreeIndex>,
+    table: TableId,
+    (count, round): (i64, i64),
+    granted: u64,
+    keep: bool,
+) -> Result<(bool, bool), Fail> {
+    assert!(rt; 0 < round && round < 100 && !store.has_transaction());
+    assert!(rt; store.is_later(10 * round));
+    store.begin(10 * round);
+    let made = renews(rt, memories, store, table, (count, round), granted)?;
+    let mut are_right = all_agree(store, table, count)?;
+    if !made {
+        let made_now = renews(rt, memories, store, table, (count, round), u64::MAX)?;
+        are_right = all_agree(store, table, count)? && made_now && are_right;
+    }
+    assert!(rt; store.has_transaction());
+    if keep {
+        store.commit();
+    } else {
+        store.rollback();
+    }
+    Ok((made, all_agree(store, table, count)? && are_right))
+}
+
+/// Whether all is right in a new store over five rounds, of which the fourth is granted so many growths at first, and
+/// is undone or kept. Tells whether it was refused none.
+fn is_right(
+    rt: &impl Abort,
+    memories: (Memory, Memory),
+    count: i64,
+    granted: u64,
+    keep: bool,
+) -> Result<(bool, bool), Fail> {
+    let (little, all) = memories;
+    let mut store: Store<TreeIndex> = Store::new(little);
+    assert!(rt; store.table_count() < 1000);
+    let table = store.add_table(true, lists(all)?, Some((1, 2)))?;
+    let mut was_made = true;
+    let mut are_right = true;
+    for round in 1..6 {
+        let (growths, kept) = if round == 4 {
+            (granted, keep)
+        } else {
+            (u64::MAX, true)
+        };
+        let (made, right) = transacts(
+            rt,
+            memories,
+            &mut store,
+            table,
+            (count, round),
+            growths,
+            kept,
+        )?;
+        was_made = was_made && made;
+        are_right = are_right && right;
+    }
+    Ok((was_made, are_right))
+}
+
+#[test]
+fn versions_are_found_by_their_values(rt: HostRuntime) -> Result<(), Fail> {
+    let all = memory(rt.alloc(), u64::MAX)?;
+    let little = memory(rt.alloc(), u64::MAX)?;
+    let (made, mut are_right) = is_right(&rt, (little, all), 500, 0, true)?;
+    assert!(rt; are_right && !made);
+    let mut was_made = false;
+    for granted in 0..96 {
+        let (_, undone_right) = is_right(&rt, (little, all), 5, granted, false)?;
+        let (made, kept_right) = is_right(&rt, (little, all), 5, granted, true)?;
+        was_made = made;
+        are_right = are_right && undone_right && kept_right;
+    }
+    assert!(rt; are_right && was_made);
+    Ok(())
+}

@@ -1,0 +1,11 @@
+use Rattle.std.proofs.Common.{◌≡◌, drop, map}
+use Rattle.tql_spec.specs.Creation.{kinds_differ, kinds_at, kinds_of}
+use Rattle.tql_bind_table.specs.NewTables.{column_of, kinds_in}
+use Rattle.tql_bind_table.proofs.parents.kinds_differ.Given as goal
+
+-- those that are left tell what all tell
+abbrev pub invariant-loop-number : goal.invariant-loop-number
+invariant-loop-number l =
+    kinds_differ (kinds_at (kinds_in (map column_of l.columns)) (drop l.number-index l.numbers))
+    (kinds_at (kinds_of l.definition) l.left)
+    ≡ kinds_differ (kinds_at (kinds_in (map column_of l.columns)) l.numbers) (kinds_at (kinds_of l.definition) l.others)

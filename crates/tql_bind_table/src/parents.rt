@@ -1,0 +1,208 @@
+//! The table that a reference is to: its columns, their kinds, and its application period.
+ghost use Rattle.std.specs.Prelude.{◌≡◌, ◌||◌, IfOk, map, not, is_some, string_bytes, slice_index_or, option_map};
+ghost use Rattle.tql_spec.specs.Creation as spec;
+ghost use Rattle.tql_spec.specs.Creation.{names_of, kinds_of, kinds_at, application_name, application_kind};
+ghost use Rattle.tql_spec.specs.Creation.{is_declared_key};
+ghost use Rattle.tql_spec.specs.Datum.{Ints, same_kind};
+ghost use Rattle.tql_spec.specs.Names.{check_each};
+ghost use Rattle.tql_spec.specs.Words.{listed};
+ghost use Rattle.tql_value.specs.Views.{plain_kind};
+ghost use Rattle.tql_catalog.specs.Definitions.{application_of};
+ghost use Rattle.tql_bind_expr.specs.Gathered.{after, Gathers};
+ghost use Rattle.tql_bind_table.specs.NewTables.{column_of, list_part, reference_part, kinds_in, columns_in};
+ghost use Rattle.tql_bind_table.specs.NewTables.{kind_in, has_one_period};
+
+use crate::columns::kind_at;
+use crate::draft::{Draft, NewColumn, NewList, NewReference};
+use crate::lists::period_called;
+use std::alloc::AllocError;
+use tql_bind_expr::faults::Faults;
+use tql_bind_expr::repeats::repeats_name;
+use tql_bind_expr::texts::is_same_text;
+use tql_catalog::definition::Application;
+use tql_catalog::table_def::TableDef;
+use tql_memory::Memory;
+use tql_value::refusal::Refusal;
+use tql_value::value::Kind;
+
+/// The number of the column of this name.
+fn column_place(definition: &TableDef, name: &str) -> Option<usize>
+    ensures { result ≡ spec.number_in name.now (names_of definition.now) }
+{
+    definition
+        .columns()
+        .iter()
+        .position(|column| column.is_named(name))
+}
+
+/// The numbers of the columns of these names. A fault for each that is no column's.
+fn listed_columns(
+    memory: Memory,
+    definition: &TableDef,
+    names: &[String<Memory>],
+    faults: &mut Faults,
+) -> Result<Vec<usize, Memory>, AllocError>
+    ensures { IfOk result
+        (λ numbers. Gathers (check_each (spec.column_number (names_of definition.now))
+        (map string_bytes names.now)) faults.old faults.new numbers.items) }
+{
+    let mut numbers = Vec::with_capacity(memory, names.len())?;
+    for name in names {
+        numbers.push(faults.or_first(column_place(definition, name.as_str())))?;
+    }
+    Ok(numbers)
+}
+
+/// The numbers of the columns of these names. A fault where one is no column's, and where one stands twice.
+#[tactic(auto, using(tql_bind_expr::proofs::Gathering::gathering))]
+pub fn parent_columns(
+    memory: Memory,
+    definition: &TableDef,
+    names: &[String<Memory>],
+    faults: &mut Faults,
+) -> Result<Vec<usize, Memory>, AllocError>
+    ensures { IfOk result
+        (λ numbers. Gathers (spec.column_numbers (names_of definition.now) (map string_bytes names.now))
+        faults.old faults.new numbers.items) }
+{
+    let numbers = listed_columns(memory, definition, names, faults)?;
+    faults.refuse_if(repeats_name(names), Refusal::NameUnknownAmbiguousOrRepeated);
+    Ok(numbers)
+}
+
+/// Whether this is the name of the application period.
+fn is_period_of(definition: &TableDef, name: &str) -> bool
+    ensures { result ≡ spec.has_name name.now (application_name definition.now.application) }
+{
+    match definition.application() {
+        Some(application) => is_same_text(name, &application.name),
+        None => false,
+    }
+}
+
+/// A fault where the list names a period that is not the application period of the table.
+#[tactic(auto, using(tql_bind_expr::proofs::Gathering::gathering, crate::proofs::ListLaws::one_sought))]
+pub fn seek_period(definition: &TableDef, list: &NewList, faults: &mut Faults)
+    ensures { faults.new ≡ after faults.old
+        (check_each (spec.column_number (application_name definition.now.application))
+        (listed (list_part list.now).period)).faults }
+{
+    if let Some(name) = &list.period {
+        faults.refuse_if(
+            !is_period_of(definition, name),
+            Refusal::NameUnknownAmbiguousOrRepeated,
+        );
+    }
+}
+
+/// The kind of the column with this number.
+fn column_kind(definition: &TableDef, number: usize) -> Kind
+    ensures { plain_kind result ≡ slice_index_or (kinds_of definition.now) number Ints }
+{
+    match definition.columns().get(number) {
+        Some(column) => column.kind,
+        None => Kind::Int,
+    }
+}
+
+/// Whether a column of the new table and a column of its parent are of two kinds.
+fn is_other_kind(
+    columns: &[NewColumn<'_>],
+    number: usize,
+    definition: &TableDef,
+    other: usize,
+) -> bool
+    ensures { result ≡ not (same_kind (kind_in (map column_of columns.now) number)
+        (slice_index_or (kinds_of definition.now) other Ints)) }
+{
+    kind_at(columns, number) != column_kind(definition, other)
+}
+
+/// Whether two lists of columns, of the new table and of its parent, differ in length or in a kind.
+#[tactic(auto, using(crate::proofs::ListLaws::rest_differs))]
+pub fn kinds_differ(
+    columns: &[NewColumn<'_>],
+    numbers: &[usize],
+    definition: &TableDef,
+    others: &[usize],
+) -> bool
+    ensures { result ≡ spec.kinds_differ (kinds_at (kinds_in (map column_of columns.now)) numbers.now)
+        (kinds_at (kinds_of definition.now) others.now) }
+{
+    let mut left = others;
+    for number in numbers {
+        let [other, more @ ..] = left else {
+            return true;
+        };
+        if is_other_kind(columns, *number, definition, *other) {
+            return true;
+        }
+        left = more;
+    }
+    !left.is_empty()
+}
+
+/// Whether one of two periods is missing, or both are there and of two kinds of points.
+fn points_differ(
+    columns: &[NewColumn<'_>],
+    period: Option<&Application>,
+    definition: &TableDef,
+) -> bool
+    ensures { result ≡ spec.kinds_differ
+        (application_kind (kinds_in (map column_of columns.now))
+        (option_map (λ a. application_of a.now) period.entry))
+        (application_kind (kinds_of definition.now) definition.now.application) }
+{
+    match (period, definition.application()) {
+        (Some(child), Some(parent)) => {
+            is_other_kind(columns, child.start, definition, parent.start)
+        }
+        (None, None) => false,
+        _ => true,
+    }
+}
+
+/// Whether both sides of a reference name a period, and their kinds of points differ.
+pub fn periods_differ(
+    draft: &Draft<'_>,
+    applications: &[Application],
+    reference: &NewReference,
+    definition: &TableDef,
+) -> bool
+    ensures { result ≡ spec.periods_differ
+        (application_kind (kinds_in (columns_in draft.now))
+        (spec.period_called (reference_part reference.now).child.period (map application_of applications.now)))
+        (application_kind (kinds_of definition.now) definition.now.application)
+        (reference_part reference.now).child.period (reference_part reference.now).named.period }
+{
+    match (&reference.child.period, &reference.named.period) {
+        (Some(_), Some(_)) => points_differ(
+            &draft.columns,
+            period_called(applications, &reference.child),
+            definition,
+        ),
+        _ => false,
+    }
+}
+
+/// Whether one side of a reference names a period and the other none.
+fn is_half(reference: &NewReference) -> bool
+    ensures { result ≡ has_one_period (reference_part reference.now) }
+{
+    match (&reference.child.period, &reference.named.period) {
+        (Some(_), Some(_)) | (None, None) => false,
+        _ => true,
+    }
+}
+
+/// Whether one side of a reference names a period and the other none, or it is to no key of its parent.
+pub fn is_wrong_reference(
+    reference: &NewReference,
+    definition: &TableDef,
+    numbers: &[usize],
+) -> bool
+    ensures { result ≡ (has_one_period (reference_part reference.now)
+        || not (is_declared_key definition.now (is_some (reference_part reference.now).named.period) numbers.now)) }
+{
+    is_half(reference) || !definition.has_key(reference.named.period.is_some(), numbers)
+}

@@ -1,0 +1,120 @@
+//! The references of a new table to keys of tables that are there.
+ghost use Rattle.std.specs.Prelude.{◌≡◌, ◌++◌, IfOk, OnOk, map, option_map};
+ghost use Rattle.tql_spec.specs.Words.{listed};
+ghost use Rattle.tql_catalog.specs.Definitions as catalog;
+ghost use Rattle.tql_catalog.specs.Definitions.{application_of};
+ghost use Rattle.tql_catalog.specs.Tables.{definitions_of};
+ghost use Rattle.tql_bind_expr.specs.Gathered.{Gathers};
+ghost use Rattle.tql_bind_table.specs.NewTables.{reference_part, written_of, reference_to, reference_in, flat_each};
+
+use crate::draft::{Draft, NewReference};
+use crate::lists::listed_columns;
+use crate::parents::{
+    is_wrong_reference, kinds_differ, parent_columns, periods_differ, seek_period,
+};
+use std::alloc::AllocError;
+use tql_bind_expr::faults::Faults;
+use tql_catalog::catalog::Catalog;
+use tql_catalog::constraint::Reference;
+use tql_catalog::definition::Application;
+use tql_catalog::table_def::TableDef;
+use tql_memory::Memory;
+use tql_value::refusal::Refusal;
+
+/// A reference to this table. A fault where a column or a period is unknown or a column stands twice, on either side;
+/// where a column is generated or of the period named; where the kinds of the two sides differ; and where one side
+/// alone names a period, or the columns there are no key of that sort. The only error is a refused growth.
+fn bound_to(
+    memory: Memory,
+    draft: &Draft<'_>,
+    applications: &[Application],
+    reference: &NewReference,
+    parent: &TableDef,
+    faults: &mut Faults,
+) -> Result<Reference, AllocError>
+    ensures { IfOk result
+        (λ r. Gathers (reference_to (written_of draft.now) (map application_of applications.now)
+        (reference_part reference.now) parent.now) faults.old faults.new (catalog.reference_of r)) }
+{
+    let columns = listed_columns(memory, draft, applications, &reference.child, faults)?;
+    let numbers = parent_columns(memory, parent, &reference.named.columns, faults)?;
+    seek_period(parent, &reference.named, faults);
+    let have_other_kinds = kinds_differ(&draft.columns, &columns, parent, &numbers);
+    faults.refuse_if(have_other_kinds, Refusal::TypesDoNotFit);
+    let have_other_points = periods_differ(draft, applications, reference, parent);
+    faults.refuse_if(have_other_points, Refusal::TypesDoNotFit);
+    let is_wrong = is_wrong_reference(reference, parent, &numbers);
+    faults.refuse_if(is_wrong, Refusal::FormNotAllowedHere);
+    Ok(Reference {
+        columns,
+        by_period: reference.child.period.is_some(),
+        parent: reference.parent.clone()?,
+        parent_columns: numbers,
+    })
+}
+
+/// A reference; none, and a fault, where no table of its parent's name is there. The only error is a refused growth.
+#[tactic(auto, using(tql_bind_expr::proofs::Gathering::gathering))]
+fn bound_reference(
+    memory: Memory,
+    tables: &Catalog,
+    draft: &Draft<'_>,
+    applications: &[Application],
+    reference: &NewReference,
+    faults: &mut Faults,
+) -> Result<Option<Reference>, AllocError>
+    ensures { IfOk result
+        (λ r. Gathers (reference_in (definitions_of tables.now) (written_of draft.now)
+        (map application_of applications.now) (reference_part reference.now))
+        faults.old faults.new (listed (option_map catalog.reference_of r))) }
+{
+    match tables.place_of(&reference.parent) {
+        Some(place) => {
+            let parent = &tables.table(place).definition;
+            let bound = bound_to(memory, draft, applications, reference, parent, faults)?;
+            Ok(Some(bound))
+        }
+        None => {
+            faults.refuse_if(true, Refusal::TableUnknownOrAlreadyThere);
+            Ok(None)
+        }
+    }
+}
+
+/// Adds a reference, where there is one.
+fn add_reference(
+    references: &mut Vec<Reference, Memory>,
+    reference: Option<Reference>,
+) -> Result<(), AllocError>
+    ensures { OnOk result (map catalog.reference_of references.new.items
+        ≡ map catalog.reference_of references.old.items
+        ++ listed (option_map catalog.reference_of reference)) }
+{
+    match reference {
+        Some(reference) => references.push(reference)?,
+        None => {}
+    }
+    Ok(())
+}
+
+/// The references, in the order of the statement. Faults: those of each. The only error is a refused growth.
+pub fn bound_references(
+    memory: Memory,
+    tables: &Catalog,
+    draft: &Draft<'_>,
+    applications: &[Application],
+    references: &[NewReference],
+    faults: &mut Faults,
+) -> Result<Vec<Reference, Memory>, AllocError>
+    ensures { IfOk result
+        (λ rs. Gathers (flat_each (reference_in (definitions_of tables.now) (written_of draft.now)
+        (map application_of applications.now)) (map reference_part references.now))
+        faults.old faults.new (map catalog.reference_of rs.items)) }
+{
+    let mut bound = Vec::with_capacity(memory, references.len())?;
+    for reference in references {
+        let found = bound_reference(memory, tables, draft, applications, reference, faults)?;
+        add_reference(&mut bound, found)?;
+    }
+    Ok(bound)
+}

@@ -1,0 +1,125 @@
+-- Rows of a tuple that a store finds, against the rows of a copy.
+use Rattle.std.proofs.Common.{◌≡◌, refl, sym, ap, ◌∙◌, ℕ, suc, Bool, true, false, cond, List, [], ◌∷◌, map, filter}
+use Rattle.std.proofs.Common.{arith}
+use Rattle.std.specs.Prelude.{◌&&◌, ◌||◌, not, All, Option, Some, ℤ}
+use Rattle.std.specs.List.{list_all, list_any}
+use Rattle.std.proofs.lemmas.List.{map-append}
+use Rattle.std.proofs.lemmas.List.Elements.{filter-append}
+use Rattle.std.proofs.lemmas.List.Folds.{list_any-append}
+use Rattle.tql_spec.specs.Bag.{SameBag}
+use Rattle.tql_spec.specs.Datum.{Datum, Row}
+use Rattle.tql_spec.specs.Definition.{TableDef, Key, Stamped, shown}
+use Rattle.tql_spec.specs.Constraint.{key_holds, shown_rows}
+use Rattle.tql_keys.specs.Touched.{tuple, has_tuple, with_tuple, collide, is_free}
+use Rattle.tql_store.specs.StoreModel.{is_among}
+use Rattle.tql_store.specs.Changes.{starting, rows_after}
+use Rattle.tql_keys.specs.Asked.{row_found, rows_with, IsJudged, new_rows, staying}
+use Rattle.tql_keys.specs.Parents.{any_left, any_with}
+use Rattle.tql_store_rows.specs.declared.version.Version.{Version}
+use Rattle.tql_keys.proofs.Bools.{all_map, all_same}
+use Rattle.tql_keys.proofs.Wheres.{all_where_map, all_staying, all_bag}
+use Rattle.tql_keys.proofs.KeyLaw.{key_joined, key_kept}
+
+-- ---- what a store finds
+
+-- whether what was found goes, by its id and by its row
+found_goes : (q : Stamped → Bool) (named : ℕ → Option Stamped) (gone : Stamped → Bool) (removed : List ℕ)
+    (found : List Version) → All (λ f. named f.id ≡ Some (row_found f)) found → IsJudged named gone removed
+    → list_all (λ (f : Version). is_among f.id removed || q (row_found f)) found
+    ≡ list_all (λ (f : Version). gone (row_found f) || q (row_found f)) found
+found_goes q named gone removed [] h j = refl
+found_goes q named gone removed (f ∷ found) h j =
+    ap (λ b. (b || q (row_found f)) && list_all (λ (g : Version). is_among g.id removed || q (row_found g)) found)
+    (j f.id (row_found f) (h 0 f (omega arith)))
+    ∙ ap (λ b. (gone (row_found f) || q (row_found f)) && b)
+    (found_goes q named gone removed found (λ k d l. h (suc k) d (omega arith)) j)
+
+-- a test of what was found and does not go is one of the rows of the tuple that stay
+pub found_all : (d : TableDef) (columns : List ℕ) (values : List Datum) (q : Row → Bool) (rows : List Stamped)
+    (named : ℕ → Option Stamped) (gone : Stamped → Bool) (removed : List ℕ) (found : List Version)
+    → SameBag (map row_found found) (rows_with d columns values rows)
+    → All (λ f. named f.id ≡ Some (row_found f)) found → IsJudged named gone removed
+    → list_all (λ (f : Version). is_among f.id removed || q (shown d (row_found f))) found
+    ≡ list_all q (with_tuple columns values (shown_rows d (staying gone rows)))
+found_all d columns values q rows named gone removed found bag names judged =
+    let s : Stamped → Bool = λ r. q (shown d r) in
+    let h : Stamped → Bool = λ r. has_tuple columns values (shown d r) in
+    found_goes s named gone removed found names judged
+    ∙ sym (all_map (λ r. gone r || s r) row_found found)
+    ∙ all_bag (λ r. gone r || s r) bag
+    ∙ all_staying gone h s rows
+    ∙ sym (all_where_map (shown d) (has_tuple columns values) q (staying gone rows))
+
+-- a new row is free where it collides with nothing that was found and does not go
+pub found_free : (d : TableDef) (k : Key) (a : Row) (rows : List Stamped) (named : ℕ → Option Stamped)
+    (gone : Stamped → Bool) (removed : List ℕ) (found : List Version)
+    → SameBag (map row_found found) (rows_with d k.columns (tuple k.columns a) rows)
+    → All (λ f. named f.id ≡ Some (row_found f)) found → IsJudged named gone removed
+    → list_all (λ (f : Version). is_among f.id removed || not (collide d k.by_period (shown d (row_found f)) a)) found
+    ≡ is_free d k (shown_rows d (staying gone rows)) a
+found_free d k a = found_all d k.columns (tuple k.columns a) (λ r. not (collide d k.by_period r a))
+
+-- some pass where not all fail
+some_passes : {A : Type 0} (p : A → Bool) (xs : List A) → list_any p xs ≡ not (list_all (λ x. not (p x)) xs)
+some_passes p [] = refl
+some_passes p (x ∷ xs) = ap (λ b. p x || b) (some_passes p xs) ∙ turned (p x) (list_all (λ y. not (p y)) xs)
+  where
+    turned : (a b : Bool) → a || not b ≡ not (not a && b)
+    turned true b = refl
+    turned false b = refl
+
+-- whether some of those that were found and do not go passes a test
+pub found_any : (d : TableDef) (columns : List ℕ) (values : List Datum) (q : Row → Bool) (rows : List Stamped)
+    (named : ℕ → Option Stamped) (gone : Stamped → Bool) (removed : List ℕ) (found : List Version)
+    → SameBag (map row_found found) (rows_with d columns values rows)
+    → All (λ f. named f.id ≡ Some (row_found f)) found → IsJudged named gone removed
+    → any_left d removed q found ≡ list_any q (with_tuple columns values (shown_rows d (staying gone rows)))
+found_any d columns values q rows named gone removed found bag names judged =
+    some_passes (λ (f : Version). not (is_among f.id removed) && q (shown d (row_found f))) found
+    ∙ ap not (all_same (λ (f : Version). not (not (is_among f.id removed) && q (shown d (row_found f))))
+    (λ (f : Version). is_among f.id removed || not (q (shown d (row_found f)))) found
+    (λ f. turned (is_among f.id removed) (q (shown d (row_found f))))
+    ∙ found_all d columns values (λ r. not (q r)) rows named gone removed found bag names judged)
+    ∙ sym (some_passes q (with_tuple columns values (shown_rows d (staying gone rows))))
+  where
+    turned : (a b : Bool) → not (not a && b) ≡ a || not b
+    turned true b = refl
+    turned false b = refl
+
+-- whether some row of a tuple passes a test
+pub any_kept : {A : Type 0} (h q : A → Bool) (xs : List A) → list_any (λ x. h x && q x) xs ≡ list_any q (filter h xs)
+any_kept h q [] = refl
+any_kept h q (x ∷ xs) = ap (λ b. (h x && q x) || b) (any_kept h q xs) ∙ kept (h x) x (filter h xs)
+  where
+    kept : (b : Bool) (y : _) (ys : List _) → (b && q y) || list_any q ys ≡ list_any q (cond b (y ∷ ys) ys)
+    kept true y ys = refl
+    kept false y ys = refl
+
+-- whether some row of the tuple passes a test after the change: of those that stay, or of those that come
+pub any_after : (d : TableDef) (columns : List ℕ) (values : List Datum) (q : Row → Bool) (m : ℤ)
+    (gone : Stamped → Bool) (added : List Row) (rows : List Stamped)
+    → list_any q (with_tuple columns values (shown_rows d (rows_after m gone added rows)))
+    ≡ list_any q (with_tuple columns values (shown_rows d (staying gone rows)))
+    || any_with columns values q (new_rows d m added)
+any_after d columns values q m gone added rows =
+    ap (λ (rs : List Row). list_any q (with_tuple columns values rs))
+    (map-append (shown d) (staying gone rows) (map (starting m) added))
+    ∙ ap (list_any q) (filter-append (has_tuple columns values) (shown_rows d (staying gone rows)) (new_rows d m added))
+    ∙ list_any-append q (with_tuple columns values (shown_rows d (staying gone rows)))
+    (with_tuple columns values (new_rows d m added))
+    ∙ ap (λ b. list_any q (with_tuple columns values (shown_rows d (staying gone rows))) || b)
+    (sym (any_kept (has_tuple columns values) q (new_rows d m added)))
+
+-- ---- a key after a change
+
+-- by whether the new rows are apart, and free
+pub key_after : (d : TableDef) (k : Key) (m : ℤ) (gone : Stamped → Bool) (added : List Row) (rows : List Stamped)
+    (apart free : Bool) → key_holds d (shown_rows d rows) k ≡ true → apart ≡ key_holds d (new_rows d m added) k
+    → free ≡ list_all (is_free d k (shown_rows d (staying gone rows))) (new_rows d m added)
+    → apart && free ≡ key_holds d (shown_rows d (rows_after m gone added rows)) k
+key_after d k m gone added rows apart free h e f =
+    ap (λ b. b && free) e ∙ ap (λ b. key_holds d (new_rows d m added) k && b) f
+    ∙ sym (ap (λ (rs : List Row). key_holds d rs k)
+    (map-append (shown d) (staying gone rows) (map (starting m) added))
+    ∙ key_joined d k (shown_rows d (staying gone rows)) (new_rows d m added)
+    (key_kept d k (λ r. not (gone r)) rows h))

@@ -1,0 +1,14 @@
+use Rattle.std.proofs.Common.{ap, ◌∙◌, ℕ, List}
+use Rattle.std.proofs.lemmas.List.Sorted.{IsNonDecreasingBy-from_sort}
+use Rattle.tql_store.specs.StoreModel.{is_among}
+use Rattle.tql_keys.proofs.Listed.{among_either}
+use Rattle.tql_keys.proofs.change.rising.Goals as goal
+
+pub returns-clause-rising : goal.returns-clause-rising
+returns-clause-rising c i j l m =
+    IsNonDecreasingBy-from_sort (λ (x : ℕ). x) c.sort_unstable.new.self.items c.sort_unstable.ensures.sorted i j 0 l m
+
+pub returns-clause-same : goal.returns-clause-same
+returns-clause-same c id =
+    among_either id _ _ c.sort_unstable.ensures.permutation
+    ∙ ap (λ (ids : List ℕ). is_among id ids) c.in_ok-rising.ensures.items

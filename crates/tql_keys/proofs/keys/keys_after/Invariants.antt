@@ -1,0 +1,22 @@
+use Rattle.std.proofs.Common.{◌≡◌, Bool, true, List, drop}
+use Rattle.std.specs.List.{list_all}
+use Rattle.tql_spec.specs.Constraint.{key_holds, shown_rows}
+use Rattle.tql_spec.specs.Definition.{Stamped}
+use Rattle.tql_catalog.specs.Definitions.{key_of}
+use Rattle.tql_store.specs.Changes.{rows_after}
+use Rattle.tql_value.specs.Views.{rows_of}
+use Rattle.tql_keys.specs.Asked.{AreRowsOf, IsJudged, keys_hold_of, row_named}
+use Rattle.tql_keys.proofs.keys.keys_after.Given as goal
+
+-- the keys that are left decide
+abbrev pub invariant-loop-key : goal.invariant-loop-key
+invariant-loop-key g l =
+    (rows : List Stamped) (gone : Stamped → Bool) → AreRowsOf l.store l.table rows
+    → IsJudged (row_named l.store l.table.id) gone l.change.removed.now
+    → keys_hold_of l.table.definition (shown_rows l.table.definition rows) ≡ true
+    → list_all (λ k. key_holds l.table.definition
+    (shown_rows l.table.definition (rows_after l.change.moment gone (rows_of l.change.added.now) rows)) (key_of k))
+    (drop l.key-index l.key-items)
+    ≡ list_all (λ k. key_holds l.table.definition
+    (shown_rows l.table.definition (rows_after l.change.moment gone (rows_of l.change.added.now) rows)) (key_of k))
+    l.key-items

@@ -1,0 +1,65 @@
+-- What the rows of a store are asked for: those of a tuple, and the one that an id names.
+use Rattle.std.specs.Prelude.{◌≡◌, ℕ, ℤ, Bool, not, List, map, filter, length, All, Option, Some, option_map}
+use Rattle.std.specs.List.{list_all}
+use Rattle.tql_spec.specs.Bag.{SameBag}
+use Rattle.tql_spec.specs.Constraint.{key_holds, shown_rows}
+use Rattle.tql_spec.specs.Datum.{Datum, Row}
+use Rattle.tql_spec.specs.Definition.{TableDef, Stamped, Version, cell, shown, with_generated}
+use Rattle.tql_catalog.specs.Rows.{stored_width}
+use Rattle.tql_catalog.specs.declared.catalog.Table.{Table}
+use Rattle.tql_store.specs.Changes.{starting}
+use Rattle.tql_store.specs.StoreModel.{StoreModel, live, is_among}
+use Rattle.tql_store.specs.Views.{current_named}
+use Rattle.tql_store_rows.specs.Changes.{is_current}
+use Rattle.tql_store_rows.specs.Readings.{version_shown}
+use Rattle.tql_store_rows.specs.declared.version.Version as code
+use Rattle.tql_keys.specs.Touched.{has_tuple}
+
+-- ---- the rows of a table
+
+-- the current ones: a bag
+abbrev pub current_rows : StoreModel → ℕ → List Stamped
+current_rows h t = map (λ (v : Version). v.row) (filter is_current (live h t))
+
+-- these are they, each as wide as its table stores rows
+pub record AreRowsOf (h : StoreModel) (table : Table) (rows : List Stamped) : Type 0 where
+  pub same : SameBag rows (current_rows h table.id)
+  pub wide : All (λ (r : Stamped). length r.cells ≡ stored_width table.definition) rows
+
+-- the current one that an id names
+abbrev pub row_named : StoreModel → ℕ → ℕ → Option Stamped
+row_named h t id = option_map (λ (v : Version). v.row) (current_named h t id)
+
+-- the row that was found
+abbrev pub row_found : code.Version → Stamped
+row_found v = (version_shown v).row
+
+-- what stands in these columns of a row of the table, whichever moments stand in the generated ones, are the cells of
+-- these numbers among those that are stored
+abbrev pub AreStoredAt : TableDef → List ℕ → List ℕ → Type 0
+AreStoredAt d columns stored = (cells : Row) (start end : ℤ) → length cells ≡ stored_width d
+    → map (cell (with_generated d.system cells start end)) columns ≡ map (cell cells) stored
+
+-- the rows of a tuple
+abbrev pub rows_with : TableDef → List ℕ → List Datum → List Stamped → List Stamped
+rows_with d columns values rows = filter (λ r. has_tuple columns values (shown d r)) rows
+
+-- ---- rows that go, stay and come
+
+-- the ids listed are those of the rows that go: what goes is told by the rows' values
+abbrev pub IsJudged : (ℕ → Option Stamped) → (Stamped → Bool) → List ℕ → Type 0
+IsJudged named gone removed = (id : ℕ) (r : Stamped) → named id ≡ Some r → is_among id removed ≡ gone r
+
+-- rows that begin at a moment, column by column
+abbrev pub new_rows : TableDef → ℤ → List Row → List Row
+new_rows d m added = shown_rows d (map (starting m) added)
+
+-- the rows that stay
+abbrev pub staying : (Stamped → Bool) → List Stamped → List Stamped
+staying gone rows = filter (λ r. not (gone r)) rows
+
+-- ---- keys of a table
+
+-- whether each key holds
+abbrev pub keys_hold_of : TableDef → List Row → Bool
+keys_hold_of d rows = list_all (key_holds d rows) d.keys

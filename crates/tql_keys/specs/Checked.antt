@@ -1,0 +1,86 @@
+-- What a check says of a copy of the tables after a change of one of them.
+use Rattle.std.specs.Prelude.{◌≡◌, ℕ, ℤ, ◌<◌, Bool, true, false, ◌&&◌, nat_lt, IsTrue, List, length, slice_get}
+use Rattle.std.specs.Prelude.{slice_set, Option, Some, None, Result, Ok, Err, ⊤}
+use Rattle.std.specs.List.{list_all}
+use Rattle.tql_spec.specs.AtPoints.{table_rows, parent_at, parent_rows, HoldsAtPoints}
+use Rattle.tql_spec.specs.Bag.{In}
+use Rattle.tql_spec.specs.Constraint.{reference_to, KeyHolds, ReferenceHolds}
+use Rattle.tql_spec.specs.Creation.{is_declared_key}
+use Rattle.tql_spec.specs.Datum.{Row}
+use Rattle.tql_spec.specs.Definition.{TableDef, Key, Reference, Stamped, table_at, place_of}
+use Rattle.tql_spec.specs.History.{Copy, rows_in}
+use Rattle.tql_spec.specs.Refusal as spec
+use Rattle.tql_catalog.specs.declared.catalog.Table.{Table}
+use Rattle.tql_store.specs.Changes.{rows_after}
+use Rattle.tql_store.specs.StoreModel.{StoreModel, has_table}
+use Rattle.tql_value.specs.Refusals.{refusal_of}
+use Rattle.tql_value.specs.declared.refusal.Refusal.{Refusal}
+use Rattle.tql_value.specs.declared.refusal.Refusal.TheVariants.{DuplicateKey, ReferenceNotMet, OutOfMemory}
+use Rattle.tql_keys.specs.Asked.{AreRowsOf, IsJudged, row_named}
+
+-- the tables are there in the store
+abbrev pub AreThere : StoreModel → List Table → Type 0
+AreThere h tables = (t : ℕ) (p : Table) → slice_get tables t ≡ Some p → IsTrue (has_table h p.id)
+
+-- the copy has the current rows of the tables, each as wide as its table stores rows
+pub record IsCopyOf (h : StoreModel) (tables : List Table) (copy : Copy) : Type 0 where
+  pub as_many : length copy ≡ length tables
+  pub rows : (t : ℕ) (p : Table) → slice_get tables t ≡ Some p → AreRowsOf h p (rows_in copy t)
+
+-- the copy after a change of the table at a place
+abbrev pub copy_after : ℤ → ℕ → (Stamped → Bool) → List Row → Copy → Copy
+copy_after m t gone added copy = slice_set copy t (rows_after m gone added (rows_in copy t))
+
+-- whether the reference of the table at a place is to a key of an earlier one, at that place
+abbrev pub has_parent_at : List TableDef → ℕ → Reference → Option ℕ → Bool
+has_parent_at defs t f None = false
+has_parent_at defs t f (Some p) = nat_lt p t && is_declared_key (table_at defs p) f.by_period f.parent_columns
+
+abbrev pub has_parent : List TableDef → ℕ → Reference → Bool
+has_parent defs t f = has_parent_at defs t f (place_of f.parent defs)
+
+-- the ids listed are those of the rows of the table at a place that go
+abbrev pub AreJudged : StoreModel → List Table → ℕ → (Stamped → Bool) → List ℕ → Type 0
+AreJudged h tables t gone removed =
+    (p : Table) → slice_get tables t ≡ Some p → IsJudged (row_named h p.id) gone removed
+
+-- whether the references of the table at a place hold in a copy
+abbrev pub references_hold_of : List TableDef → Copy → ℕ → Bool
+references_hold_of defs copy t =
+    list_all (λ (f : Reference). reference_to defs copy (table_at defs t) (table_rows defs copy t) f
+    (place_of f.parent defs)) (table_at defs t).references
+
+-- a refusal is the first fault, and none tells that there is no fault; memory may have run out
+abbrev pub TellsFirst : {A : Type 0} → Option spec.Refusal → Result A Refusal → Type 0
+TellsFirst fault (Ok x) = fault ≡ None
+TellsFirst fault (Err OutOfMemory) = ⊤
+TellsFirst fault (Err e) = fault ≡ Some (refusal_of e)
+
+-- the tests of keys and of references, told: a key that fails first; memory may have run out
+abbrev pub TellsTests : {A : Type 0} → Bool → Bool → Result A Refusal → Type 0
+TellsTests keys references (Ok x) = (keys ≡ true) × (references ≡ true)
+TellsTests keys references (Err DuplicateKey) = keys ≡ false
+TellsTests keys references (Err ReferenceNotMet) = (keys ≡ true) × (references ≡ false)
+TellsTests keys references (Err OutOfMemory) = ⊤
+TellsTests keys references (Err e) = ⊥
+
+-- ---- at every point
+
+-- each key of each table holds in a copy
+abbrev pub KeysAtPoints : List TableDef → Copy → Type 0
+KeysAtPoints defs copy = (t : ℕ) → t < length defs → (k : Key) → In k (table_at defs t).keys
+    → KeyHolds (table_at defs t) k k.by_period (table_rows defs copy t)
+
+-- each reference of each table does
+abbrev pub ReferencesAtPoints : List TableDef → Copy → Type 0
+ReferencesAtPoints defs copy = (t : ℕ) → t < length defs → (f : Reference) → In f (table_at defs t).references
+    → ReferenceHolds (table_at defs t) (parent_at defs (place_of f.parent defs)) f
+    (parent_rows defs copy (place_of f.parent defs)) (table_rows defs copy t)
+
+-- all hold; or a key does not, and that is told; or keys do and a reference does not; memory may have run out
+abbrev pub TellsAtPoints : {A : Type 0} → List TableDef → Copy → Result A Refusal → Type 0
+TellsAtPoints defs copy (Ok x) = HoldsAtPoints defs copy
+TellsAtPoints defs copy (Err DuplicateKey) = KeysAtPoints defs copy → ⊥
+TellsAtPoints defs copy (Err ReferenceNotMet) = KeysAtPoints defs copy × (ReferencesAtPoints defs copy → ⊥)
+TellsAtPoints defs copy (Err OutOfMemory) = ⊤
+TellsAtPoints defs copy (Err e) = ⊥

@@ -1,0 +1,40 @@
+//! A change of one table's rows, as the tests read it.
+ghost use Rattle.std.specs.Prelude.{◌≡◌, ℕ, IfOk};
+ghost use Rattle.tql_store.specs.StoreModel.{is_among};
+ghost use Rattle.tql_keys.specs.Rising.{AreRising};
+
+use std::alloc::AllocError;
+use tql_memory::Memory;
+use tql_value::value::Value;
+
+/// A change of one table's rows: those of these ids, which rise, go, and these come, which begin at the moment, in
+/// microseconds since 1970-01-01.
+#[derive(Clone, Copy)]
+pub(crate) struct Change<'a> {
+    pub(crate) removed: &'a [usize],
+    pub(crate) added: &'a [Vec<Value, Memory>],
+    pub(crate) moment: i64,
+    pub(crate) ghost rising: { AreRising removed.now },
+}
+
+impl Change<'_> {
+    ghost use Rattle.std.specs.Prelude.{◌≡◌};
+    ghost use Rattle.tql_store.specs.StoreModel.{is_among};
+
+    /// Whether the row of an id goes.
+    pub(crate) fn removes(&self, id: usize) -> bool
+        ensures { result ≡ is_among id self.now.removed.now }
+    {
+        self.removed.binary_search(&id).is_ok()
+    }
+}
+
+/// These ids, rising.
+pub(crate) fn rising(memory: Memory, ids: &[usize]) -> Result<Vec<usize, Memory>, AllocError>
+    ensures rising { IfOk result (λ rising. AreRising rising.items) }
+    ensures same { IfOk result (λ rising. (id : ℕ) → is_among id rising.items ≡ is_among id ids.now) }
+{
+    let mut rising = Vec::from_slice(memory, ids)?;
+    rising.sort_unstable();
+    Ok(rising)
+}

@@ -1,0 +1,89 @@
+//! The rows of a table with given values in some columns.
+ghost use Rattle.std.specs.Prelude.{◌≡◌, List, All, Some, map, IfOk, IsTrue};
+ghost use Rattle.tql_spec.specs.Bag.{SameBag};
+ghost use Rattle.tql_spec.specs.Definition.{Stamped};
+ghost use Rattle.tql_catalog.specs.Rows.{are_assignable};
+ghost use Rattle.tql_store.specs.StoreModel.{has_table};
+ghost use Rattle.tql_value.specs.Views.{datum_of_view};
+ghost use Rattle.tql_keys.specs.Asked.{AreRowsOf, AreStoredAt, row_found, row_named, rows_with};
+
+use std::alloc::AllocError;
+use tql_catalog::catalog::Table;
+use tql_catalog::table_def::TableDef;
+use tql_index::index::IntervalIndex;
+use tql_memory::Memory;
+use tql_store::store::Store;
+use tql_store_rows::version::Version;
+use tql_value::value::View;
+
+/// Columns of a table, none generated, in which its rows are sought.
+pub(crate) struct Chain<'a> {
+    pub(crate) table: &'a Table,
+    pub(crate) columns: &'a [usize],
+    /// Their numbers among the columns that are stored.
+    stored: Vec<usize, Memory>,
+    ghost right: { AreStoredAt table.now.definition columns.now stored.items },
+}
+
+impl Drop for Chain<'_> {
+    fn drop(self) {
+        let Chain {
+            table: _,
+            columns: _,
+            stored,
+        } = self;
+        drop(stored);
+    }
+}
+
+/// The numbers that columns, none generated, have among those that are stored.
+fn stored_numbers(
+    memory: Memory,
+    definition: &TableDef,
+    columns: &[usize],
+) -> Result<Vec<usize, Memory>, AllocError>
+    requires { IsTrue (are_assignable definition.now columns.now) }
+    ensures { IfOk result (λ stored. AreStoredAt definition.now columns.now stored.items) }
+{
+    let mut stored = Vec::with_capacity(memory, columns.len())?;
+    for column in columns {
+        stored.push(definition.stored_number(*column))?;
+    }
+    Ok(stored)
+}
+
+impl<'a> Chain<'a> {
+    /// These columns of a table.
+    pub(crate) fn of(
+        memory: Memory,
+        table: &'a Table,
+        columns: &'a [usize],
+    ) -> Result<Chain<'a>, AllocError>
+        requires { IsTrue (are_assignable table.now.definition columns.now) }
+        ensures table { IfOk result (λ chain. chain.table.now ≡ table.now) }
+        ensures columns { IfOk result (λ chain. chain.columns.now ≡ columns.now) }
+    {
+        let stored = stored_numbers(memory, &table.definition, columns)?;
+        Ok(Chain {
+            table,
+            columns,
+            stored,
+        })
+    }
+
+    /// The current rows with these values in the columns; NULL is no value's equal.
+    pub(crate) fn find<'s, I: IntervalIndex>(
+        &self,
+        store: &'s Store<I>,
+        tuple: &[View<'_>],
+    ) -> Result<Vec<Version<'s>, Memory>, AllocError>
+        requires { IsTrue (has_table store.now self.now.table.now.id) }
+        ensures rows { IfOk result (λ found. (rows : List Stamped) → AreRowsOf store.now self.now.table.now rows
+            → SameBag (map row_found found.items) (rows_with self.now.table.now.definition self.now.columns.now
+            (map datum_of_view tuple.now) rows)) }
+        ensures ids { IfOk result (λ found. All (λ f. row_named store.now self.now.table.now.id f.id
+            ≡ Some (row_found f)) found.items) }
+    {
+        store.with_key(self.table.id, &self.stored, tuple)
+    }
+}

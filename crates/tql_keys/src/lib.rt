@@ -1,0 +1,10 @@
+//! Keys and references after a change of one table's rows.
+#![tactic(auto)]
+
+mod change;
+pub mod check;
+mod finding;
+mod keys;
+pub mod laws;
+mod reading;
+mod references;

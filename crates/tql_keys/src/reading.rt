@@ -1,0 +1,126 @@
+//! What is read of one row, or of two: tuples, periods, whether they clash.
+ghost use Rattle.std.specs.Prelude.{◌≡◌, ◌&&◌, map, option_map, IfOk};
+ghost use Rattle.tql_spec.specs.Calendar.{high};
+ghost use Rattle.tql_spec.specs.Definition.{point_of, period_of, shown};
+ghost use Rattle.tql_spec.specs.Period.{where_rising};
+ghost use Rattle.tql_spec.specs.Constraint.{match_on, clash as clash_in};
+ghost use Rattle.tql_expr.specs.Shown.{shown_by};
+ghost use Rattle.tql_catalog.specs.Definitions.{key_of};
+ghost use Rattle.tql_period.specs.Points.{points_of};
+ghost use Rattle.tql_value.specs.Views.{datum_of_view, row_of};
+ghost use Rattle.tql_store.specs.Changes.{starting};
+ghost use Rattle.tql_keys.specs.Touched.{tuple, collide, has_tuple as tuple_in, share as share_in};
+
+use std::alloc::AllocError;
+use tql_catalog::constraint::Key;
+use tql_catalog::table_def::TableDef;
+use tql_expr::columns::Columns;
+use tql_expr::stored::StoredRow;
+use tql_memory::Memory;
+use tql_period::period::Period;
+use tql_value::calendar::HIGH;
+use tql_value::comparison::{Comparison, compare};
+use tql_value::value::{Value, View};
+
+/// A current row as its table shows it, by its cells and the moment at which it began.
+pub(crate) fn current_row<'a>(
+    definition: &TableDef,
+    cells: &'a [Value],
+    start: i64,
+) -> StoredRow<'a>
+    ensures { shown_by result ≡ shown definition.now (starting start (row_of cells.now)) }
+{
+    StoredRow {
+        cells,
+        system: definition.generated(),
+        start,
+        end: HIGH,
+    }
+}
+
+/// The values of a row in some columns.
+pub(crate) fn tuple_of<'a>(
+    memory: Memory,
+    row: &'a StoredRow<'_>,
+    columns: &[usize],
+) -> Result<Vec<View<'a>, Memory>, AllocError>
+    ensures { IfOk result (λ values. map datum_of_view values.items ≡ tuple columns.now (shown_by row.now)) }
+{
+    let mut values = Vec::with_capacity(memory, columns.len())?;
+    for column in columns {
+        values.push(row.column(*column))?;
+    }
+    Ok(values)
+}
+
+/// Whether two rows have equal values in the same columns. A NULL equals nothing.
+pub(crate) fn match_in(columns: &[usize], r: &StoredRow<'_>, s: &StoredRow<'_>) -> bool
+    ensures { result ≡ match_on columns.now (shown_by r.now) columns.now (shown_by s.now) }
+{
+    columns.iter().all(|column| {
+        compare(Comparison::Equal, r.column(*column), s.column(*column)).is_true()
+    })
+}
+
+/// Whether a row has these values in these columns, as many. A NULL equals nothing.
+pub(crate) fn has_tuple(columns: &[usize], tuple: &[View<'_>], row: &StoredRow<'_>) -> bool
+    ensures { result ≡ tuple_in columns.now (map datum_of_view tuple.now) (shown_by row.now) }
+{
+    columns.len() == tuple.len()
+        && columns.iter().zip(tuple).all(|(column, value)| {
+            compare(Comparison::Equal, row.column(*column), *value).is_true()
+        })
+}
+
+/// The point that a value is, in days or microseconds since 1970-01-01; 0 for what is none.
+fn point(value: View<'_>) -> i64
+    ensures { result ≡ point_of (datum_of_view value.entry) }
+{
+    match value {
+        View::Day(day) => day,
+        View::Moment(moment) => moment,
+        View::Null | View::Int(_) | View::Text(_) => 0,
+    }
+}
+
+/// The application period of a row; none where it does not rise, or the table has none.
+pub(crate) fn period(definition: &TableDef, row: &StoredRow<'_>) -> Option<Period>
+    ensures { option_map points_of result ≡ where_rising (period_of definition.now (shown_by row.now)) }
+{
+    let application = definition.application()?;
+    let start = point(row.column(application.start));
+    let end = point(row.column(application.end));
+    Period::new(start, end)
+}
+
+/// Whether two periods share a point; where one is not there they share none.
+fn share(x: Option<Period>, y: Option<Period>) -> bool
+    ensures { result ≡ share_in (option_map points_of x) (option_map points_of y) }
+{
+    match (x, y) {
+        (Some(x), Some(y)) => x.shares_a_point(y),
+        _ => false,
+    }
+}
+
+/// Whether two rows of one tuple clash: without a period always, else where they share a point.
+pub(crate) fn collides(
+    definition: &TableDef,
+    by_period: bool,
+    r: &StoredRow<'_>,
+    s: &StoredRow<'_>,
+) -> bool
+    ensures { result ≡ collide definition.now by_period (shown_by r.now) (shown_by s.now) }
+{
+    if !by_period {
+        return true;
+    }
+    share(period(definition, r), period(definition, s))
+}
+
+/// Whether two rows clash in a key.
+pub(crate) fn clash(definition: &TableDef, key: &Key, r: &StoredRow<'_>, s: &StoredRow<'_>) -> bool
+    ensures { result ≡ clash_in definition.now (key_of key.now) (shown_by r.now) (shown_by s.now) }
+{
+    match_in(&key.columns, r, s) && collides(definition, key.by_period, r, s)
+}

@@ -1,0 +1,431 @@
+//! Whether a child row is met after a change of its parent table, and references after a change of either table.
+ghost use Rattle.std.specs.Prelude.{◌≡◌, ◌||◌, ◌&&◌, ℤ, Bool, true, not, map, List, IfOk, IsTrue, OnOk};
+ghost use Rattle.std.specs.List.{list_any};
+ghost use Rattle.tql_spec.specs.Datum.{Row};
+ghost use Rattle.tql_spec.specs.Definition.{Stamped, shown, period_of};
+ghost use Rattle.tql_spec.specs.Definition.{TableDef as Def};
+ghost use Rattle.tql_spec.specs.Constraint.{is_met as met_in, is_met_by, has_null as null_in, shown_rows, covered};
+ghost use Rattle.tql_spec.specs.Constraint.{held_at};
+ghost use Rattle.tql_spec.specs.Constraint.{reference_holds};
+ghost use Rattle.tql_catalog.specs.Definitions.{reference_of};
+ghost use Rattle.tql_catalog.specs.Rows.{are_assignable};
+ghost use Rattle.tql_expr.specs.Shown.{shown_by};
+ghost use Rattle.tql_period.specs.Points.{StartsRise};
+ghost use Rattle.tql_store.specs.Changes.{rows_after};
+ghost use Rattle.tql_store.specs.StoreModel.{has_table, is_among as among};
+ghost use Rattle.tql_value.specs.Views.{datum_of_view, rows_of};
+ghost use Rattle.tql_keys.specs.Asked.{AreRowsOf, IsJudged, new_rows, row_found, row_named};
+ghost use Rattle.tql_keys.specs.Named.{of_named};
+ghost use Rattle.tql_keys.specs.Parents.{any_holds, row_holds, any_left, any_with};
+ghost use Rattle.tql_keys.specs.Touched.{has_tuple as tuple_in, is_spared as spared_in};
+
+use crate::change::Change;
+use crate::finding::Chain;
+use crate::reading::{current_row, has_tuple, period, tuple_of};
+use std::alloc::AllocError;
+use tql_catalog::catalog::Table;
+use tql_catalog::constraint::Reference;
+use tql_catalog::table_def::TableDef;
+use tql_expr::columns::Columns;
+use tql_expr::stored::StoredRow;
+use tql_index::index::IntervalIndex;
+use tql_memory::Memory;
+use tql_period::coverage::covers;
+use tql_period::period::Period;
+use tql_spec::references_at_each_point;
+use tql_store::store::Store;
+use tql_store_rows::version::Version;
+use tql_value::value::{Value, View};
+
+/// Whether NULL stands in one of these columns of a row.
+fn has_null(columns: &[usize], row: &StoredRow<'_>) -> bool
+    ensures { result ≡ null_in columns.now (shown_by row.now) }
+{
+    columns.iter().any(|column| row.column(*column).is_null())
+}
+
+/// Whether some row that was found is none of those that go.
+fn some_is_left(found: &[Version<'_>], change: &Change<'_>) -> bool
+    ensures { (table : Def) → result ≡ any_left table change.now.removed.now (λ r. true) found.now }
+{
+    found.iter().any(|row| !change.removes(row.id))
+}
+
+/// Whether some row that comes has the tuple.
+fn some_comes(
+    definition: &TableDef,
+    columns: &[usize],
+    tuple: &[View<'_>],
+    change: &Change<'_>,
+) -> bool
+    ensures { result ≡ any_with columns.now (map datum_of_view tuple.now) (λ r. true)
+        (new_rows definition.now change.now.moment (rows_of change.now.added.now)) }
+{
+    change.added.iter().any(|row| {
+        has_tuple(columns, tuple, &current_row(definition, row, change.moment))
+    })
+}
+
+/// Adds the period of a row, where it holds a point.
+fn add_period(
+    definition: &TableDef,
+    row: &StoredRow<'_>,
+    periods: &mut Vec<Period, Memory>,
+) -> Result<(), AllocError>
+    ensures { OnOk result ((x : ℤ) → any_holds periods.new.items x
+        ≡ (any_holds periods.old.items x || row_holds definition.now x (shown_by row.now))) }
+{
+    if let Some(period) = period(definition, row) {
+        periods.push(period)?;
+    }
+    Ok(())
+}
+
+/// Adds the period of a row that was found, where it is none of those that go.
+fn add_found(
+    definition: &TableDef,
+    row: Version<'_>,
+    change: &Change<'_>,
+    periods: &mut Vec<Period, Memory>,
+) -> Result<(), AllocError>
+    ensures { OnOk result ((x : ℤ) → any_holds periods.new.items x
+        ≡ (any_holds periods.old.items x
+        || (not (among row.entry.id change.now.removed.now) && row_holds definition.now x
+        (shown definition.now (row_found row.entry))))) }
+{
+    if change.removes(row.id) {
+        return Ok(());
+    }
+    add_period(
+        definition,
+        &current_row(definition, row.row, row.start),
+        periods,
+    )
+}
+
+/// Adds the periods of the rows that were found and are none of those that go.
+fn add_left(
+    definition: &TableDef,
+    found: &[Version<'_>],
+    change: &Change<'_>,
+    periods: &mut Vec<Period, Memory>,
+) -> Result<(), AllocError>
+    ensures { OnOk result ((x : ℤ) → any_holds periods.new.items x
+        ≡ (any_holds periods.old.items x
+        || any_left definition.now change.now.removed.now (row_holds definition.now x) found.now)) }
+{
+    for row in found {
+        add_found(definition, *row, change, periods)?;
+    }
+    Ok(())
+}
+
+/// Adds the period of a row, where it has the tuple.
+fn add_new(
+    definition: &TableDef,
+    columns: &[usize],
+    tuple: &[View<'_>],
+    row: &StoredRow<'_>,
+    periods: &mut Vec<Period, Memory>,
+) -> Result<(), AllocError>
+    ensures { OnOk result ((x : ℤ) → any_holds periods.new.items x
+        ≡ (any_holds periods.old.items x
+        || (tuple_in columns.now (map datum_of_view tuple.now) (shown_by row.now)
+        && row_holds definition.now x (shown_by row.now)))) }
+{
+    if !has_tuple(columns, tuple, row) {
+        return Ok(());
+    }
+    add_period(definition, row, periods)
+}
+
+/// Adds the periods of those of the rows that come which have the tuple.
+fn add_coming(
+    definition: &TableDef,
+    columns: &[usize],
+    tuple: &[View<'_>],
+    change: &Change<'_>,
+    periods: &mut Vec<Period, Memory>,
+) -> Result<(), AllocError>
+    ensures { OnOk result ((x : ℤ) → any_holds periods.new.items x
+        ≡ (any_holds periods.old.items x
+        || any_with columns.now (map datum_of_view tuple.now) (row_holds definition.now x)
+        (new_rows definition.now change.now.moment (rows_of change.now.added.now)))) }
+{
+    for row in change.added {
+        let new = current_row(definition, row, change.moment);
+        add_new(definition, columns, tuple, &new, periods)?;
+    }
+    Ok(())
+}
+
+/// Puts periods into the order of their starts.
+fn sort(periods: &mut Vec<Period, Memory>)
+    ensures rising { StartsRise periods.new.items }
+    ensures same { (x : ℤ) → any_holds periods.new.items x ≡ any_holds periods.old.items x }
+{
+    periods.sort_unstable_by(|x, y| x.start.cmp(&y.start));
+}
+
+/// The periods of the rows of a tuple after a change, by rising starts: of those that were found and do not go, and of
+/// those that come and have the tuple.
+fn periods_after(
+    memory: Memory,
+    definition: &TableDef,
+    columns: &[usize],
+    tuple: &[View<'_>],
+    found: &[Version<'_>],
+    change: &Change<'_>,
+) -> Result<Vec<Period, Memory>, AllocError>
+    ensures rising { IfOk result (λ periods. StartsRise periods.items) }
+    ensures holds { IfOk result (λ periods. (x : ℤ) → any_holds periods.items x
+        ≡ (any_left definition.now change.now.removed.now (row_holds definition.now x) found.now
+        || any_with columns.now (map datum_of_view tuple.now) (row_holds definition.now x)
+        (new_rows definition.now change.now.moment (rows_of change.now.added.now)))) }
+{
+    let mut periods = Vec::new(memory);
+    add_left(definition, found, change, &mut periods)?;
+    add_coming(definition, columns, tuple, change, &mut periods)?;
+    sort(&mut periods);
+    Ok(periods)
+}
+
+/// Whether periods cover that of a child row.
+fn is_covered(child: &TableDef, row: &StoredRow<'_>, periods: &[Period]) -> bool
+    requires { StartsRise periods.now }
+    ensures { (parent : Def) (parents : List Row) → ((x : ℤ) → any_holds periods.now x ≡ held_at parent parents x)
+        → result ≡ covered parent parents (period_of child.now (shown_by row.now)) }
+{
+    references_at_each_point();
+    match period(child, row) {
+        Some(whole) => covers(periods, whole),
+        None => true,
+    }
+}
+
+/// Whether a child row is met by these parents: those that were found and do not go, and those that come and have the
+/// tuple.
+fn meets(
+    memory: Memory,
+    child: &TableDef,
+    row: &StoredRow<'_>,
+    by_period: bool,
+    parents: &Chain<'_>,
+    tuple: &[View<'_>],
+    found: &[Version<'_>],
+    change: &Change<'_>,
+) -> Result<bool, AllocError>
+    ensures { IfOk result (λ met. (rows : List Row)
+        → ((test : Row → Bool) → list_any test rows
+        ≡ (any_left parents.now.table.now.definition change.now.removed.now test found.now
+        || any_with parents.now.columns.now (map datum_of_view tuple.now) test
+        (new_rows parents.now.table.now.definition change.now.moment (rows_of change.now.added.now))))
+        → met ≡ is_met_by child.now parents.now.table.now.definition by_period rows (shown_by row.now)) }
+{
+    let definition = &parents.table.definition;
+    if by_period {
+        let periods = periods_after(memory, definition, parents.columns, tuple, found, change)?;
+        Ok(is_covered(child, row, &periods))
+    } else {
+        let left = some_is_left(found, change);
+        let comes = some_comes(definition, parents.columns, tuple, change);
+        Ok(left | comes)
+    }
+}
+
+/// Whether a child row is met by the rows of its parent table after a change of that. Of the parent table the rows with
+/// the child row's tuple are looked at alone.
+fn is_met<I: IntervalIndex>(
+    memory: Memory,
+    store: &Store<I>,
+    child: &TableDef,
+    row: &StoredRow<'_>,
+    reference: &Reference,
+    parents: &Chain<'_>,
+    change: &Change<'_>,
+) -> Result<bool, AllocError>
+    requires there { IsTrue (has_table store.now parents.now.table.now.id) }
+    requires columns { parents.now.columns.now ≡ (reference_of reference.now).parent_columns }
+    ensures { IfOk result (λ met. (rows : List Stamped) (gone : Stamped → Bool)
+        → AreRowsOf store.now parents.now.table.now rows
+        → IsJudged (row_named store.now parents.now.table.now.id) gone change.now.removed.now
+        → met ≡ met_in child.now parents.now.table.now.definition (reference_of reference.now)
+        (shown_rows parents.now.table.now.definition
+        (rows_after change.now.moment gone (rows_of change.now.added.now) rows)) (shown_by row.now)) }
+{
+    if has_null(&reference.columns, row) {
+        return Ok(true);
+    }
+    let tuple = tuple_of(memory, row, &reference.columns)?;
+    let found = parents.find(store, &tuple)?;
+    meets(
+        memory,
+        child,
+        row,
+        reference.by_period,
+        parents,
+        &tuple,
+        &found,
+        change,
+    )
+}
+
+/// Whether a child row is met by the rows of its parent table as they stand.
+fn is_met_now<I: IntervalIndex>(
+    memory: Memory,
+    store: &Store<I>,
+    child: &TableDef,
+    row: &StoredRow<'_>,
+    reference: &Reference,
+    parents: &Chain<'_>,
+) -> Result<bool, AllocError>
+    requires there { IsTrue (has_table store.now parents.now.table.now.id) }
+    requires columns { parents.now.columns.now ≡ (reference_of reference.now).parent_columns }
+    ensures { IfOk result (λ met. (rows : List Stamped) → AreRowsOf store.now parents.now.table.now rows
+        → met ≡ met_in child.now parents.now.table.now.definition (reference_of reference.now)
+        (shown_rows parents.now.table.now.definition rows) (shown_by row.now)) }
+{
+    let gone: Vec<usize, Memory> = Vec::new(memory);
+    let come: Vec<Vec<Value, Memory>, Memory> = Vec::new(memory);
+    let nothing = Change {
+        removed: &gone,
+        added: &come,
+        moment: 0,
+    };
+    is_met(memory, store, child, row, reference, parents, &nothing)
+}
+
+/// Whether a reference that held holds after a change of its child table. Of the parent table the rows with the tuples
+/// of those that come are looked at alone.
+pub(crate) fn child_holds_after<I: IntervalIndex>(
+    memory: Memory,
+    store: &Store<I>,
+    child: &TableDef,
+    reference: &Reference,
+    parent: &Table,
+    change: &Change<'_>,
+) -> Result<bool, AllocError>
+    requires there { IsTrue (has_table store.now parent.now.id) }
+    requires columns { IsTrue (are_assignable parent.now.definition (reference_of reference.now).parent_columns) }
+    ensures { IfOk result (λ holds. (parents rows : List Stamped) (gone : Stamped → Bool)
+        → AreRowsOf store.now parent.now parents
+        → reference_holds child.now parent.now.definition (reference_of reference.now)
+        (shown_rows parent.now.definition parents) (shown_rows child.now rows) ≡ true
+        → holds ≡ reference_holds child.now parent.now.definition (reference_of reference.now)
+        (shown_rows parent.now.definition parents)
+        (shown_rows child.now (rows_after change.now.moment gone (rows_of change.now.added.now) rows))) }
+{
+    let parents = Chain::of(memory, parent, &reference.parent_columns)?;
+    for row in change.added {
+        let new = current_row(child, row, change.moment);
+        if !is_met_now(memory, store, child, &new, reference, &parents)? {
+            return Ok(false);
+        }
+    }
+    Ok(true)
+}
+
+/// Whether each child row of the tuple of a parent row is met by the rows of the parent table after a change of that.
+fn is_spared<I: IntervalIndex>(
+    memory: Memory,
+    store: &Store<I>,
+    reference: &Reference,
+    children: &Chain<'_>,
+    parents: &Chain<'_>,
+    row: &StoredRow<'_>,
+    change: &Change<'_>,
+) -> Result<bool, AllocError>
+    requires there { IsTrue (has_table store.now parents.now.table.now.id) }
+    requires columns { parents.now.columns.now ≡ (reference_of reference.now).parent_columns }
+    requires child_there { IsTrue (has_table store.now children.now.table.now.id) }
+    requires child_columns { children.now.columns.now ≡ (reference_of reference.now).columns }
+    ensures { IfOk result (λ spared. (rows others : List Stamped) (gone : Stamped → Bool)
+        → AreRowsOf store.now parents.now.table.now rows
+        → IsJudged (row_named store.now parents.now.table.now.id) gone change.now.removed.now
+        → AreRowsOf store.now children.now.table.now others
+        → spared ≡ spared_in children.now.table.now.definition parents.now.table.now.definition
+        (reference_of reference.now)
+        (shown_rows parents.now.table.now.definition
+        (rows_after change.now.moment gone (rows_of change.now.added.now) rows))
+        (shown_rows children.now.table.now.definition others) (shown_by row.now)) }
+{
+    let child = &children.table.definition;
+    let tuple = tuple_of(memory, row, &reference.parent_columns)?;
+    let found = children.find(store, &tuple)?;
+    let others = found.as_slice();
+    for other in others {
+        let row = current_row(child, other.row, other.start);
+        if !is_met(memory, store, child, &row, reference, parents, change)? {
+            return Ok(false);
+        }
+    }
+    Ok(true)
+}
+
+/// Whether each child row of the tuple of the parent row that an id names is met by the rows of the parent table after
+/// a change of that; so where it names none.
+fn is_spared_by<I: IntervalIndex>(
+    memory: Memory,
+    store: &Store<I>,
+    reference: &Reference,
+    children: &Chain<'_>,
+    parents: &Chain<'_>,
+    id: usize,
+    change: &Change<'_>,
+) -> Result<bool, AllocError>
+    requires there { IsTrue (has_table store.now parents.now.table.now.id) }
+    requires columns { parents.now.columns.now ≡ (reference_of reference.now).parent_columns }
+    requires child_there { IsTrue (has_table store.now children.now.table.now.id) }
+    requires child_columns { children.now.columns.now ≡ (reference_of reference.now).columns }
+    ensures { IfOk result (λ spared. (rows others : List Stamped) (gone : Stamped → Bool)
+        → AreRowsOf store.now parents.now.table.now rows
+        → IsJudged (row_named store.now parents.now.table.now.id) gone change.now.removed.now
+        → AreRowsOf store.now children.now.table.now others
+        → spared ≡ of_named (λ r. spared_in children.now.table.now.definition parents.now.table.now.definition
+        (reference_of reference.now)
+        (shown_rows parents.now.table.now.definition
+        (rows_after change.now.moment gone (rows_of change.now.added.now) rows))
+        (shown_rows children.now.table.now.definition others) (shown parents.now.table.now.definition r))
+        (row_named store.now parents.now.table.now.id id)) }
+{
+    let Some(gone) = store.row(parents.table.id, id) else {
+        return Ok(true);
+    };
+    let row = current_row(&parents.table.definition, gone.row, gone.start);
+    is_spared(memory, store, reference, children, parents, &row, change)
+}
+
+/// Whether a reference that held holds after a change of its parent table. Of the child table the rows with the tuples
+/// of those that go are looked at alone.
+pub(crate) fn parent_holds_after<I: IntervalIndex>(
+    memory: Memory,
+    store: &Store<I>,
+    child: &Table,
+    reference: &Reference,
+    parent: &Table,
+    change: &Change<'_>,
+) -> Result<bool, AllocError>
+    requires there { IsTrue (has_table store.now parent.now.id) }
+    requires columns { IsTrue (are_assignable parent.now.definition (reference_of reference.now).parent_columns) }
+    requires child_there { IsTrue (has_table store.now child.now.id) }
+    requires child_columns { IsTrue (are_assignable child.now.definition (reference_of reference.now).columns) }
+    ensures { IfOk result (λ holds. (rows children : List Stamped) (gone : Stamped → Bool)
+        → AreRowsOf store.now parent.now rows
+        → IsJudged (row_named store.now parent.now.id) gone change.now.removed.now
+        → AreRowsOf store.now child.now children
+        → reference_holds child.now.definition parent.now.definition (reference_of reference.now)
+        (shown_rows parent.now.definition rows) (shown_rows child.now.definition children) ≡ true
+        → holds ≡ reference_holds child.now.definition parent.now.definition (reference_of reference.now)
+        (shown_rows parent.now.definition (rows_after change.now.moment gone (rows_of change.now.added.now) rows))
+        (shown_rows child.now.definition children)) }
+{
+    references_at_each_point();
+    let children = Chain::of(memory, child, &reference.columns)?;
+    let parents = Chain::of(memory, parent, &reference.parent_columns)?;
+    for id in change.removed {
+        if !is_spared_by(memory, store, reference, &children, &parents, *id, change)? {
+            return Ok(false);
+        }
+    }
+    Ok(true)
+}

@@ -1,0 +1,63 @@
+-- What is kept of a text, byte by byte.
+use Rattle.std.specs.Prelude.{◌≡◌, ◌≤◌, ◌<◌, ◌||◌, ◌==◌, ℕ, Bool, List, [], ◌∷◌, ◌++◌, length, MatchBool}
+use Rattle.tql_spec.specs.Script.{is_blank}
+use Rattle.tql_lex.specs.Stream.{Kept, Nothing, Dash, Whole, Overlong, Lost}
+use Rattle.tql_lex.specs.declared.pending.Holding as code
+use Rattle.tql_lex.specs.declared.pending.Holding.TheVariants as c
+
+-- the longest text that is given
+abbrev pub longest : ℕ
+longest = 1_048_576
+
+-- the bytes of a text for which a splitter takes room at its start: no memory is asked for where a text has no more
+abbrev pub room : ℕ
+room = 65_536
+
+-- what the code keeps
+abbrev pub kept_of : code.Holding → List ℕ → Kept
+kept_of c.Nothing bytes = Nothing
+kept_of c.Dash bytes = Dash
+kept_of c.Whole bytes = Whole bytes
+kept_of c.Overlong bytes = Overlong
+kept_of c.Lost bytes = Lost
+
+-- the bytes are those of the text, and not too many
+abbrev pub IsPending : code.Holding → List ℕ → Type 0
+IsPending c.Nothing bytes = bytes ≡ []
+IsPending c.Dash bytes = bytes ≡ []
+IsPending c.Whole bytes = length bytes ≤ longest
+IsPending c.Overlong bytes = Unit {0}
+IsPending c.Lost bytes = Unit {0}
+
+-- the text is kept whole, or it is too long, or memory was refused for it, which has to grow over its room for that
+abbrev pub Keeps : List ℕ → Kept → Type 0
+Keeps text Nothing = ⊥
+Keeps text Dash = ⊥
+Keeps text (Whole t) = (t ≡ text) × (length text ≤ longest)
+Keeps text Overlong = longest < length text
+Keeps text Lost = room < length text
+
+-- a byte of the text is put behind what is kept
+abbrev pub Puts : ℕ → (old new : Kept) → Type 0
+Puts b Nothing new = Keeps (b ∷ []) new
+Puts b Dash new = Keeps (b ∷ []) new
+Puts b (Whole t) new = Keeps (t ++ b ∷ []) new
+Puts b Overlong new = new ≡ Overlong
+Puts b Lost new = new ≡ Lost
+
+-- a byte is looked at: blanks and comments before the text are passed over, and two `-` there begin a comment
+abbrev pub Looks : (in_comment : Bool) → ℕ → (old new : Kept) → Type 0
+Looks in_comment b Nothing new =
+    MatchBool (in_comment || is_blank b) (new ≡ Nothing) (MatchBool (b == 45) (new ≡ Dash) (Keeps (b ∷ []) new))
+Looks in_comment b Dash new = MatchBool (b == 45) (new ≡ Nothing) (Keeps (45 ∷ b ∷ []) new)
+Looks in_comment b (Whole t) new = Keeps (t ++ b ∷ []) new
+Looks in_comment b Overlong new = new ≡ Overlong
+Looks in_comment b Lost new = new ≡ Lost
+
+-- no byte of the text follows: a `-` alone is the text
+abbrev pub Ends : (old new : Kept) → Type 0
+Ends Nothing new = new ≡ Nothing
+Ends Dash new = Keeps (45 ∷ []) new
+Ends (Whole t) new = new ≡ Whole t
+Ends Overlong new = new ≡ Overlong
+Ends Lost new = new ≡ Lost

@@ -1,0 +1,136 @@
+//! What is kept of a text that was begun.
+ghost use Rattle.std.specs.Prelude.{◌≡◌, List, IsTrue, IfOk};
+ghost use Rattle.tql_spec.specs.Script as script;
+ghost use Rattle.tql_lex.specs.Stream.{Nothing, is_begun};
+ghost use Rattle.tql_lex.specs.Pending.{Puts, Looks, Ends};
+ghost use Rattle.tql_lex.specs.Pieces.{StandsFor, Says};
+
+use crate::piece::Piece;
+use crate::scan::is_blank;
+use crate::splitter::LONGEST;
+use std::alloc::AllocError;
+use std::marker::Model;
+use tql_memory::Memory;
+
+/// The bytes of a text for which room is taken at the start.
+const ROOM: usize = 65_536;
+
+/// What is kept of a text.
+#[derive(Clone, Copy)]
+pub(crate) enum Holding {
+    /// No text has begun.
+    Nothing,
+    /// A `-`, which may begin a comment.
+    Dash,
+    /// The text as far as it was looked at.
+    Whole,
+    /// A text that is too long.
+    Overlong,
+    /// A text for which memory was refused.
+    Lost,
+}
+
+/// The beginning of a statement's text, or that it is not kept. There is always room for 65,536 bytes.
+#[derive(Drop)]
+pub(crate) struct PendingText {
+    bytes: Vec<u8, Memory>,
+    holding: Holding,
+}
+
+impl Model for PendingText {
+    ghost use Rattle.std.specs.Prelude.{◌≤◌, vec_capacity};
+    ghost use Rattle.tql_lex.specs.Stream.{Kept};
+    ghost use Rattle.tql_lex.specs.Pending.{kept_of, IsPending, room};
+
+    ghost Value = { Kept };
+
+    ghost view = { λ t. kept_of t.holding t.bytes.items };
+
+    ghost invariant = { λ t. IsPending t.holding t.bytes.items × (room ≤ vec_capacity t.bytes) };
+}
+
+impl PendingText {
+    /// No text, and room for one of 65,536 bytes.
+    pub(crate) fn new(memory: Memory) -> Result<PendingText, AllocError>
+        ensures { IfOk result (λ t. t ≡ Nothing) }
+    {
+        let bytes = Vec::with_capacity(memory, ROOM)?;
+        Ok(PendingText {
+            bytes,
+            holding: Holding::Nothing,
+        })
+    }
+
+    /// Lets the text go.
+    pub(crate) fn clear(&mut self)
+        ensures { self.new ≡ Nothing }
+    {
+        self.bytes.clear();
+        self.holding = Holding::Nothing;
+    }
+
+    /// Whether a text has begun.
+    pub(crate) fn is_begun(&self) -> bool
+        ensures { result ≡ is_begun self.now }
+    {
+        !matches!(self.holding, Holding::Nothing)
+    }
+
+    /// Puts a byte of the text behind what is kept. A text of too many bytes is let go, and so is one of more than
+    /// 65,536 that finds no memory.
+    fn put(&mut self, byte: u8)
+        ensures { Puts byte self.old self.new }
+    {
+        match self.holding {
+            Holding::Overlong | Holding::Lost => {}
+            Holding::Nothing | Holding::Dash | Holding::Whole => {
+                if self.bytes.len() == LONGEST {
+                    self.bytes.clear();
+                    self.holding = Holding::Overlong;
+                } else if self.bytes.push(byte).is_ok() {
+                    self.holding = Holding::Whole;
+                } else {
+                    self.bytes.clear();
+                    self.holding = Holding::Lost;
+                }
+            }
+        }
+    }
+
+    /// Looks at the next byte of a script, which may stand in a comment before the text.
+    pub(crate) fn look(&mut self, byte: u8, in_comment: bool)
+        ensures { Looks in_comment byte self.old self.new }
+    {
+        match self.holding {
+            Holding::Nothing if in_comment || is_blank(byte) => {}
+            Holding::Nothing if byte == b'-' => self.holding = Holding::Dash,
+            Holding::Dash if byte == b'-' => self.holding = Holding::Nothing,
+            Holding::Dash => {
+                self.put(b'-');
+                self.put(byte);
+            }
+            _ => self.put(byte),
+        }
+    }
+
+    /// Ends the text: a `-` alone is one.
+    pub(crate) fn end(&mut self)
+        ensures { Ends self.old self.new }
+    {
+        if let Holding::Dash = self.holding {
+            self.put(b'-');
+        }
+    }
+
+    /// The piece that a text is given as which has ended, by a `;` or without one.
+    pub(crate) fn piece(&self, finished: bool) -> Piece<'_>
+        ensures { (p : script.Piece) → Says finished self.now p → StandsFor result p }
+    {
+        match self.holding {
+            Holding::Overlong => Piece::TooLong,
+            Holding::Nothing | Holding::Dash | Holding::Lost => Piece::NoMemory,
+            Holding::Whole if finished => Piece::Text(self.bytes.as_slice()),
+            Holding::Whole => Piece::Unfinished(self.bytes.as_slice()),
+        }
+    }
+}
