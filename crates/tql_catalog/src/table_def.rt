@@ -133,9 +133,9 @@ impl TableDef {
         })
     }
 
-    /// Whether keys, references and checks can be those of the table: the columns of a key or of a reference are columns
-    /// of the table, none generated and none twice, and neither an aggregate nor a generated column stands in a check.
-    /// It tests what `with_constraints` requires, for hosts whose own binder does not prove it.
+    /// Whether keys, references and checks can be those of the table: the columns of a key or of a reference are
+    /// columns of the table, none generated and none twice, and neither an aggregate nor a generated column stands in
+    /// a check. It tests what `with_constraints` requires, for hosts whose own binder does not prove it.
     pub fn are_constraints(&self, keys: &[Key], references: &[Reference], checks: &Checks) -> bool
         ensures { result ≡ defined.are_constraints self.now (map key_of keys.now) (map reference_of references.now)
             (checks_of checks.now) }

@@ -51,8 +51,8 @@ TellsRefusal defs machines (Faulty f) e = e ≡ f
 TellsRefusal defs machines (Says t) e =
     (bind defs t).faults ≡ [] → IsFalse (is_query t) → IsFirstRefusal defs machines (bind defs t).value e
 
--- how the machines go along with a reply: what is done is done by each, and refused by none; what is refused, or asked,
--- is given to none
+-- how the machines go along with a reply: what is done is done by each, and refused by none; what is refused or asked
+-- is given to none, and unless memory lacked, the refusal tells so
 abbrev pub GoAlong : List TableDef → PointMachines → Piece → Reply → PointMachines → Type 0
 GoAlong defs old x (Done verb count) new =
     (t : Statement) × HasSense Runs x (Says t) × NoneRefuses defs old (bind defs t).value

@@ -45,8 +45,9 @@ pub fn written_in_scope()
 {}
 
 /// Every run over statements that make tables, and then over statements in scope, agrees with the machines of all
-/// points: what is done is done by each, what is refused is refused as the first of them that refuses it, and behind
-/// each answer the slices, now and as of each moment, are what they answer.
+/// points: what is done is done by each; what is refused, though its names, kinds, forms and literals have no fault and
+/// there is memory, is refused as the first of them that refuses it; and behind each answer the slices, now and as of
+/// each moment, are what they answer.
 pub fn runs_agree_at_points()
     ensures starts { StartsAreKept }
     ensures runs { RunsAgreeAtPoints }

@@ -220,7 +220,8 @@ impl<I: IntervalIndex> Store<I> {
     /// Adds a table, empty at every moment (this project's choice), at a number below 1,000 where none stands.
     /// Its rows are found without looking at all of them by their values in each of these lists of columns, of a
     /// versioned table the closed versions too, and current rows by the period from the first of two columns to the
-    /// second, if there are two; a column is told by its number among those that are stored. Refused where memory is, and then nothing is changed.
+    /// second, if there are two; a column is told by its number among those that are stored. Refused where memory is,
+    /// and then nothing is changed.
     pub fn add_table(
         &mut self,
         versioned: bool,
@@ -381,8 +382,8 @@ impl<I: IntervalIndex> Store<I> {
     }
 
     /// The versions of a table that are asked for (FOR SYSTEM_TIME, ISO/IEC 9075-2:2011, 7.6), with these values in
-    /// these columns; NULL is no value's equal. Where the table was added with these columns, no other version is looked
-    /// at, current or closed, but those of these values at other moments, and those that meet by chance.
+    /// these columns; NULL is no value's equal. Where the table was added with these columns, no other version is
+    /// looked at, current or closed, but those of these values at other moments, and those that meet by chance.
     pub fn found_with(
         &self,
         table: TableId,
