@@ -7,10 +7,13 @@
 # make bench-index   proves and runs the program that times the two indexes; COUNTS="1000 10000" are its numbers of entries
 # make copies   looks whether the scripts of crates/test_cases/data/cases/copies are what tools/copies.py writes
 # make points   looks whether the scripts of crates/test_cases/data/cases/points are what tools/points.py writes
+# make devices  tries ./tql where what it reads or writes fails, and where memory or the stack is short
+# make fuzz     tries the program for SECONDS on scripts that nobody has written, against the machines of tools/ (SECONDS=60)
 # make cost     what each crate weighs in the gate, and which are over a bound
 # make documents   whether the documents name what is there, and which lines are too long, in seconds
-.PHONY: run build test edits lines earned bench-index copies points cost documents
+.PHONY: run build test edits lines earned bench-index copies points devices fuzz cost documents
 .NOTPARALLEL:
+SECONDS ?= 60
 SCRIPT ?= crates/test_cases/data/cases/examples/march.sql
 
 run:
@@ -39,6 +42,12 @@ copies:
 
 points:
 	@tools/points.py --look
+
+devices:
+	@tools/devices.py
+
+fuzz:
+	@tools/fuzz.py $(SECONDS)
 
 cost:
 	@tools/cost.py

@@ -13,8 +13,8 @@ use std::io::{self, ErrorKind};
 /// What the first line of a script asks for, behind `-- cases:`.
 #[derive(Clone, Copy, PartialEq, Eq, Debug)]
 struct Directives {
-    /// The script is given in pieces of 1, 2, 3 and 7 bytes too.
-    in_pieces: bool,
+    /// The script is given whole alone, and not in pieces of 1, 2, 3 and 7 bytes too.
+    is_whole: bool,
     /// Each growth of the run is refused in turn.
     by_growths: bool,
     /// The script and its listed texts are in the short form.
@@ -41,14 +41,14 @@ fn bound_in(word: &str) -> io::Result<u64> {
 /// What the first line of a script asks for.
 fn directives_in(script: &[u8]) -> io::Result<Directives> {
     let mut found = Directives {
-        in_pieces: false,
+        is_whole: false,
         by_growths: false,
         is_short: false,
         most_growths: None,
     };
     for word in asked(script).split_ascii_whitespace() {
         match word {
-            "pieces" => found.in_pieces = true,
+            "whole" => found.is_whole = true,
             "growths" => found.by_growths = true,
             "short" => found.is_short = true,
             _ => found.most_growths = Some(bound_in(word)?),
@@ -107,7 +107,7 @@ fn listed_fault(
     listed: &[u8],
 ) -> io::Result<Option<String>> {
     let mut fault = text_fault(alloc, answering, script, usize::MAX, listed)?;
-    if fault.is_none() && directives.in_pieces {
+    if fault.is_none() && !directives.is_whole {
         fault = pieces_fault(alloc, answering, script, listed)?;
     }
     if fault.is_none() && directives.by_growths {

@@ -1,5 +1,5 @@
 -- What is bound without a fault names tables that are there.
-use Rattle.std.proofs.Common.{◌≡◌, ◌<◌, subst, ℕ, List, [], length, None}
+use Rattle.std.proofs.Common.{◌≡◌, ◌<◌, subst, List, [], length, None}
 use Rattle.std.specs.Prelude.{IsTrue, not}
 use Rattle.tql_spec.specs.Binding.{bind, insert_columns, select, table_number}
 use Rattle.tql_spec.specs.Definition.{TableDef, table_at}

@@ -1,19 +1,18 @@
 -- A query that is bound without a fault names tables that are there, and outside aggregates its grouping columns alone.
-use Rattle.std.proofs.Common.{◌≡◌, refl, ap, sym, ◌∙◌, subst, ℕ, suc, ◌<◌, Bool, true, false, List, [], ◌∷◌, ◌++◌}
+use Rattle.std.proofs.Common.{◌≡◌, refl, ℕ, suc, ◌<◌, Bool, true, false, List, [], ◌∷◌, ◌++◌}
 use Rattle.std.proofs.Common.{Some, None, Option, length, map, arith}
 use Rattle.std.specs.Prelude.{◌||◌, ◌&&◌, IsTrue, not, if◌then◌else◌, is_none, is_some}
 use Rattle.std.specs.List.{list_any, list_all}
-use Rattle.tql_spec.specs.Binding.{Joined, Linked, Output, BoundReference, add_join, chain, group_column}
+use Rattle.tql_spec.specs.Binding.{Joined, Linked, Output, chain, group_column}
 use Rattle.tql_spec.specs.Binding.{grouping_faults}
-use Rattle.tql_spec.specs.Binding.{grouping_of, is_grouped, is_loose, is_star, join, joins, or_no_table, order_key}
-use Rattle.tql_spec.specs.Binding.{outputs, plain_conjuncts, plain_filter, select, source, table_number, when}
+use Rattle.tql_spec.specs.Binding.{grouping_of, is_grouped, is_loose, is_star, join, joins, or_no_table}
+use Rattle.tql_spec.specs.Binding.{outputs, plain_filter, select, source, table_number, when}
 use Rattle.tql_spec.specs.Binding.{whole_scope}
 use Rattle.tql_spec.specs.Creation.{has_expr, nests_aggregates, repeats}
 use Rattle.tql_spec.specs.Definition.{Name, TableDef, next_place, place_of, table_at}
 use Rattle.tql_spec.specs.Expression.{Cond, Expr}
-use Rattle.tql_spec.specs.History as history
-use Rattle.tql_spec.specs.Names.{Checked, Known, check_each, optional_conjuncts, refuse_if}
-use Rattle.tql_spec.specs.Query.{Chain, Cross, Inner, Join, Left, Query, Ref}
+use Rattle.tql_spec.specs.Names.{Known, check_each, optional_conjuncts}
+use Rattle.tql_spec.specs.Query.{Join}
 use Rattle.tql_spec.specs.QueryLaws.{NamesGroups}
 use Rattle.tql_spec.specs.Refusal.{Refusal, FormNotAllowedHere, NameUnknownAmbiguousOrRepeated, fault_if, first}
 use Rattle.tql_spec.specs.Syntax.{AsOfTree, BetweenTree, ChainTree, CrossJoin, FromToTree, InnerJoin, JoinTree}

@@ -1,7 +1,6 @@
 //! The names of a statement, bound.
 ghost use Rattle.std.specs.Prelude.{◌≤◌, All, IsFalse, IsTrue, IfOk, length, not};
 ghost use Rattle.tql_spec.specs.Binding.{bind};
-ghost use Rattle.tql_spec.specs.Running.{does_run};
 ghost use Rattle.tql_spec.specs.Syntax.{is_too_wide};
 ghost use Rattle.tql_catalog.specs.Tables.{definitions_of};
 ghost use Rattle.tql_syntax_tree.specs.Statements.{create_of, statement_of};
@@ -27,7 +26,6 @@ use tql_value::refusal::Refusal;
 
 /// CREATE TABLE with its names bound.
 fn create(memory: Memory, tables: &Catalog, create: &CreateTree<'_>) -> Result<Bound, Refusal>
-    requires plain { IsTrue (does_run (create_of create.now)) }
     requires narrow { IsFalse (is_too_wide (create_of create.now)) }
     ensures binds { Binds bound_of (bind (definitions_of tables.now) (create_of create.now)) result }
     ensures sound { IfOk result (IsSound (definitions_of tables.now)) }
@@ -100,10 +98,9 @@ fn faultless(memory: Memory, tables: &Catalog, statement: &Statement<'_>) -> Res
 }
 
 /// The statement with its names bound: one of at most 64 columns or 8 table references, over tables of at most 64
-/// columns; CREATE TABLE without keys, references and checks, which are not bound yet. Refused: the first of the faults
-/// of names, kinds, forms and literals that are present, in the order of report; or memory.
+/// columns. CREATE TABLE is bound whole, with its keys, references and checks. Refused: the first of the faults of
+/// names, kinds, forms and literals that are present, in the order of report; or memory.
 pub fn bind(memory: Memory, tables: &Catalog, statement: &Statement<'_>) -> Result<Bound, Refusal>
-    requires plain { IsTrue (does_run (statement_of statement.now)) }
     requires narrow { IsFalse (is_too_wide (statement_of statement.now)) }
     requires tables { All (λ d. length d.columns ≤ 64) (definitions_of tables.now) }
     ensures binds { Binds bound_of (bind (definitions_of tables.now) (statement_of statement.now)) result }

@@ -1,7 +1,7 @@
 -- FOR PORTION OF, from its parts.
-use Rattle.std.specs.Prelude.{◌≡◌, refl, ℕ, ℤ, Bool, true, false, ◌&&◌, List, Option, Some, None, option_map, is_some}
+use Rattle.std.specs.Prelude.{◌≡◌, refl, ℕ, ℤ, Bool, true, List, Option, Some, None, option_map, is_some}
 use Rattle.std.specs.List.{list_any}
-use Rattle.std.proofs.Common.{sym, ap, subst, ◌∙◌}
+use Rattle.std.proofs.Common.{subst}
 use Rattle.tql_spec.specs.Binding.{portion_period, portion, rising, read_point, sets_period}
 use Rattle.tql_spec.specs.Creation.{has_number, period_columns}
 use Rattle.tql_spec.specs.Datum.{Kind}

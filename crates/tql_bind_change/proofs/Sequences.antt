@@ -1,8 +1,8 @@
 -- Parts that are bound one behind another.
-use Rattle.std.proofs.Common.{◌≡◌, ℕ, ◌+◌, ◌<◌, ◌≤◌, List, [], ◌∷◌, ◌++◌, length, map, drop, get_or, refl, sym, subst}
+use Rattle.std.proofs.Common.{◌≡◌, ℕ, ◌+◌, ◌<◌, ◌≤◌, List, [], ◌∷◌, ◌++◌, length, map, drop, get_or, sym, subst}
 use Rattle.std.specs.Prelude.{Option}
 use Rattle.std.proofs.lemmas.List.{map-id, drop_all}
-use Rattle.tql_spec.specs.Names.{Checked, sound, check_each}
+use Rattle.tql_spec.specs.Names.{Checked, check_each}
 use Rattle.tql_spec.specs.Refusal.{Refusal}
 use Rattle.tql_bind_expr.specs.Gathered.{Gathers}
 use Rattle.tql_bind_expr.proofs.Gathering.{EachLeads, each_item, each_ended}

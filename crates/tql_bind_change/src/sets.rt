@@ -15,6 +15,7 @@ use tql_bind_expr::cells::cell;
 use tql_bind_expr::faults::Faults;
 use tql_bind_expr::kinds::is_other_kind;
 use tql_bind_expr::scope::Known;
+use tql_bind_expr::tables::known_table;
 use tql_bind_expr::texts::meant;
 use tql_bound::change::Assignment;
 use tql_catalog::table_def::TableDef;
@@ -29,11 +30,7 @@ pub fn own_reference(definition: &TableDef) -> Known<'_>
 {
     // That the numbers of the columns lie within 64 bits is told by their slice.
     let _width = definition.columns().len();
-    Known {
-        name: definition.name(),
-        table: definition,
-        offset: 0,
-    }
+    known_table(definition.name(), definition, 0)
 }
 
 /// An assignment. Faults: its column is unknown; its cell has a fault of its own, or is of another kind than the

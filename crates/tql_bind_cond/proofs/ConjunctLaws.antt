@@ -1,15 +1,13 @@
 -- Conjuncts.
 use Rattle.std.specs.Prelude.{vec_len, ◌==◌}
-use Rattle.std.specs.List.{list_any}
-use Rattle.std.proofs.Common.{◌≡◌, refl, ℕ, ◌≤◌, arith, Bool, true, false, List, [], ◌∷◌, length, map, drop, All}
+use Rattle.std.proofs.Common.{◌≡◌, refl, ℕ, ◌≤◌, arith, true, false, List, [], ◌∷◌, length, map, drop, All}
 use Rattle.std.proofs.Common.{Option, None, sym, ap, subst, ◌∙◌}
 use Rattle.std.proofs.lemmas.List.Elements.{All-nil, All-cons}
-use Rattle.tql_spec.specs.Binding.{without_aggregates, plain_conjuncts, plain_filter}
 use Rattle.tql_spec.specs.Expression.{Cond}
-use Rattle.tql_spec.specs.Names.{Checked, ◌>>=◌, sound, refuse_if, check_each, Known, factor, factors_of, condition}
+use Rattle.tql_spec.specs.Names.{Checked, sound, check_each, Known, factor, factors_of, condition}
 use Rattle.tql_spec.specs.Names.{conjuncts, optional_conjuncts}
 use Rattle.tql_spec.specs.Parts.{tests_of, conjs_of}
-use Rattle.tql_spec.specs.Refusal.{Refusal, FormNotAllowedHere}
+use Rattle.tql_spec.specs.Refusal.{Refusal}
 use Rattle.tql_spec.specs.Syntax as tree
 use Rattle.tql_spec.specs.Syntax.{AnyOf, NoConj, OrConj, AllOf}
 use Rattle.tql_syntax_tree.specs.Conditions.{cond_of, conj_of, factor_of}
@@ -21,7 +19,7 @@ use Rattle.tql_expr.specs.Meaning.{cond, HasCond}
 use Rattle.tql_expr.specs.declared.terms.Terms.{Terms}
 use Rattle.tql_expr.specs.declared.terms.CondId.{CondId}
 use Rattle.tql_bind_expr.specs.Gathered.{Gathers}
-use Rattle.tql_bind_expr.proofs.Gathering.{bound, after_nil, unless_asked}
+use Rattle.tql_bind_expr.proofs.Gathering.{bound, after_nil}
 use Rattle.tql_bind_cond.specs.Conjuncts.{members, as_one}
 use Rattle.tql_bind_cond.proofs.Lists.{ConjLeads, conds_done}
 use Rattle.tql_bind_cond.proofs.SoleLaws.{empty_items, some_items}

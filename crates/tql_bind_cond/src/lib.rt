@@ -3,7 +3,7 @@
 #![tactic(auto)]
 
 mod comparisons;
-mod conditions;
+pub mod conditions;
 pub mod conjuncts;
 mod membership;
 mod periods;

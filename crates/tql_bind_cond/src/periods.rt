@@ -6,6 +6,7 @@ ghost use Rattle.tql_expr.specs.Meaning.{Stays};
 ghost use Rattle.tql_syntax_tree.specs.Conditions.{marked_of, operand_of};
 ghost use Rattle.tql_syntax_tree.specs.Expressions.{name_of, named_of, expr_of};
 ghost use Rattle.tql_value.specs.Views.{plain_kind};
+ghost use Rattle.tql_catalog.specs.Definitions.{system_of};
 ghost use Rattle.tql_bind_expr.specs.Gathered.{Gathers};
 ghost use Rattle.tql_bind_expr.specs.Scopes.{text_of, known_of, scope_of, thing_of, things_of};
 ghost use Rattle.tql_bind_cond.specs.Ends.{ends_of, HasEnds, periods_of, period_of, sole_period};
@@ -128,9 +129,9 @@ fn one_period(
 /// Adds the system period of a reference, if it has one.
 fn system_period(known: &Known<'_>, found: &mut Vec<System, Memory>) -> Result<(), AllocError>
     ensures { IfOk result (λ _. periods_of found.new.items ≡ periods_of found.old.items
-        ++ names.system_ends (known_of known.now) known.now.table.now.system) }
+        ++ names.system_ends (known_of known.now) (option_map system_of known.now.system)) }
 {
-    if let Some(system) = known.table.system() {
+    if let Some(system) = known.system {
         found.push(System {
             start: known.offset + system.start,
             end: known.offset + system.end,

@@ -1,13 +1,12 @@
 -- What stays among the terms of a statement.
-use Rattle.std.proofs.Common.{◌≡◌, ℕ, ◌<◌, ◌≤◌, refl, sym, ap, ◌∙◌, arith, List, [], ◌∷◌, ◌++◌, length, map, All}
-use Rattle.std.proofs.Common.{Result, Ok, Err, IfOk, option_map}
+use Rattle.std.proofs.Common.{◌≡◌, refl, ap, ◌∙◌, arith, length}
+use Rattle.std.proofs.Common.{Result, Ok, Err, option_map}
 use Rattle.std.specs.declared.alloc.AllocError.{AllocError}
 use Rattle.tql_spec.specs.Expression.{Expr, Cond}
 use Rattle.tql_spec.specs.Names as names
 use Rattle.tql_value.specs.Views.{plain_kind}
-use Rattle.tql_expr.specs.Trees.{Term, OfExpr, OfCond, expr_of, cond_of, term_in}
-use Rattle.tql_expr.specs.Meaning.{trees, size, expr, cond, HasExpr, HasCond, Stays, Adds, AddsExpr, AddsCond}
-use Rattle.tql_expr.specs.Meaning.{BuildsExpr, BuildsCond}
+use Rattle.tql_expr.specs.Trees.{expr_of, cond_of, term_in}
+use Rattle.tql_expr.specs.Meaning.{trees, size, expr, cond, HasExpr, HasCond, Stays, AddsExpr, AddsCond}
 use Rattle.tql_expr.specs.declared.terms.Terms.{Terms}
 use Rattle.tql_expr.specs.declared.terms.ExprId.{ExprId}
 use Rattle.tql_expr.specs.declared.terms.CondId.{CondId}

@@ -5,7 +5,6 @@ use Rattle.std.proofs.lemmas.List.{map-append}
 use Rattle.std.proofs.lemmas.List.Elements.{All-nil, All-cons, All-head, All-tail, All-push}
 use Rattle.tql_spec.specs.Datum as datum
 use Rattle.tql_spec.specs.Expression.{Expr, Binary}
-use Rattle.tql_spec.specs.Names as names
 use Rattle.tql_spec.specs.Names.{arithmetic, is_other_kind, refuse_if}
 use Rattle.tql_spec.specs.Refusal.{Refusal, TypesDoNotFit}
 use Rattle.tql_value.specs.Views.{plain_kind}
@@ -14,7 +13,6 @@ use Rattle.tql_expr.specs.Trees.{plain_operation}
 use Rattle.tql_expr.specs.declared.node.Operation.{Operation}
 use Rattle.tql_expr.specs.declared.terms.ExprId.{ExprId}
 use Rattle.tql_expr.specs.declared.terms.Terms.{Terms}
-use Rattle.tql_value.specs.declared.value.Kind.{Kind}
 use Rattle.tql_value.specs.declared.value.Kind.TheVariants.{Int}
 use Rattle.tql_bind_expr.specs.declared.chain.Chain.{Chain}
 use Rattle.tql_bind_expr.specs.declared.scope.Typed.{Typed}

@@ -6,3 +6,4 @@ pub mod LiteralLaws
 pub mod Loops
 pub mod NumberLemmas
 pub mod Views
+pub mod WithinLaws

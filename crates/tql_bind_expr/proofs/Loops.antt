@@ -3,7 +3,6 @@ use Rattle.std.specs.Prelude.{◌≡◌, refl, ℕ, ◌+◌, ◌<◌, ◌≤◌,
 use Rattle.std.specs.Prelude.{None, Bool, Result, Ok, Err, IfOk}
 use Rattle.std.specs.declared.alloc.AllocError.{AllocError}
 use Rattle.std.proofs.Common.{drop, get_or, arith, sym, ap, subst, ◌∙◌}
-use Rattle.tql_spec.specs.Datum as datum
 use Rattle.tql_spec.specs.Datum.{Operation, Times, Ints}
 use Rattle.tql_spec.specs.Refusal.{Refusal, TypesDoNotFit}
 use Rattle.tql_spec.specs.Names.{Checked, ◌>>=◌, sound, Known, Typed, arithmetic, negation, unless, refuse_if}

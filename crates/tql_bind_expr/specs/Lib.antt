@@ -4,3 +4,4 @@ pub mod Columns
 pub mod Gathered
 pub mod Numbers
 pub mod Scopes
+pub mod Within

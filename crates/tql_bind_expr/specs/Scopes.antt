@@ -1,9 +1,8 @@
 -- The scopes that the code's references stand for.
-use Rattle.std.specs.Prelude.{ℕ, List, map}
+use Rattle.std.specs.Prelude.{ℕ, List, map, option_map}
 use denote.Ref.{Bor}
 use Rattle.tql_spec.specs.Names as names
-use Rattle.tql_spec.specs.Words.{listed}
-use Rattle.tql_catalog.specs.Definitions.{column_of}
+use Rattle.tql_catalog.specs.Definitions.{column_of, application_of, system_of}
 use Rattle.tql_value.specs.Views.{plain_kind}
 use Rattle.tql_bind_expr.specs.declared.scope.Known.{Known}
 use Rattle.tql_bind_expr.specs.declared.scope.Thing.{Thing}
@@ -13,12 +12,13 @@ use Rattle.tql_bind_expr.specs.declared.scope.Thing.TheVariants.{Column, Period}
 abbrev pub text_of : Bor (List ℕ) → List ℕ
 text_of t = t.now
 
--- a reference, with the application periods of its table
+-- a reference
 abbrev pub known_of : Known → names.Known
 known_of k = record {
   name = k.name.now;
-  table = k.table.now;
-  applications = listed k.table.now.application;
+  columns = map column_of k.columns.now;
+  applications = map application_of k.applications.now;
+  system = option_map system_of k.system;
   offset = k.offset;
 }
 

@@ -1,8 +1,8 @@
 //! Names in a scope.
 ghost use Rattle.std.specs.Prelude.{◌≡◌, ◌++◌, ◌∷◌, [], map, option_map, IfOk, string_bytes};
 ghost use Rattle.tql_spec.specs.Names as names;
-ghost use Rattle.tql_spec.specs.Words.{same_text, listed};
-ghost use Rattle.tql_catalog.specs.Definitions.{column_of};
+ghost use Rattle.tql_spec.specs.Words.{same_text};
+ghost use Rattle.tql_catalog.specs.Definitions.{column_of, application_of};
 ghost use Rattle.tql_syntax_tree.specs.Expressions.{named_of};
 ghost use Rattle.tql_value.specs.Views.{plain_kind};
 ghost use Rattle.tql_bind_expr.specs.Columns.{numbered, sole_column};
@@ -33,9 +33,10 @@ fn columns_named<'a>(
     found: &mut Vec<Thing<'a>, Memory>,
 ) -> Result<(), AllocError>
     ensures { IfOk result (λ _. things_of found.new.items
-        ≡ things_of found.old.items ++ names.columns_named name.now known.now.offset known.now.table.now.columns) }
+        ≡ things_of found.old.items
+        ++ names.columns_named name.now known.now.offset (map column_of known.now.columns.now)) }
 {
-    let columns: &'a [Column] = known.table.columns();
+    let columns: &'a [Column] = known.columns;
     for (index, column) in columns.iter().enumerate() {
         if column.is_named(name) {
             found.push(Thing::Column(known.offset + index, column))?;
@@ -61,19 +62,20 @@ fn is_called(application: &Application, name: &str) -> bool
     name == application.name.as_str()
 }
 
-/// Adds the application period of one reference, if it has one of this name.
+/// Adds the application periods of this name in one reference.
 fn periods_named<'a>(
     name: &str,
     known: &Known<'a>,
     found: &mut Vec<Thing<'a>, Memory>,
 ) -> Result<(), AllocError>
     ensures { IfOk result (λ _. things_of found.new.items ≡ things_of found.old.items
-        ++ names.periods_named name.now known.now.offset known.now.table.now.columns
-        (listed known.now.table.now.application)) }
+        ++ names.periods_named name.now known.now.offset (map column_of known.now.columns.now)
+        (map application_of known.now.applications.now)) }
 {
-    if let Some(application) = known.table.application() {
+    let applications: &'a [Application] = known.applications;
+    for application in applications {
         if is_called(application, name) {
-            let kind = kind_at(known.table.columns(), application.start);
+            let kind = kind_at(known.columns, application.start);
             found.push(Thing::Period(
                 known.offset + application.start,
                 known.offset + application.end,
@@ -84,7 +86,7 @@ fn periods_named<'a>(
     Ok(())
 }
 
-/// Adds what this name stands for in one reference: its columns and its application period.
+/// Adds what this name stands for in one reference: its columns and its application periods.
 fn things_in<'a>(
     name: &str,
     known: &Known<'a>,

@@ -1,19 +1,24 @@
 //! Where names are sought, and what they are bound to.
-ghost use Rattle.std.specs.Prelude.{◌<◌, ◌+◌, ◌^◌, length};
+ghost use Rattle.std.specs.Prelude.{◌<◌, ◌+◌, ◌^◌, All, length};
+ghost use Rattle.std.specs.Option.{ForSome};
+ghost use Rattle.tql_bind_expr.specs.Within.{HasEnds, HasSystem};
 
-use tql_catalog::definition::Column;
-use tql_catalog::table_def::TableDef;
+use tql_catalog::definition::{Application, Column, System};
 use tql_expr::terms::ExprId;
 use tql_value::value::Kind;
 
-/// A table reference in scope: how it is known, its table, and the number of the first of its columns. A scope is a
-/// slice of these.
+/// A table reference in scope: how it is known, the columns of its table, its application periods and its system
+/// period, and the number of the first of its columns. A scope is a slice of these.
 #[derive(Clone, Copy)]
 pub struct Known<'a> {
     pub name: &'a str,
-    pub table: &'a TableDef,
+    pub columns: &'a [Column],
+    pub applications: &'a [Application],
+    pub system: Option<System>,
     pub offset: usize,
-    ghost numbered: { offset + length table.now.columns < 2 ^ 64 },
+    ghost numbered: { offset + length columns.now < 2 ^ 64 },
+    ghost ends: { All (HasEnds (length columns.now)) applications.now },
+    ghost generated: { ForSome system (HasSystem (length columns.now)) },
 }
 
 /// What a name can stand for, by the numbers of columns.

@@ -1,14 +1,18 @@
-//! Tables by their names.
-ghost use Rattle.std.specs.Prelude.{IfOk};
+//! Tables by their names, and as references in scope.
+ghost use Rattle.std.specs.Prelude.{◌≡◌, ◌<◌, ◌+◌, ◌^◌, length, IfOk};
 ghost use Rattle.tql_spec.specs.Binding as binding;
+ghost use Rattle.tql_spec.specs.Words.{listed};
 ghost use Rattle.tql_catalog.specs.Tables.{definitions_of};
 ghost use Rattle.tql_syntax_tree.specs.Expressions.{name_of};
 ghost use Rattle.tql_bind_expr.specs.Gathered.{Gathers};
+ghost use Rattle.tql_bind_expr.specs.Scopes.{known_of};
 
 use crate::faults::Faults;
+use crate::scope::Known;
 use crate::texts::meant;
 use std::alloc::AllocError;
 use tql_catalog::catalog::Catalog;
+use tql_catalog::table_def::TableDef;
 use tql_memory::Memory;
 use tql_syntax_tree::expression::Name;
 use tql_value::refusal::Refusal;
@@ -40,4 +44,26 @@ pub fn table_number(
 {
     let name = meant(memory, name)?;
     Ok(or_no_table(catalog.place_of(&name), faults))
+}
+
+/// A table that is there, known by this name, its columns from this number on.
+pub fn known_table<'a>(name: &'a str, table: &'a TableDef, offset: usize) -> Known<'a>
+    requires { offset + length table.now.columns < 2 ^ 64 }
+    ensures known { known_of result ≡ record {
+      name = name.now;
+      columns = table.now.columns;
+      applications = listed table.now.application;
+      system = table.now.system;
+      offset = offset;
+    } }
+    ensures columns { length result.columns.now ≡ length table.now.columns }
+    ensures offset { result.offset ≡ offset }
+{
+    Known {
+        name,
+        columns: table.columns(),
+        applications: table.applications(),
+        system: table.system(),
+        offset,
+    }
 }

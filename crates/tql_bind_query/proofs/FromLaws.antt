@@ -32,25 +32,29 @@ use Rattle.tql_bind_query.specs.declared.sources.BoundReference as code
 
 -- ---- a reference
 
+-- how a reference to a table is known
+abbrev pub known_at : RefTree → ℕ → TableDef → names.Known
+known_at r offset d = record {
+  name = known_as r r.alias;
+  columns = d.columns;
+  applications = listed d.application;
+  system = d.system;
+  offset = offset;
+}
+
 -- a reference, from its table and its versions
 pub source_bound : (defs : List TableDef) (r : RefTree) (offset : ℕ) (old a new : Option Refusal) (t : ℕ)
     (d : TableDef) (w : When) (n : ℕ) (k : names.Known)
     → Gathers (table_number defs r.table) old a t → d ≡ table_at defs t → Gathers (when d r.span) a new w
     → n ≡ length d.columns
-    → k ≡ record { name = known_as r r.alias; table = d; applications = listed d.application; offset = offset }
+    → k ≡ known_at r offset d
     → Gathers (binding.source defs offset r) old new (source_by (record { table = t; when = w; width = n }) k)
 source_bound defs r offset old a new t d w n k table there versions width known =
-    let known_at : TableDef
-    → names.Known = λ d. record {
-      name = known_as r r.alias;
-      table = d;
-      applications = listed d.application;
-      offset = offset;
-    } in
     let ref_at : TableDef → ℕ → When → Ref = λ d t w. record { table = t; when = w; width = length d.columns } in
-    let last : TableDef → ℕ → When → Checked BoundReference = λ d t w. sound (source_by (ref_at d t w) (known_at d)) in
+    let last : TableDef → ℕ → When → Checked BoundReference =
+    λ d t w. sound (source_by (ref_at d t w) (known_at r offset d)) in
     let found : TableDef → ℕ → Checked BoundReference = λ d t. when d r.span >>= last d t in
-    let s : BoundReference = source_by (ref_at d t w) (known_at d) in
+    let s : BoundReference = source_by (ref_at d t w) (known_at r offset d) in
     let is_source : s ≡ source_by (record { table = t; when = w; width = n }) k =
     sym (λ i. source_by (record { table = t; when = w; width = width i }) (known i)) in
     let behind : Gathers (found d t) a new s =
@@ -106,7 +110,7 @@ joins_there {t} {u} s (j ∷ js) h =
 
 -- columns that stand within a width stand within a greater one
 abbrev pub Within : ℕ → Known → Type 0
-Within n k = k.offset + length k.table.now.columns ≤ n
+Within n k = k.offset + length k.columns.now ≤ n
 
 pub within_more : (m n : ℕ) → m ≤ n → (ks : List Known) → All (Within m) ks → All (Within n) ks
 within_more m n more [] h = All-nil (Within n)
@@ -119,7 +123,7 @@ pub join_added : (defs : List TableDef) (j : JoinTree) (old mid new : Option Ref
     (s : code.BoundReference) (x : Join)
     → Gathers (binding.source defs l.width (reference_in j)) old mid (source_of s)
     → Gathers (on_in (scope_of (l.scope.items ++ s.known ∷ [])) j) mid new (map (cond u) x.on.items)
-    → s.known.offset + length s.known.table.now.columns ≡ l.width + s.reference.width → s.reference.width ≤ 64
+    → s.known.offset + length s.known.columns.now ≡ l.width + s.reference.width → s.reference.width ≤ 64
     → Stays t u → All (HasCond u) x.on.items → HasJoins t l → IsPlaced l
     → x.kind ≡ kind_in j → x.reference ≡ s.reference
     → m.chain.first ≡ l.chain.first → m.chain.joins.items ≡ l.chain.joins.items ++ x ∷ []
@@ -167,7 +171,7 @@ join_added defs j old mid new t u l m s x source on stands narrow stays there he
 
 -- one reference alone stands within its width
 pub begun_placed : (l : Linked) (s : code.BoundReference) → l.scope.items ≡ s.known ∷ []
-    → s.known.offset + length s.known.table.now.columns ≡ 0 + s.reference.width
+    → s.known.offset + length s.known.columns.now ≡ 0 + s.reference.width
     → l.width ≡ s.reference.width → s.reference.width ≤ 64 → IsPlaced l
 begun_placed l s scope stands width narrow =
     let count : length l.scope.items ≡ 1 = ap length scope in

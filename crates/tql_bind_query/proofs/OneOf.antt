@@ -3,7 +3,7 @@ use Rattle.std.proofs.Common.{◌≡◌, refl, ℕ, List, [], ◌∷◌, Bool, t
 use Rattle.std.specs.Prelude.{not, Some, None, if◌then◌else◌}
 use Rattle.tql_spec.specs.Binding.{column_of}
 use Rattle.tql_spec.specs.Creation.{or_first}
-use Rattle.tql_spec.specs.Names.{Checked, ◌>>=◌, sound, unless, Thing, AColumn, APeriod, one_column}
+use Rattle.tql_spec.specs.Names.{◌>>=◌, sound, unless, Thing, AColumn, APeriod, one_column}
 use Rattle.tql_spec.specs.Refusal.{NameUnknownAmbiguousOrRepeated}
 use Rattle.tql_bind_query.specs.Grouped.{sole_number}
 

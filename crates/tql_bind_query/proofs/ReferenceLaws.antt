@@ -1,5 +1,5 @@
 -- Which versions a reference asks for.
-use Rattle.std.specs.Prelude.{◌≡◌, refl, ℤ, Bool, not, Option, Some, None, is_none, is_some}
+use Rattle.std.specs.Prelude.{◌≡◌, ℤ, Bool, not, Option, Some, None, is_none, is_some}
 use Rattle.std.proofs.Common.{sym, ap}
 use Rattle.tql_spec.specs.Binding.{moment, when}
 use Rattle.tql_spec.specs.Definition.{TableDef}

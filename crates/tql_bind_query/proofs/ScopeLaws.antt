@@ -16,7 +16,7 @@ use Rattle.tql_bind_query.proofs.FromLaws.{Within}
 
 -- a reference that stands so far behind has numbers
 abbrev pub Fits : ℕ → Known → Type 0
-Fits n k = n + (k.offset + length k.table.now.columns) < 2 ^ 64
+Fits n k = n + (k.offset + length k.columns.now) < 2 ^ 64
 
 fits_all : (n w : ℕ) → n + w ≤ 512 → (ks : List Known) → All (Within w) ks → All (Fits n) ks
 fits_all n w few [] h = All-nil (Fits n)

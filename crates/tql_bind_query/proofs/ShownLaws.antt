@@ -289,7 +289,7 @@ column_next g start x all offset t u y z xs cs i c are within is l p =
 
 -- the output columns of a reference
 abbrev columns_in : Known → List Output
-columns_in k = all_columns_from k.offset k.table.columns
+columns_in k = all_columns_from k.offset k.columns
 
 -- the output columns of all references
 abbrev pub columns_of_all : List Known → List Output

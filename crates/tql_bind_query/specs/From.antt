@@ -75,7 +75,7 @@ HasJoins t l = All (λ (j : Join). All (HasCond t) j.on.items) l.chain.joins.ite
 
 -- the columns of each reference stand within the width of the chain, and a reference has at most 64
 pub record IsPlaced (l : Linked) : Type 0 where
-  pub within : All (λ (k : Known). k.offset + length k.table.now.columns ≤ l.width) l.scope.items
+  pub within : All (λ (k : Known). k.offset + length k.columns.now ≤ l.width) l.scope.items
   pub narrow : l.width ≤ 64 * length l.scope.items
 
 -- a join is bound, and stands behind those that were there

@@ -121,11 +121,11 @@ fn push_columns(
 ) -> Result<(), AllocError>
     requires { All (HasExpr terms.old) outputs.old.items.items }
     ensures pushes { IfOk result
-        (λ _. PushesOutputs (binding.all_columns_from known.now.offset known.now.table.now.columns) terms.old
+        (λ _. PushesOutputs (binding.all_columns_from known.now.offset (map column_of known.now.columns.now)) terms.old
         terms.new outputs.old outputs.new) }
     ensures stays { Stays terms.old terms.new }
 {
-    let columns = known.table.columns();
+    let columns = known.columns;
     for index in 0..columns.len() {
         push_column(
             memory,

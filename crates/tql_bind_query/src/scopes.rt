@@ -14,12 +14,14 @@ use tql_memory::Memory;
 
 /// A reference whose columns stand behind so many more.
 fn moved<'a>(known: &Known<'a>, before: usize) -> Known<'a>
-    requires { before + (known.now.offset + length known.now.table.now.columns) < 2 ^ 64 }
+    requires { before + (known.now.offset + length known.now.columns.now) < 2 ^ 64 }
     ensures { known_of result ≡ binding.moved before (known_of known.now) }
 {
     Known {
         name: known.name,
-        table: known.table,
+        columns: known.columns,
+        applications: known.applications,
+        system: known.system,
         offset: before + known.offset,
     }
 }
@@ -30,7 +32,7 @@ fn push_moved<'a>(
     before: usize,
     scope: &mut Vec<Known<'a>, Memory>,
 ) -> Result<(), AllocError>
-    requires { All (λ k. before + (k.offset + length k.table.now.columns) < 2 ^ 64) known.now }
+    requires { All (λ k. before + (k.offset + length k.columns.now) < 2 ^ 64) known.now }
     ensures { IfOk result
         (λ _. scope_of scope.new.items ≡ scope_of scope.old.items
         ++ map (binding.moved before) (scope_of known.now)) }

@@ -11,7 +11,7 @@ use crate::references::when;
 use std::alloc::AllocError;
 use tql_bind_expr::faults::Faults;
 use tql_bind_expr::scope::Known;
-use tql_bind_expr::tables::table_number;
+use tql_bind_expr::tables::{known_table, table_number};
 use tql_bound::reference::Reference;
 use tql_catalog::catalog::Catalog;
 use tql_catalog::table_def::TableDef;
@@ -44,7 +44,7 @@ pub(crate) fn bound_source<'a>(
     ensures bound { IfOk result
         (λ s. Gathers (binding.source (definitions_of catalog.now) offset (ref_of written.entry))
         faults.old faults.new (source_of s)) }
-    ensures placed { IfOk result (λ s. s.known.offset + length s.known.table.now.columns ≡ offset + s.reference.width) }
+    ensures placed { IfOk result (λ s. s.known.offset + length s.known.columns.now ≡ offset + s.reference.width) }
     ensures narrow { IfOk result (λ s. s.reference.width ≤ 64) }
 {
     let table = table_number(memory, catalog, written.table, faults)?;
@@ -55,10 +55,6 @@ pub(crate) fn bound_source<'a>(
         when,
         width: definition.columns().len(),
     };
-    let known = Known {
-        name,
-        table: definition,
-        offset,
-    };
+    let known = known_table(name, definition, offset);
     Ok(BoundReference { reference, known })
 }

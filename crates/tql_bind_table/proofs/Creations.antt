@@ -1,57 +1,37 @@
--- A CREATE without checks, by its parts.
+-- A CREATE, by its parts.
 use Rattle.std.specs.Prelude.{◌≡◌, refl, ℕ, suc, Bool, true, false, not, ◌||◌, ◌==◌, nat_le, nat_lt, List, [], ◌∷◌}
 use Rattle.std.specs.Prelude.{◌++◌, map, length, Option, Some, None, is_some, if◌then◌else◌}
 use Rattle.std.specs.List.{flat_map, list_any, list_all}
-use Rattle.std.proofs.Common.{ap, ◌∙◌, sym, append-nil, subst}
+use Rattle.std.proofs.Common.{ap, ◌∙◌, sym, append-nil, append_assoc, subst}
 use Rattle.tql_spec.specs.Refusal.{Refusal, TooManyTablesOrReaders, TableUnknownOrAlreadyThere}
 use Rattle.tql_spec.specs.Refusal.{NameUnknownAmbiguousOrRepeated, TypesDoNotFit, FormNotAllowedHere, fault_if}
 use Rattle.tql_spec.specs.Expression.{Cond}
 use Rattle.tql_spec.specs.Definition as definition
 use Rattle.tql_spec.specs.Definition.{Name, TableDef, Application, System, Key, Reference, place_of}
-use Rattle.tql_spec.specs.Names.{Checked, ◌>>=◌, sound, refuse_for, check_each}
-use Rattle.tql_spec.specs.Syntax.{ColumnTree, Element, ColumnElement, PeriodElement, ConstraintElement, Constraint}
-use Rattle.tql_spec.specs.Syntax.{KeyTree, ForeignTree, CheckTree, RefList}
+use Rattle.tql_spec.specs.Names.{Checked, ◌>>=◌, sound, unless, refuse_if, refuse_for, check_each, Known, condition}
+use Rattle.tql_spec.specs.Syntax.{ColumnTree, Element, Constraint, KeyTree, ForeignTree, CheckTree, RefList}
+use Rattle.tql_spec.specs.Syntax.{Condition}
 use Rattle.tql_spec.specs.Creation.{columns_of, column_names, period_names, starts, stops, listed_columns}
 use Rattle.tql_spec.specs.Creation.{application_parts, system_parts, constraints_of, application_period}
 use Rattle.tql_spec.specs.Creation.{system_period, several, first_of, keys, references, reference_in, checks, column}
 use Rattle.tql_spec.specs.Creation.{part_names, primary_names, primary_count, has_bad_number, repeats, create}
+use Rattle.tql_spec.specs.Creation.{check_scope}
 use Rattle.tql_spec.specs.Binding.{bind}
 use Rattle.tql_spec.specs.Machine.{Bound, CreateTable}
-use Rattle.tql_spec.specs.Running.{is_plain_element, does_run}
 use Rattle.tql_bind_expr.specs.Gathered.{Gathers}
 use Rattle.tql_bind_expr.proofs.Gathering.{bound, sound_here}
 use Rattle.tql_syntax_tree.specs.Expressions.{name_of}
 use Rattle.tql_syntax_tree.specs.Statements.{create_of}
 use Rattle.tql_syntax_tree.specs.declared.statement.CreateTree.{CreateTree}
+use Rattle.tql_bind_check.specs.Checking.{check_by, check_parts, checks_in, elements_in, is_wrong_check}
 use Rattle.tql_bind_table.specs.NewTables as new
-use Rattle.tql_bind_table.specs.NewTables.{Written, KeyPart, ReferencePart, elements_in, application_in, system_in}
-use Rattle.tql_bind_table.specs.NewTables.{is_unchecked, list_of, key_parts, reference_parts, written_in, primary_in}
-use Rattle.tql_bind_table.specs.NewTables.{primary_count_in, key_in, reference_at, flat_each, whole_in, table_by}
-use Rattle.tql_bind_table.specs.NewTables.{create_in}
+use Rattle.tql_bind_table.specs.NewTables.{Written, KeyPart, ReferencePart, application_in, system_in}
+use Rattle.tql_bind_table.specs.NewTables.{list_of, key_parts, reference_parts, written_in}
+use Rattle.tql_bind_table.specs.NewTables.{primary_in, primary_count_in, key_in, reference_at, flat_each, whole_in}
+use Rattle.tql_bind_table.specs.NewTables.{table_by}
+use Rattle.tql_bind_table.specs.NewTables.{create_in, defined_in, is_generated_in, scope_by}
 
--- ---- elements without checks
-
--- columns and periods are no checks
-plain_unchecked : (es : List Element) → list_all is_plain_element es ≡ true → list_all is_unchecked es ≡ true
-plain_unchecked [] h = refl
-plain_unchecked (ColumnElement c ∷ es) h = plain_unchecked es h
-plain_unchecked (PeriodElement n s e ∷ es) h = plain_unchecked es h
-plain_unchecked (ConstraintElement c ∷ es) h = absurd (cc)
-
--- a CREATE that runs has no check
-pub runs_unchecked : (c : CreateTree) → does_run (create_of c) ≡ true → list_all is_unchecked (elements_in c) ≡ true
-runs_unchecked c h = plain_unchecked (elements_in c) h
-
-no_checks : (es : List Element) (as' : List Application) (d : TableDef) (left : List Element)
-    → list_all is_unchecked left ≡ true → checks es as' d (constraints_of left) ≡ sound []
-no_checks es as' d [] h = refl
-no_checks es as' d (ColumnElement c ∷ left) h = no_checks es as' d left h
-no_checks es as' d (PeriodElement n s e ∷ left) h = no_checks es as' d left h
-no_checks es as' d (ConstraintElement (KeyTree b n ns p) ∷ left) h = no_checks es as' d left h
-no_checks es as' d (ConstraintElement (ForeignTree c n p) ∷ left) h = no_checks es as' d left h
-no_checks es as' d (ConstraintElement (CheckTree c) ∷ left) h = absurd (cc)
-
--- ---- keys and references
+-- ---- keys, references and checks
 
 regrouped : {A B : Type 0} (c : Checked A) (f : A → B) (rest : Checked (List B))
     → (c >>= λ x. rest >>= λ ys. sound (f x ∷ ys))
@@ -91,6 +71,29 @@ references_are defs es as' (ForeignTree child n names ∷ cs) =
 references_are defs es as' (KeyTree b n ns p ∷ cs) = references_are defs es as' cs
 references_are defs es as' (CheckTree c ∷ cs) = references_are defs es as' cs
 
+-- a check whose fault stands alone, or with its condition
+checked_alone : (c : Checked Cond) (wrong : Cond → Bool) (rest : Checked (List Cond))
+    → (c >>= λ b. refuse_if (wrong b) FormNotAllowedHere >>= λ u. rest >>= λ bs. sound (b ∷ bs))
+    ≡ ((c >>= λ b. unless (wrong b) FormNotAllowedHere b) >>= λ b. rest >>= λ bs. sound (b ∷ bs))
+checked_alone c wrong rest =
+    let made : List Refusal → Checked (List Cond) = λ fs. record { faults = fs; value = c.value ∷ rest.value } in
+    ap made (sym (append_assoc c.faults (fault_if (wrong c.value) FormNotAllowedHere) (rest.faults ++ [])))
+
+-- the checks of a statement are those that are written
+checks_are : (es : List Element) (scope : List Known) (cs : List Constraint)
+    → checks es scope cs ≡ check_each (check_by (is_generated_in (columns_of es)) scope) (check_parts cs)
+checks_are es scope [] = refl
+checks_are es scope (CheckTree c ∷ cs) =
+    let wrong : Cond → Bool = is_wrong_check (is_generated_in (columns_of es)) in
+    let both : Checked (List Cond) → Checked (List Cond)
+    = λ rest. condition scope c >>= λ b. refuse_if (wrong b) FormNotAllowedHere >>= λ u. rest >>= λ bs. sound
+    (b ∷ bs) in
+    ap both (checks_are es scope cs)
+    ∙ checked_alone (condition scope c) wrong
+    (check_each (check_by (is_generated_in (columns_of es)) scope) (check_parts cs))
+checks_are es scope (KeyTree b n ns p ∷ cs) = checks_are es scope cs
+checks_are es scope (ForeignTree c n p ∷ cs) = checks_are es scope cs
+
 names_are : (cs : List Constraint) → primary_names cs ≡ primary_in (key_parts cs)
 names_are [] = refl
 names_are (KeyTree true n ns p ∷ cs) = ap (λ (ms : List Name). (n ∷ ns) ++ ms) (names_are cs)
@@ -123,19 +126,18 @@ table n columns a s ks fs bs = record {
 
 -- the table, where these are its faults as a whole, its constraints and the names that take no null
 abbrev create_by : Name → List Element → List Refusal → (List Application → Checked (List Key))
-    → (List Application → Checked (List Reference)) → (List Application → TableDef → Checked (List Cond))
-    → List Name → Checked TableDef
+    → (List Application → Checked (List Reference)) → (List Known → Checked (List Cond)) → List Name
+    → Checked TableDef
 create_by n es faults ks fs bs implied = do
   u ← refuse_for faults
   as' ← check_each (application_period es) (application_parts es)
   ss ← check_each (system_period es) (system_parts es)
   k ← ks as'
   f ← fs as'
-  b ← bs as' (table n (map (column implied) (columns_of es)) (first_of as') (first_of ss) k f [])
+  b ← bs (check_scope as' (table n (map (column implied) (columns_of es)) (first_of as') (first_of ss) k f []))
   sound (table n (map (column implied) (columns_of es)) (first_of as') (first_of ss) k f b)
 
-module _ (defs : List TableDef) (n : Name) (es : List Element) (versioned : Bool)
-    (unchecked : list_all is_unchecked es ≡ true) where
+module _ (defs : List TableDef) (n : Name) (es : List Element) (versioned : Bool) where
   -- the faults of the table as a whole, where it has so many primary keys
   abbrev whole : ℕ → List Refusal
   whole count =
@@ -151,11 +153,11 @@ module _ (defs : List TableDef) (n : Name) (es : List Element) (versioned : Bool
       ++ fault_if (nat_le 1000 (length defs)) TooManyTablesOrReaders
 
   -- the definition of what is written
-  by_parts : create defs n es versioned ≡ create_in defs n (written_in es) versioned
+  by_parts : create defs n es versioned ≡ create_in defs n (written_in es) (checks_in es) versioned
   by_parts = λ j. create_by n es (whole (count_is (constraints_of es) j))
       (λ as'. keys_are es as' (constraints_of es) j)
       (λ as'. references_are defs es as' (constraints_of es) j)
-      (λ as' d. no_checks es as' d es unchecked j)
+      (λ scope. checks_are es scope (constraints_of es) j)
       (flat_map part_names (application_parts es) ++ names_are (constraints_of es) j)
 
 -- ---- what is read of the statement
@@ -180,35 +182,44 @@ written_same c n w is = λ j. record {
 
 -- the definition of the draft is that of the statement
 created : (defs : List TableDef) (c : CreateTree) (n : Name) (w : Written)
-    → list_all is_unchecked (elements_in c) ≡ true → IsDraft c n w
-    → create_in defs n w c.is_versioned ≡ create defs (name_of c.table) (elements_in c) c.is_versioned
-created defs c n w h is =
-    (λ j. create_in defs (is.name j) (written_same c n w is j) c.is_versioned)
-    ∙ sym (by_parts defs (name_of c.table) (elements_in c) c.is_versioned h)
+    → IsDraft c n w
+    → create_in defs n w (checks_in (elements_in c)) c.is_versioned
+    ≡ create defs (name_of c.table) (elements_in c) c.is_versioned
+created defs c n w is =
+    (λ j. create_in defs (is.name j) (written_same c n w is j) (checks_in (elements_in c)) c.is_versioned)
+    ∙ sym (by_parts defs (name_of c.table) (elements_in c) c.is_versioned)
 
 -- the faults of the draft, gathered part by part, are those of the definition
-pub draft_gathered : (defs : List TableDef) (n : Name) (w : Written) (v : Bool)
-    (old m1 m2 m3 m4 now : Option Refusal) (as' : List Application) (ss : List System) (ks : List Key)
-    (fs : List Reference)
+pub draft_gathered : (defs : List TableDef) (n : Name) (w : Written) (cs : List Condition) (v : Bool)
+    (old m1 m2 m3 m4 m5 now : Option Refusal) (as' : List Application) (ss : List System) (ks : List Key)
+    (fs : List Reference) (bs : List Cond)
     → Gathers (refuse_for (whole_in defs n w v)) old m1 tt
     → Gathers (check_each (application_in w.columns) w.applications) m1 m2 as'
     → Gathers (check_each (system_in w.columns) w.systems) m2 m3 ss
     → Gathers (check_each (key_in w as') w.keys) m3 m4 ks
-    → Gathers (flat_each (new.reference_in defs w as') w.references) m4 now fs
-    → Gathers (create_in defs n w v) old now (table_by n w (first_of ss) (first_of as') ks fs)
-draft_gathered defs n w v old m1 m2 m3 m4 now as' ss ks fs whole first second third fourth =
-    let made : List Application → List System → List Key → List Reference
-    → TableDef = λ xs ys zs us. table_by n w (first_of ys) (first_of xs) zs us in
-    let d = made as' ss ks fs in
+    → Gathers (flat_each (new.reference_in defs w as') w.references) m4 m5 fs
+    → Gathers
+    (check_each (check_by (is_generated_in w.columns) (scope_by n (defined_in w) as' (first_of ss))) cs) m5 now bs
+    → Gathers (create_in defs n w cs v) old now (table_by n (defined_in w) (first_of ss) (first_of as') ks fs bs)
+draft_gathered defs n w cs v old m1 m2 m3 m4 m5 now as' ss ks fs bs whole first second third fourth fifth =
+    let made : List Application → List System → List Key → List Reference → List Cond
+    → TableDef = λ xs ys zs us vs. table_by n (defined_in w) (first_of ys) (first_of xs) zs us vs in
+    let d = made as' ss ks fs bs in
+    let tested : List Application → List System → Checked (List Cond)
+    = λ xs ys. check_each (check_by (is_generated_in w.columns) (scope_by n (defined_in w) xs (first_of ys))) cs in
+    let checking : List Application → List System → List Key → List Reference → Checked TableDef
+    = λ xs ys zs us. tested xs ys >>= λ vs. sound (made xs ys zs us vs) in
     let referring : List Application → List System → List Key → Checked TableDef
-    = λ xs ys zs. flat_each (new.reference_in defs w xs) w.references >>= λ us. sound (made xs ys zs us) in
+    = λ xs ys zs. flat_each (new.reference_in defs w xs) w.references >>= λ us. checking xs ys zs us in
     let keyed : List Application → List System → Checked TableDef
     = λ xs ys. check_each (key_in w xs) w.keys >>= λ zs. referring xs ys zs in
     let periods : List Application → Checked TableDef
     = λ xs. check_each (system_in w.columns) w.systems >>= λ ys. keyed xs ys in
+    let from5 : Gathers (checking as' ss ks fs) m5 now d
+    = bound (tested as' ss) (λ vs. sound (made as' ss ks fs vs)) m5 now now bs d fifth (sound_here d now) in
     let from4 : Gathers (referring as' ss ks) m4 now d
-    = bound (flat_each (new.reference_in defs w as') w.references) (λ us. sound (made as' ss ks us)) m4 now now fs d
-    fourth (sound_here d now) in
+    = bound (flat_each (new.reference_in defs w as') w.references) (λ us. checking as' ss ks us) m4 m5 now fs d
+    fourth from5 in
     let from3 : Gathers (keyed as' ss) m3 now d
     = bound (check_each (key_in w as') w.keys) (λ zs. referring as' ss zs) m3 m4 now ks d third from4 in
     let from2 : Gathers (periods as') m2 now d
@@ -219,11 +230,11 @@ draft_gathered defs n w v old m1 m2 m3 m4 now as' ss ks fs whole first second th
 
 -- and those of the statement
 pub bind_gathered : (defs : List TableDef) (c : CreateTree) (n : Name) (w : Written) (old now : Option Refusal)
-    (d : TableDef) → list_all is_unchecked (elements_in c) ≡ true → IsDraft c n w
-    → Gathers (create_in defs n w c.is_versioned) old now d
+    (d : TableDef) → IsDraft c n w
+    → Gathers (create_in defs n w (checks_in (elements_in c)) c.is_versioned) old now d
     → Gathers (bind defs (create_of c)) old now (CreateTable d)
-bind_gathered defs c n w old now d h is g =
+bind_gathered defs c n w old now d is g =
     let made : TableDef → Checked Bound = λ t. sound (CreateTable t) in
     bound (create defs (name_of c.table) (elements_in c) c.is_versioned) made old now now d (CreateTable d)
-    (subst (λ (k : Checked TableDef). Gathers k old now d) (created defs c n w h is) g)
+    (subst (λ (k : Checked TableDef). Gathers k old now d) (created defs c n w is) g)
     (sound_here (CreateTable d) now)

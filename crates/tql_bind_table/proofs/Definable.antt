@@ -10,24 +10,27 @@ use Rattle.tql_spec.specs.Words.{same_text}
 use Rattle.tql_spec.specs.Datum.{Kind, Ints, Moments, same_kind}
 use Rattle.tql_spec.specs.Refusal.{TooManyTablesOrReaders, TableUnknownOrAlreadyThere}
 use Rattle.tql_spec.specs.Refusal.{NameUnknownAmbiguousOrRepeated, TypesDoNotFit, FormNotAllowedHere, fault_if, first}
+use Rattle.tql_spec.specs.Expression.{Cond}
 use Rattle.tql_spec.specs.Definition as definition
 use Rattle.tql_spec.specs.Definition.{Name, TableDef, Application, System, Key, Reference, place_of}
 use Rattle.tql_spec.specs.Names.{Checked, check_each}
-use Rattle.tql_spec.specs.Syntax.{ColumnTree}
+use Rattle.tql_spec.specs.Syntax.{ColumnTree, Condition}
 use Rattle.tql_spec.specs.Creation.{PeriodPart, number_in, column_number, has_name, has_number, are_ends}
 use Rattle.tql_spec.specs.Creation.{application_name, kind_of_type, has_bad_number, repeats, several, column}
 use Rattle.tql_spec.specs.Creation.{first_of}
 use Rattle.tql_spec.specs.Binding.{generated_columns}
 use Rattle.tql_spec.proofs.Constraints.{same_text-self}
 use Rattle.tql_catalog.specs.Defined.{is_definable, is_system_period, is_application_period, are_constraints}
+use Rattle.tql_bind_check.specs.Checking.{check_by}
 use Rattle.tql_bind_table.specs.NewTables.{Written, KeyPart, application_part, names_in, kinds_in, kind_in, starts_in}
 use Rattle.tql_bind_table.specs.NewTables.{stops_in, is_generated_in, application_in, system_in, names_of_periods}
 use Rattle.tql_bind_table.specs.NewTables.{implied_in, primary_count_in, key_in, reference_in, flat_each, whole_in}
-use Rattle.tql_bind_table.specs.NewTables.{create_in}
+use Rattle.tql_bind_table.specs.NewTables.{create_in, defined_in, scope_by}
 use Rattle.tql_bind_table.specs.declared.draft.NewApplication.{NewApplication}
 use Rattle.tql_bind_table.proofs.ColumnNumbers.{within, apart, other_number, required_at, there}
 use Rattle.tql_bind_table.proofs.NoFault.{nothing_first, front_none, behind_none, not_present, or_none, not_none, found}
 use Rattle.tql_bind_table.proofs.Listings.{keys_right, references_right}
+use Rattle.tql_bind_table.proofs.CheckLaws.{checks_right}
 
 -- ---- the columns of the definition
 
@@ -264,22 +267,24 @@ open_at implied cs qs none i h free =
     let outside = not_of_system cs qs none i free in
     λ j. inside j && not (outside j)
 
--- what is true of the table: its columns and periods can be those of one, and so can its keys and references
+-- what is true of the table: its columns and periods can be those of one, and so can its constraints
 pub record CanStand (t : TableDef) : Type 0 where
   pub definable : IsTrue (is_definable t.columns t.system t.application)
-  pub constrained : IsTrue (are_constraints t t.keys t.references [])
+  pub constrained : IsTrue (are_constraints t t.keys t.references t.checks)
 
 -- it is true where no fault is present
-pub can_stand : (defs : List TableDef) (n : Name) (w : Written) (as' : List NewApplication)
+pub can_stand : (defs : List TableDef) (n : Name) (w : Written) (cs : List Condition) (as' : List NewApplication)
     → w.applications ≡ map application_part as' → (v : Bool) (t : TableDef)
-    → first (create_in defs n w v).faults ≡ None → t ≡ (create_in defs n w v).value → CanStand t
-can_stand defs n w as' parts v t none is =
-    let all = create_in defs n w v in
+    → first (create_in defs n w cs v).faults ≡ None → t ≡ (create_in defs n w cs v).value → CanStand t
+can_stand defs n w cs as' parts v t none is =
+    let all = create_in defs n w cs v in
     let empty = nothing_first all.faults none in
     let periods : Checked (List Application) = check_each (application_in w.columns) w.applications in
     let systems : Checked (List System) = check_each (system_in w.columns) w.systems in
     let keys : Checked (List Key) = check_each (key_in w periods.value) w.keys in
     let references : Checked (List Reference) = flat_each (reference_in defs w periods.value) w.references in
+    let checks : Checked (List Cond) = check_each
+    (check_by (is_generated_in w.columns) (scope_by n (defined_in w) periods.value (first_of systems.value))) cs in
     let whole = whole_right defs n w v (front_none (whole_in defs n w v) _ empty) in
     let n1 = behind_none (whole_in defs n w v) _ empty in
     let applied = front_none periods.faults _ n1 in
@@ -287,7 +292,9 @@ can_stand defs n w as' parts v t none is =
     let versioned = front_none systems.faults _ n2 in
     let n3 = behind_none systems.faults _ n2 in
     let keyed = front_none keys.faults _ n3 in
-    let referring = front_none references.faults [] (behind_none keys.faults _ n3) in
+    let n4 = behind_none keys.faults _ n3 in
+    let referring = front_none references.faults _ n4 in
+    let checked = front_none checks.faults [] (behind_none references.faults _ n4) in
     let implied = implied_in w.applications w.keys in
     let single : application_name (first_of periods.value) ≡ names_of_periods w.applications =
     named_first w.columns w.applications as' parts whole.one in
@@ -299,9 +306,11 @@ can_stand defs n w as' parts v t none is =
     let opened = open_at implied w.columns w.systems versioned in
     let right_keys = keys_right w all.value opened periods.value w.keys keyed in
     let right_references = references_right w all.value opened defs periods.value w.references referring in
+    let right_checks = checks_right w.columns all.value (not_of_system w.columns w.systems versioned)
+    (scope_by n (defined_in w) periods.value (first_of systems.value)) cs checked in
     record {
       definable = ap (λ (d : TableDef). is_definable d.columns d.system d.application) is
           ∙ (λ i. not (names i) && system i && application i);
-      constrained = ap (λ (d : TableDef). are_constraints d d.keys d.references []) is
-          ∙ (λ i. right_keys i && right_references i && true);
+      constrained = ap (λ (d : TableDef). are_constraints d d.keys d.references d.checks) is
+          ∙ (λ i. right_keys i && right_references i && right_checks i);
     }

@@ -9,5 +9,6 @@ pub mod Creations
 pub mod NoFault
 pub mod ReferenceLaws
 pub mod Listings
+pub mod CheckLaws
 pub mod Definable
 pub mod ParentLaws

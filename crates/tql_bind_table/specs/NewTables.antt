@@ -1,5 +1,5 @@
--- Tables that CREATE makes of columns, periods, keys and references.
-use Rattle.std.specs.Prelude.{ℕ, Bool, true, false, not, ◌&&◌, ◌||◌, ◌==◌, nat_le, nat_lt, List, [], ◌∷◌, ◌++◌, map}
+-- Tables that CREATE makes of columns, periods, keys, references and checks.
+use Rattle.std.specs.Prelude.{ℕ, Bool, true, not, ◌&&◌, ◌||◌, ◌==◌, nat_le, nat_lt, List, [], ◌∷◌, ◌++◌, map}
 use Rattle.std.specs.Prelude.{filter, length, Option, Some, None, option_map, is_some, is_none, if◌then◌else◌}
 use Rattle.std.specs.Prelude.{string_bytes, slice_index_or}
 use Rattle.std.specs.List.{flat_map, list_any, list_all}
@@ -7,10 +7,12 @@ use Rattle.tql_spec.specs.Words.{same_text, listed}
 use Rattle.tql_spec.specs.Datum.{Kind, Ints, Moments, same_kind}
 use Rattle.tql_spec.specs.Refusal.{Refusal, TooManyTablesOrReaders, TableUnknownOrAlreadyThere}
 use Rattle.tql_spec.specs.Refusal.{NameUnknownAmbiguousOrRepeated, TypesDoNotFit, FormNotAllowedHere, fault_if}
+use Rattle.tql_spec.specs.Expression.{Cond}
+use Rattle.tql_spec.specs.Definition as definition
 use Rattle.tql_spec.specs.Definition.{Name, TableDef, Application, System, Key, Reference, place_of, table_at}
-use Rattle.tql_spec.specs.Names.{Checked, ◌>>=◌, sound, unless, refuse_for, refuse_if, check_each}
-use Rattle.tql_spec.specs.Syntax.{ColumnTree, Element, ConstraintElement, RefList, Constraint, KeyTree, ForeignTree}
-use Rattle.tql_spec.specs.Syntax.{CheckTree}
+use Rattle.tql_spec.specs.Names.{Checked, ◌>>=◌, sound, unless, refuse_for, refuse_if, check_each, Known}
+use Rattle.tql_spec.specs.Syntax.{ColumnTree, Element, RefList, Constraint, KeyTree, ForeignTree}
+use Rattle.tql_spec.specs.Syntax.{Condition}
 use Rattle.tql_spec.specs.Creation.{PeriodPart, are_ends, column_number, has_number, numbers_where, is_row_start}
 use Rattle.tql_spec.specs.Creation.{is_row_end, has_bad_number, kind_of_type, repeats, several, column, part_names}
 use Rattle.tql_spec.specs.Creation.{first_of, columns_of, application_parts, system_parts, constraints_of}
@@ -18,9 +20,10 @@ use Rattle.tql_spec.specs.Creation.{column_numbers, period_columns, period_calle
 use Rattle.tql_spec.specs.Creation.{kinds_at, kinds_differ, periods_differ, application_name, application_kind}
 use Rattle.tql_spec.specs.Creation.{is_declared_key, has_name}
 use Rattle.tql_catalog.specs.Defined.{table_of_parts, with_constraints}
-use Rattle.tql_catalog.specs.Definitions.{application_of, system_of, key_of, reference_of}
-use Rattle.tql_syntax_tree.specs.Statements.{type_of, generated_of, element_of, elements_of}
-use Rattle.tql_syntax_tree.specs.declared.statement.CreateTree.{CreateTree}
+use Rattle.tql_catalog.specs.Definitions as catalog
+use Rattle.tql_catalog.specs.Definitions.{application_of, system_of, key_of, reference_of, checks_of}
+use Rattle.tql_syntax_tree.specs.Statements.{type_of, generated_of}
+use Rattle.tql_bind_check.specs.Checking.{check_by}
 use Rattle.tql_bind_table.specs.declared.draft.NewColumn.{NewColumn}
 use Rattle.tql_bind_table.specs.declared.draft.NewApplication.{NewApplication}
 use Rattle.tql_bind_table.specs.declared.draft.NewSystem.{NewSystem}
@@ -119,15 +122,6 @@ written_of d = record {
   references = references_in d;
 }
 
--- the elements
-abbrev pub elements_in : CreateTree → List Element
-elements_in c = element_of c.first ∷ elements_of c.more
-
--- whether an element is no check
-abbrev pub is_unchecked : Element → Bool
-is_unchecked (ConstraintElement (CheckTree c)) = false
-is_unchecked _ = true
-
 -- the list of a reference
 abbrev pub list_of : RefList → ListPart
 list_of r = record { columns = r.first ∷ r.more; period = r.period }
@@ -146,7 +140,7 @@ reference_parts (ForeignTree child n names ∷ cs) =
     record { child = list_of child; parent = n; named = list_of names } ∷ reference_parts cs
 reference_parts (_ ∷ cs) = reference_parts cs
 
--- what is written in the elements
+-- what is written in the elements, but the checks
 abbrev pub written_in : List Element → Written
 written_in es = record {
   columns = columns_of es;
@@ -269,6 +263,20 @@ flat_each f (x ∷ xs) = do
   zs ← flat_each f xs
   sound (ys ++ zs)
 
+-- ---- checks
+
+-- the columns of the definition
+abbrev pub defined_in : Written → List definition.Column
+defined_in w = map (column (implied_in w.applications w.keys)) w.columns
+
+-- the generated columns, by number
+abbrev pub generated_in : List ColumnTree → List ℕ
+generated_in cs = numbers_where (λ c. is_some c.generated) 0 cs
+
+-- the scope of a check: a table of this name, of these columns and of these periods
+abbrev pub scope_by : Name → List definition.Column → List Application → Option System → List Known
+scope_by n cs as' s = record { name = n; columns = cs; applications = as'; system = s; offset = 0 } ∷ []
+
 -- ---- the table
 
 -- the faults of the table as a whole
@@ -285,23 +293,26 @@ whole_in defs n w versioned =
     ++ fault_if (nat_lt 1 (primary_count_in w.keys)) FormNotAllowedHere
     ++ fault_if (nat_le 1000 (length defs)) TooManyTablesOrReaders
 
--- the table of these parts, without checks
-abbrev pub table_by : Name → Written → Option System → Option Application → List Key → List Reference → TableDef
-table_by n w s a ks fs =
-    with_constraints (table_of_parts n (map (column (implied_in w.applications w.keys)) w.columns) s a) ks fs []
+-- the table of these parts
+abbrev pub table_by : Name → List definition.Column → Option System → Option Application → List Key → List Reference
+    → List Cond
+    → TableDef
+table_by n cs s a ks fs bs = with_constraints (table_of_parts n cs s a) ks fs bs
 
--- the definition, where it has no checks, and every fault
-abbrev pub create_in : List TableDef → Name → Written → Bool → Checked TableDef
-create_in defs n w versioned = do
+-- the definition with these checks, and every fault
+abbrev pub create_in : List TableDef → Name → Written → List Condition → Bool → Checked TableDef
+create_in defs n w cs versioned = do
   u ← refuse_for (whole_in defs n w versioned)
   as' ← check_each (application_in w.columns) w.applications
   ss ← check_each (system_in w.columns) w.systems
   ks ← check_each (key_in w as') w.keys
   fs ← flat_each (reference_in defs w as') w.references
-  sound (table_by n w (first_of ss) (first_of as') ks fs)
+  bs ← check_each (check_by (is_generated_in w.columns) (scope_by n (defined_in w) as' (first_of ss))) cs
+  sound (table_by n (defined_in w) (first_of ss) (first_of as') ks fs bs)
 
--- the table of a draft, with the first of its periods
-abbrev pub table_of : Name → Draft → Parts → TableDef
-table_of n d p =
-    table_by n (written_of d) (first_of (map system_of p.systems.items))
+-- the table of the parts, with the first of its periods
+abbrev pub table_of : Name → Parts → TableDef
+table_of n p =
+    table_by n (map catalog.column_of p.columns.items) (first_of (map system_of p.systems.items))
     (first_of (map application_of p.applications.items)) (map key_of p.keys.items) (map reference_of p.references.items)
+    (checks_of p.checks)

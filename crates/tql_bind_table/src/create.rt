@@ -1,11 +1,9 @@
 //! New tables: the faults that a CREATE TABLE shows, and the definition that it gives.
 ghost use Rattle.std.specs.Prelude.{◌≡◌, ◌||◌, ◌==◌, IsTrue, map, not, IfOk, string_bytes, length, nat_le, is_some};
 ghost use Rattle.std.specs.Prelude.{if◌then◌else◌, nat_lt};
-ghost use Rattle.std.specs.List.{list_all};
 ghost use Rattle.tql_spec.specs.Binding.{bind};
 ghost use Rattle.tql_spec.specs.Creation as spec;
 ghost use Rattle.tql_spec.specs.Creation.{several};
-ghost use Rattle.tql_spec.specs.Definition.{place_of};
 ghost use Rattle.tql_spec.specs.Machine.{CreateTable};
 ghost use Rattle.tql_spec.specs.Names.{refuse_for};
 ghost use Rattle.tql_catalog.specs.Definitions as catalog;
@@ -13,11 +11,12 @@ ghost use Rattle.tql_catalog.specs.Tables.{definitions_of};
 ghost use Rattle.tql_bind_expr.specs.Gathered.{Gathers};
 ghost use Rattle.tql_syntax_tree.specs.Statements.{create_of};
 ghost use Rattle.tql_bind_table.specs.Binds.{Binds};
+ghost use Rattle.tql_bind_check.specs.Checking.{checks_in, elements_in};
 ghost use Rattle.tql_bind_table.specs.NewTables.{column_of, application_part, columns_in, applications_in, systems_in};
 ghost use Rattle.tql_bind_table.specs.NewTables.{implied_in, starts_in, stops_in, whole_in, create_in, table_of};
-ghost use Rattle.tql_bind_table.specs.NewTables.{key_part, keys_in, written_of, primary_count_in, elements_in};
-ghost use Rattle.tql_bind_table.specs.NewTables.{is_unchecked};
+ghost use Rattle.tql_bind_table.specs.NewTables.{key_part, keys_in, written_of, primary_count_in};
 
+use crate::checks::table_checks;
 use crate::columns::{are_all_generated, end_count, has_misfit, kind_of, limit_of, start_count};
 use crate::draft::{Draft, NewApplication, NewColumn, NewKey, draft_of};
 use crate::keys::{bound_keys, primary_count};
@@ -35,58 +34,61 @@ use tql_memory::Memory;
 use tql_syntax_tree::statement::CreateTree;
 use tql_value::refusal::Refusal;
 
-/// The periods, keys and references of a new table, by the numbers of their columns, in the order of the statement.
+/// The columns, periods, keys, references and checks of a new table, by the numbers of their columns, in the order of
+/// the statement.
 pub struct Parts {
+    pub columns: Vec<Column, Memory>,
     pub applications: Vec<Application, Memory>,
     pub systems: Vec<System, Memory>,
     pub keys: Vec<Key, Memory>,
     pub references: Vec<Reference, Memory>,
+    pub checks: Checks,
 }
 
 impl Drop for Parts {
     fn drop(self) {
         let Parts {
+            columns,
             applications,
             systems,
             keys,
             references,
+            checks,
         } = self;
+        drop(columns);
         drop(applications);
         drop(systems);
         drop(keys);
         drop(references);
+        drop(checks);
     }
 }
 
 impl Parts {
-    ghost use Rattle.std.specs.Prelude.{◌≡◌, [], IfOk, IsTrue, string_bytes};
+    ghost use Rattle.std.specs.Prelude.{◌≡◌, IfOk, IsTrue, string_bytes};
     ghost use Rattle.tql_catalog.specs.Defined.{are_constraints, is_definable};
     ghost use Rattle.tql_bind_table.specs.NewTables.{table_of};
 
     /// The definition, where these can be the parts of a table. The only error is a refused growth.
-    fn definition(
-        self,
-        memory: Memory,
-        name: String<Memory>,
-        draft: &Draft<'_>,
-    ) -> Result<TableDef, AllocError>
-        requires definable { let t = table_of (string_bytes name) draft.now self in IsTrue
+    fn definition(self, memory: Memory, name: String<Memory>) -> Result<TableDef, AllocError>
+        requires definable { let t = table_of (string_bytes name) self in IsTrue
             (is_definable t.columns t.system t.application) }
-        requires constrained { let t = table_of (string_bytes name) draft.now self in IsTrue
-            (are_constraints t t.keys t.references []) }
-        ensures { IfOk result (λ d. d ≡ table_of (string_bytes name.entry) draft.now self) }
+        requires constrained { let t = table_of (string_bytes name) self in IsTrue
+            (are_constraints t t.keys t.references t.checks) }
+        ensures { IfOk result (λ d. d ≡ table_of (string_bytes name.entry) self) }
     {
         let Parts {
+            columns,
             applications,
             systems,
             keys,
             references,
+            checks,
         } = self;
-        let columns = definitions(memory, &draft.columns, &draft.applications, &draft.keys)?;
         let system = first_system(&systems);
         let application = first_application(memory, &applications)?;
         let table = TableDef::new(memory, name, columns, system, application)?;
-        Ok(table.with_constraints(keys, references, Checks::none(memory)))
+        Ok(table.with_constraints(keys, references, checks))
     }
 }
 
@@ -120,20 +122,6 @@ fn has_several_primaries(draft: &Draft<'_>) -> bool
     1 < primary_count(&draft.keys)
 }
 
-/// Whether a thousand tables are there.
-fn is_full(tables: &Catalog) -> bool
-    ensures { result ≡ nat_le 1000 (length (definitions_of tables.now)) }
-{
-    1000 <= tables.len()
-}
-
-/// Whether a table of this name is there.
-fn is_there(tables: &Catalog, name: &str) -> bool
-    ensures { result ≡ is_some (place_of name.now (definitions_of tables.now)) }
-{
-    tables.place_of(name).is_some()
-}
-
 /// The faults of the table as a whole.
 fn whole_faults(
     tables: &Catalog,
@@ -146,7 +134,10 @@ fn whole_faults(
         (whole_in (definitions_of tables.now) name.now (written_of draft.now) is_versioned))
         faults.old faults.new tt }
 {
-    faults.refuse_if(is_there(tables, name), Refusal::TableUnknownOrAlreadyThere);
+    faults.refuse_if(
+        tables.place_of(name).is_some(),
+        Refusal::TableUnknownOrAlreadyThere,
+    );
     faults.refuse_if(
         has_repeated_name(draft),
         Refusal::NameUnknownAmbiguousOrRepeated,
@@ -163,7 +154,7 @@ fn whole_faults(
     );
     faults.refuse_if(has_wrong_ends(draft), Refusal::FormNotAllowedHere);
     faults.refuse_if(has_several_primaries(draft), Refusal::FormNotAllowedHere);
-    faults.refuse_if(is_full(tables), Refusal::TooManyTablesOrReaders);
+    faults.refuse_if(1000 <= tables.len(), Refusal::TooManyTablesOrReaders);
 }
 
 /// The column of the definition: it takes no null where it is NOT NULL or a column of an application period or of a
@@ -206,20 +197,20 @@ fn definitions(
     Ok(definitions)
 }
 
-/// The periods, keys and references of a new table, with every fault of its definition.
+/// The columns, periods, keys, references and checks of a new table, with every fault of its definition.
 fn parts_of(
     memory: Memory,
     tables: &Catalog,
     name: &str,
+    create: &CreateTree<'_>,
     draft: &Draft<'_>,
-    is_versioned: bool,
     faults: &mut Faults,
 ) -> Result<Parts, AllocError>
     ensures { IfOk result
-        (λ p. Gathers (create_in (definitions_of tables.now) name.now (written_of draft.now) is_versioned)
-        faults.old faults.new (table_of name.now draft.now p)) }
+        (λ p. Gathers (create_in (definitions_of tables.now) name.now (written_of draft.now)
+        (checks_in (elements_in create.now)) create.now.is_versioned) faults.old faults.new (table_of name.now p)) }
 {
-    whole_faults(tables, name, draft, is_versioned, faults);
+    whole_faults(tables, name, draft, create.is_versioned, faults);
     let applications = application_periods(memory, &draft.columns, &draft.applications, faults)?;
     let systems = system_periods(memory, &draft.columns, &draft.systems, faults)?;
     let keys = bound_keys(memory, draft, &applications, &draft.keys, faults)?;
@@ -231,40 +222,51 @@ fn parts_of(
         &draft.references,
         faults,
     )?;
+    let columns = definitions(memory, &draft.columns, &draft.applications, &draft.keys)?;
+    let checks = table_checks(
+        memory,
+        name,
+        create,
+        draft,
+        &columns,
+        &applications,
+        &systems,
+        faults,
+    )?;
     Ok(Parts {
+        columns,
         applications,
         systems,
         keys,
         references,
+        checks,
     })
 }
 
-/// The definition that a CREATE TABLE without CHECK gives. Refused are, the first of them: a table of that name is
-/// there, or the parent of a reference is not; a name that stands twice among those of the columns and of the
-/// application periods, or in the list of a key or of a reference, and a column or a period unknown; a length or a
-/// precision that is not allowed, columns of an application period that are not both DATE and not both TIMESTAMP, a
-/// column of the system period that is no TIMESTAMP, or two sides of a reference whose types differ; a form not allowed
-/// (no column that a user can assign, several application periods, system periods or primary keys, a period that names
-/// one column twice, an application period, a key or a reference that names a generated column, a key or a reference
-/// that names a column of its own period, a reference that names a period on one side alone or columns that are no key
-/// of its parent, a system period without WITH SYSTEM VERSIONING or the reverse, generated columns other than one ROW
-/// START and one ROW END that the system period names in that order); a thousand tables. Where memory runs out, that is
-/// the refusal.
+/// The definition that a CREATE TABLE gives. Refused are, the first of them: a table of that name is there, or the
+/// parent of a reference is not; a name that stands twice among those of the columns and of the application periods, or
+/// in the list of a key or of a reference, and a column or a period unknown; a length or a precision that is not
+/// allowed, columns of an application period that are not both DATE and not both TIMESTAMP, a column of the system
+/// period that is no TIMESTAMP, or two sides of a reference whose types differ; a form not allowed (no column that a
+/// user can assign, several application periods, system periods or primary keys, a period that names one column twice,
+/// an application period, a key or a reference that names a generated column, a key or a reference that names a column
+/// of its own period, a reference that names a period on one side alone or columns that are no key of its parent, a
+/// CHECK with an aggregate, a generated column or the system period, a system period without WITH SYSTEM VERSIONING or
+/// the reverse, generated columns other than one ROW START and one ROW END that the system period names in that order);
+/// a thousand tables; and what the condition of a CHECK shows. Where memory runs out, that is the refusal.
 pub fn new_table(
     memory: Memory,
     tables: &Catalog,
     create: &CreateTree<'_>,
 ) -> Result<TableDef, Refusal>
-    requires { IsTrue (list_all is_unchecked (elements_in create.now)) }
     ensures { Binds CreateTable (bind (definitions_of tables.now) (create_of create.now)) result }
 {
     let name = meant(memory, create.table)?;
     let draft = draft_of(memory, create)?;
     let mut faults = Faults::none();
-    let is_versioned = create.is_versioned;
-    let parts = parts_of(memory, tables, &name, &draft, is_versioned, &mut faults)?;
+    let parts = parts_of(memory, tables, &name, create, &draft, &mut faults)?;
     match faults.least() {
         Some(fault) => Err(fault),
-        None => Ok(parts.definition(memory, name, &draft)?),
+        None => Ok(parts.definition(memory, name)?),
     }
 }

@@ -3,8 +3,9 @@ ghost use Rattle.std.specs.Prelude.{◌≡◌, ◌++◌, ◌∷◌, [], Some, No
 ghost use Rattle.tql_spec.specs.Creation.{columns_of, application_parts, system_parts, constraints_of};
 ghost use Rattle.tql_syntax_tree.specs.Expressions.{name_of};
 ghost use Rattle.tql_syntax_tree.specs.Statements as tree;
+ghost use Rattle.tql_bind_check.specs.Checking.{elements_in};
 ghost use Rattle.tql_bind_table.specs.NewTables.{column_of, application_part, system_part, columns_in, applications_in};
-ghost use Rattle.tql_bind_table.specs.NewTables.{systems_in, elements_in, list_part, key_part, reference_part};
+ghost use Rattle.tql_bind_table.specs.NewTables.{systems_in, list_part, key_part, reference_part};
 ghost use Rattle.tql_bind_table.specs.NewTables.{keys_in, references_in, key_parts, reference_parts};
 
 use std::alloc::AllocError;

@@ -6,3 +6,4 @@ pub mod Parents
 pub mod StoredNumbers
 pub mod Definitions
 pub mod Catalogs
+pub mod SoughtLists

@@ -1,6 +1,6 @@
 -- References to earlier tables, where a table comes behind the others or is taken out.
 use Rattle.std.proofs.Common.{◌≡◌, refl, ap, sym, ◌∙◌, ℕ, zero, suc, Bool, true, false, List, [], ◌∷◌, ◌++◌, length}
-use Rattle.std.proofs.Common.{append_assoc, append-nil, ◌<◌, arith, Option, Some, None, map}
+use Rattle.std.proofs.Common.{append_assoc, append-nil, ◌<◌, arith, Option, Some, None}
 use Rattle.std.specs.Prelude.{◌||◌, ◌&&◌, remove, if◌then◌else◌}
 use Rattle.std.specs.List.{list_all, list_any}
 use Rattle.tql_spec.specs.Words.{same_text}

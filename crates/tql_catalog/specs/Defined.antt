@@ -1,5 +1,5 @@
 -- What is true of the definition of each table, part by part.
-use Rattle.std.specs.Prelude.{◌≡◌, ℕ, Bool, true, false, not, ◌&&◌, ◌||◌, ◌==◌, ◌++◌, nat_lt, IsTrue, List, [], map}
+use Rattle.std.specs.Prelude.{ℕ, Bool, true, false, not, ◌&&◌, ◌||◌, ◌==◌, ◌++◌, nat_lt, IsTrue, List, [], map}
 use Rattle.std.specs.Prelude.{length, Option, Some, None, slice_index_or}
 use Rattle.std.specs.List.{list_all}
 use Rattle.tql_spec.specs.Datum.{Kind, Ints, Moments, same_kind}

@@ -1,5 +1,6 @@
 pub mod Definitions
 pub mod Rows
+pub mod Sought
 pub mod Codes
 pub mod Defined
 pub mod Columns

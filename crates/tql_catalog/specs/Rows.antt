@@ -1,6 +1,6 @@
 -- The columns that may be given values, and the values of rows.
 use Rattle.std.specs.Prelude.{◌≡◌, ℕ, ℤ, Bool, true, not, ◌&&◌, ◌==◌, ◌||◌, false, nat_lt, IsTrue, List, [], ◌∷◌}
-use Rattle.std.specs.Prelude.{length, All, Option, Some, None}
+use Rattle.std.specs.Prelude.{length, map, All, Option, Some, None}
 use Rattle.std.specs.List.{list_all}
 use Rattle.tql_spec.specs.Datum.{Row, is_null}
 use Rattle.tql_spec.specs.Period.{rises}
@@ -55,3 +55,9 @@ are_assignable d is = list_all (λ i. nat_lt i (length d.columns) && not (is_gen
 abbrev pub IsStoredAt : TableDef → ℕ → ℕ → Type 0
 IsStoredAt d i k = (cells : Row) (start end : ℤ) → length cells ≡ stored_width d
     → cell (with_generated d.system cells start end) i ≡ cell cells k
+
+-- what stands in these columns of a row of the table, whichever moments stand in the generated ones, are the cells of
+-- these numbers among those that are stored
+abbrev pub AreStoredAt : TableDef → List ℕ → List ℕ → Type 0
+AreStoredAt d columns stored = (cells : Row) (start end : ℤ) → length cells ≡ stored_width d
+    → map (cell (with_generated d.system cells start end)) columns ≡ map (cell cells) stored

@@ -6,4 +6,5 @@ pub mod catalog;
 pub mod constraint;
 mod definable;
 pub mod definition;
+mod sought;
 pub mod table_def;

@@ -5,7 +5,7 @@ ghost use Rattle.std.specs.List.{list_any, list_all};
 ghost use Rattle.tql_spec.specs.Binding as binding;
 ghost use Rattle.tql_spec.specs.Creation.{has_expr, is_declared_key, uses_column};
 ghost use Rattle.tql_spec.specs.Definition.{no_table};
-ghost use Rattle.tql_spec.specs.Words.{same_text};
+ghost use Rattle.tql_spec.specs.Words.{listed, same_text};
 ghost use Rattle.tql_catalog.specs.Defined as defined;
 ghost use Rattle.tql_catalog.specs.Defined.{IsDefinition, table_of_parts, with_constraints};
 ghost use Rattle.tql_catalog.specs.Definitions.{column_of, system_of, application_of, key_of, reference_of};
@@ -20,6 +20,7 @@ use crate::definable::is_definable;
 use crate::definition::{Application, Column, System};
 use std::alloc::AllocError;
 use std::marker::Model;
+use std::slice;
 use tql_expr::search::Search;
 use tql_expr::terms::{CondId, Terms};
 use tql_memory::Memory;
@@ -317,6 +318,17 @@ impl TableDef {
         ensures right { IsDefinition self.now }
     {
         self.application.as_ref()
+    }
+
+    /// The application periods: none, or one.
+    pub fn applications(&self) -> &[Application]
+        ensures applications { map application_of result.now ≡ listed self.now.application }
+        ensures right { IsDefinition self.now }
+    {
+        match &self.application {
+            Some(application) => slice::from_ref(application),
+            None => &[],
+        }
     }
 
     /// Whether the table is system-versioned.

@@ -3,7 +3,6 @@ use Rattle.std.proofs.Common.{◌≡◌, refl, subst, sym, inl, inr, true, false
 use Rattle.tql_spec.specs.Machine.{State, Refused}
 use Rattle.tql_spec.specs.Answer.{Replied, Accepted}
 use Rattle.tql_spec.specs.Syntax as tree
-use Rattle.tql_spec.specs.Grammar.{IsStatement}
 use Rattle.tql_spec.specs.Run.{Checks, Says, Faulty, HasSense, finished}
 use Rattle.tql_value.specs.Refusals.{refusal_of}
 use Rattle.tql_value.specs.declared.refusal.Refusal.{Refusal}
@@ -25,7 +24,7 @@ wide_checks s text t reads wide =
     (inl (Faulty (refusal_of r.TooManyColumnsOrTables), (reads.0, (tree_of t, reads.1, wide)), refl), refl)
 
 -- a fault of the text
-faulty : (s : State) (text : List ℕ) (e : Refusal) → HasSense IsStatement (finished text) (Faulty (refusal_of e))
+faulty : (s : State) (text : List ℕ) (e : Refusal) → HasSense (finished text) (Faulty (refusal_of e))
     → Checks s (finished text) (Replied (Refused (refusal_of e))) s
 faulty s text e sense = (inl (Faulty (refusal_of e), sense, refl), refl)
 

@@ -1,7 +1,6 @@
 -- What changes make of tables.
 use Rattle.std.specs.Prelude.{◌≡◌, refl, ℕ, true, List, [], ◌∷◌, ◌++◌, map, slice_set, ℤ, Option, Some, None}
 use Rattle.std.proofs.Common.{ap, ◌∙◌}
-use Rattle.tql_spec.specs.Words.{map_all}
 use Rattle.tql_spec.specs.Datum.{Row}
 use Rattle.tql_spec.specs.Refusal.{Refusal, first}
 use Rattle.tql_spec.specs.Definition.{TableDef, Stamped, stamped}

@@ -1,7 +1,7 @@
 -- What a query finds: the versions of the store, as rows that can be printed.
-use Rattle.std.proofs.Common.{◌≡◌, ℕ, zero, suc, Bool, true, false, cond, List, [], ◌∷◌, ◌++◌, map, filter, length}
+use Rattle.std.proofs.Common.{◌≡◌, ℕ, zero, suc, Bool, true, false, cond, List, [], ◌∷◌, ◌++◌, map, filter}
 use Rattle.std.proofs.Common.{refl, sym, ap, subst, ◌∙◌, arith}
-use Rattle.std.specs.Prelude.{ℤ, pos, ◌+ℤ◌, ◌≤ℤ◌, ◌&&◌, not, int_le, int_lt, nat_lt, insert, slice_get, All, Option}
+use Rattle.std.specs.Prelude.{ℤ, pos, ◌+ℤ◌, ◌≤ℤ◌, ◌&&◌, not, int_le, int_lt, slice_get, All, Option}
 use Rattle.std.specs.Prelude.{Some, None, if◌then◌else◌}
 use Rattle.std.specs.List.{AllByRecursion}
 use Rattle.std.specs.Ordering.{is_gt}
@@ -10,8 +10,8 @@ use Rattle.std.proofs.lemmas.Int.{ints}
 use Rattle.std.proofs.lemmas.List.Elements.{All-from_recursion, recursion_from_All}
 use Rattle.tql_spec.specs.Words.{listed}
 use Rattle.tql_spec.specs.Calendar.{first_moment, high}
-use Rattle.tql_spec.specs.Datum.{Datum, Moment, Row}
-use Rattle.tql_spec.specs.Definition.{Stamped, Version, System, TableDef, table_at, with_generated, full}
+use Rattle.tql_spec.specs.Datum.{Row}
+use Rattle.tql_spec.specs.Definition.{Stamped, Version, TableDef, table_at, full}
 use Rattle.tql_spec.specs.History.{Copy, Entry, TableEntry, When, Now, AsOf, FromTo, Between, FallingFrom, has_row}
 use Rattle.tql_spec.specs.History.{has_version, rows_in, table_history, completed, ends_before, still, meets}
 use Rattle.tql_spec.specs.History.{as_of_from, found_from, found, versions}
@@ -19,14 +19,13 @@ use Rattle.tql_spec.specs.Machine.{State, entries}
 use Rattle.tql_spec.specs.Query.{OrderKey, placed, row_order, in_order}
 use Rattle.tql_catalog.specs.Tables.{definitions_of}
 use Rattle.tql_catalog.specs.declared.catalog.Table.{Table}
-use Rattle.tql_catalog.specs.Defined.{IsDefinition}
 use Rattle.tql_catalog.specs.Rows.{IsRowOf}
 use Rattle.tql_expr.proofs.Printing.{generated_prints}
 use Rattle.tql_store.specs.Represents.{seen_by}
 use Rattle.tql_value.specs.Points.{IsPrintable, ArePrintable, IsMoment}
 use Rattle.tql_engine.specs.Fitting.{RowsFit, CopyFits, HistoryFits, WorkingFits}
 use Rattle.tql_engine.specs.Stands.{EngineModel, StandsFor, AreSince, IsDated, copies_of, open_moment, working_of}
-use Rattle.tql_engine.proofs.Standing.{some_is, definition_law, defined_law}
+use Rattle.tql_engine.proofs.Standing.{some_is, definition_law}
 use Rattle.tql_engine.proofs.Copies.{history_found}
 
 -- ---- rows

@@ -9,7 +9,7 @@ use Rattle.tql_spec.proofs.Members.{both, by_bool}
 use Rattle.tql_spec.specs.Definition.{TableDef}
 use Rattle.tql_spec.specs.History.{Copy, Entry, FallingFrom}
 use Rattle.tql_spec.specs.Machine.{State, with_table}
-use Rattle.tql_store.specs.StoreModel.{StoreModel, has_table, table_count}
+use Rattle.tql_store.specs.StoreModel.{StoreModel, has_table}
 use Rattle.tql_store.specs.TableSlots.{is_kept, is_taken, place_for, slot_at}
 use Rattle.tql_store.specs.Represents.{AddsTable, AddKeepsCopies}
 use Rattle.tql_store.specs.declared.tables.TableSlot.{TableSlot}

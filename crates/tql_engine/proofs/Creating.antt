@@ -25,14 +25,12 @@ use Rattle.tql_engine.proofs.CreateKeeps.{create_law, other_number, new_kept}
 use Rattle.std.proofs.Common.{true}
 use Rattle.std.specs.List.{list_all}
 use Rattle.tql_spec.specs.Binding.{bind}
-use Rattle.tql_spec.specs.Creation.{create, references, application_period, application_parts, constraints_of}
-use Rattle.tql_spec.specs.Definition.{Name}
+use Rattle.tql_spec.specs.Creation.{create}
 use Rattle.tql_spec.specs.Machine.{CreateTable}
-use Rattle.tql_spec.specs.Names.{check_each}
-use Rattle.tql_spec.specs.Running.{does_run, is_plain_element}
-use Rattle.tql_spec.specs.Syntax.{Element, ColumnElement, PeriodElement, ConstraintElement, Statement, CreateTree}
-use Rattle.tql_spec.specs.Syntax.{DropTree, InsertValues, InsertSelect, UpdateTree, DeleteTree, QueryTree, StartTree}
-use Rattle.tql_spec.specs.Syntax.{CommitTree, RollbackTree, AtTree}
+use Rattle.tql_spec.specs.Syntax.{Statement, CreateTree, DropTree, InsertValues, InsertSelect, UpdateTree, DeleteTree}
+use Rattle.tql_spec.specs.Syntax.{QueryTree, StartTree, CommitTree, RollbackTree, AtTree}
+use Rattle.tql_spec.proofs.RunKeeps.{no_left}
+use Rattle.tql_bind_table.proofs.ParentLaws.{parents_there as keys_there}
 use Rattle.tql_catalog.specs.Tables.{can_have}
 
 -- the tables that are there show no fault of a table that is bound
@@ -162,28 +160,16 @@ module _ (old mid new : StoreModel) (q : Table) (a : AddsTable (is_some q.defini
 
 -- ---- references of a new table
 
-no_constraint : (es : List Element) → list_all is_plain_element es ≡ true → constraints_of es ≡ []
-no_constraint [] h = refl
-no_constraint (ColumnElement c ∷ es) h = no_constraint es h
-no_constraint (PeriodElement n s e ∷ es) h = no_constraint es h
-no_constraint (ConstraintElement c ∷ es) h = absurd (cc)
-
-create_parents : (defs : List TableDef) (n : Name) (es : List Element) (v : Bool) → list_all is_plain_element es ≡ true
-    → list_all (can_have defs) (create defs n es v).value.references ≡ true
-create_parents defs n es v h =
-    ap (λ cs. list_all (can_have defs)
-    (references defs es (check_each (application_period es) (application_parts es)).value cs).value)
-    (no_constraint es h)
-
 same_table : (d e : TableDef) → CreateTable d ≡ CreateTable e → d ≡ e
 same_table d e k = cc
 
 -- each is to a key that is there
-pub parents_there : (defs : List TableDef) (t : Statement) (d : TableDef) → does_run t ≡ true
+pub parents_there : (defs : List TableDef) (t : Statement) (d : TableDef) → (bind defs t).faults ≡ []
     → (bind defs t).value ≡ CreateTable d → list_all (can_have defs) d.references ≡ true
 parents_there defs (CreateTree n e es v) d h k =
-    ap (λ (x : TableDef). list_all (can_have defs) x.references)
-    (sym (same_table (create defs n (e ∷ es) v).value d k)) ∙ create_parents defs n (e ∷ es) v h
+    let made = create defs n (e ∷ es) v in
+    ap (λ (x : TableDef). list_all (can_have defs) x.references) (sym (same_table made.value d k))
+    ∙ keys_there defs n (e ∷ es) v (ap first (no_left made.faults [] h))
 parents_there defs (DropTree n) d h k = absurd (cc)
 parents_there defs (InsertValues n ns x ts) d h k = absurd (cc)
 parents_there defs (InsertSelect n ns s) d h k = absurd (cc)

@@ -7,12 +7,12 @@ use Rattle.std.specs.List.{AllByRecursion}
 use Rattle.std.proofs.lemmas.Int.{ints}
 use Rattle.tql_spec.specs.Calendar.{first_moment, high}
 use Rattle.tql_spec.specs.Datum.{Row}
-use Rattle.tql_spec.specs.Definition.{Name, Stamped, TableDef}
+use Rattle.tql_spec.specs.Definition.{Name, TableDef}
 use Rattle.tql_spec.specs.History.{Entry, rows_in}
 use Rattle.tql_spec.specs.Query.{OrderKey, Query, answer, in_order}
 use Rattle.tql_spec.specs.Change.{Outcome, insert}
 use Rattle.tql_spec.specs.Refusal.{Refusal, NotInThisTransactionState, MomentNotAllowed, ValueOutOfRange, first}
-use Rattle.tql_spec.specs.Machine.{State, Reply, Refused, Done, Table, CreatedTable, DroppedTable, ClockSet, Inserted}
+use Rattle.tql_spec.specs.Machine.{State, Reply, Refused, Done, Table, CreatedTable, DroppedTable, ClockSet}
 use Rattle.tql_spec.specs.Machine.{Started, Committed, RolledBack, Change, CreateTable, DropTable, SetClock, Start}
 use Rattle.tql_spec.specs.Machine.{Commit, Rollback, ChangeRows, AnswerQuery, step, changed, outcome}
 use Rattle.tql_spec.specs.Machine.{is_not_later}
@@ -35,7 +35,6 @@ use Rattle.tql_value.specs.Views.{rows_of}
 use Rattle.tql_store.specs.StoreModel.{StoreModel}
 use Rattle.tql_store.specs.Represents.{BeginCopies, CommitAppends, RollbackRestores}
 use Rattle.tql_engine.specs.Stands.{EngineModel, StandsFor, open_moment}
-use Rattle.tql_engine.specs.Committing.{ChangesRows}
 use Rattle.tql_engine.specs.Effects.{Does, Refuses, not_later_than}
 use Rattle.tql_engine.proofs.Faults.{refused, create_step, drop_step, clock_step, start_step, commit_step}
 use Rattle.tql_engine.proofs.Faults.{rollback_step, alter_step}

@@ -1,21 +1,20 @@
 -- The faults of new rows are reported before those of keys and references.
-use Rattle.std.proofs.Common.{◌≡◌, refl, sym, ap, ◌∙◌, Bool, true, false, List, [], ◌∷◌, ◌++◌, map, Option, Some, None}
-use Rattle.std.proofs.Common.{arith, ◌<◌}
+use Rattle.std.proofs.Common.{◌≡◌, refl, ap, ◌∙◌, Bool, true, false, List, [], ◌∷◌, ◌++◌, Option, Some, None}
+use Rattle.std.proofs.Common.{arith}
 use Rattle.std.specs.Prelude.{ℕ, ℤ, ◌&&◌, not, nat_lt, if◌then◌else◌}
 use Rattle.std.specs.List.{list_all, flat_map}
 use Rattle.std.proofs.lemmas.Bool.Decides.{nat_tests}
-use Rattle.tql_spec.specs.Bag.{In}
 use Rattle.tql_spec.specs.Words.{map_all}
 use Rattle.tql_spec.specs.Datum.{Datum, Row, is_null}
 use Rattle.tql_spec.specs.Period.{Period}
 use Rattle.tql_spec.specs.Truth.{Truth, is_false}
 use Rattle.tql_spec.specs.Refusal.{Refusal, DuplicateKey, ReferenceNotMet, ValueOutOfRange, NullNotAllowed}
-use Rattle.tql_spec.specs.Refusal.{PeriodNotRising, CheckFailed, first, fault_if, place, earlier}
+use Rattle.tql_spec.specs.Refusal.{PeriodNotRising, CheckFailed, first, fault_if, place}
 use Rattle.tql_spec.specs.Expression.{Cond, judge}
-use Rattle.tql_spec.specs.Definition.{TableDef, Column, Application, Stamped, shown, period_of}
+use Rattle.tql_spec.specs.Definition.{TableDef, Column, Application, Stamped, shown}
 use Rattle.tql_spec.specs.History.{Copy}
 use Rattle.tql_spec.specs.Constraint.{keys_hold, references_hold}
-use Rattle.tql_spec.specs.Change.{Outcome, Work, Fate, row_faults, cell_faults, period_faults, period_faults_by}
+use Rattle.tql_spec.specs.Change.{Work, Fate, row_faults, cell_faults, period_faults, period_faults_by}
 use Rattle.tql_spec.specs.Change.{check_fault, is_too_long, insert, modify, outcome_of, new_rows, fate}
 use Rattle.tql_spec.specs.Machine.{constraint_faults}
 use Rattle.tql_spec.proofs.AtPoints.{all_in}

@@ -1,11 +1,9 @@
 -- COMMIT and ROLLBACK, told by their texts, from the machine's steps.
-use Rattle.std.proofs.Common.{◌≡◌, ap, sym, subst, ℕ, true, List, Option, Some, None, Result, Ok, Err, inl, inr}
+use Rattle.std.proofs.Common.{◌≡◌, ap, sym, subst, ℕ, List, Option, Some, None, Result, Ok, Err, inl, inr}
 use Rattle.std.specs.Prelude.{◌↔◌, IfErr, IfOk}
-use Rattle.tql_spec.specs.Grammar.{IsStatement}
 use Rattle.tql_spec.specs.Machine as machine
 use Rattle.tql_spec.specs.Machine.{State, Bound, Done, Committed, RolledBack, step}
 use Rattle.tql_spec.specs.Run.{HasSense, Says, finished, respond}
-use Rattle.tql_spec.specs.Running.{Runs, does_run}
 use Rattle.tql_spec.specs.Syntax.{Statement, CommitTree, RollbackTree}
 use Rattle.tql_result.specs.Replies.{reply_of, IsPrintableReply}
 use Rattle.tql_result.specs.declared.reply.Reply.{Reply}
@@ -19,18 +17,13 @@ use Rattle.tql_engine.specs.Ending.{EndsTransaction, IsEnded}
 use Rattle.tql_engine.specs.Stands.{EngineModel}
 use Rattle.tql_engine.proofs.Stepping.{Answered, result_answered}
 
--- what is a statement and runs, runs
-runs_so : (text : List ℕ) (t : Statement) → does_run t ≡ true → HasSense IsStatement (finished text) (Says t)
-    → HasSense Runs (finished text) (Says t)
-runs_so text t run k = (k.0, (k.1.0, k.1.1, record { spelled = k.1.2; running = run }), k.2)
-
 -- a statement that the machine answers by a step
 pub step_answered : (new : EngineModel) (s : State) (text : List ℕ) (t : Statement) (b : Bound)
     (result : Result Reply Refusal)
-    → does_run t ≡ true → HasSense IsStatement (finished text) (Says t) → respond s t ≡ step s b
+    → HasSense (finished text) (Says t) → respond s t ≡ step s b
     → DoesStep new s result (step s b) → Answered s (finished text) (reply_by result) new
-step_answered new s text t b result run sense same does =
-    result_answered new s text t result (runs_so text t run sense) (subst (DoesStep new s result) (sym same) does)
+step_answered new s text t b result sense same does =
+    result_answered new s text t result sense (subst (DoesStep new s result) (sym same) does)
 
 -- the reply to COMMIT, to ROLLBACK
 pub commit_ended : (result : Result Reply Refusal) → IfOk result (λ reply. reply_of reply ≡ Done Committed None)
@@ -51,7 +44,7 @@ done_prints (Err e) verb h = tt
 
 -- a text that is told to be neither is neither
 pub never_ends : (text : List ℕ) (o : Option TransactionEnd) → o ≡ None
-    → ((o ≡ Some Commit) ↔ HasSense IsStatement (finished text) (Says CommitTree))
-    → ((o ≡ Some Rollback) ↔ HasSense IsStatement (finished text) (Says RollbackTree)) → EndsTransaction text → ⊥
+    → ((o ≡ Some Commit) ↔ HasSense (finished text) (Says CommitTree))
+    → ((o ≡ Some Rollback) ↔ HasSense (finished text) (Says RollbackTree)) → EndsTransaction text → ⊥
 never_ends text o is h k (inl x) = let y = h.1 x in absurd (cc)
 never_ends text o is h k (inr x) = let y = k.1 x in absurd (cc)

@@ -1,12 +1,12 @@
 -- What a plan over the store means is what the machine answers.
-use Rattle.std.proofs.Common.{◌≡◌, ◌<◌, refl, sym, ap, subst, ◌∙◌, ℕ, zero, suc, List, [], ◌∷◌, ◌++◌, map, length}
+use Rattle.std.proofs.Common.{◌≡◌, ◌<◌, refl, sym, ap, subst, ◌∙◌, ℕ, zero, suc, List, [], ◌∷◌, map, length}
 use Rattle.std.proofs.Common.{Option, Some, None, arith}
-use Rattle.std.specs.Prelude.{◌||◌, IsTrue, Bool, is_some, slice_get, All}
+use Rattle.std.specs.Prelude.{◌||◌, IsTrue, is_some, slice_get, All}
 use Rattle.std.specs.List.{flat_map}
 use Rattle.std.proofs.lemmas.List.Concat.{flat_map-cons}
 use Rattle.std.proofs.lemmas.List.Elements.{All-append, All-map, All-nil, All-push, All-weaker}
 use Rattle.tql_spec.specs.Datum.{Row}
-use Rattle.tql_spec.specs.Definition.{TableDef, Version, full, table_at}
+use Rattle.tql_spec.specs.Definition.{TableDef, full, table_at}
 use Rattle.tql_spec.specs.Expression.{eval, passes}
 use Rattle.tql_spec.specs.History.{TableEntry, found, table_history}
 use Rattle.tql_spec.specs.Machine.{State, bag_of, entries}
@@ -28,7 +28,6 @@ use Rattle.tql_catalog.specs.declared.catalog.Table.{Table}
 use Rattle.tql_expr.specs.Meaning.{cond}
 use Rattle.tql_expr.specs.declared.terms.Terms.{Terms}
 use Rattle.tql_plan.specs.Meaning.{Bags, meaning, source_for, sources_of, table_number_at}
-use Rattle.tql_plan.specs.Nodes.{Scan}
 use Rattle.tql_plan.specs.declared.plan.Plan.{Plan}
 use Rattle.tql_exec.specs.Found.{IsReadable, bags_in, completed}
 use Rattle.tql_store.specs.StoreModel.{has_table, is_versioned}

@@ -1,5 +1,5 @@
 -- A step keeps keys and references in every copy.
-use Rattle.std.proofs.Common.{◌≡◌, refl, ap, sym, subst, ◌∙◌, ℕ, zero, suc, Bool, true, false, List, [], ◌∷◌, ◌++◌}
+use Rattle.std.proofs.Common.{◌≡◌, refl, ap, subst, ◌∙◌, ℕ, zero, suc, Bool, true, false, List, [], ◌∷◌, ◌++◌}
 use Rattle.std.proofs.Common.{map, length}
 use Rattle.std.specs.Prelude.{not, remove, ℤ, Option, Some, None, if◌then◌else◌}
 use Rattle.std.specs.List.{AllByRecursion}

@@ -1,7 +1,7 @@
 -- From a fault of the state, and from what a statement is bound to or the fault of its binding, to what the machine
 -- does at it.
 use Rattle.std.proofs.Common.{◌≡◌, refl, sym, subst, ap, ◌∙◌, ◌<◌, arith, Bool, true, false, List, [], ◌∷◌, ◌++◌}
-use Rattle.std.proofs.Common.{Option, Some, None, Result, Ok, Err}
+use Rattle.std.proofs.Common.{Option, Some, None, Result, Err}
 use Rattle.std.specs.Prelude.{ℤ, nat_lt, is_some, is_none, ◌&&◌, if◌then◌else◌}
 use Rattle.std.specs.List.{AllByRecursion}
 use Rattle.tql_spec.specs.Calendar.{read_timestamp}

@@ -27,5 +27,6 @@ pub mod Joining
 pub mod StateFaults
 pub mod Bytes
 pub mod PointRuns
+pub mod HoldPoints
 pub mod Making
 pub mod Ending

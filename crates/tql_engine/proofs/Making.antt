@@ -1,23 +1,21 @@
 -- A change of one table: its keys and references, and what it leaves, are the machine's.
 use Rattle.std.proofs.Common.{◌≡◌, refl, ap, sym, subst, ◌∙◌, ℕ, zero, suc, Bool, List, [], ◌∷◌, ◌++◌, length, map}
 use Rattle.std.proofs.Common.{filter, Option, Some, None, Result, Err, arith}
-use Rattle.std.specs.Prelude.{ℤ, ◌≤ℤ◌, ◌<ℤ◌, not, IsNone, slice_get, slice_set}
+use Rattle.std.specs.Prelude.{ℤ, ◌<ℤ◌, not, IsNone, slice_get, slice_set}
 use Rattle.std.specs.List.{AllByRecursion}
 use Rattle.std.proofs.lemmas.List.{length-map}
 use Rattle.std.proofs.lemmas.List.Elements.{All-from_recursion}
 use Rattle.tql_spec.specs.Bag.{SameBag}
-use Rattle.tql_spec.specs.Calendar.{first_moment, high}
+use Rattle.tql_spec.specs.Calendar.{high}
 use Rattle.tql_spec.specs.Datum.{Row}
 use Rattle.tql_spec.specs.Definition.{Stamped, TableDef, Version}
 use Rattle.tql_spec.specs.History.{Copy, Entry, Now, current, completed, still, rows_in}
-use Rattle.tql_spec.specs.Machine.{State, Change, ChangeRows, Done, Refused, step, unless_refused, entries}
+use Rattle.tql_spec.specs.Machine.{State, Change, ChangeRows, Done, Refused, step, unless_refused}
 use Rattle.tql_spec.specs.Machine.{constraint_faults}
 use Rattle.tql_spec.specs.Refusal as spec
 use Rattle.tql_spec.specs.Refusal.{first, fault_if, DuplicateKey, ReferenceNotMet}
-use Rattle.tql_spec.specs.Constraint.{keys_hold, references_hold}
 use Rattle.tql_spec.specs.Run.{CopyHolds, ConstraintsHold}
 use Rattle.tql_spec.proofs.Bags.{same-map, same-refl, same-sym, same-trans, same-append, same-filter}
-use Rattle.tql_spec.proofs.FirstFaults.{none_first}
 use Rattle.tql_catalog.specs.Rows.{stored_width}
 use Rattle.tql_catalog.specs.Tables.{definitions_of}
 use Rattle.tql_catalog.specs.declared.catalog.Table.{Table}
@@ -38,7 +36,7 @@ use Rattle.tql_value.specs.declared.refusal.Refusal.{Refusal}
 use Rattle.tql_value.specs.declared.refusal.Refusal.TheVariants as r
 use Rattle.tql_engine.specs.Committing.{ChangesRows}
 use Rattle.tql_engine.specs.Effects.{Does, Refuses}
-use Rattle.tql_engine.specs.Fitting.{RowsFit, CopyFits}
+use Rattle.tql_engine.specs.Fitting.{RowsFit}
 use Rattle.tql_engine.specs.Making.{Changes}
 use Rattle.tql_engine.specs.Stands.{EngineModel, StandsFor, copies_of, working_of}
 use Rattle.tql_engine.proofs.Added.{after_faults, altered_by}

@@ -1,14 +1,13 @@
 -- UPDATE and DELETE, from what was made of the versions that the table has now.
-use Rattle.std.proofs.Common.{◌≡◌, ◌<◌, refl, ap, sym, subst, ◌∙◌, arith, ℕ, Bool, List, [], ◌∷◌, map, filter, length}
+use Rattle.std.proofs.Common.{◌≡◌, ◌<◌, refl, ap, sym, subst, ◌∙◌, arith, ℕ, List, [], ◌∷◌, map, length}
 use Rattle.std.proofs.Common.{Option, Some, None, Ok, Err}
-use Rattle.std.specs.Prelude.{ℤ, ◌≤ℤ◌, ◌<ℤ◌, not, IsNone, All, slice_get, Result}
+use Rattle.std.specs.Prelude.{ℤ, ◌≤ℤ◌, ◌<ℤ◌, IsNone, All, slice_get, Result}
 use Rattle.std.specs.List.{AllByRecursion}
 use Rattle.std.proofs.lemmas.Int.{ints}
 use Rattle.std.proofs.lemmas.List.Elements.{All-from_recursion}
 use Rattle.tql_spec.specs.Bag.{SameBag}
 use Rattle.tql_spec.proofs.Bags.{same-map, same-sym}
 use Rattle.tql_spec.specs.Calendar.{first_moment, high}
-use Rattle.tql_spec.specs.Datum.{Row}
 use Rattle.tql_spec.specs.Definition.{Stamped, TableDef, Version}
 use Rattle.tql_spec.specs.History.{Entry, Now, current, still, completed, table_history, rows_in}
 use Rattle.tql_spec.specs.Change as change

@@ -11,7 +11,7 @@ use Rattle.tql_run.specs.declared.runner.Fault.{Fault}
 use Rattle.tql_run.specs.declared.runner.Fault.TheVariants.{Read, Write, Memory}
 use Rattle.tql_engine.specs.Bytes.{RunsBytes}
 use Rattle.tql_engine.specs.Stands.{EngineModel, StandsFor}
-use Rattle.tql_engine.specs.PointRuns.{BytesAgreeAtPoints, Steps, StepsAgree, StepsAgreeAtPoints}
+use Rattle.tql_engine.specs.PointRuns.{BytesAgreeAtPoints, Steps, StepsAgreeAtPoints}
 
 -- a run over bytes in memory
 pub bytes_agree : (s : State) (after : Standing) (script old new : List ℕ) (result : Result Summary Fault)

@@ -1,5 +1,5 @@
 -- Every reply to a bound statement has a text.
-use Rattle.std.proofs.Common.{◌≡◌, ◌<◌, ℕ, sym, subst, arith, Bool, true, false, List, [], ◌++◌, map, length, Option}
+use Rattle.std.proofs.Common.{◌≡◌, ◌<◌, ℕ, sym, subst, arith, Bool, true, false, List, [], ◌++◌, length, Option}
 use Rattle.std.proofs.Common.{Some, None, Result, Ok, Err, refl}
 use Rattle.std.specs.Prelude.{All, IfOk, nat_lt, slice_set, if◌then◌else◌}
 use Rattle.std.proofs.lemmas.Bool.Decides.{nat_tests}

@@ -1,16 +1,16 @@
 -- Keys and references of a copy do not depend on the order in which its rows are kept.
-use Rattle.std.proofs.Common.{◌≡◌, refl, sym, ap, ◌∙◌, ℕ, zero, suc, ◌<◌, Bool, true, false, cond, List, [], ◌∷◌, map}
-use Rattle.std.proofs.Common.{length, arith, Option, Some, None, ◌++◌}
-use Rattle.std.specs.Prelude.{◌&&◌, ◌||◌, not, ltb, ℤ, slice_set, filter}
+use Rattle.std.proofs.Common.{◌≡◌, refl, sym, ap, ◌∙◌, ℕ, zero, suc, Bool, true, false, cond, List, [], ◌∷◌, map}
+use Rattle.std.proofs.Common.{arith, Option, Some, None, ◌++◌}
+use Rattle.std.specs.Prelude.{◌&&◌, ◌||◌, not, ltb, ℤ, slice_set}
 use Rattle.std.specs.List.{list_all, list_any}
 use Rattle.std.specs.Int.{int_max, int_min}
 use Rattle.std.proofs.lemmas.Int.{ints, clamps}
 use Rattle.tql_spec.specs.Bag.{SameBag}
 use Rattle.tql_spec.specs.Datum.{Row}
-use Rattle.tql_spec.specs.Period.{Period, holds, share_a_point, common, rises}
+use Rattle.tql_spec.specs.Period.{Period, holds, share_a_point, rises}
 use Rattle.tql_spec.specs.Definition.{TableDef, Key, Reference, Stamped, period_of, shown, table_at, place_of, no_table}
 use Rattle.tql_spec.specs.History.{Copy, rows_in}
-use Rattle.tql_spec.specs.Constraint.{match_on, same_key, clash, key_holds, keys_hold, parents_of, has_null, held_at}
+use Rattle.tql_spec.specs.Constraint.{match_on, clash, key_holds, keys_hold, has_null, held_at}
 use Rattle.tql_spec.specs.Constraint.{covered, is_met_by, is_met, reference_holds, reference_to, references_hold}
 use Rattle.tql_spec.specs.Constraint.{shown_rows, each_table}
 use Rattle.tql_spec.specs.Machine.{constraint_faults}

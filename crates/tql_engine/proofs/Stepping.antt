@@ -1,11 +1,10 @@
 -- From the machine's step at a statement to the answer to a text.
-use Rattle.std.proofs.Common.{◌≡◌, refl, sym, subst, ℕ, List, Result, Ok, Err, inl, inr}
+use Rattle.std.proofs.Common.{refl, ℕ, List, Result, Ok, Err, inl, inr}
 use Rattle.tql_spec.specs.Refusal.{OutOfMemory}
 use Rattle.tql_spec.specs.Machine as machine
 use Rattle.tql_spec.specs.Machine.{State, Refused}
 use Rattle.tql_spec.specs.Script.{Piece}
 use Rattle.tql_spec.specs.Syntax.{Statement}
-use Rattle.tql_spec.specs.Running.{Runs}
 use Rattle.tql_spec.specs.Run.{HasSense, Says, Faulty, Answers, finished, respond}
 use Rattle.tql_value.specs.Refusals.{refusal_of}
 use Rattle.tql_value.specs.declared.refusal.Refusal.{Refusal}
@@ -25,7 +24,7 @@ Answered s p reply h = responding.Answered Answers s p reply (StandsFor h)
 
 -- a reply that the machine gives at the statement that a text says
 pub statement_answered : (new : EngineModel) (s : State) (text : List ℕ) (t : Statement) (reply : machine.Reply)
-    → HasSense Runs (finished text) (Says t) → Does new reply (respond s t) → Answered s (finished text) reply new
+    → HasSense (finished text) (Says t) → Does new reply (respond s t) → Answered s (finished text) reply new
 statement_answered new s text t reply sense d = record {
   state = (respond s t).1;
   answers = inl (Says t, sense, λ i. (d.replies i, (respond s t).1));
@@ -39,7 +38,7 @@ memory_answered new s p st = record { state = s; answers = inr (refl, refl); sta
 
 -- a fault of the text
 pub fault_answered : (new : EngineModel) (s : State) (p : Piece) (e : Refusal) → StandsFor new s
-    → HasSense Runs p (Faulty (refusal_of e)) → Answered s p (Refused (refusal_of e)) new
+    → HasSense p (Faulty (refusal_of e)) → Answered s p (Refused (refusal_of e)) new
 fault_answered new s p e st sense = record {
   state = s;
   answers = inl (Faulty (refusal_of e), sense, refl);
@@ -48,7 +47,7 @@ fault_answered new s p e st sense = record {
 
 -- what a statement's result answers
 pub refused_answered : (new : EngineModel) (s : State) (text : List ℕ) (t : Statement) (e : Refusal)
-    → HasSense Runs (finished text) (Says t) → Refuses new s e (respond s t)
+    → HasSense (finished text) (Says t) → Refuses new s e (respond s t)
     → Answered s (finished text) (Refused (refusal_of e)) new
 refused_answered new s text t r.OutOfMemory sense d = memory_answered new s (finished text) d
 refused_answered new s text t r.StatementTooLong sense d =
@@ -138,7 +137,7 @@ unread_answered new s st text r.ReferenceNotMet why = fault_answered new s (fini
 
 -- what a statement's result answers
 pub result_answered : (new : EngineModel) (s : State) (text : List ℕ) (t : Statement) (result : Result Reply Refusal)
-    → HasSense Runs (finished text) (Says t) → DoesStep new s result (respond s t)
+    → HasSense (finished text) (Says t) → DoesStep new s result (respond s t)
     → Answered s (finished text) (reply_by result) new
 result_answered new s text t (Ok reply) sense d = statement_answered new s text t (reply_of reply) sense d
 result_answered new s text t (Err e) sense d = refused_answered new s text t e sense d

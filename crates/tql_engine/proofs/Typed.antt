@@ -1,15 +1,15 @@
 -- An engine that does a step of the machine is sound, since the step keeps the kinds of values; and what a change reads
 -- is of its table's kinds.
-use Rattle.std.proofs.Common.{◌≡◌, refl, sym, ap, subst, ◌∙◌, ℕ, List, [], ◌∷◌, length, All, map, Option, Some, None}
+use Rattle.std.proofs.Common.{◌≡◌, refl, sym, ap, subst, ◌∙◌, ℕ, List, [], ◌∷◌, map, Option, Some, None}
 use Rattle.std.proofs.Common.{inl, inr}
 use Rattle.std.specs.Prelude.{ℤ, slice_get}
 use Rattle.std.specs.List.{AllByRecursion}
 use Rattle.std.proofs.lemmas.List.Elements.{All-from_recursion}
-use Rattle.tql_spec.specs.Bag.{In, SameBag}
+use Rattle.tql_spec.specs.Bag.{In}
 use Rattle.tql_spec.specs.Creation.{kinds_of}
 use Rattle.tql_spec.specs.Definition.{Stamped, TableDef, shown, table_at}
-use Rattle.tql_spec.specs.History.{Entry, Now, rows_in}
-use Rattle.tql_spec.specs.Machine.{State, Bound, DropTable, Reply, step, newest_copy}
+use Rattle.tql_spec.specs.History.{Entry, Now}
+use Rattle.tql_spec.specs.Machine.{State, Bound, DropTable, Reply, step}
 use Rattle.tql_spec.specs.Typing.{AreOfKinds, IsTyped, IsTypedDefinition, IsTypedState}
 use Rattle.tql_spec.specs.TypingLaws.{IsTypedBound, IsTypedChange, IsTypedWork}
 use Rattle.tql_spec.proofs.KindRuns.{steps_keep}

@@ -1,5 +1,5 @@
 -- What an INSERT from a query adds, from what the machine's query answers.
-use Rattle.std.specs.Prelude.{◌≡◌, ◌⊎◌, List, [], All, Option, Some, None, Result, Ok, Err, ⊤}
+use Rattle.std.specs.Prelude.{◌≡◌, ◌⊎◌, List, [], All, Some, None, Result, Ok, Err, ⊤}
 use Rattle.tql_spec.specs.Bag.{SameBag}
 use Rattle.tql_spec.specs.Datum.{Row}
 use Rattle.tql_spec.specs.Machine.{State, bag_of}

@@ -8,6 +8,7 @@ pub mod Sense
 pub mod Bytes
 pub mod Modifying
 pub mod PointRuns
+pub mod HoldPoints
 pub mod Making
 pub mod Dropping
 pub mod Ending

@@ -1,5 +1,5 @@
 -- A change of one table, as it is computed, and what the machine's own is to it.
-use Rattle.std.specs.Prelude.{◌≡◌, ℕ, Bool, List, [], All, Some, slice_get}
+use Rattle.std.specs.Prelude.{◌≡◌, ℕ, Bool, [], All, Some, slice_get}
 use Rattle.tql_spec.specs.Bag.{SameBag}
 use Rattle.tql_spec.specs.Change.{Outcome}
 use Rattle.tql_spec.specs.Definition.{Stamped}

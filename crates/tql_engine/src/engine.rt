@@ -67,7 +67,6 @@ impl Engine {
     ghost use Rattle.tql_spec.specs.Definition.{TableDef};
     ghost use Rattle.tql_spec.specs.Machine.{State, CreateTable, DropTable, new_state, step};
     ghost use Rattle.tql_spec.specs.Run.{Answers, finished, respond};
-    ghost use Rattle.tql_spec.specs.Running.{does_run};
     ghost use Rattle.tql_spec.specs.Syntax.{is_too_wide};
     ghost use Rattle.tql_spec.specs.TypingLaws.{IsTypedBound};
     ghost use Rattle.tql_syntax_tree.specs.Statements.{statement_of};
@@ -75,6 +74,7 @@ impl Engine {
     ghost use Rattle.tql_bound.specs.Bounds.{IsSound, bound_of};
     ghost use Rattle.tql_catalog.specs.Tables.{can_have, definitions_of};
     ghost use Rattle.tql_result.specs.Replies.{reply_of, IsPrintableReply};
+    ghost use Rattle.tql_engine.specs.HoldPoints.{HoldsFor};
     ghost use Rattle.tql_engine.specs.Stands.{StandsFor};
     ghost use Rattle.tql_engine.specs.Allowed.{IsAllowed};
     ghost use Rattle.tql_engine.specs.Dropping.{IsDropped};
@@ -82,9 +82,10 @@ impl Engine {
     ghost use Rattle.tql_engine.specs.Effects.{DoesStep, reply_by};
 
     /// An engine without tables, whose clock stands at the first moment.
-    #[tactic(auto, using(crate::proofs::Standing::new_law))]
+    #[tactic(auto, using(crate::proofs::Standing::new_law, crate::proofs::HoldPoints::new_holds))]
     pub fn new(memory: Memory) -> Engine
-        ensures { StandsFor result new_state }
+        ensures stands { StandsFor result new_state }
+        ensures holds { HoldsFor result new_state }
     {
         Engine {
             memory,
@@ -129,7 +130,6 @@ impl Engine {
 
     /// Runs a statement. A refused statement changes nothing.
     pub(crate) fn execute(&mut self, statement: &Statement<'_>) -> Result<Reply, Refusal>
-        requires runs { IsTrue (does_run (statement_of statement.now)) }
         requires narrow { IsFalse (is_too_wide (statement_of statement.now)) }
         ensures answered { (s : State) → StandsFor self.old s
             → DoesStep self.new s result (respond s (statement_of statement.now)) }
@@ -171,13 +171,17 @@ impl Engine {
     }
 
     /// Answers one finished statement by its text, without its `;`. Any bytes are taken: more than 1,048,576 of them,
-    /// bytes that are not UTF-8, and texts that are no statement that runs are refused. A refused statement changes
-    /// nothing. COMMIT and ROLLBACK, with WORK or without, take no memory, so a transaction can always be ended.
+    /// bytes that are not UTF-8, and texts that are no statement are refused. A refused statement changes
+    /// nothing. COMMIT and ROLLBACK, with WORK or without, take no memory, so a transaction can always be ended. Where
+    /// keys and references hold at every point of time in each copy before it, the working one too, they do behind it
+    /// (clause `holds`).
     pub fn step(&mut self, text: &[u8]) -> Reply
         ensures answered { (s : State) → StandsFor self.old s
             → Answered Answers s (finished text.now) (reply_of result) (StandsFor self.new) }
         ensures printable { IsPrintableReply (reply_of result) }
         ensures ends { EndsTransaction text.now → IsEnded (reply_of result) }
+        ensures holds { (s : State) → HoldsFor self.old s
+            → Answered Answers s (finished text.now) (reply_of result) (HoldsFor self.new) }
     {
         match self.try_step(text) {
             Ok(reply) => reply,

@@ -4,6 +4,7 @@ ghost use Rattle.tql_spec.specs.Run.{Replies};
 ghost use Rattle.tql_run.specs.Hearing.{hearing_change};
 ghost use Rattle.tql_run.specs.Runs.{Runs, source_change, sink_change};
 ghost use Rattle.tql_engine.specs.Bytes.{RunsBytes};
+ghost use Rattle.tql_engine.specs.HoldPoints.{HoldsFor};
 ghost use Rattle.tql_engine.specs.PointRuns.{BytesAgreeAtPoints};
 ghost use Rattle.tql_engine.specs.Stands.{StandsFor};
 
@@ -28,14 +29,19 @@ const TOO_MANY_BYTES: usize = MOST_PULLS as usize;
 /// the statements that came whole before that have run and stand, and the run says `Read`; where the sink fails, no
 /// statement runs behind the one whose reply it did not take, and the run says `Write`. A refused statement does not
 /// stop the run. Memory for a whole script is not asked for: where a statement finds none it is refused, and `Memory`
-/// is said only of what a run takes at its start.
+/// is said only of what a run takes at its start. Where keys and references hold at every point of time in each copy
+/// before it, the working one too, they do behind it (clause `holds`).
 pub fn run<I: Source<O>, O: Sink, L: Listener>(
     engine: &mut Engine,
     source: &mut I,
     sink: &mut O,
     listener: &mut L,
 ) -> Result<Summary, Fault>
-    ensures { (s : State) → StandsFor engine.old s → Runs Replies s (StandsFor engine.new)
+    ensures ran { (s : State) → StandsFor engine.old s → Runs Replies s (StandsFor engine.new)
+        (source_change I.left I.failures I.ended source.old source.new)
+        (sink_change O.written O.failures O.flushed O.flushes_fail sink.old sink.new)
+        (hearing_change L.heard listener.old listener.new) result }
+    ensures holds { (s : State) → HoldsFor engine.old s → Runs Replies s (HoldsFor engine.new)
         (source_change I.left I.failures I.ended source.old source.new)
         (sink_change O.written O.failures O.flushed O.flushes_fail sink.old sink.new)
         (hearing_change L.heard listener.old listener.new) result }
@@ -49,7 +55,8 @@ pub fn run<I: Source<O>, O: Sink, L: Listener>(
 /// run says `Memory`. Where the script has 2^48 - 1 bytes or more, nothing runs, and the run says `Read`; it says that
 /// of no shorter script. A refused statement does not stop the run. What ran agrees with the machines of all points
 /// (clause `points`): where its first statements make tables in scope and those behind them are in scope, it is at each
-/// point what a plain machine without periods does.
+/// point what a plain machine without periods does. Where keys and references hold at every point of time in each copy
+/// before it, the working one too, they do behind it (clause `holds`).
 pub fn run_bytes(
     engine: &mut Engine,
     script: &[u8],
@@ -59,6 +66,8 @@ pub fn run_bytes(
         → RunsBytes s (StandsFor engine.new) script.now output.old.items output.new.items result }
     ensures points { (s : State) → StandsFor engine.old s
         → BytesAgreeAtPoints s (StandsFor engine.new) script.now output.old.items output.new.items result }
+    ensures holds { (s : State) → HoldsFor engine.old s
+        → RunsBytes s (HoldsFor engine.new) script.now output.old.items output.new.items result }
 {
     if script.len() >= TOO_MANY_BYTES {
         return Err(Fault::Read);

@@ -3,13 +3,12 @@ ghost use Rattle.tql_engine.specs.Sense.{ReadsAs};
 
 use tql_memory::Memory;
 use tql_syntax::text::read_text;
-use tql_syntax_tree::running::does_run;
 use tql_syntax_tree::tree::Tree;
 use tql_syntax_tree::width::is_too_wide;
 use tql_value::refusal::Refusal;
 
 /// Reads a finished statement. Refused are, the first of them: over 1,048,576 bytes, bytes that are not UTF-8, over
-/// 64 parentheses open at once, a text that is no statement that runs, and over 64 columns.
+/// 64 parentheses open at once, a text that is no statement, and over 64 columns or 8 table references.
 pub fn read_statement(memory: Memory, text: &[u8]) -> Result<Tree<'_>, Refusal>
     ensures { ReadsAs text.now result }
 {
@@ -17,9 +16,6 @@ pub fn read_statement(memory: Memory, text: &[u8]) -> Result<Tree<'_>, Refusal>
         Ok(tree) => tree,
         Err(refusal) => return Err(refusal),
     };
-    if !does_run(&tree.statement) {
-        return Err(Refusal::NotAStatement);
-    }
     if is_too_wide(&tree.statement) {
         return Err(Refusal::TooManyColumnsOrTables);
     }

@@ -14,7 +14,7 @@ use Rattle.tql_spec.specs.Definition.{TableDef, Stamped, cell, shown}
 use Rattle.tql_spec.specs.Truth.{is_true}
 use Rattle.tql_spec.proofs.Bags.{same-map, same-filter, same-sym}
 use Rattle.tql_spec.proofs.Members.{both}
-use Rattle.tql_catalog.specs.Rows.{stored_width}
+use Rattle.tql_catalog.specs.Rows.{AreStoredAt, stored_width}
 use Rattle.tql_catalog.specs.declared.catalog.Table.{Table}
 use Rattle.tql_store.specs.StoreModel.{StoreModel, live}
 use Rattle.tql_store.specs.Views.{IsFound}
@@ -23,7 +23,7 @@ use Rattle.tql_store_rows.specs.Changes.{alive, is_current}
 use Rattle.tql_store_rows.specs.Readings.{version_shown, where_open}
 use Rattle.tql_store_rows.specs.declared.version.Version.{Version}
 use Rattle.tql_value.specs.declared.when.When.TheVariants.{Now}
-use Rattle.tql_keys.specs.Asked.{AreRowsOf, AreStoredAt, row_found, row_named, rows_with}
+use Rattle.tql_keys.specs.Asked.{AreRowsOf, row_found, row_named, rows_with}
 use Rattle.tql_keys.specs.Touched.{has_tuple}
 
 -- ---- tuples of stored cells

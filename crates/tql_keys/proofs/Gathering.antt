@@ -1,11 +1,8 @@
 -- Periods as they are gathered, and what they cover.
-use Rattle.std.proofs.Common.{◌≡◌, ◌<◌, ◌≤◌, refl, sym, ap, ◌∙◌, ℕ, ◌+◌, zero, suc, Bool, true, false, List, [], ◌∷◌}
-use Rattle.std.proofs.Common.{map, filter, length, drop, get_or, add-one, arith, Vec}
+use Rattle.std.proofs.Common.{◌≡◌, ◌<◌, refl, sym, ap, ◌∙◌, ℕ, zero, suc, Bool, true, false, List, [], ◌∷◌}
+use Rattle.std.proofs.Common.{map, filter, length, get_or, arith}
 use Rattle.std.specs.Prelude.{◌||◌, ◌↔◌, ℤ, Contains, IsTrue}
-use Rattle.std.specs.List.{list_any}
-use Rattle.std.proofs.Math.Seq.{drop-cons}
 use Rattle.std.proofs.lemmas.Int.{ints}
-use Rattle.std.proofs.lemmas.List.{drop_all}
 use Rattle.tql_spec.specs.Datum.{Row}
 use Rattle.tql_spec.specs.Period.{Period, Holds, Covers, holds, rises}
 use Rattle.tql_spec.specs.Definition.{TableDef, Reference}
@@ -13,51 +10,11 @@ use Rattle.tql_spec.specs.Constraint.{ReferenceTestIsRight, covered, held_at, pa
 use Rattle.tql_spec.proofs.Members.{by_bool}
 use Rattle.tql_period.specs.Points.{points_of}
 use Rattle.tql_period.specs.declared.period.Period as code
-use Rattle.tql_value.specs.Views.{rows_of}
-use Rattle.tql_value.specs.declared.value.Value.{Value}
-use Rattle.tql_keys.specs.Asked.{new_rows}
 use Rattle.tql_keys.specs.Parents.{any_holds}
 use Rattle.tql_keys.specs.Touched.{tuple, with_tuple}
 use Rattle.tql_keys.proofs.Bools.{same_bool}
 use Rattle.tql_keys.proofs.Covering.{covered_says, covered_if}
-use Rattle.tql_keys.proofs.Stepping.{new_row}
 use Rattle.tql_keys.proofs.Tuples.{match_sym, match_tuple}
-
-pub or_assoc : (a b c : Bool) → (a || b) || c ≡ a || (b || c)
-or_assoc true b c = refl
-or_assoc false b c = refl
-
-pub or_no : (a : Bool) → a || false ≡ a
-or_no true = refl
-or_no false = refl
-
--- the elements that are left, and one before them
-pub one_any : {X : Type 0} (P : X → Bool) (xs : List X) (i : ℕ) (x : X) → i < length xs → x ≡ get_or xs i x
-    → list_any P (drop i xs) ≡ P x || list_any P (drop (i + 1) xs)
-one_any P xs i x l e =
-    ap (list_any P) (drop-cons xs i x l) ∙ ap (λ y. P y || list_any P (drop (suc i) xs)) (sym e)
-    ∙ ap (λ n. P x || list_any P (drop n xs)) (sym (add-one i))
-
--- one step of gathering
-pub gathered : {X : Type 0} (P : X → Bool) (xs : List X) (i : ℕ) (x : X) (a b q whole : Bool) → i < length xs
-    → x ≡ get_or xs i x → b ≡ a || q → q ≡ P x → a || list_any P (drop i xs) ≡ whole
-    → b || list_any P (drop (i + 1) xs) ≡ whole
-gathered P xs i x a b q whole l e f g h =
-    ap (λ c. c || list_any P (drop (i + 1) xs)) f ∙ or_assoc a q (list_any P (drop (i + 1) xs))
-    ∙ ap (λ c. a || (c || list_any P (drop (i + 1) xs))) g
-    ∙ ap (λ c. a || c) (sym (one_any P xs i x l e)) ∙ h
-
--- when all were gathered
-pub gathered_all : {X : Type 0} (P : X → Bool) (xs : List X) (i : ℕ) (a whole : Bool) → length xs ≤ i
-    → a || list_any P (drop i xs) ≡ whole → a ≡ whole
-gathered_all P xs i a whole l h =
-    sym (or_no a) ∙ ap (λ c. a || c) (sym (ap (list_any P) (drop_all i xs l))) ∙ h
-
--- a test of new rows is one of the rows of values
-pub any_new : {A : Type 0} (P : Row → Bool) (d : TableDef) (m : ℤ) (rows : List (Vec Value A))
-    → list_any (λ v. P (new_row d m v)) rows ≡ list_any P (new_rows d m (rows_of rows))
-any_new P d m [] = refl
-any_new P d m (v ∷ rows) = ap (λ b. P (new_row d m v) || b) (any_new P d m rows)
 
 -- the parents of a child row are the rows with its tuple
 pub parents_is : (f : Reference) (rows : List Row) (r : Row)

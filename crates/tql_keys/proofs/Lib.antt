@@ -1,3 +1,4 @@
+pub mod Agreeing
 pub mod Bools
 pub mod Covering
 pub mod Freely
@@ -9,10 +10,12 @@ pub mod Sameness
 pub mod Tested
 pub mod Told
 pub mod Sharing
+pub mod SortedRivals
 pub mod Tuples
 pub mod Wheres
 pub mod WholeCopy
 pub mod Stepping
+pub mod Neighbours
 pub mod Positions
 pub mod Zips
 pub mod Earlier

@@ -22,7 +22,8 @@ use Rattle.tql_keys.proofs.Bools.{all_same, same_bool}
 use Rattle.tql_keys.proofs.Tuples.{match_sym}
 use Rattle.tql_keys.proofs.Wheres.{all_bag}
 
-any_bag : {A : Type 0} (p : A → Bool) {xs ys : List A} → SameBag xs ys → list_any p xs ≡ list_any p ys
+-- whether some element passes sees the bag
+pub any_bag : {A : Type 0} (p : A → Bool) {xs ys : List A} → SameBag xs ys → list_any p xs ≡ list_any p ys
 any_bag p {xs} {ys} h =
     any-total p xs ∙ ap (ltb 0) (h.totals (λ x. cond (p x) 1 0)) ∙ sym (any-total p ys)
 
@@ -38,7 +39,8 @@ clash_turned d k r s =
     ∙ ap (λ b. match_on k.columns s k.columns r && (not k.by_period || b))
     (share_turned (period_of d r) (period_of d s))
 
-key_by_bag : (d : TableDef) {xs ys : List Row} → SameBag xs ys → (k : Key) → key_holds d xs k ≡ key_holds d ys k
+-- whether a key holds sees the bag of the rows
+pub key_by_bag : (d : TableDef) {xs ys : List Row} → SameBag xs ys → (k : Key) → key_holds d xs k ≡ key_holds d ys k
 key_by_bag d {xs} {ys} h k =
     same_bool (key_holds d xs k) (key_holds d ys k) (pairs_by_bag (clash d k) (clash_turned d k) xs ys h)
     (pairs_by_bag (clash d k) (clash_turned d k) ys xs (same-sym h))

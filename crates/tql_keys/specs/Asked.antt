@@ -4,7 +4,7 @@ use Rattle.std.specs.List.{list_all}
 use Rattle.tql_spec.specs.Bag.{SameBag}
 use Rattle.tql_spec.specs.Constraint.{key_holds, shown_rows}
 use Rattle.tql_spec.specs.Datum.{Datum, Row}
-use Rattle.tql_spec.specs.Definition.{TableDef, Stamped, Version, cell, shown, with_generated}
+use Rattle.tql_spec.specs.Definition.{TableDef, Stamped, Version, shown}
 use Rattle.tql_catalog.specs.Rows.{stored_width}
 use Rattle.tql_catalog.specs.declared.catalog.Table.{Table}
 use Rattle.tql_store.specs.Changes.{starting}
@@ -33,12 +33,6 @@ row_named h t id = option_map (λ (v : Version). v.row) (current_named h t id)
 -- the row that was found
 abbrev pub row_found : code.Version → Stamped
 row_found v = (version_shown v).row
-
--- what stands in these columns of a row of the table, whichever moments stand in the generated ones, are the cells of
--- these numbers among those that are stored
-abbrev pub AreStoredAt : TableDef → List ℕ → List ℕ → Type 0
-AreStoredAt d columns stored = (cells : Row) (start end : ℤ) → length cells ≡ stored_width d
-    → map (cell (with_generated d.system cells start end)) columns ≡ map (cell cells) stored
 
 -- the rows of a tuple
 abbrev pub rows_with : TableDef → List ℕ → List Datum → List Stamped → List Stamped

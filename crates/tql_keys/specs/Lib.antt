@@ -1,7 +1,9 @@
 pub mod Asked
 pub mod Checked
+pub mod Coming
 pub mod Laws
 pub mod Named
 pub mod Parents
+pub mod Places
 pub mod Rising
 pub mod Touched

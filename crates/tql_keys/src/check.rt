@@ -212,8 +212,8 @@ fn test<I: IntervalIndex>(
 /// Tests keys and references after a change of the table at a place, whose new rows begin at the moment, in
 /// microseconds since 1970-01-01. Where those of all tables hold in what the store has, they hold after the change, or
 /// it is refused: as `DuplicateKey` (E35) where a key fails, else as `ReferenceNotMet` (E36) (ISO/IEC 9075-2:2011, 11.7
-/// and 11.8); memory aside. Of the rows that stay only those with a tuple of one that comes or goes are looked at; of
-/// those that come each is compared with each. Nothing is changed.
+/// and 11.8); memory aside. Of the rows that stay only those with a tuple of one that comes or goes are looked at;
+/// those that come are sorted, and of these neighbours are compared. Nothing is changed.
 pub fn check<I: IntervalIndex>(
     memory: Memory,
     catalog: &Catalog,

@@ -2,14 +2,13 @@
 ghost use Rattle.std.specs.Prelude.{◌≡◌, List, All, Some, map, IfOk, IsTrue};
 ghost use Rattle.tql_spec.specs.Bag.{SameBag};
 ghost use Rattle.tql_spec.specs.Definition.{Stamped};
-ghost use Rattle.tql_catalog.specs.Rows.{are_assignable};
+ghost use Rattle.tql_catalog.specs.Rows.{are_assignable, AreStoredAt};
 ghost use Rattle.tql_store.specs.StoreModel.{has_table};
 ghost use Rattle.tql_value.specs.Views.{datum_of_view};
-ghost use Rattle.tql_keys.specs.Asked.{AreRowsOf, AreStoredAt, row_found, row_named, rows_with};
+ghost use Rattle.tql_keys.specs.Asked.{AreRowsOf, row_found, row_named, rows_with};
 
 use std::alloc::AllocError;
 use tql_catalog::catalog::Table;
-use tql_catalog::table_def::TableDef;
 use tql_index::index::IntervalIndex;
 use tql_memory::Memory;
 use tql_store::store::Store;
@@ -36,22 +35,6 @@ impl Drop for Chain<'_> {
     }
 }
 
-/// The numbers that columns, none generated, have among those that are stored.
-fn stored_numbers(
-    memory: Memory,
-    definition: &TableDef,
-    columns: &[usize],
-) -> Result<Vec<usize, Memory>, AllocError>
-    requires { IsTrue (are_assignable definition.now columns.now) }
-    ensures { IfOk result (λ stored. AreStoredAt definition.now columns.now stored.items) }
-{
-    let mut stored = Vec::with_capacity(memory, columns.len())?;
-    for column in columns {
-        stored.push(definition.stored_number(*column))?;
-    }
-    Ok(stored)
-}
-
 impl<'a> Chain<'a> {
     /// These columns of a table.
     pub(crate) fn of(
@@ -63,7 +46,7 @@ impl<'a> Chain<'a> {
         ensures table { IfOk result (λ chain. chain.table.now ≡ table.now) }
         ensures columns { IfOk result (λ chain. chain.columns.now ≡ columns.now) }
     {
-        let stored = stored_numbers(memory, &table.definition, columns)?;
+        let stored = table.definition.stored_numbers(memory, columns)?;
         Ok(Chain {
             table,
             columns,

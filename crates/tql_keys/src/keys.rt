@@ -1,71 +1,27 @@
 //! The keys of a table after a change.
-ghost use Rattle.std.specs.Prelude.{◌≡◌, ℤ, Bool, true, not, map, List, IfOk, IsTrue};
-ghost use Rattle.std.specs.List.{list_all};
-ghost use Rattle.tql_spec.specs.Definition.{Stamped, shown};
-ghost use Rattle.tql_spec.specs.Constraint.{clash as clash_in, key_holds, shown_rows};
+ghost use Rattle.std.specs.Prelude.{◌≡◌, Bool, true, List, IfOk, IsTrue};
+ghost use Rattle.tql_spec.specs.Definition.{Stamped};
+ghost use Rattle.tql_spec.specs.Constraint.{key_holds, shown_rows};
 ghost use Rattle.tql_catalog.specs.Definitions.{key_of};
 ghost use Rattle.tql_catalog.specs.Rows.{are_assignable};
 ghost use Rattle.tql_expr.specs.Shown.{shown_by};
 ghost use Rattle.tql_store.specs.Changes.{rows_after};
 ghost use Rattle.tql_store.specs.StoreModel.{has_table};
 ghost use Rattle.tql_value.specs.Views.{rows_of};
-ghost use Rattle.tql_keys.specs.Asked.{AreRowsOf, IsJudged, new_rows, row_named, staying, keys_hold_of};
+ghost use Rattle.tql_keys.specs.Asked.{AreRowsOf, IsJudged, row_named, staying, keys_hold_of};
 ghost use Rattle.tql_keys.specs.Touched.{is_free as free_in};
 
 use crate::change::Change;
 use crate::finding::Chain;
-use crate::reading::{clash, collides, current_row, tuple_of};
+use crate::reading::{collides, current_row, tuple_of};
+use crate::rivals::are_apart;
 use std::alloc::AllocError;
 use tql_catalog::catalog::Table;
 use tql_catalog::constraint::Key;
-use tql_catalog::table_def::TableDef;
 use tql_expr::stored::StoredRow;
 use tql_index::index::IntervalIndex;
 use tql_memory::Memory;
 use tql_store::store::Store;
-use tql_value::value::Value;
-
-/// Whether a row clashes with none of these rows, which begin at a moment.
-fn is_apart(
-    definition: &TableDef,
-    key: &Key,
-    row: &StoredRow<'_>,
-    others: &[Vec<Value, Memory>],
-    moment: i64,
-) -> bool
-    ensures { result ≡ list_all (λ s. not (clash_in definition.now (key_of key.now) (shown_by row.now) s))
-        (new_rows definition.now moment (rows_of others.now)) }
-{
-    others.iter().all(|other| {
-        !clash(
-            definition,
-            key,
-            row,
-            &current_row(definition, other, moment),
-        )
-    })
-}
-
-/// Whether no two of these rows, which begin at a moment, clash in the key.
-fn are_apart(definition: &TableDef, key: &Key, rows: &[Vec<Value, Memory>], moment: i64) -> bool
-    ensures { result
-        ≡ key_holds definition.now (new_rows definition.now moment (rows_of rows.now)) (key_of key.now) }
-{
-    let mut left = rows;
-    while let [row, others @ ..] = left {
-        if !is_apart(
-            definition,
-            key,
-            &current_row(definition, row, moment),
-            others,
-            moment,
-        ) {
-            return false;
-        }
-        left = others;
-    }
-    true
-}
 
 /// Whether a new row clashes with none of its tuple that stays in the table.
 fn is_free<I: IntervalIndex>(
@@ -120,7 +76,8 @@ fn holds_after<I: IntervalIndex>(
         (key_of key.now)) }
 {
     let definition = &table.definition;
-    if !are_apart(definition, key, change.added, change.moment) {
+    let apart = are_apart(memory, definition, key, change.added, change.moment)?;
+    if !apart {
         return Ok(false);
     }
     let chain = Chain::of(memory, table, &key.columns)?;

@@ -3,8 +3,11 @@
 
 mod change;
 pub mod check;
+mod coming;
 mod finding;
 mod keys;
 pub mod laws;
+mod places;
 mod reading;
 mod references;
+mod rivals;

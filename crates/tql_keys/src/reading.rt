@@ -7,8 +7,9 @@ ghost use Rattle.tql_spec.specs.Constraint.{match_on, clash as clash_in};
 ghost use Rattle.tql_expr.specs.Shown.{shown_by};
 ghost use Rattle.tql_catalog.specs.Definitions.{key_of};
 ghost use Rattle.tql_period.specs.Points.{points_of};
-ghost use Rattle.tql_value.specs.Views.{datum_of_view, row_of};
+ghost use Rattle.tql_value.specs.Views.{datum_of_view, row_of, rows_of};
 ghost use Rattle.tql_store.specs.Changes.{starting};
+ghost use Rattle.tql_keys.specs.Asked.{new_rows};
 ghost use Rattle.tql_keys.specs.Touched.{tuple, collide, has_tuple as tuple_in, share as share_in};
 
 use std::alloc::AllocError;
@@ -36,6 +37,22 @@ pub(crate) fn current_row<'a>(
         start,
         end: HIGH,
     }
+}
+
+/// Current rows as their table shows them, by their cells and the moment at which they began.
+pub(crate) fn current_rows<'a>(
+    memory: Memory,
+    definition: &TableDef,
+    rows: &'a [Vec<Value, Memory>],
+    start: i64,
+) -> Result<Vec<StoredRow<'a>, Memory>, AllocError>
+    ensures { IfOk result (λ current. map shown_by current.items ≡ new_rows definition.now start (rows_of rows.now)) }
+{
+    let mut current = Vec::with_capacity(memory, rows.len())?;
+    for cells in rows {
+        current.push(current_row(definition, cells, start))?;
+    }
+    Ok(current)
 }
 
 /// The values of a row in some columns.
@@ -73,7 +90,7 @@ pub(crate) fn has_tuple(columns: &[usize], tuple: &[View<'_>], row: &StoredRow<'
 }
 
 /// The point that a value is, in days or microseconds since 1970-01-01; 0 for what is none.
-fn point(value: View<'_>) -> i64
+pub(crate) fn point(value: View<'_>) -> i64
     ensures { result ≡ point_of (datum_of_view value.entry) }
 {
     match value {

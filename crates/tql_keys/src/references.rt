@@ -1,6 +1,7 @@
 //! Whether a child row is met after a change of its parent table, and references after a change of either table.
 ghost use Rattle.std.specs.Prelude.{◌≡◌, ◌||◌, ◌&&◌, ℤ, Bool, true, not, map, List, IfOk, IsTrue, OnOk};
 ghost use Rattle.std.specs.List.{list_any};
+ghost use Rattle.tql_spec.specs.Bag.{SameBag};
 ghost use Rattle.tql_spec.specs.Datum.{Row};
 ghost use Rattle.tql_spec.specs.Definition.{Stamped, shown, period_of};
 ghost use Rattle.tql_spec.specs.Definition.{TableDef as Def};
@@ -15,11 +16,13 @@ ghost use Rattle.tql_store.specs.Changes.{rows_after};
 ghost use Rattle.tql_store.specs.StoreModel.{has_table, is_among as among};
 ghost use Rattle.tql_value.specs.Views.{datum_of_view, rows_of};
 ghost use Rattle.tql_keys.specs.Asked.{AreRowsOf, IsJudged, new_rows, row_found, row_named};
+ghost use Rattle.tql_keys.specs.Coming.{TuplesRise};
 ghost use Rattle.tql_keys.specs.Named.{of_named};
 ghost use Rattle.tql_keys.specs.Parents.{any_holds, row_holds, any_left, any_with};
 ghost use Rattle.tql_keys.specs.Touched.{has_tuple as tuple_in, is_spared as spared_in};
 
 use crate::change::Change;
+use crate::coming::{sorted_coming, with_tuple};
 use crate::finding::Chain;
 use crate::reading::{current_row, has_tuple, period, tuple_of};
 use std::alloc::AllocError;
@@ -51,19 +54,11 @@ fn some_is_left(found: &[Version<'_>], change: &Change<'_>) -> bool
     found.iter().any(|row| !change.removes(row.id))
 }
 
-/// Whether some row that comes has the tuple.
-fn some_comes(
-    definition: &TableDef,
-    columns: &[usize],
-    tuple: &[View<'_>],
-    change: &Change<'_>,
-) -> bool
-    ensures { result ≡ any_with columns.now (map datum_of_view tuple.now) (λ r. true)
-        (new_rows definition.now change.now.moment (rows_of change.now.added.now)) }
+/// Whether some of these rows has the tuple.
+fn some_comes(columns: &[usize], tuple: &[View<'_>], coming: &[StoredRow<'_>]) -> bool
+    ensures { result ≡ any_with columns.now (map datum_of_view tuple.now) (λ r. true) (map shown_by coming.now) }
 {
-    change.added.iter().any(|row| {
-        has_tuple(columns, tuple, &current_row(definition, row, change.moment))
-    })
+    coming.iter().any(|row| has_tuple(columns, tuple, row))
 }
 
 /// Adds the period of a row, where it holds a point.
@@ -139,22 +134,21 @@ fn add_new(
     add_period(definition, row, periods)
 }
 
-/// Adds the periods of those of the rows that come which have the tuple.
+/// Adds the periods of those of these rows which have the tuple.
 fn add_coming(
     definition: &TableDef,
     columns: &[usize],
     tuple: &[View<'_>],
-    change: &Change<'_>,
+    coming: &[StoredRow<'_>],
     periods: &mut Vec<Period, Memory>,
 ) -> Result<(), AllocError>
     ensures { OnOk result ((x : ℤ) → any_holds periods.new.items x
         ≡ (any_holds periods.old.items x
         || any_with columns.now (map datum_of_view tuple.now) (row_holds definition.now x)
-        (new_rows definition.now change.now.moment (rows_of change.now.added.now)))) }
+        (map shown_by coming.now))) }
 {
-    for row in change.added {
-        let new = current_row(definition, row, change.moment);
-        add_new(definition, columns, tuple, &new, periods)?;
+    for row in coming {
+        add_new(definition, columns, tuple, row, periods)?;
     }
     Ok(())
 }
@@ -168,7 +162,7 @@ fn sort(periods: &mut Vec<Period, Memory>)
 }
 
 /// The periods of the rows of a tuple after a change, by rising starts: of those that were found and do not go, and of
-/// those that come and have the tuple.
+/// those of the others that have the tuple.
 fn periods_after(
     memory: Memory,
     definition: &TableDef,
@@ -176,16 +170,17 @@ fn periods_after(
     tuple: &[View<'_>],
     found: &[Version<'_>],
     change: &Change<'_>,
+    coming: &[StoredRow<'_>],
 ) -> Result<Vec<Period, Memory>, AllocError>
     ensures rising { IfOk result (λ periods. StartsRise periods.items) }
     ensures holds { IfOk result (λ periods. (x : ℤ) → any_holds periods.items x
         ≡ (any_left definition.now change.now.removed.now (row_holds definition.now x) found.now
         || any_with columns.now (map datum_of_view tuple.now) (row_holds definition.now x)
-        (new_rows definition.now change.now.moment (rows_of change.now.added.now)))) }
+        (map shown_by coming.now))) }
 {
     let mut periods = Vec::new(memory);
     add_left(definition, found, change, &mut periods)?;
-    add_coming(definition, columns, tuple, change, &mut periods)?;
+    add_coming(definition, columns, tuple, coming, &mut periods)?;
     sort(&mut periods);
     Ok(periods)
 }
@@ -203,8 +198,8 @@ fn is_covered(child: &TableDef, row: &StoredRow<'_>, periods: &[Period]) -> bool
     }
 }
 
-/// Whether a child row is met by these parents: those that were found and do not go, and those that come and have the
-/// tuple.
+/// Whether a child row is met by these parents: those that were found and do not go, and those of the others that have
+/// the tuple.
 fn meets(
     memory: Memory,
     child: &TableDef,
@@ -214,27 +209,28 @@ fn meets(
     tuple: &[View<'_>],
     found: &[Version<'_>],
     change: &Change<'_>,
+    coming: &[StoredRow<'_>],
 ) -> Result<bool, AllocError>
     ensures { IfOk result (λ met. (rows : List Row)
         → ((test : Row → Bool) → list_any test rows
         ≡ (any_left parents.now.table.now.definition change.now.removed.now test found.now
-        || any_with parents.now.columns.now (map datum_of_view tuple.now) test
-        (new_rows parents.now.table.now.definition change.now.moment (rows_of change.now.added.now))))
+        || any_with parents.now.columns.now (map datum_of_view tuple.now) test (map shown_by coming.now)))
         → met ≡ is_met_by child.now parents.now.table.now.definition by_period rows (shown_by row.now)) }
 {
     let definition = &parents.table.definition;
     if by_period {
-        let periods = periods_after(memory, definition, parents.columns, tuple, found, change)?;
+        let columns = parents.columns;
+        let periods = periods_after(memory, definition, columns, tuple, found, change, coming)?;
         Ok(is_covered(child, row, &periods))
     } else {
         let left = some_is_left(found, change);
-        let comes = some_comes(definition, parents.columns, tuple, change);
+        let comes = some_comes(parents.columns, tuple, coming);
         Ok(left | comes)
     }
 }
 
 /// Whether a child row is met by the rows of its parent table after a change of that. Of the parent table the rows with
-/// the child row's tuple are looked at alone.
+/// the child row's tuple are looked at alone, and of those that come, which are sorted, likewise.
 fn is_met<I: IntervalIndex>(
     memory: Memory,
     store: &Store<I>,
@@ -243,9 +239,13 @@ fn is_met<I: IntervalIndex>(
     reference: &Reference,
     parents: &Chain<'_>,
     change: &Change<'_>,
+    coming: &[StoredRow<'_>],
 ) -> Result<bool, AllocError>
     requires there { IsTrue (has_table store.now parents.now.table.now.id) }
     requires columns { parents.now.columns.now ≡ (reference_of reference.now).parent_columns }
+    requires rise { TuplesRise parents.now.columns.now coming.now }
+    requires coming { SameBag (map shown_by coming.now)
+        (new_rows parents.now.table.now.definition change.now.moment (rows_of change.now.added.now)) }
     ensures { IfOk result (λ met. (rows : List Stamped) (gone : Stamped → Bool)
         → AreRowsOf store.now parents.now.table.now rows
         → IsJudged (row_named store.now parents.now.table.now.id) gone change.now.removed.now
@@ -258,6 +258,7 @@ fn is_met<I: IntervalIndex>(
     }
     let tuple = tuple_of(memory, row, &reference.columns)?;
     let found = parents.find(store, &tuple)?;
+    let others = with_tuple(parents.columns, &tuple, coming);
     meets(
         memory,
         child,
@@ -267,6 +268,7 @@ fn is_met<I: IntervalIndex>(
         &tuple,
         &found,
         change,
+        others,
     )
 }
 
@@ -292,7 +294,7 @@ fn is_met_now<I: IntervalIndex>(
         added: &come,
         moment: 0,
     };
-    is_met(memory, store, child, row, reference, parents, &nothing)
+    is_met(memory, store, child, row, reference, parents, &nothing, &[])
 }
 
 /// Whether a reference that held holds after a change of its child table. Of the parent table the rows with the tuples
@@ -334,11 +336,15 @@ fn is_spared<I: IntervalIndex>(
     parents: &Chain<'_>,
     row: &StoredRow<'_>,
     change: &Change<'_>,
+    coming: &[StoredRow<'_>],
 ) -> Result<bool, AllocError>
     requires there { IsTrue (has_table store.now parents.now.table.now.id) }
     requires columns { parents.now.columns.now ≡ (reference_of reference.now).parent_columns }
     requires child_there { IsTrue (has_table store.now children.now.table.now.id) }
     requires child_columns { children.now.columns.now ≡ (reference_of reference.now).columns }
+    requires rise { TuplesRise parents.now.columns.now coming.now }
+    requires coming { SameBag (map shown_by coming.now)
+        (new_rows parents.now.table.now.definition change.now.moment (rows_of change.now.added.now)) }
     ensures { IfOk result (λ spared. (rows others : List Stamped) (gone : Stamped → Bool)
         → AreRowsOf store.now parents.now.table.now rows
         → IsJudged (row_named store.now parents.now.table.now.id) gone change.now.removed.now
@@ -355,7 +361,10 @@ fn is_spared<I: IntervalIndex>(
     let others = found.as_slice();
     for other in others {
         let row = current_row(child, other.row, other.start);
-        if !is_met(memory, store, child, &row, reference, parents, change)? {
+        let met = is_met(
+            memory, store, child, &row, reference, parents, change, coming,
+        )?;
+        if !met {
             return Ok(false);
         }
     }
@@ -372,11 +381,15 @@ fn is_spared_by<I: IntervalIndex>(
     parents: &Chain<'_>,
     id: usize,
     change: &Change<'_>,
+    coming: &[StoredRow<'_>],
 ) -> Result<bool, AllocError>
     requires there { IsTrue (has_table store.now parents.now.table.now.id) }
     requires columns { parents.now.columns.now ≡ (reference_of reference.now).parent_columns }
     requires child_there { IsTrue (has_table store.now children.now.table.now.id) }
     requires child_columns { children.now.columns.now ≡ (reference_of reference.now).columns }
+    requires rise { TuplesRise parents.now.columns.now coming.now }
+    requires coming { SameBag (map shown_by coming.now)
+        (new_rows parents.now.table.now.definition change.now.moment (rows_of change.now.added.now)) }
     ensures { IfOk result (λ spared. (rows others : List Stamped) (gone : Stamped → Bool)
         → AreRowsOf store.now parents.now.table.now rows
         → IsJudged (row_named store.now parents.now.table.now.id) gone change.now.removed.now
@@ -392,7 +405,9 @@ fn is_spared_by<I: IntervalIndex>(
         return Ok(true);
     };
     let row = current_row(&parents.table.definition, gone.row, gone.start);
-    is_spared(memory, store, reference, children, parents, &row, change)
+    is_spared(
+        memory, store, reference, children, parents, &row, change, coming,
+    )
 }
 
 /// Whether a reference that held holds after a change of its parent table. Of the child table the rows with the tuples
@@ -422,8 +437,12 @@ pub(crate) fn parent_holds_after<I: IntervalIndex>(
     references_at_each_point();
     let children = Chain::of(memory, child, &reference.columns)?;
     let parents = Chain::of(memory, parent, &reference.parent_columns)?;
+    let coming = sorted_coming(memory, &parents.table.definition, parents.columns, change)?;
     for id in change.removed {
-        if !is_spared_by(memory, store, reference, &children, &parents, *id, change)? {
+        let spared = is_spared_by(
+            memory, store, reference, &children, &parents, *id, change, &coming,
+        )?;
+        if !spared {
             return Ok(false);
         }
     }

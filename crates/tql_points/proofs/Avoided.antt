@@ -23,7 +23,7 @@ use Rattle.tql_spec.specs.Names.{aggregate, negative, expr, more_terms, product,
 use Rattle.tql_spec.specs.Names.{sole_name, Ends, one_period, marked, operand, negated_if, in_list, contained_point}
 use Rattle.tql_spec.specs.Names.{contained_named, contained, condition, more_conjs, conj, more_tests, factor, test}
 use Rattle.tql_spec.specs.Names.{factors_of, conjuncts}
-use Rattle.tql_spec.specs.Creation.{has_name, names_of, uses_column, has_expr}
+use Rattle.tql_spec.specs.Creation.{has_name, uses_column, has_expr}
 use Rattle.tql_spec.specs.Binding.{plain_filter}
 use Rattle.tql_spec.proofs.Constraints.{same_text-is}
 use Rattle.tql_spec.proofs.ExprKinds.{in_flat}
@@ -41,8 +41,8 @@ or_false a b e f = ap (λ c. c || b) e ∙ f
 module _ (names : List Name) (q : ℕ → Bool) where
   -- a reference in scope: the columns that are called otherwise pass the test not, and its periods are called so
   pub record IsClear (k : Known) : Type 0 where
-    pub columns : (i : ℕ) → i < length k.table.columns → has_name (get_or (names_of k.table) i []) names ≡ false
-        → q (k.offset + i) ≡ false
+    pub columns : (i : ℕ) → i < length k.columns
+        → has_name (get_or (map (λ (c : Column). c.name) k.columns) i []) names ≡ false → q (k.offset + i) ≡ false
     pub periods : (a : Application) → In a k.applications → has_name a.name names ≡ true
 
   -- each reference
@@ -99,10 +99,10 @@ module _ (names : List Name) (q : ℕ → Bool) where
       let k = in_flat (things_in r.name) t (filter (is_meant r.qualifier) scope) m in
       let there = (in_kept (is_meant r.qualifier) k.0 scope k.1).0 in
       let c = clear.each k.0 there in
-      elim (in_either t (columns_named r.name k.0.offset k.0.table.columns)
-      (periods_named r.name k.0.offset k.0.table.columns k.0.applications) k.2) [
-        | inl i ↦ columns_free r.name k.0.offset k.0.table.columns e c.columns t i
-        | inr i ↦ periods_free r.name k.0.offset k.0.table.columns k.0.applications e c.periods t i
+      elim (in_either t (columns_named r.name k.0.offset k.0.columns)
+      (periods_named r.name k.0.offset k.0.columns k.0.applications) k.2) [
+        | inl i ↦ columns_free r.name k.0.offset k.0.columns e c.columns t i
+        | inr i ↦ periods_free r.name k.0.offset k.0.columns k.0.applications e c.periods t i
       ]
 
   one_free : (ts : List Thing) → ((t : Thing) → In t ts → FreeThing t)

@@ -26,7 +26,7 @@ use Rattle.tql_spec.specs.Creation.{has_name, has_number, is_generated_at, start
 use Rattle.tql_spec.specs.Creation.{periods_of, period_names, period_number, period_called, period_columns}
 use Rattle.tql_spec.specs.Creation.{shares_number, listed_columns, keys, references, reference, reference_in, checks}
 use Rattle.tql_spec.specs.Creation.{is_declared_key, same_numbers, names_of, repeats, has_bad_number, several}
-use Rattle.tql_spec.specs.Creation.{primary_count, primary_names, constraints_of, are_ends, create}
+use Rattle.tql_spec.specs.Creation.{primary_count, primary_names, constraints_of, are_ends, create, check_scope}
 use Rattle.tql_spec.specs.Creation.{application_name, application_kind, kinds_differ, kinds_at, kinds_in}
 use Rattle.tql_spec.specs.Creation.{kinds_of, periods_differ}
 use Rattle.tql_spec.specs.Binding.{generated_columns}
@@ -347,7 +347,7 @@ module _ (defs : List TableDef) (n : Name) (es : List Element) (versioned : Bool
       ++ ((check_each (system_period es) (system_parts es)).faults
       ++ ((keys es as' (constraints_of es)).faults
       ++ ((references defs es as' (constraints_of es)).faults
-      ++ ((checks es as' (record d { checks = [] }) (constraints_of es)).faults ++ [])))) ≡ []
+      ++ ((checks es (check_scope as' (record d { checks = [] })) (constraints_of es)).faults ++ [])))) ≡ []
   after_whole = no_right (whole_faults defs n es versioned) _ sound
 
   own_is : IsApplication es part own
@@ -374,7 +374,7 @@ module _ (defs : List TableDef) (n : Name) (es : List Element) (versioned : Bool
   after_application : (check_each (system_period es) (system_parts es)).faults
       ++ ((keys es as' (constraints_of es)).faults
       ++ ((references defs es as' (constraints_of es)).faults
-      ++ ((checks es as' (record d { checks = [] }) (constraints_of es)).faults ++ []))) ≡ []
+      ++ ((checks es (check_scope as' (record d { checks = [] })) (constraints_of es)).faults ++ []))) ≡ []
   after_application = no_right (check_each (application_period es) (application_parts es)).faults _ after_whole
 
   system_of : (s : System) → d.system ≡ Some s → SystemOf s
@@ -583,8 +583,7 @@ module _ (defs : List TableDef) (n : Name) (es : List Element) (versioned : Bool
           ∙ written k.from k.among k.from.end (inr (inl refl)) s.end k.is.end
       by_system (Some s) e i (inr (inr n)) = absurd n
 
-  check_clear : AreClear (written_names es) (λ i. not (is_payload d i))
-      (record { name = n; table = bare; applications = as'; offset = 0 } ∷ [])
+  check_clear : AreClear (written_names es) (λ i. not (is_payload d i)) (check_scope as' bare)
   check_clear = record { each = known }
     where
       implied : List Name
@@ -616,22 +615,22 @@ module _ (defs : List TableDef) (n : Name) (es : List Element) (versioned : Bool
           zero_plus : (k : ℕ) → 0 + k ≡ k
           zero_plus k = omega arith
 
-      known : (k : Known) → In k (record { name = n; table = bare; applications = as'; offset = 0 } ∷ [])
+      known : (k : Known) → In k (check_scope as' bare)
           → IsClear (written_names es) (λ i. not (is_payload d i)) k
       known k (inl q) = subst (IsClear (written_names es) (λ i. not (is_payload d i))) (sym q)
           (record { columns = column_clear; periods = period_there })
       known k (inr m) = absurd m
 
   in_checks : (cs : List Constraint) → list_all (is_point_constraint (written_names es)) cs ≡ true
-      → list_all (is_free_cond d) (checks es as' bare cs).value ≡ true
+      → list_all (is_free_cond d) (checks es (check_scope as' bare) cs).value ≡ true
   in_checks [] e = refl
   in_checks (KeyTree primary x ns p ∷ cs) e = in_checks cs (both_true _ _ e).1
   in_checks (ForeignTree c x ns ∷ cs) e = in_checks cs (both_true _ _ e).1
   in_checks (CheckTree c ∷ cs) e =
       let s = both_true _ (list_all (is_point_constraint (written_names es)) cs) e in
-      ap (λ b. not b && list_all (is_free_cond d) (checks es as' bare cs).value)
+      ap (λ b. not b && list_all (is_free_cond d) (checks es (check_scope as' bare) cs).value)
       (condition_free (written_names es) (λ i. not (is_payload d i))
-      (record { name = n; table = bare; applications = as'; offset = 0 } ∷ []) check_clear c s.0)
+      (check_scope as' bare) check_clear c s.0)
       ∙ in_checks cs s.1
 
   -- ---- the table
@@ -684,7 +683,7 @@ module _ (defs : List TableDef) (n : Name) (es : List Element) (versioned : Bool
     where
       after_system : (keys es as' (constraints_of es)).faults
           ++ ((references defs es as' (constraints_of es)).faults
-          ++ ((checks es as' bare (constraints_of es)).faults ++ [])) ≡ []
+          ++ ((checks es (check_scope as' bare) (constraints_of es)).faults ++ [])) ≡ []
       after_system = no_right (check_each (system_period es) (system_parts es)).faults _ after_application
 
       below : {t : ℕ} → nat_lt t (length defs) ≡ true → t < length defs

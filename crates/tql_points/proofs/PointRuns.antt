@@ -17,7 +17,6 @@ use Rattle.tql_spec.specs.Machine.{state_faults, effect, step, unless_refused, a
 use Rattle.tql_spec.specs.Script.{Piece}
 use Rattle.tql_spec.specs.Syntax.{Statement, CreateTree, DropTree, InsertValues, InsertSelect, UpdateTree, DeleteTree}
 use Rattle.tql_spec.specs.Syntax.{QueryTree, StartTree, CommitTree, RollbackTree, AtTree}
-use Rattle.tql_spec.specs.Running.{Runs}
 use Rattle.tql_spec.specs.Creation.{create, application_parts, constraints_of}
 use Rattle.tql_spec.specs.Binding.{bind, select, statement_class}
 use Rattle.tql_spec.specs.Run.{Sense, Says, Faulty, HasSense, Run, Answers, respond, respond_to, statement_faults}
@@ -160,7 +159,7 @@ module _ (defs : List TableDef) (all : ArePointTables defs) where
         (machines, h, λ p. subst (λ z. Related defs p z (machines p)) (sym q) (r p), subst (GoodState defs) (sym q) g)
 
     -- a bound statement that is no query
-    bound_goes : (x : Piece) (t : Statement) → HasSense Runs x (Says t)
+    bound_goes : (x : Piece) (t : Statement) → HasSense x (Says t)
         → is_in_scope defs (bind defs t).value ≡ true → gives_periods defs (bind defs t).value ≡ true
         → Goes x (step s (bind defs t).value).0 (step s (bind defs t).value).1
     bound_goes x t h k z = by_bool (is_refused (step s b).0)
@@ -181,14 +180,14 @@ module _ (defs : List TableDef) (all : ArePointTables defs) where
         b = (bind defs t).value
 
     -- a query
-    asked_goes : (x : Piece) (t : Statement) → HasSense Runs x (Says t) → is_query t ≡ true → (q : Query)
+    asked_goes : (x : Piece) (t : Statement) → HasSense x (Says t) → is_query t ≡ true → (q : Query)
         → (o : Option (List Row)) → Goes x (asked s q o).0 (asked s q o).1
     asked_goes x t h k q None = stays x (Refused ValueOutOfRange) s refl
         (refl, inr (Says t, h, λ sound open_then. let never : true ≡ false = sym k ∙ open_then in absurd (cc)))
     asked_goes x t h k q (Some rows) = stays x (Table q.headings (in_order q.ordering rows)) s refl refl
 
     -- a statement without a fault
-    sound_goes : (x : Piece) (t : Statement) → HasSense Runs x (Says t) → is_statement_in_scope defs t ≡ true
+    sound_goes : (x : Piece) (t : Statement) → HasSense x (Says t) → is_statement_in_scope defs t ≡ true
         → (bind defs t).faults ≡ [] → Goes x (step s (bind defs t).value).0 (step s (bind defs t).value).1
     sound_goes x (QueryTree y keys) h k e =
         asked_goes x (QueryTree y keys) h refl (select defs y keys).value.query
@@ -211,7 +210,7 @@ module _ (defs : List TableDef) (all : ArePointTables defs) where
     sound_goes x (AtTree m) h k e = bound_goes x (AtTree m) h refl refl
 
     -- a statement
-    said_goes : (x : Piece) (t : Statement) → HasSense Runs x (Says t) → is_statement_in_scope defs t ≡ true
+    said_goes : (x : Piece) (t : Statement) → HasSense x (Says t) → is_statement_in_scope defs t ≡ true
         → Goes x (respond s t).0 (respond s t).1
     said_goes x t h k = by_faults (first (bind s.definitions t).faults) refl
       where
@@ -243,14 +242,14 @@ module _ (defs : List TableDef) (all : ArePointTables defs) where
 
     -- an answer
     answer_goes : (x : Piece) (reply : Reply) (mid : State)
-        → ((t : Statement) → HasSense Runs x (Says t) → IsTrue (is_statement_in_scope defs t))
+        → ((t : Statement) → HasSense x (Says t) → IsTrue (is_statement_in_scope defs t))
         → Answers s x reply mid → Goes x reply mid
     answer_goes x reply mid scope (inr e) = subst (λ z. Goes x z mid) (sym e.0)
         (stays x (Refused OutOfMemory) mid e.1 (refl, inl refl))
     answer_goes x reply mid scope (inl a) =
         subst (λ (z : Reply × State). Goes x z.0 z.1) (sym a.2) (by_sense a.0 a.1)
       where
-        by_sense : (sense : Sense) → HasSense Runs x sense → Goes x (respond_to s sense).0 (respond_to s sense).1
+        by_sense : (sense : Sense) → HasSense x sense → Goes x (respond_to s sense).0 (respond_to s sense).1
         by_sense (Faulty e) h = stays x (Refused e) s refl (refl, inr (Faulty e, h, refl))
         by_sense (Says t) h = said_goes x t h (scope t h)
 
@@ -300,13 +299,13 @@ prepared_stays s CommitTree k h z = absurd (cc)
 prepared_stays s RollbackTree k h z = absurd (cc)
 
 prepared_answer : (s : State) (x : Piece) (reply : Reply) (mid : State)
-    → ((t : Statement) → HasSense Runs x (Says t) → IsTrue (prepares t)) → IsAtStart s → Answers s x reply mid
+    → ((t : Statement) → HasSense x (Says t) → IsTrue (prepares t)) → IsAtStart s → Answers s x reply mid
     → IsAtStart mid
 prepared_answer s x reply mid scope h (inr e) = subst IsAtStart (sym e.1) h
 prepared_answer s x reply mid scope h (inl a) =
     subst IsAtStart (sym (ap (λ (z : Reply × State). z.1) a.2)) (by_sense a.0 a.1)
   where
-    by_sense : (sense : Sense) → HasSense Runs x sense → IsAtStart (respond_to s sense).1
+    by_sense : (sense : Sense) → HasSense x sense → IsAtStart (respond_to s sense).1
     by_sense (Faulty e) y = h
     by_sense (Says t) y = unless_either IsAtStart (first (statement_faults s t)) s
         (effect s (bind s.definitions t).value).0 (effect s (bind s.definitions t).value).1 h

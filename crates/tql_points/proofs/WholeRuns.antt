@@ -10,7 +10,6 @@ use Rattle.tql_spec.specs.Machine.{State, Bound, ChangeRows, changed_table, Repl
 use Rattle.tql_spec.specs.Machine.{unless_refused}
 use Rattle.tql_spec.specs.Script.{Piece}
 use Rattle.tql_spec.specs.Syntax.{Statement}
-use Rattle.tql_spec.specs.Running.{Runs}
 use Rattle.tql_spec.specs.Binding.{bind, statement_class}
 use Rattle.tql_spec.specs.Run.{Sense, Says, Faulty, HasSense, Run, Answers, respond, respond_to, statement_faults}
 use Rattle.tql_spec.proofs.FirstFaults.{none_first, bound_steps}
@@ -34,7 +33,7 @@ module _ (defs : List TableDef) (all : ArePointTables defs) where
   -- one piece answered: refused, and nothing changed, or a statement in scope that is taken
   pub data OneAnswer (old : State) (x : Piece) (reply : Reply) (mid : State) : Type 0 where
     Kept : is_refused reply ≡ true → mid ≡ old → OneAnswer old x reply mid
-    Taken : (t : Statement) → HasSense Runs x (Says t) → (bind defs t).faults ≡ []
+    Taken : (t : Statement) → HasSense x (Says t) → (bind defs t).faults ≡ []
         → is_in_scope defs (bind defs t).value ≡ true
         → is_refused reply ≡ false → (reply, mid) ≡ step old (bind defs t).value → OneAnswer old x reply mid
 
@@ -55,12 +54,12 @@ module _ (defs : List TableDef) (all : ArePointTables defs) where
       by_first (Some g) q = (refl, refl)
 
   one_answer : (old : State) (x : Piece) (reply : Reply) (mid : State) → old.definitions ≡ defs
-      → ((sense : Sense) → HasSense Runs x sense → IsSenseInScope defs sense) → Answers old x reply mid
+      → ((sense : Sense) → HasSense x sense → IsSenseInScope defs sense) → Answers old x reply mid
       → OneAnswer old x reply mid
   one_answer old x reply mid d scope (inr e) = Kept (ap is_refused e.0) e.1
   one_answer old x reply mid d scope (inl a) = by_sense a.0 a.1 a.2
     where
-      by_sense : (sense : Sense) → HasSense Runs x sense → (reply, mid) ≡ respond_to old sense
+      by_sense : (sense : Sense) → HasSense x sense → (reply, mid) ≡ respond_to old sense
           → OneAnswer old x reply mid
       by_sense (Faulty e) h q =
           Kept (ap (λ (z : Reply × State). is_refused z.0) q) (ap (λ (z : Reply × State). z.1) q)

@@ -5,7 +5,6 @@ use Rattle.tql_spec.specs.Refusal.{Refusal, OutOfMemory, place}
 use Rattle.tql_spec.specs.Definition.{TableDef}
 use Rattle.tql_spec.specs.Machine.{State, Bound, Reply, Done, Refused, Table, step}
 use Rattle.tql_spec.specs.Script.{Piece}
-use Rattle.tql_spec.specs.Running.{Runs}
 use Rattle.tql_spec.specs.Syntax.{Statement}
 use Rattle.tql_spec.specs.Binding.{bind}
 use Rattle.tql_spec.specs.Run.{Sense, Says, Faulty, HasSense, Answers, Run}
@@ -55,11 +54,11 @@ TellsRefusal defs machines (Says t) e =
 -- is given to none, and unless memory lacked, the refusal tells so
 abbrev pub GoAlong : List TableDef → PointMachines → Piece → Reply → PointMachines → Type 0
 GoAlong defs old x (Done verb count) new =
-    (t : Statement) × HasSense Runs x (Says t) × NoneRefuses defs old (bind defs t).value
+    (t : Statement) × HasSense x (Says t) × NoneRefuses defs old (bind defs t).value
     × (new ≡ after_each defs old (bind defs t).value)
 GoAlong defs old x (Table headings rows) new = new ≡ old
 GoAlong defs old x (Refused e) new =
-    (new ≡ old) × ((e ≡ OutOfMemory) ⊎ ((sense : Sense) × HasSense Runs x sense × TellsRefusal defs old sense e))
+    (new ≡ old) × ((e ≡ OutOfMemory) ⊎ ((sense : Sense) × HasSense x sense × TellsRefusal defs old sense e))
 
 -- ---- runs
 
@@ -79,12 +78,12 @@ pub record IsAtStart (s : State) : Type 0 where
 
 -- each piece that says a statement makes a table in scope, or sets the clock
 abbrev pub ArePreparing : List Piece → Type 0
-ArePreparing pieces = (x : Piece) → In x pieces → (t : Statement) → HasSense Runs x (Says t) → IsTrue (prepares t)
+ArePreparing pieces = (x : Piece) → In x pieces → (t : Statement) → HasSense x (Says t) → IsTrue (prepares t)
 
 -- each piece that says a statement says one in scope
 abbrev pub AreInScope : List TableDef → List Piece → Type 0
 AreInScope defs pieces =
-    (x : Piece) → In x pieces → (t : Statement) → HasSense Runs x (Says t) → IsTrue (is_statement_in_scope defs t)
+    (x : Piece) → In x pieces → (t : Statement) → HasSense x (Says t) → IsTrue (is_statement_in_scope defs t)
 
 -- the law: statements that make tables or set the clock keep this, and such a state is the beginning of its tables and
 -- its clock

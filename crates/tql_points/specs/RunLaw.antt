@@ -6,7 +6,6 @@ use Rattle.tql_spec.specs.Definition.{TableDef}
 use Rattle.tql_spec.specs.Machine.{State, Bound, ChangeRows, Change, Reply, Refused, step}
 use Rattle.tql_spec.specs.Script.{Piece}
 use Rattle.tql_spec.specs.Syntax.{Statement}
-use Rattle.tql_spec.specs.Running.{Runs}
 use Rattle.tql_spec.specs.Binding.{bind}
 use Rattle.tql_spec.specs.Run.{Sense, Says, Faulty, HasSense, Run, respond}
 use Rattle.tql_points.specs.PointStatement.{statement_at}
@@ -22,13 +21,13 @@ IsSenseInScope defs (Says t) = (bind defs t).faults ≡ [] → IsTrue (is_in_sco
 -- each piece says such a one
 abbrev pub ArePiecesInScope : List TableDef → List Piece → Type 0
 ArePiecesInScope defs pieces =
-    (x : Piece) → In x pieces → (sense : Sense) → HasSense Runs x sense → IsSenseInScope defs sense
+    (x : Piece) → In x pieces → (sense : Sense) → HasSense x sense → IsSenseInScope defs sense
 
 -- a statement that was not refused, in front of those behind it
 abbrev pub IsFront : List TableDef → Piece → Bool → (List Bound → Type 0) → List Bound → Type 0
 IsFront defs x true Rest bs = Rest bs
 IsFront defs x false Rest bs =
-    (t : Statement) × (more : List Bound) × HasSense Runs x (Says t) × (bs ≡ (bind defs t).value ∷ more) × Rest more
+    (t : Statement) × (more : List Bound) × HasSense x (Says t) × (bs ≡ (bind defs t).value ∷ more) × Rest more
 
 -- the statements that were not refused, in order, with their names bound
 abbrev pub AreTaken : List TableDef → List Piece → List Reply → List Bound → Type 0
@@ -54,7 +53,7 @@ RunsReduce =
 -- each INSERT gives periods that rise
 abbrev pub PiecesGivePeriods : List TableDef → List Piece → Type 0
 PiecesGivePeriods defs pieces =
-    (x : Piece) → In x pieces → (t : Statement) → HasSense Runs x (Says t) → (bind defs t).faults ≡ []
+    (x : Piece) → In x pieces → (t : Statement) → HasSense x (Says t) → (bind defs t).faults ≡ []
     → IsTrue (gives_periods defs (bind defs t).value)
 
 -- the machine of the point, after what was taken, refuses the change so

@@ -4,31 +4,29 @@ use Rattle.tql_spec.specs.Refusal.{Refusal}
 use Rattle.tql_spec.specs.Machine.{State, Refused}
 use Rattle.tql_spec.specs.Answer.{Answer, Replied}
 use Rattle.tql_spec.specs.Script.{Piece}
-use Rattle.tql_spec.specs.Grammar.{IsStatement}
-use Rattle.tql_spec.specs.Running.{Runs}
-use Rattle.tql_spec.specs.Run.{Language, Answering, Replies, Checks, Faulty, HasSense, finished}
+use Rattle.tql_spec.specs.Run.{Answering, Replies, Checks, Faulty, HasSense, finished}
 use Rattle.tql_value.specs.Refusals.{refusal_of}
 use Rattle.tql_value.specs.declared.refusal.Refusal.TheVariants.{StatementTooLong, OutOfMemory}
 use Rattle.tql_run.specs.Pieces.{HasFault, IsCutFault, RefusesFaults}
 use Rattle.tql_run.specs.Responding.{Answered, Standing}
 
--- such a fault is one in each language
-fault_sense : (L : Language) (p : Piece) (e : Refusal) → HasFault p e → HasSense L p (Faulty e)
-fault_sense L p e (inl (is, long)) = subst (λ (x : Refusal). HasSense L p (Faulty x)) (sym is) long
-fault_sense L p e (inr (short, cut, inl (is, none))) =
-    subst (λ (x : Refusal). HasSense L p (Faulty x)) (sym is) (short, none)
-fault_sense L p e (inr (short, cut, inr (is, utf8))) =
-    subst (λ (x : Refusal). HasSense L p (Faulty x)) (sym is) (short, utf8, cut)
+-- such a fault is the piece's sense
+fault_sense : (p : Piece) (e : Refusal) → HasFault p e → HasSense p (Faulty e)
+fault_sense p e (inl (is, long)) = subst (λ (x : Refusal). HasSense p (Faulty x)) (sym is) long
+fault_sense p e (inr (short, cut, inl (is, none))) =
+    subst (λ (x : Refusal). HasSense p (Faulty x)) (sym is) (short, none)
+fault_sense p e (inr (short, cut, inr (is, utf8))) =
+    subst (λ (x : Refusal). HasSense p (Faulty x)) (sym is) (short, utf8, cut)
 
 pub replies_refuse : RefusesFaults Replies
 replies_refuse = record {
-  at_once = λ s p e f. inl (Faulty e, fault_sense Runs p e f, refl);
+  at_once = λ s p e f. inl (Faulty e, fault_sense p e f, refl);
   for_memory = λ s p. inr (refl, refl);
 }
 
 pub checks_refuse : RefusesFaults Checks
 checks_refuse = record {
-  at_once = λ s p e f. (inl (Faulty e, fault_sense IsStatement p e f, refl), refl);
+  at_once = λ s p e f. (inl (Faulty e, fault_sense p e f, refl), refl);
   for_memory = λ s p. (inr refl, refl);
 }
 

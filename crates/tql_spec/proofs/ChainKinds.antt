@@ -7,7 +7,6 @@ use Rattle.tql_spec.specs.Words.{◌>>=◌, map_all}
 use Rattle.tql_spec.specs.Bag.{In}
 use Rattle.tql_spec.specs.Datum.{Null, Row}
 use Rattle.tql_spec.specs.Definition.{TableDef, cell}
-use Rattle.tql_spec.specs.Creation.{kinds_of}
 use Rattle.tql_spec.specs.Query.{Ref, Join, pairs, joined_with, joins_from, chain_rows, product}
 use Rattle.tql_spec.specs.Syntax.{RefTree, JoinTree, InnerJoin, LeftJoin, CrossJoin, ChainTree}
 use Rattle.tql_spec.specs.Names.{check_each, Known, kind_at}
@@ -18,7 +17,7 @@ use Rattle.tql_spec.specs.Typing.{IsOfKind, AreOfKinds}
 use Rattle.tql_spec.specs.TypingLaws.{IsTypedBag}
 use Rattle.tql_spec.proofs.MemberLists.{in_either, in_image}
 use Rattle.tql_spec.proofs.Steady.{front_is}
-use Rattle.tql_spec.proofs.ExprKinds.{FitsKnown, FitsScope, after}
+use Rattle.tql_spec.proofs.ExprKinds.{column_kinds, FitsKnown, FitsScope, after}
 use Rattle.tql_spec.proofs.RowKinds.{null_kinds}
 use Rattle.tql_spec.proofs.JoinKinds.{in_filter_all, IsPairOf, in_pairs, left_pairs, Wide, Within, longer_fits, wider}
 use Rattle.tql_spec.proofs.JoinKinds.{within_more}
@@ -29,7 +28,7 @@ module _ (defs : List TableDef) (bag : Ref → List Row) (typed : IsTypedBag def
   -- one more reference joined
   joined_wide : (scope : List Known) (width : ℕ) (r : RefTree) → Within scope width → (rows : List Row)
       → ((x : Row) → In x rows → Wide scope width x)
-      → (z : Row) → IsPairOf (Wide scope width) (AreOfKinds (kinds_of (source defs width r).value.known.table)) z
+      → (z : Row) → IsPairOf (Wide scope width) (AreOfKinds (column_kinds (source defs width r).value.known.columns)) z
       → Wide (scope ++ (source defs width r).value.known ∷ []) (width + width_of (source defs width r).value) z
   joined_wide scope width r n rows h z p =
       subst (Wide (scope ++ (source defs width r).value.known ∷ []) (width + width_of (source defs width r).value))
@@ -38,12 +37,12 @@ module _ (defs : List TableDef) (bag : Ref → List Row) (typed : IsTypedBag def
 
   -- nulls in the columns of a reference
   nulls_typed : (offset : ℕ) (r : RefTree)
-      → AreOfKinds (kinds_of (source defs offset r).value.known.table)
+      → AreOfKinds (column_kinds (source defs offset r).value.known.columns)
       (replicate (source defs offset r).value.ref.width Null)
   nulls_typed offset r =
-      subst (λ n. AreOfKinds (kinds_of (source defs offset r).value.known.table) (replicate n Null))
-      (length-map (source defs offset r).value.known.table.columns (λ c. c.kind))
-      (null_kinds (kinds_of (source defs offset r).value.known.table))
+      subst (λ n. AreOfKinds (column_kinds (source defs offset r).value.known.columns) (replicate n Null))
+      (length-map (source defs offset r).value.known.columns (λ c. c.kind))
+      (null_kinds (column_kinds (source defs offset r).value.known.columns))
 
   -- what joins so far are: their rows, begun with these, are so wide
   record IsJoined (begun : List Row) (so : Joined) : Type 0 where
@@ -65,7 +64,7 @@ module _ (defs : List TableDef) (bag : Ref → List Row) (typed : IsTypedBag def
   join_step : (begun : List Row) (so : Joined) (r : RefTree) (j : Join) → IsJoined begun so
       → ((rows out : List Row) → ((x : Row) → In x rows → Wide so.scope so.width x) → joined_with bag rows j ≡ Some out
       → (z : Row) → In z out → IsPairOf (Wide so.scope so.width)
-      (AreOfKinds (kinds_of (source defs so.width r).value.known.table)) z)
+      (AreOfKinds (column_kinds (source defs so.width r).value.known.columns)) z)
       → IsJoined begun (add_join so (source defs so.width r).value j)
   join_step begun so r j h k = record {
     within = within_more so.scope so.width (source defs so.width r).value.known h.within refl;
@@ -77,17 +76,17 @@ module _ (defs : List TableDef) (bag : Ref → List Row) (typed : IsTypedBag def
   join_kept : (begun : List Row) (so : Joined) (j : JoinTree) → IsJoined begun so
       → IsJoined begun (join defs so j).value
   join_kept begun so (InnerJoin r c) h = join_step begun so r _ h (λ rows out w e z m.
-      in_pairs (Wide so.scope so.width) (AreOfKinds (kinds_of (source defs so.width r).value.known.table)) rows
+      in_pairs (Wide so.scope so.width) (AreOfKinds (column_kinds (source defs so.width r).value.known.columns)) rows
       (bag (source defs so.width r).value.ref) w (typed (source defs so.width r).value.ref) z
       (in_filter_all _ (pairs rows (bag (source defs so.width r).value.ref)) out e z m))
   join_kept begun so (LeftJoin r c) h = join_step begun so r _ h (λ rows out w e z m.
-      left_pairs (Wide so.scope so.width) (AreOfKinds (kinds_of (source defs so.width r).value.known.table))
+      left_pairs (Wide so.scope so.width) (AreOfKinds (column_kinds (source defs so.width r).value.known.columns))
       (plain_conjuncts (so.scope ++ (source defs so.width r).value.known ∷ []) c).value
       (source defs so.width r).value.ref.width (bag (source defs so.width r).value.ref) (nulls_typed so.width r)
       (typed (source defs so.width r).value.ref) rows w out e z m)
   join_kept begun so (CrossJoin r) h = join_step begun so r _ h (λ rows out w e z m.
       let same : pairs rows (bag (source defs so.width r).value.ref) ≡ out = cc in
-      in_pairs (Wide so.scope so.width) (AreOfKinds (kinds_of (source defs so.width r).value.known.table)) rows
+      in_pairs (Wide so.scope so.width) (AreOfKinds (column_kinds (source defs so.width r).value.known.columns)) rows
       (bag (source defs so.width r).value.ref) w (typed (source defs so.width r).value.ref) z
       (subst (λ (l : List Row). In z l) (sym same) m))
 
@@ -106,7 +105,7 @@ module _ (defs : List TableDef) (bag : Ref → List Row) (typed : IsTypedBag def
         within = λ k m. let l = w k m in omega (arith, l);
         wide = λ rows e x m.
             let same : bag s.ref ≡ rows = cc in
-            let t : AreOfKinds (kinds_of s.known.table) x = typed s.ref x
+            let t : AreOfKinds (column_kinds s.known.columns) x = typed s.ref x
             (subst (λ (l : List Row). In x l) (sym same) m) in
             let y = wider [] 0 s.known [] x (λ j n. absurd n)
             (record { many = refl; fits = record { each = λ j n. absurd n } }) refl t in
@@ -131,11 +130,11 @@ module _ (defs : List TableDef) (bag : Ref → List Row) (typed : IsTypedBag def
   three (x ∷ xs) ys zs = ap (λ l. x ∷ l) (three xs ys zs)
 
   -- a row of a chain, between others
-  moved_fits : (p x y : Row) (k : Known) → k.offset + length k.table.columns ≤ length x → FitsKnown x k
+  moved_fits : (p x y : Row) (k : Known) → k.offset + length k.columns ≤ length x → FitsKnown x k
       → FitsKnown (p ++ (x ++ y)) (moved (length p) k)
   moved_fits p x y k w h i l =
       let at : (length p + k.offset) + i ≡ length p + (k.offset + i) = omega arith in
-      subst (IsOfKind (Some (kind_at k.table.columns i)))
+      subst (IsOfKind (Some (kind_at k.columns i)))
       (sym (ap (cell (p ++ (x ++ y))) at ∙ get_or-append-add p (x ++ y) (k.offset + i) Null))
       (longer_fits k x y w h i l)
 

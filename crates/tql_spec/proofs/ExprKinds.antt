@@ -1,7 +1,7 @@
 -- The value of a bound expression is of its kind, on rows of the kinds of its scope.
 use Rattle.std.proofs.Common.{◌≡◌, ◌<◌, refl, sym, subst, ℕ, ◌+◌, suc, Bool, true, false, List, [], ◌∷◌, filter, length}
 use Rattle.std.proofs.Common.{inl, inr, arith}
-use Rattle.std.specs.Prelude.{ℤ, Option, Some, None, pos, neg_ℤ, not, nat_le, if◌then◌else◌}
+use Rattle.std.specs.Prelude.{map, ℤ, Option, Some, None, pos, neg_ℤ, not, nat_le, if◌then◌else◌}
 use Rattle.std.specs.List.{flat_map}
 use Rattle.tql_spec.specs.Words.{◌>>=◌, map_all, same_text}
 use Rattle.tql_spec.specs.Bag.{In}
@@ -26,9 +26,13 @@ use Rattle.tql_spec.proofs.Steady.{front_is}
 
 -- ---- rows of a scope
 
+-- the kinds of columns
+abbrev pub column_kinds : List Column → List Kind
+column_kinds cs = map (λ (c : Column). c.kind) cs
+
 -- a row has values of a reference's kinds in its columns
 abbrev pub FitsKnown : Row → Known → Type 0
-FitsKnown row k = (i : ℕ) → i < length k.table.columns → IsOfKind (Some (kind_at k.table.columns i))
+FitsKnown row k = (i : ℕ) → i < length k.columns → IsOfKind (Some (kind_at k.columns i))
     (cell row (k.offset + i))
 
 -- so for each reference in scope
@@ -233,10 +237,10 @@ things_fit : (scope : List Known) (r : Named) (t : Thing) → In t (things scope
 things_fit scope r t m =
     let k = in_flat (things_in r.name) t (filter (is_meant r.qualifier) scope) m in
     let there = (in_kept (is_meant r.qualifier) k.0 scope k.1).0 in
-    elim (in_either t (columns_named r.name k.0.offset k.0.table.columns)
-    (periods_named r.name k.0.offset k.0.table.columns k.0.applications) k.2) [
-      | inl i ↦ columns_fit scope r.name k.0.offset k.0.table.columns (λ row f. f.each k.0 there) t i
-      | inr i ↦ periods_fit scope r.name k.0.offset k.0.table.columns k.0.applications t i
+    elim (in_either t (columns_named r.name k.0.offset k.0.columns)
+    (periods_named r.name k.0.offset k.0.columns k.0.applications) k.2) [
+      | inl i ↦ columns_fit scope r.name k.0.offset k.0.columns (λ row f. f.each k.0 there) t i
+      | inr i ↦ periods_fit scope r.name k.0.offset k.0.columns k.0.applications t i
     ]
 
 one_keeps : (scope : List Known) (ts : List Thing) → ((t : Thing) → In t ts → FitsThing scope t)

@@ -9,12 +9,11 @@ use Rattle.tql_spec.specs.Bag.{In}
 use Rattle.tql_spec.specs.Datum.{Null, Row}
 use Rattle.tql_spec.specs.Expression.{Cond, passes}
 use Rattle.tql_spec.specs.Definition.{cell}
-use Rattle.tql_spec.specs.Creation.{kinds_of}
 use Rattle.tql_spec.specs.Query.{pairs, keep, or_alone, left_join}
 use Rattle.tql_spec.specs.Names.{Known, kind_at}
 use Rattle.tql_spec.specs.Typing.{IsOfKind, AreOfKinds}
 use Rattle.tql_spec.proofs.MemberLists.{in_either, in_image}
-use Rattle.tql_spec.proofs.ExprKinds.{FitsKnown, FitsScope, in_flat, after}
+use Rattle.tql_spec.proofs.ExprKinds.{column_kinds, FitsKnown, FitsScope, in_flat, after}
 use Rattle.tql_spec.proofs.RowKinds.{cell_kind, kinds_length}
 use Rattle.tql_spec.proofs.BoundKinds.{kind_at_is}
 
@@ -97,34 +96,34 @@ pub record Wide (scope : List Known) (width : ℕ) (row : Row) : Type 0 where
 
 -- references within so many columns
 abbrev pub Within : List Known → ℕ → Type 0
-Within scope width = (k : Known) → In k scope → k.offset + length k.table.columns ≤ width
+Within scope width = (k : Known) → In k scope → k.offset + length k.columns ≤ width
 
 -- a row of a table fits its reference
-row_fits : (k : Known) (x y : Row) → k.offset ≡ length x → AreOfKinds (kinds_of k.table) y → FitsKnown (x ++ y) k
+row_fits : (k : Known) (x y : Row) → k.offset ≡ length x → AreOfKinds (column_kinds k.columns) y → FitsKnown (x ++ y) k
 row_fits k x y e h i l =
-    subst (λ j. IsOfKind (Some (kind_at k.table.columns i)) (cell (x ++ y) (j + i))) (sym e)
-    (subst (IsOfKind (Some (kind_at k.table.columns i))) (sym (get_or-append-add x y i Null))
-    (subst (λ c. IsOfKind (Some c) (cell y i)) (sym (kind_at_is k.table.columns i))
-    (cell_kind (kinds_of k.table) y h i)))
+    subst (λ j. IsOfKind (Some (kind_at k.columns i)) (cell (x ++ y) (j + i))) (sym e)
+    (subst (IsOfKind (Some (kind_at k.columns i))) (sym (get_or-append-add x y i Null))
+    (subst (λ c. IsOfKind (Some c) (cell y i)) (sym (kind_at_is k.columns i))
+    (cell_kind (column_kinds k.columns) y h i)))
 
 -- what fits a reference before fits it in a longer row
-pub longer_fits : (k : Known) (x y : Row) → k.offset + length k.table.columns ≤ length x → FitsKnown x k
+pub longer_fits : (k : Known) (x y : Row) → k.offset + length k.columns ≤ length x → FitsKnown x k
     → FitsKnown (x ++ y) k
 longer_fits k x y w h i l =
-    subst (IsOfKind (Some (kind_at k.table.columns i))) (sym (get_or-append x y Null (k.offset + i) (omega arith)))
+    subst (IsOfKind (Some (kind_at k.columns i))) (sym (get_or-append x y Null (k.offset + i) (omega arith)))
     (h i l)
 
 -- one reference more
 pub wider : (scope : List Known) (width : ℕ) (k : Known) (x y : Row) → Within scope width → Wide scope width x
     → k.offset ≡ width
-    → AreOfKinds (kinds_of k.table) y → Wide (scope ++ k ∷ []) (width + length k.table.columns) (x ++ y)
+    → AreOfKinds (column_kinds k.columns) y → Wide (scope ++ k ∷ []) (width + length k.columns) (x ++ y)
 wider scope width k x y n w e h = record {
   many = omega (
     arith,
     length-append x y,
     w.many,
-    kinds_length (kinds_of k.table) y h,
-    length-map k.table.columns
+    kinds_length (column_kinds k.columns) y h,
+    length-map k.columns
         (λ c. c.kind),
   );
   fits = record {
@@ -140,11 +139,11 @@ wider scope width k x y n w e h = record {
 
 -- and within the new width
 pub within_more : (scope : List Known) (width : ℕ) (k : Known) → Within scope width → k.offset ≡ width
-    → Within (scope ++ k ∷ []) (width + length k.table.columns)
+    → Within (scope ++ k ∷ []) (width + length k.columns)
 within_more scope width k n e j m = elim (in_either j scope (k ∷ []) m) [
   | inl i ↦ omega (arith, n j i)
   | inr i ↦ elim i [
-    | inl q ↦ subst (λ (x : Known). x.offset + length x.table.columns ≤ width + length k.table.columns) (sym q)
+    | inl q ↦ subst (λ (x : Known). x.offset + length x.columns ≤ width + length k.columns) (sym q)
         (omega (arith, e))
     | inr z ↦ absurd z
   ]

@@ -91,12 +91,11 @@ keys_late es as' (KeyTree primary n ns p ∷ cs) = listed_late es as' (n ∷ ns)
 keys_late es as' (ForeignTree child n names ∷ cs) = keys_late es as' cs
 keys_late es as' (CheckTree c ∷ cs) = keys_late es as' cs
 
-checks_late : (es : List Element) (as' : List Application) (d : TableDef) (cs : List Constraint)
-    → AreLate (checks es as' d cs).faults
-checks_late es as' d [] = none
-checks_late es as' d (CheckTree c ∷ cs) = condition_late _ c ⊗ misplaced _ ⊗ checks_late es as' d cs ⊗ none
-checks_late es as' d (KeyTree primary n ns p ∷ cs) = checks_late es as' d cs
-checks_late es as' d (ForeignTree child n names ∷ cs) = checks_late es as' d cs
+checks_late : (es : List Element) (scope : List Known) (cs : List Constraint) → AreLate (checks es scope cs).faults
+checks_late es scope [] = none
+checks_late es scope (CheckTree c ∷ cs) = condition_late scope c ⊗ misplaced _ ⊗ checks_late es scope cs ⊗ none
+checks_late es scope (KeyTree primary n ns p ∷ cs) = checks_late es scope cs
+checks_late es scope (ForeignTree child n names ∷ cs) = checks_late es scope cs
 
 whole_late : (defs : List TableDef) (n : Name) (es : List Element) (versioned : Bool)
     → AreLate (whole_faults defs n es versioned)
@@ -109,7 +108,7 @@ create_late : (defs : List TableDef) (n : Name) (es : List Element) (versioned :
 create_late defs n es versioned =
     whole_late defs n es versioned ⊗ each_late (application_period es) (application_parts es) (application_late es)
     ⊗ each_late (system_period es) (system_parts es) (system_late es) ⊗ keys_late es _ (constraints_of es)
-    ⊗ references_late defs es _ (constraints_of es) ⊗ checks_late es _ _ (constraints_of es) ⊗ none
+    ⊗ references_late defs es _ (constraints_of es) ⊗ checks_late es _ (constraints_of es) ⊗ none
 
 -- ---- tables and moments
 

@@ -6,18 +6,13 @@ use Rattle.tql_spec.specs.Refusal.{OutOfMemory, NotAStatement, NotUtf8, Unfinish
 use Rattle.tql_spec.specs.Refusal.{NestedTooDeep, TooManyColumnsOrTables}
 use Rattle.tql_spec.specs.Machine.{State, Reply, Refused}
 use Rattle.tql_spec.specs.Script.{Piece}
-use Rattle.tql_spec.specs.Token.{Token, depth}
+use Rattle.tql_spec.specs.Token.{depth}
 use Rattle.tql_spec.specs.Syntax.{Statement, is_too_wide}
-use Rattle.tql_spec.specs.Grammar.{IsStatement, SpellsOnce}
-use Rattle.tql_spec.specs.Running.{Runs}
-use Rattle.tql_spec.specs.Run.{Language, Sense, Says, Faulty, HasSense, IsWhole, IsDeep, IsTextOf, Answers, Run}
+use Rattle.tql_spec.specs.Grammar.{SpellsOnce, IsStatement}
+use Rattle.tql_spec.specs.Run.{Sense, Says, Faulty, HasSense, IsWhole, IsDeep, IsTextOf, Answers, Run}
 use Rattle.tql_spec.specs.Run.{respond_to}
 use Rattle.tql_spec.specs.Meaning.{SensesAreOne, RunsAgree}
 use Rattle.tql_spec.proofs.TokenLaws.{one_list}
-
--- one statement for a token list, if any
-abbrev IsSpeltOnce : Language → Type 0
-IsSpeltOnce L = (tokens : List Token) (s t : Statement) → L s tokens → L t tokens → s ≡ t
 
 -- one of two cases that exclude each other, each of which tells what is there
 either_once : {S A B : Type 0} (x : S) (R : S → Type 0) → (A → B → ⊥) → ((s t : S) → R s → R t → s ≡ t) → (s t : S)
@@ -32,16 +27,16 @@ never_both : (b : Bool) → IsFalse b → IsTrue b → ⊥
 never_both true e f = cc
 never_both false e f = cc
 
-module _ (L : Language) (once : IsSpeltOnce L) (p : Piece) where
+module _ (once : SpellsOnce) (p : Piece) where
   -- the faults of a piece, one behind another
   abbrev Wide : Statement → Sense → Type 0
   Wide s a = (IsFalse (is_too_wide s) × (a ≡ Says s)) ⊎ (IsTrue (is_too_wide s) × (a ≡ Faulty TooManyColumnsOrTables))
 
   abbrev Spells : Sense → Type 0
-  Spells a = (s : Statement) × IsTextOf L p.text s × Wide s a
+  Spells a = (s : Statement) × IsTextOf p.text s × Wide s a
 
   abbrev NoText : Type 0
-  NoText = (s : Statement) → IsTextOf L p.text s → ⊥
+  NoText = (s : Statement) → IsTextOf p.text s → ⊥
 
   abbrev Shallow : Sense → Type 0
   Shallow a = (NoText × (a ≡ Faulty NotAStatement)) ⊎ (¬ NoText × Spells a)
@@ -61,13 +56,13 @@ module _ (L : Language) (once : IsSpeltOnce L) (p : Piece) where
   whole : (a : Sense) → IsWhole p → Ended a → Graded a
   whole a w e = inr (w.short, inr (w.utf8, inr (w.finished, e)))
 
-  not_deep : (s : Statement) → IsTextOf L p.text s → ¬ IsDeep p.text
+  not_deep : (s : Statement) → IsTextOf p.text s → ¬ IsDeep p.text
   not_deep s (ts, shallow, spells) (us, tokens, deep) =
       let same : depth us ≡ depth ts = ap depth (one_list p.text us ts tokens shallow.0) in
       let l = shallow.1 in
       omega (arith, same, l, deep)
 
-  graded : (a : Sense) → HasSense L p a → Graded a
+  graded : (a : Sense) → HasSense p a → Graded a
   graded (Says s) (w, t, narrow) =
       whole (Says s) w (inr (not_deep s t, inr ((λ none. none s t), (s, t, inl (narrow, refl)))))
   graded (Faulty StatementTooLong) h = inl (h, refl)
@@ -79,8 +74,8 @@ module _ (L : Language) (once : IsSpeltOnce L) (p : Piece) where
       whole (Faulty TooManyColumnsOrTables) w (inr (not_deep s t, inr ((λ none. none s t), (s, t, inr (wide, refl)))))
   graded (Faulty _) h = absurd h
 
-  one_statement : (s t : Statement) → IsTextOf L p.text s → IsTextOf L p.text t → s ≡ t
-  one_statement s t (ts, a, x) (us, b, y) = once us s t (subst (L s) (one_list p.text ts us a.0 b.0) x) y
+  one_statement : (s t : Statement) → IsTextOf p.text s → IsTextOf p.text t → s ≡ t
+  one_statement s t (ts, a, x) (us, b, y) = once us s t (subst (IsStatement s) (one_list p.text ts us a.0 b.0) x) y
 
   one_width : (s : Statement) (a b : Sense) → Wide s a → Wide s b → a ≡ b
   one_width s a b (inl h) (inl k) = h.1 ∙ sym k.1
@@ -91,7 +86,7 @@ module _ (L : Language) (once : IsSpeltOnce L) (p : Piece) where
   one_spelling : (a b : Sense) → Spells a → Spells b → a ≡ b
   one_spelling a b (s, t, w) (s', t', w') = one_width s' a b (subst (λ x. Wide x a) (one_statement s s' t t') w) w'
 
-  one_sense : (a b : Sense) → HasSense L p a → HasSense L p b → a ≡ b
+  one_sense : (a b : Sense) → HasSense p a → HasSense p b → a ≡ b
   one_sense a b h k =
       either_once (Faulty StatementTooLong) Short (λ l m. omega arith)
       (either_once (Faulty NotUtf8) Read (λ n u. n u)
@@ -100,20 +95,16 @@ module _ (L : Language) (once : IsSpeltOnce L) (p : Piece) where
       (either_once (Faulty NotAStatement) Spells (λ n m. m n) one_spelling))))
       a b (graded a h) (graded b k)
 
--- the statements that run are spelt once where all are
-runs_once : SpellsOnce → IsSpeltOnce Runs
-runs_once once tokens s t h k = once tokens s t h.spelled k.spelled
-
 -- a piece has one sense, where a token list spells one statement at most
 pub senses_are_one : SpellsOnce → SensesAreOne
-senses_are_one once = (one_sense Runs (runs_once once), one_sense IsStatement once)
+senses_are_one once = one_sense once
 
 -- two answers that are not out of memory
 answers_agree : SpellsOnce → (old : State) (p : Piece) (r r' : Reply) (new new' : State) → Answers old p r new
     → Answers old p r' new' → (r ≡ Refused OutOfMemory → ⊥) → (r' ≡ Refused OutOfMemory → ⊥)
     → ◌≡◌ {A = Reply × State} (r, new) (r', new')
 answers_agree once old p r r' new new' (inl (a, h, e)) (inl (b, k, f)) n m =
-    e ∙ ap (respond_to old) ((senses_are_one once).0 p a b h k) ∙ sym f
+    e ∙ ap (respond_to old) (senses_are_one once p a b h k) ∙ sym f
 answers_agree once old p r r' new new' (inl h) (inr k) n m = absurd (m k.0)
 answers_agree once old p r r' new new' (inr h) k n m = absurd (n h.0)
 

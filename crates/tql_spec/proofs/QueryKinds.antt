@@ -27,7 +27,7 @@ use Rattle.tql_spec.proofs.RunKeeps.{no_left, no_right}
 use Rattle.tql_spec.proofs.InOrder.{no_fault}
 use Rattle.tql_spec.proofs.ExprKinds.{FitsScope, Keeps, in_flat, after, expr_keeps}
 use Rattle.tql_spec.proofs.CreateKinds.{created_typed}
-use Rattle.tql_spec.proofs.BoundKinds.{Fit, no_misfit, kind_at_is, insert_typed, update_typed}
+use Rattle.tql_spec.proofs.BoundKinds.{Fit, no_misfit, insert_typed, update_typed}
 use Rattle.tql_spec.proofs.JoinKinds.{in_filter_all}
 use Rattle.tql_spec.proofs.ChainKinds.{product_fits}
 
@@ -64,8 +64,8 @@ items_keep scope i (it ∷ is) o (inr m) = items_keep scope (suc i) is o m
 
 outputs_keep : (scope : List Known) (items : Items) → AllKeep scope (outputs scope items).value
 outputs_keep scope AllColumns o m =
-    let k = in_flat (λ (x : Known). all_columns_from x.offset x.table.columns) o scope m in
-    columns_keep scope k.0.offset k.0.table.columns (λ row f. f.each k.0 k.1) o k.2
+    let k = in_flat (λ (x : Known). all_columns_from x.offset x.columns) o scope m in
+    columns_keep scope k.0.offset k.0.columns (λ row f. f.each k.0 k.1) o k.2
 outputs_keep scope (TheseItems i is) o m = items_keep scope 1 (i ∷ is) o m
 
 -- ---- scopes of evaluation
@@ -203,10 +203,7 @@ values_typed scope e group row each own v q = (expr_keeps scope e).of_kind group
     (fits row own) v q
   where
     fits : (r : Row) → HasScopeKinds scope r → FitsScope scope r
-    fits r h = record {
-      each = λ k m i l. subst (λ c. IsOfKind (Some c) (cell r (k.offset + i))) (sym (kind_at_is k.table.columns i))
-          (h k m i l);
-    }
+    fits r h = record { each = h }
 
 -- each statement without a fault
 pub bound_typed : BoundAreTyped

@@ -28,7 +28,6 @@ pub mod Grammar
 pub mod Names
 pub mod Creation
 pub mod Binding
-pub mod Running
 pub mod Run
 pub mod Reached
 pub mod Meaning

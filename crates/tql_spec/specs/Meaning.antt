@@ -5,17 +5,11 @@ use Rattle.tql_spec.specs.Bag.{In}
 use Rattle.tql_spec.specs.Refusal.{OutOfMemory}
 use Rattle.tql_spec.specs.Machine.{State, Reply, Refused}
 use Rattle.tql_spec.specs.Script.{Piece}
-use Rattle.tql_spec.specs.Grammar.{IsStatement}
-use Rattle.tql_spec.specs.Running.{Runs}
-use Rattle.tql_spec.specs.Run.{Language, Sense, HasSense, Run}
+use Rattle.tql_spec.specs.Run.{Sense, HasSense, Run}
 
--- in the language a piece says one thing, or has one first fault
-abbrev pub HasOneSense : Language → Type 0
-HasOneSense L = (p : Piece) (a b : Sense) → HasSense L p a → HasSense L p b → a ≡ b
-
--- the law: a piece has one sense, among the statements that run and in the whole grammar
+-- the law: a piece says one thing, or has one first fault
 abbrev pub SensesAreOne : Type 0
-SensesAreOne = HasOneSense Runs × HasOneSense IsStatement
+SensesAreOne = (p : Piece) (a b : Sense) → HasSense p a → HasSense p b → a ≡ b
 
 -- no reply is out of memory
 abbrev pub NoneOutOfMemory : List Reply → Type 0

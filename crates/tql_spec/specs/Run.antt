@@ -14,7 +14,6 @@ use Rattle.tql_spec.specs.Script.{Piece, statements}
 use Rattle.tql_spec.specs.Token.{Token, AreTokens, depth}
 use Rattle.tql_spec.specs.Syntax.{Statement, is_too_wide}
 use Rattle.tql_spec.specs.Grammar.{IsStatement}
-use Rattle.tql_spec.specs.Running.{Runs}
 use Rattle.tql_spec.specs.Binding.{bind, statement_class}
 
 -- ---- what a piece of a script says
@@ -32,13 +31,9 @@ IsShallow text tokens = AreTokens tokens text × (depth tokens ≤ most_open)
 abbrev pub IsDeep : List ℕ → Type 0
 IsDeep text = (tokens : List Token) × AreTokens tokens text × (most_open < depth tokens)
 
--- which statements token lists spell
-abbrev pub Language : Type 1
-Language = Statement → List Token → Type 0
-
--- the text spells the statement in the language
-abbrev pub IsTextOf : Language → List ℕ → Statement → Type 0
-IsTextOf L text s = (tokens : List Token) × IsShallow text tokens × L s tokens
+-- the text spells the statement
+abbrev pub IsTextOf : List ℕ → Statement → Type 0
+IsTextOf text s = (tokens : List Token) × IsShallow text tokens × IsStatement s tokens
 
 -- a finished statement of this text
 abbrev pub finished : List ℕ → Piece
@@ -51,16 +46,16 @@ pub record IsWhole (p : Piece) : Type 0 where
   pub finished : IsTrue p.finished
 
 -- each fault comes only where none before it is present
-abbrev pub HasSense : Language → Piece → Sense → Type 0
-HasSense L p (Faulty StatementTooLong) = longest_text < length p.text
-HasSense L p (Faulty NotUtf8) = (length p.text ≤ longest_text) × ¬ IsUtf8 p.text
-HasSense L p (Faulty UnfinishedStatement) = (length p.text ≤ longest_text) × IsUtf8 p.text × IsFalse p.finished
-HasSense L p (Faulty NestedTooDeep) = IsWhole p × IsDeep p.text
-HasSense L p (Faulty NotAStatement) = IsWhole p × ¬ IsDeep p.text × ((s : Statement) → IsTextOf L p.text s → ⊥)
-HasSense L p (Faulty TooManyColumnsOrTables) =
-    IsWhole p × ((s : Statement) × IsTextOf L p.text s × IsTrue (is_too_wide s))
-HasSense L p (Faulty _) = ⊥
-HasSense L p (Says s) = IsWhole p × IsTextOf L p.text s × IsFalse (is_too_wide s)
+abbrev pub HasSense : Piece → Sense → Type 0
+HasSense p (Faulty StatementTooLong) = longest_text < length p.text
+HasSense p (Faulty NotUtf8) = (length p.text ≤ longest_text) × ¬ IsUtf8 p.text
+HasSense p (Faulty UnfinishedStatement) = (length p.text ≤ longest_text) × IsUtf8 p.text × IsFalse p.finished
+HasSense p (Faulty NestedTooDeep) = IsWhole p × IsDeep p.text
+HasSense p (Faulty NotAStatement) = IsWhole p × ¬ IsDeep p.text × ((s : Statement) → IsTextOf p.text s → ⊥)
+HasSense p (Faulty TooManyColumnsOrTables) =
+    IsWhole p × ((s : Statement) × IsTextOf p.text s × IsTrue (is_too_wide s))
+HasSense p (Faulty _) = ⊥
+HasSense p (Says s) = IsWhole p × IsTextOf p.text s × IsFalse (is_too_wide s)
 
 -- ---- steps
 
@@ -80,7 +75,7 @@ respond_to s (Faulty e) = (Refused e, s)
 -- the machine's reply to a piece, or out of memory with the state as it was
 abbrev pub Answers : State → Piece → Reply → State → Type 0
 Answers old p reply new =
-    ((sense : Sense) × HasSense Runs p sense × ((reply, new) ≡ respond_to old sense))
+    ((sense : Sense) × HasSense p sense × ((reply, new) ≡ respond_to old sense))
     ⊎ ((reply ≡ Refused OutOfMemory) × (new ≡ old))
 
 -- ---- answers
@@ -99,10 +94,10 @@ abbrev pub verdict : Sense → Answer
 verdict (Says t) = Accepted
 verdict (Faulty e) = Replied (Refused e)
 
--- where it is checked over the whole grammar: by this verdict, or out of memory; the state stays as it is
+-- where it is checked: by this verdict, or out of memory; the state stays as it is
 abbrev pub Checks : Answering
 Checks old p answer new =
-    (((sense : Sense) × HasSense IsStatement p sense × (answer ≡ verdict sense)) ⊎
+    (((sense : Sense) × HasSense p sense × (answer ≡ verdict sense)) ⊎
     (answer ≡ Replied (Refused OutOfMemory)))
     × (new ≡ old)
 

@@ -13,7 +13,7 @@ use Rattle.tql_spec.specs.Machine.{SetClock, Start, Commit, Rollback, ChangeRows
 use Rattle.tql_spec.specs.Machine.{state_faults}
 use Rattle.tql_spec.specs.Machine.{effect, step}
 use Rattle.tql_spec.specs.Syntax.{Sum, Statement}
-use Rattle.tql_spec.specs.Names.{Known, expr}
+use Rattle.tql_spec.specs.Names.{Known, expr, kind_at}
 use Rattle.tql_spec.specs.Binding.{bind, kinds_for}
 use Rattle.tql_spec.specs.Reached.{IsReached}
 use Rattle.tql_spec.specs.Typing.{IsOfKind, AreOfKinds, GiveKinds, column_kind, IsTypedDefinition, HasPeriod}
@@ -23,8 +23,8 @@ use Rattle.tql_spec.specs.Typing.{IsTypedState}
 
 -- a row has values of their kinds in the columns of each reference in scope
 abbrev pub HasScopeKinds : List Known → Row → Type 0
-HasScopeKinds scope row = (k : Known) → In k scope → (i : ℕ) → i < length k.table.columns
-    → IsOfKind (Some (column_kind k.table i)) (cell row (k.offset + i))
+HasScopeKinds scope row = (k : Known) → In k scope → (i : ℕ) → i < length k.columns
+    → IsOfKind (Some (kind_at k.columns i)) (cell row (k.offset + i))
 
 -- the law: on such a row, in a group of such rows, the value of a bound expression is of its kind
 abbrev pub ValuesAreOfKind : Type 0

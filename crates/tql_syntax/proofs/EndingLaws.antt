@@ -1,8 +1,7 @@
 -- Which texts end a transaction, by their words.
-use Rattle.std.proofs.Common.{◌≡◌, refl, sym, ap, ◌∙◌, subst, ℕ, ◌≤◌, ◌<◌, Bool, true, false, List, [], ◌∷◌, length}
+use Rattle.std.proofs.Common.{◌≡◌, refl, sym, ap, ◌∙◌, subst, ℕ, ◌≤◌, Bool, true, false, List, [], ◌∷◌, length}
 use Rattle.std.proofs.Common.{Option, Some, None, IsUtf8, arith, inl, inr}
 use Rattle.std.specs.Prelude.{◌⊎◌, ◌↔◌, map, codes}
-use Rattle.std.specs.Str.{bytes_eq}
 use Rattle.std.proofs.lemmas.Slice.Eq.{bytes_eq-Decides}
 use Rattle.tql_spec.specs.Words.{same_text}
 use Rattle.tql_spec.specs.Token.{Token, Word, AreTokens, upper}
@@ -66,7 +65,7 @@ words_of e first (Some w) (inr two) = record {
 }
 
 has_words : (text first : List ℕ) (second : Option (List ℕ)) (e : code.TransactionEnd)
-    → AreTokens (word_tokens first second) text → IsTextOf IsStatement text (end_statement e)
+    → AreTokens (word_tokens first second) text → IsTextOf text (end_statement e)
     → HasWords e first second
 has_words text first second e are (ts, tokens, spelled) =
     words_of e first second
@@ -88,7 +87,7 @@ spells e first (Some w) h =
     ∙ ap (λ (v : List ℕ). Word (word_of e) ∷ Word v ∷ []) (text_is (map upper w) (codes "WORK") h.work))
 
 ends_so : (e : code.TransactionEnd) (text : List ℕ) (ts : List Token) → AreEnding e ts → AreTokens ts text
-    → IsTextOf IsStatement text (end_statement e)
+    → IsTextOf text (end_statement e)
 ends_so Commit text ts (inl one) are =
     (ts, (are, rw one (omega arith)), ([], one, inl refl))
 ends_so Commit text ts (inr two) are =
@@ -105,12 +104,12 @@ word_decides text first second are work =
     by (same_text (map upper first) (codes "COMMIT")) refl (same_text (map upper first) (codes "ROLLBACK")) refl
   where
     so : (e : code.TransactionEnd) → same_text (map upper first) (word_of e) ≡ true
-        → IsTextOf IsStatement text (end_statement e)
+        → IsTextOf text (end_statement e)
     so e is = ends_so e text (word_tokens first second)
         (spells e first second (record { begins = text_is (map upper first) (word_of e) is; work = work })) are
 
     other : (e : code.TransactionEnd) → same_text (map upper first) (word_of e) ≡ false
-        → IsTextOf IsStatement text (end_statement e) → ⊥
+        → IsTextOf text (end_statement e) → ⊥
     other e f is =
         let w = has_words text first second e are is in
         let no_so : true ≡ false = sym (text_self (word_of e))
@@ -118,7 +117,7 @@ word_decides text first second are work =
         absurd cc
 
     none : (e : code.TransactionEnd) → same_text (map upper first) (codes "COMMIT") ≡ false
-        → same_text (map upper first) (codes "ROLLBACK") ≡ false → IsTextOf IsStatement text (end_statement e) → ⊥
+        → same_text (map upper first) (codes "ROLLBACK") ≡ false → IsTextOf text (end_statement e) → ⊥
     none Commit f g = other Commit f
     none Rollback f g = other Rollback g
 
@@ -132,8 +131,8 @@ word_decides text first second are work =
 -- ---- and so of bytes
 
 -- one text does not end a transaction in two ways
-one_end : (text : List ℕ) (e f : code.TransactionEnd) → IsTextOf IsStatement text (end_statement e)
-    → IsTextOf IsStatement text (end_statement f) → e ≡ f
+one_end : (text : List ℕ) (e f : code.TransactionEnd) → IsTextOf text (end_statement e)
+    → IsTextOf text (end_statement f) → e ≡ f
 one_end text e f (ts, tokens, spelled) (us, others, spelled_too) =
     by e f (spelled_so e ts spelled)
     (subst (AreEnding f) (one_list text us ts others.0 tokens.0) (spelled_so f us spelled_too))
@@ -152,15 +151,15 @@ one_end text e f (ts, tokens, spelled) (us, others, spelled_too) =
 
 -- the answer is this end exactly where the text says its statement
 abbrev pub Tells : List ℕ → Option code.TransactionEnd → code.TransactionEnd → Type 0
-Tells text result e = (result ≡ Some e) ↔ HasSense IsStatement (finished text) (Says (end_statement e))
+Tells text result e = (result ≡ Some e) ↔ HasSense (finished text) (Says (end_statement e))
 
 whole_sense : (text : List ℕ) (e : code.TransactionEnd) → IsWhole (finished text)
-    → IsTextOf IsStatement text (end_statement e) → HasSense IsStatement (finished text) (Says (end_statement e))
+    → IsTextOf text (end_statement e) → HasSense (finished text) (Says (end_statement e))
 whole_sense text Commit whole is = (whole, is, refl)
 whole_sense text Rollback whole is = (whole, is, refl)
 
-sense_text : (text : List ℕ) (e : code.TransactionEnd) → HasSense IsStatement (finished text) (Says (end_statement e))
-    → IsWhole (finished text) × IsTextOf IsStatement text (end_statement e)
+sense_text : (text : List ℕ) (e : code.TransactionEnd) → HasSense (finished text) (Says (end_statement e))
+    → IsWhole (finished text) × IsTextOf text (end_statement e)
 sense_text text Commit h = (h.0, h.1)
 sense_text text Rollback h = (h.0, h.1)
 
@@ -169,7 +168,7 @@ pub text_tells : (text : List ℕ) (result : Option code.TransactionEnd) (e : co
 text_tells text None e short utf8 ends = (λ is. absurd cc, λ h. absurd (ends e (sense_text text e h).1))
 text_tells text (Some f) e short utf8 ends = (
   λ is. whole_sense text e (record { short = short; utf8 = utf8; finished = refl })
-      (subst (λ (g : code.TransactionEnd). IsTextOf IsStatement text (end_statement g)) (same f e is) ends),
+      (subst (λ (g : code.TransactionEnd). IsTextOf text (end_statement g)) (same f e is) ends),
   λ h. ap Some (one_end text f e ends (sense_text text e h).1),
 )
   where

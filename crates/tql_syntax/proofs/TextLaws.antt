@@ -13,7 +13,7 @@ use Rattle.tql_syntax.specs.Texts.{SpellsText, ReadsText}
 use Rattle.tql_syntax_grammar.proofs.TextLaws.{not_deep}
 
 no_statement : (text : List ℕ) (ts : List Token) → AreTokens ts text → SpellsNone ts → (s : Statement)
-    → IsTextOf IsStatement text s → ⊥
+    → IsTextOf text s → ⊥
 no_statement text ts are none s (us, tokens, spelled) =
     let same : ts ≡ us = one_list text ts us are tokens.0 in
     none s (subst (λ vs. IsStatement s vs) (sym same) spelled)

@@ -3,7 +3,6 @@ use Rattle.std.specs.Prelude.{ℕ, Bool, true, List, map, codes, Option, Some, N
 use Rattle.tql_spec.specs.Words.{same_text}
 use Rattle.tql_spec.specs.Token.{upper}
 use Rattle.tql_spec.specs.Syntax as tree
-use Rattle.tql_spec.specs.Grammar.{IsStatement}
 use Rattle.tql_spec.specs.Run.{IsTextOf}
 use Rattle.tql_syntax.specs.declared.ending.TransactionEnd as code
 use Rattle.tql_syntax.specs.declared.ending.TransactionEnd.TheVariants.{Commit, Rollback}
@@ -15,8 +14,8 @@ end_statement Rollback = tree.RollbackTree
 
 -- how the text ends a transaction, if it does
 abbrev pub EndsText : List ℕ → Option code.TransactionEnd → Type 0
-EndsText text (Some e) = IsTextOf IsStatement text (end_statement e)
-EndsText text None = (e : code.TransactionEnd) → IsTextOf IsStatement text (end_statement e) → ⊥
+EndsText text (Some e) = IsTextOf text (end_statement e)
+EndsText text None = (e : code.TransactionEnd) → IsTextOf text (end_statement e) → ⊥
 
 -- how a word in upper case does
 abbrev pub end_of_word : List ℕ → Option code.TransactionEnd

@@ -1,7 +1,6 @@
 -- What a statement's text says.
 use Rattle.std.specs.Prelude.{◌≤◌, ◌<◌, ℕ, List, length, Result, Ok, Err, IsUtf8, ⊤}
 use Rattle.tql_spec.specs.Syntax as tree
-use Rattle.tql_spec.specs.Grammar.{IsStatement}
 use Rattle.tql_spec.specs.Run.{IsWhole, IsDeep, IsTextOf, finished}
 use Rattle.tql_value.specs.declared.refusal.Refusal.{Refusal}
 use Rattle.tql_value.specs.declared.refusal.Refusal.TheVariants.{StatementTooLong, NotUtf8, NestedTooDeep}
@@ -11,11 +10,11 @@ use Rattle.tql_syntax_tree.specs.declared.tree.Tree.{Tree}
 
 -- the text spells no statement
 abbrev pub SpellsNoStatement : List ℕ → Type 0
-SpellsNoStatement text = (s : tree.Statement) → IsTextOf IsStatement text s → ⊥
+SpellsNoStatement text = (s : tree.Statement) → IsTextOf text s → ⊥
 
 -- the statement that a text spells, or that it is nested too deep or spells none, or that memory ran out
 abbrev pub SpellsText : List ℕ → Result Tree Refusal → Type 0
-SpellsText text (Ok s) = IsTextOf IsStatement text (tree_of s)
+SpellsText text (Ok s) = IsTextOf text (tree_of s)
 SpellsText text (Err NestedTooDeep) = IsDeep text
 SpellsText text (Err NotAStatement) = ¬ IsDeep text × SpellsNoStatement text
 SpellsText text (Err OutOfMemory) = ⊤
@@ -23,7 +22,7 @@ SpellsText text (Err _) = ⊥
 
 -- the same of any bytes; each fault comes only where none before it is present
 abbrev pub ReadsText : List ℕ → Result Tree Refusal → Type 0
-ReadsText text (Ok s) = IsWhole (finished text) × IsTextOf IsStatement text (tree_of s)
+ReadsText text (Ok s) = IsWhole (finished text) × IsTextOf text (tree_of s)
 ReadsText text (Err StatementTooLong) = 1_048_576 < length text
 ReadsText text (Err NotUtf8) = (length text ≤ 1_048_576) × ¬ IsUtf8 text
 ReadsText text (Err NestedTooDeep) = IsWhole (finished text) × IsDeep text

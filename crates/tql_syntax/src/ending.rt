@@ -2,7 +2,6 @@
 ghost use Rattle.std.specs.Prelude.{◌≡◌, ◌↔◌, Some, map, option_map};
 ghost use Rattle.tql_spec.specs.Token.{upper};
 ghost use Rattle.tql_spec.specs.Syntax.{CommitTree, RollbackTree};
-ghost use Rattle.tql_spec.specs.Grammar.{IsStatement};
 ghost use Rattle.tql_spec.specs.Run.{HasSense, Says, finished};
 ghost use Rattle.tql_syntax.specs.Endings.{EndsText, end_of_word, is_work};
 
@@ -57,9 +56,9 @@ fn text_end(text: &str) -> Option<TransactionEnd>
 /// where there is none (ISO/IEC 9075-2:2011, 17.7 and 17.8).
 pub fn transaction_end(text: &[u8]) -> Option<TransactionEnd>
     ensures commits { (result ≡ Some TransactionEnd.Commit)
-        ↔ HasSense IsStatement (finished text.now) (Says CommitTree) }
+        ↔ HasSense (finished text.now) (Says CommitTree) }
     ensures rolls_back { (result ≡ Some TransactionEnd.Rollback)
-        ↔ HasSense IsStatement (finished text.now) (Says RollbackTree) }
+        ↔ HasSense (finished text.now) (Says RollbackTree) }
 {
     if text.len() > LONGEST {
         return None;

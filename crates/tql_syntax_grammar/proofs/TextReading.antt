@@ -15,12 +15,11 @@ use Rattle.tql_spec.specs.Token.{AtLeastSign, symbol_text, Spells, AreTokens, de
 use Rattle.tql_spec.specs.FirstToken.{Reading, first_token}
 use Rattle.tql_spec.specs.Syntax.{Statement, is_too_wide}
 use Rattle.tql_spec.specs.Grammar.{IsStatement}
-use Rattle.tql_spec.specs.Running.{does_run, Runs}
-use Rattle.tql_spec.specs.Run.{Language, Says, Faulty, HasSense, IsWhole}
+use Rattle.tql_spec.specs.Run.{Says, Faulty, HasSense, IsWhole}
 use Rattle.tql_spec.proofs.TokenLaws.{first_token_sound, one_list}
 use Rattle.tql_lex.proofs.TokensLemmas.{begin_tokens, one_more_token, end_tokens, no_tokens, next_place}
 use Rattle.tql_syntax_grammar.specs.ReadingStatements.{read_statement}
-use Rattle.tql_syntax_grammar.specs.ReadingTexts.{with_token, tokens_here, tokens_within, read_tokens, kept}
+use Rattle.tql_syntax_grammar.specs.ReadingTexts.{with_token, tokens_here, tokens_within, read_tokens}
 use Rattle.tql_syntax_grammar.specs.ReadingTexts.{sense_of_tree}
 use Rattle.tql_syntax_grammar.specs.ReadingTexts.{sense_of_tokens, read_sense}
 use Rattle.tql_syntax_grammar.proofs.StatementLaws.{reads_statement, statement_is_read}
@@ -133,46 +132,27 @@ reads_tokens text ts a = tokens_complete (length text) text ts (omega arith) a
 
 -- ---- senses
 
--- a language is the statements of the grammar that a test keeps
-pub record IsKept (L : Language) (keeps : Statement → Bool) : Type 0 where
-  pub from : (s : Statement) (ts : List Token) → L s ts → IsStatement s ts × (keeps s ≡ true)
-  pub to : (s : Statement) (ts : List Token) → IsStatement s ts → keeps s ≡ true → L s ts
-
-pub runs_kept : IsKept Runs does_run
-runs_kept = record {
-  from = λ s ts r. (r.spelled, r.running);
-  to = λ s ts p q. record { spelled = p; running = q };
-}
-
-pub all_kept : IsKept IsStatement (λ s. true)
-all_kept = record { from = λ s ts p. (p, refl); to = λ s ts p q. p }
-
-module _ (L : Language) (keeps : Statement → Bool) (k : IsKept L keeps) (p : Piece) where
-  -- of a text with these tokens, which spell a statement of the language or none
+module _ (p : Piece) where
+  -- of a text with these tokens, which spell a statement or none
   module _ (w : IsWhole p) (ts : List Token) (a : AreTokens ts p.text) (flat : depth ts ≤ 64) where
-    none_spelled : ((s : Statement) → L s ts → ⊥) → HasSense L p (Faulty NotAStatement)
-    none_spelled h = (w, not_deep p.text ts a flat, λ s t. h s (subst (L s) (one_list p.text t.0 ts t.1.0 a) t.2))
+    none_spelled : ((s : Statement) → IsStatement s ts → ⊥) → HasSense p (Faulty NotAStatement)
+    none_spelled h =
+        (w, not_deep p.text ts a flat, λ s t. h s (subst (IsStatement s) (one_list p.text t.0 ts t.1.0 a) t.2))
 
-    spelled : (s : Statement) → L s ts → HasSense L p (if is_too_wide s then Faulty TooManyColumnsOrTables else Says s)
+    spelled : (s : Statement) → IsStatement s ts
+        → HasSense p (if is_too_wide s then Faulty TooManyColumnsOrTables else Says s)
     spelled s h = by_width (is_too_wide s) refl
       where
-        by_width : (b : Bool) → is_too_wide s ≡ b → HasSense L p (if b then Faulty TooManyColumnsOrTables else Says s)
+        by_width : (b : Bool) → is_too_wide s ≡ b → HasSense p (if b then Faulty TooManyColumnsOrTables else Says s)
         by_width true e = (w, (s, (ts, (a, flat), h), e))
         by_width false e = (w, (ts, (a, flat), h), e)
 
-    tree_sense : (o : Option Statement) → read_statement ts ≡ o → HasSense L p (sense_of_tree (kept keeps o))
-    tree_sense None e = none_spelled (λ s h. let r = statement_is_read ts s (k.from s ts h).0 in absurd (cc))
-    tree_sense (Some s) e = by_test (keeps s) refl
-      where
-        same : (t : Statement) → L t ts → t ≡ s
-        same t h = let r = statement_is_read ts t (k.from t ts h).0 in cc
-
-        by_test : (b : Bool) → keeps s ≡ b → HasSense L p (sense_of_tree (if b then Some s else None))
-        by_test true q = spelled s (k.to s ts (reads_statement ts s e) q)
-        by_test false q = none_spelled (λ t h. let r = ap keeps (same t h) in let y = (k.from t ts h).1 in absurd (cc))
+    tree_sense : (o : Option Statement) → read_statement ts ≡ o → HasSense p (sense_of_tree o)
+    tree_sense None e = none_spelled (λ s h. let r = statement_is_read ts s h in absurd (cc))
+    tree_sense (Some s) e = spelled s (reads_statement ts s e)
 
   token_sense : IsWhole p → (o : Option (List Token)) → read_tokens p.text ≡ o
-      → HasSense L p (sense_of_tokens keeps o)
+      → HasSense p (sense_of_tokens o)
   token_sense w None e = (
     w,
     (λ deep. let r = reads_tokens p.text deep.0 deep.1 in absurd (cc)),
@@ -184,27 +164,27 @@ module _ (L : Language) (keeps : Statement → Bool) (k : IsKept L keeps) (p : P
       a = tokens_are_read p.text ts e
 
       by_depth : (b : Bool) → nat_lt 64 (depth ts) ≡ b
-          → HasSense L p (if b then Faulty NestedTooDeep else sense_of_tree (kept keeps (read_statement ts)))
+          → HasSense p (if b then Faulty NestedTooDeep else sense_of_tree (read_statement ts))
       by_depth true q = (w, (ts, a, grind (arith, nat_tests)))
       by_depth false q = tree_sense w ts a (grind (arith, nat_tests)) (read_statement ts) refl
 
   -- what is read of a piece is its sense
-  pub sense_is_read : HasSense L p (read_sense keeps p)
+  pub sense_is_read : HasSense p (read_sense p)
   sense_is_read = by_length (nat_lt 1_048_576 (length p.text)) refl
     where
       by_end : (b : Bool) → p.finished ≡ b → (length p.text ≤ 1_048_576) → IsUtf8 p.text
-          → HasSense L p (if not b then Faulty UnfinishedStatement else sense_of_tokens keeps (read_tokens p.text))
+          → HasSense p (if not b then Faulty UnfinishedStatement else sense_of_tokens (read_tokens p.text))
       by_end true e l u = token_sense (record { short = l; utf8 = u; finished = e }) (read_tokens p.text) refl
       by_end false e l u = (l, u, e)
 
       by_bytes : (b : Bool) → is_utf8 p.text ≡ b → (length p.text ≤ 1_048_576)
-          → HasSense L p (if not b then Faulty NotUtf8 else
-          (if not p.finished then Faulty UnfinishedStatement else sense_of_tokens keeps (read_tokens p.text)))
+          → HasSense p (if not b then Faulty NotUtf8 else
+          (if not p.finished then Faulty UnfinishedStatement else sense_of_tokens (read_tokens p.text)))
       by_bytes true e l = by_end p.finished refl l (IsUtf8-from_is_utf8 p.text e)
       by_bytes false e l = (l, λ u. let r = is_utf8-from_IsUtf8 p.text u in absurd (cc))
 
       by_length : (b : Bool) → nat_lt 1_048_576 (length p.text) ≡ b
-          → HasSense L p (if b then Faulty StatementTooLong else (if not (is_utf8 p.text) then Faulty NotUtf8
-          else (if not p.finished then Faulty UnfinishedStatement else sense_of_tokens keeps (read_tokens p.text))))
+          → HasSense p (if b then Faulty StatementTooLong else (if not (is_utf8 p.text) then Faulty NotUtf8
+          else (if not p.finished then Faulty UnfinishedStatement else sense_of_tokens (read_tokens p.text))))
       by_length true e = grind (arith, nat_tests)
       by_length false e = by_bytes (is_utf8 p.text) refl (grind (arith, nat_tests))

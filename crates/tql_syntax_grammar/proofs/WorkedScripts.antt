@@ -1,17 +1,12 @@
 -- The worked scripts, from bytes to bytes: what the definitions give for them, by the reading functions.
 use Rattle.std.specs.Prelude.{◌≡◌, refl, ℕ, List, [], ◌∷◌, ◌++◌, codes}
 use Rattle.tql_spec.specs.Machine.{new_state}
-use Rattle.tql_spec.specs.Running.{does_run}
-use Rattle.tql_syntax_grammar.specs.ReadingRuns.{every, read_output}
+use Rattle.tql_syntax_grammar.specs.ReadingRuns.{read_output}
 use Rattle.tql_syntax_grammar.proofs.Unfolded.{reading}
 
--- what a script prints on a new state, in the whole grammar
+-- what a script prints on a new state
 abbrev prints : List ℕ → List ℕ
-prints = read_output every new_state
-
--- what a script prints, of the statements that run
-abbrev runs : List ℕ → List ℕ
-runs = read_output does_run new_state
+prints = read_output new_state
 
 -- ---- beginnings
 
@@ -50,7 +45,7 @@ two_numbers =
 
 -- a comment alone
 nothing_said :
-    runs (codes "-- nothing\n  ")
+    prints (codes "-- nothing\n  ")
     ≡ codes ""
 unfolding reading
 nothing_said = refl
@@ -205,7 +200,7 @@ clock_does_not_stand = refl
 
 -- the whole numbers' ends, and the clock's
 last_moment :
-    runs (two_numbers
+    prints (two_numbers
     ++ codes "INSERT INTO t VALUES (9223372036854775808); INSERT INTO t VALUES (-9223372036854775808); "
     ++ codes "AT TIMESTAMP '9999-12-31 23:59:59.999999'; INSERT INTO t VALUES (3);")
     ≡ codes "CREATE TABLE\nINSERT 2\nREFUSED E30 value out of range\nINSERT 1\nAT\n"
@@ -312,7 +307,7 @@ quoted = refl
 
 -- portions in rows of two times
 portions :
-    runs (no_key
+    prints (no_key
     ++ codes "UPDATE emp FOR PORTION OF ep FROM DATE '2011-02-01' TO DATE '2011-03-01' SET dept = 'B'; "
     ++ codes "UPDATE emp FOR PORTION OF ep FROM DATE '2011-02-15' TO DATE '2011-04-01' SET dept = 'C'; "
     ++ codes "SELECT dept, estart, eend FROM emp;")
@@ -324,7 +319,7 @@ portions = refl
 
 -- where a portion lies outside
 out_of_portion :
-    runs (no_key
+    prints (no_key
     ++ codes "INSERT INTO emp VALUES (9223372036854775807, 'Z', DATE '2012-01-01', DATE '2013-01-01'); "
     ++ codes "DELETE FROM emp WHERE eno + 1 > 0; "
     ++ codes "DELETE FROM emp FOR PORTION OF ep FROM DATE '2011-01-01' TO DATE '2011-02-01' WHERE eno + 1 > 0;")
@@ -366,7 +361,7 @@ joins = refl
 
 -- 65 open parentheses, and 64
 deep :
-    runs (codes "(((((((((((((((((((((((((((((((((((((((((((((((((((((((((((((((((; "
+    prints (codes "(((((((((((((((((((((((((((((((((((((((((((((((((((((((((((((((((; "
     ++ codes "((((((((((((((((((((((((((((((((((((((((((((((((((((((((((((((((;")
     ≡ codes "REFUSED E14 nested too deep\nREFUSED E10 not a statement\n"
 unfolding reading
@@ -374,21 +369,21 @@ deep = refl
 
 -- a byte that is no text, in a quote with a `;`
 not_utf8 :
-    runs (39 ∷ 59 ∷ 255 ∷ 39 ∷ 59 ∷ [])
+    prints (39 ∷ 59 ∷ 255 ∷ 39 ∷ 59 ∷ [])
     ≡ codes "REFUSED E11 not UTF-8\n"
 unfolding reading
 not_utf8 = refl
 
 -- nothing before a `;`
 no_statements :
-    runs (codes ";;")
+    prints (codes ";;")
     ≡ []
 unfolding reading
 no_statements = refl
 
 -- a row read back at its moment
 one_row_read_back :
-    runs (empty_log
+    prints (empty_log
     ++ codes "INSERT INTO log VALUES (7); "
     ++ codes "SELECT * FROM log FOR SYSTEM_TIME AS OF TIMESTAMP '2011-01-01 00:00:00';")
     ≡ codes "CREATE TABLE\nAT\nINSERT 1\nX|S|E\n7|2011-01-01 00:00:00|9999-12-31 23:59:59.999999\n(1 rows)\n"
@@ -397,7 +392,7 @@ one_row_read_back = refl
 
 -- each commit has a moment of its own
 two_commits :
-    runs (empty_log
+    prints (empty_log
     ++ codes "INSERT INTO log VALUES (8), (-7); INSERT INTO log VALUES (8); "
     ++ codes "SELECT * FROM log FOR SYSTEM_TIME AS OF TIMESTAMP '2011-01-01 00:00:00.000001';")
     ≡ codes "CREATE TABLE\nAT\nINSERT 2\nINSERT 1\nX|S|E\n-7|2011-01-01 00:00:00|9999-12-31 23:59:59.999999\n"
@@ -408,7 +403,7 @@ two_commits = refl
 
 -- ROLLBACK
 undone :
-    runs (empty_log
+    prints (empty_log
     ++ codes "INSERT INTO log VALUES (1); START TRANSACTION; DELETE FROM log; INSERT INTO log VALUES (2); "
     ++ codes "SELECT * FROM log; SELECT * FROM log FOR SYSTEM_TIME AS OF TIMESTAMP '2011-01-01 00:00:00'; "
     ++ codes "ROLLBACK; SELECT * FROM log;")
@@ -421,7 +416,7 @@ undone = refl
 
 -- a row that no commit saw
 short_lived :
-    runs (empty_log
+    prints (empty_log
     ++ codes "START TRANSACTION; INSERT INTO log VALUES (1); DELETE FROM log; COMMIT; "
     ++ codes "SELECT * FROM log FOR SYSTEM_TIME BETWEEN TIMESTAMP '0001-01-01 00:00:00' AND TIMESTAMP "
     ++ codes "'9999-12-31 23:59:59.999999';")

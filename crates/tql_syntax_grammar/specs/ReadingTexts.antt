@@ -1,5 +1,5 @@
 -- Reading a text: its tokens, and the sense of a piece of a script.
-use Rattle.std.specs.Prelude.{ℕ, zero, suc, Bool, false, not, nat_lt, if◌then◌else◌, List, [], ◌∷◌, length, take}
+use Rattle.std.specs.Prelude.{ℕ, zero, suc, false, not, nat_lt, if◌then◌else◌, List, [], ◌∷◌, length, take}
 use Rattle.std.specs.Prelude.{drop, Option, Some, None}
 use Rattle.std.specs.Str.{is_utf8}
 use Rattle.tql_spec.specs.Words.{with_front}
@@ -35,25 +35,19 @@ read_tokens text = tokens_within (length text) text
 
 -- ---- senses
 
--- a statement that was read, where it is one of those that a test keeps
-abbrev pub kept : (Statement → Bool) → Option Statement → Option Statement
-kept keeps None = None
-kept keeps (Some s) = if keeps s then Some s else None
-
 -- what a statement says that was read: too wide, or what it is
 abbrev pub sense_of_tree : Option Statement → Sense
 sense_of_tree None = Faulty NotAStatement
 sense_of_tree (Some s) = if is_too_wide s then Faulty TooManyColumnsOrTables else Says s
 
 -- what tokens say
-abbrev pub sense_of_tokens : (Statement → Bool) → Option (List Token) → Sense
-sense_of_tokens keeps None = Faulty NotAStatement
-sense_of_tokens keeps (Some ts) =
-    if nat_lt 64 (depth ts) then Faulty NestedTooDeep else sense_of_tree (kept keeps (read_statement ts))
+abbrev pub sense_of_tokens : Option (List Token) → Sense
+sense_of_tokens None = Faulty NotAStatement
+sense_of_tokens (Some ts) = if nat_lt 64 (depth ts) then Faulty NestedTooDeep else sense_of_tree (read_statement ts)
 
--- what a piece of a script says, or the first fault of its text, in the language of the statements that a test keeps
-abbrev pub read_sense : (Statement → Bool) → Piece → Sense
-read_sense keeps p =
+-- what a piece of a script says, or the first fault of its text
+abbrev pub read_sense : Piece → Sense
+read_sense p =
     if nat_lt 1_048_576 (length p.text) then Faulty StatementTooLong
     else (if not (is_utf8 p.text) then Faulty NotUtf8
-    else (if not p.finished then Faulty UnfinishedStatement else sense_of_tokens keeps (read_tokens p.text)))
+    else (if not p.finished then Faulty UnfinishedStatement else sense_of_tokens (read_tokens p.text)))

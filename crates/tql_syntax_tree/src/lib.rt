@@ -4,7 +4,6 @@
 pub mod condition;
 pub mod expression;
 pub mod name;
-pub mod running;
 pub mod statement;
 pub mod tree;
 pub mod width;

@@ -4,7 +4,6 @@ ghost use Rattle.std.specs.Prelude.{◌≡◌, OnOk, OnErr, IfErr, IsTrue};
 
 use crate::engine::Engine;
 use tql_catalog::table_def::TableDef;
-use tql_memory::Memory;
 use tql_result::reply::{Reply, Verb};
 use tql_value::refusal::Refusal;
 
@@ -29,10 +28,12 @@ impl Engine {
         ensures err { OnErr result ((s : State) → StandsFor self.old s → StandsFor self.new s) }
         ensures memory { IfErr result (λ e. e ≡ OutOfMemory) }
     {
-        let columns: Vec<Vec<usize, Memory>, Memory> = Vec::new(self.memory);
-        let id = self
-            .store
-            .add_table(definition.is_versioned(), columns, None)?;
+        let columns = definition.sought_lists(self.memory)?;
+        let id = self.store.add_table(
+            definition.is_versioned(),
+            columns,
+            definition.sought_period(),
+        )?;
         match self.tables.create(definition, id) {
             Ok(()) => Ok(()),
             Err(refusal) => {

@@ -8,6 +8,7 @@ use tql_value::refusal::Refusal;
 impl Engine {
     ghost use Rattle.tql_spec.specs.Machine as machine;
     ghost use Rattle.tql_spec.specs.Machine.{State, step};
+    ghost use Rattle.tql_engine.specs.HoldPoints.{HoldsFor};
     ghost use Rattle.tql_engine.specs.Stands.{StandsFor};
     ghost use Rattle.tql_result.specs.Replies.{reply_of};
     ghost use Rattle.tql_engine.specs.Allowed.{IsIdle, HasTimeLeft};
@@ -30,6 +31,7 @@ impl Engine {
         ensures answered { (s : State) → StandsFor self.old s → DoesStep self.new s result (step s machine.Commit) }
         ensures done { IfOk result (λ reply. reply_of reply ≡ machine.Done machine.Committed None) }
         ensures reason { IfErr result (λ e. e ≡ Refusal.NotInThisTransactionState) }
+        ensures holds { (s : State) → HoldsFor self.old s → HoldsFor self.new (step s machine.Commit).1 }
     {
         if !self.store.has_transaction() {
             return Err(Refusal::NotInThisTransactionState);
@@ -45,6 +47,7 @@ impl Engine {
         ensures answered { (s : State) → StandsFor self.old s → DoesStep self.new s result (step s machine.Rollback) }
         ensures done { IfOk result (λ reply. reply_of reply ≡ machine.Done machine.RolledBack None) }
         ensures reason { IfErr result (λ e. e ≡ Refusal.NotInThisTransactionState) }
+        ensures holds { (s : State) → HoldsFor self.old s → HoldsFor self.new (step s machine.Rollback).1 }
     {
         if !self.store.has_transaction() {
             return Err(Refusal::NotInThisTransactionState);

@@ -1,7 +1,7 @@
--- Statements of the grammar where there is no table: keys and checks do not run yet (E10), queries and portions are refused by their tables (E20); a check takes them. By hand from docs/LANGUAGE.md.
+-- Statements of the grammar where there is no table t: a key of a column of its period (E23), a table made whose key stands before its column, a check of a name that is none (E21); queries and portions are refused by their tables (E20); a check takes them. By hand from docs/LANGUAGE.md.
 CREATE TABLE t (a DATE, b DATE, PERIOD FOR p (a, b), UNIQUE (a, p WITHOUT OVERLAPS));
-CREATE TABLE t (PRIMARY KEY (a), a INT);
-CREATE TABLE t (a INT, CHECK (a > 0));
+CREATE TABLE w (PRIMARY KEY (a), a INT);
+CREATE TABLE t (a INT, CHECK (b > 0));
 INSERT INTO t SELECT * FROM u;
 DELETE FROM t FOR PORTION OF p FROM DATE 'x' TO DATE 'y';
 SELECT COUNT(a) FROM t;

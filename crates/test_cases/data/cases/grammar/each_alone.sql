@@ -1,4 +1,3 @@
--- cases: pieces
 -- Each statement is checked alone. By hand from docs/LANGUAGE.md.
 SELECT x FROM nosuch;
 SELEC;

@@ -1,2 +1,1 @@
--- cases: pieces
 -- A script of no byte is the file empty_file; this one has comments alone.

@@ -1,3 +1,2 @@
--- cases: pieces
 -- Blanks, comments and `;` alone are no statement and have no reply.
 -- a comment

@@ -1,4 +1,3 @@
--- cases: pieces
 -- Blanks, comments and `;` alone are no statement and have no reply.
 -- a 'comment;
   

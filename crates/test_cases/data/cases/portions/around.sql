@@ -1,4 +1,3 @@
--- cases: pieces
 -- A portion that is wider than a period on both sides changes the whole row, and leaves no other part.
 -- By hand from docs/LANGUAGE.md.
 CREATE TABLE emp (eno INTEGER, dept VARCHAR(10), estart DATE, eend DATE,

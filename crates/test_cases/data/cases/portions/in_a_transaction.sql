@@ -1,4 +1,4 @@
--- cases: pieces growths
+-- cases: growths
 -- Parts of parts in one transaction leave no version of length zero; ROLLBACK gives back the rows as they were.
 -- By hand from docs/LANGUAGE.md.
 CREATE TABLE emp (eno INTEGER, dept VARCHAR(10), estart DATE, eend DATE,

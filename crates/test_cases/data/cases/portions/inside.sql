@@ -1,4 +1,4 @@
--- cases: pieces growths
+-- cases: growths
 -- A portion within a period leaves the old values on both sides, as rows of this transaction; the old row ends at its moment.
 -- By hand from docs/LANGUAGE.md.
 CREATE TABLE emp (eno INTEGER, dept VARCHAR(10), estart DATE, eend DATE,

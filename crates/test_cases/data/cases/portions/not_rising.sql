@@ -1,4 +1,3 @@
--- cases: pieces
 -- A portion of no point (E31), a text that is too long (E30), a generated column (E23).
 -- By hand from docs/LANGUAGE.md.
 CREATE TABLE emp (eno INTEGER, dept VARCHAR(10), estart DATE, eend DATE,

@@ -1,4 +1,3 @@
--- cases: pieces
 -- A second portion over a part of the first, and of what the first left: two rows are touched.
 -- By hand from docs/LANGUAGE.md.
 CREATE TABLE emp (eno INTEGER, dept VARCHAR(10), estart DATE, eend DATE,

@@ -1,4 +1,3 @@
--- cases: pieces
 -- SET is evaluated on touched rows alone; a portion that only meets a period at its end touches nothing.
 -- By hand from docs/LANGUAGE.md.
 CREATE TABLE emp (eno INTEGER, dept VARCHAR(10), estart DATE, eend DATE,

@@ -1,4 +1,4 @@
--- Which questions run, and which are refused by a name or a form: every query of the grammar is bound; a CHECK does not run yet. By hand from docs/LANGUAGE.md.
+-- Which questions run, and which are refused by a name or a form: every query of the grammar is bound. By hand from docs/LANGUAGE.md.
 CREATE TABLE t (x INTEGER);
 INSERT INTO t VALUES (1), (2);
 SELECT DISTINCT x FROM t;

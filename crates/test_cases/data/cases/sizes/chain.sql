@@ -1,4 +1,4 @@
--- cases: short
+-- cases: short whole
 -- Chains of eight references, each of a table of 64 columns: a row of 512. By hand from docs/LANGUAGE.md.
 CREATE TABLE t ({63 c# INTEGER, }c64 INTEGER);
 INSERT INTO t VALUES ({63 #, }64), ({63 10#, }1064);

@@ -1,4 +1,4 @@
--- cases: short
+-- cases: short whole
 -- A row of 300 columns, of five tables of 60, one of which has no partner. By hand from docs/LANGUAGE.md.
 CREATE TABLE a ({59 a# INTEGER, }a60 INTEGER);
 CREATE TABLE b ({59 b# INTEGER, }b60 INTEGER);

@@ -1,4 +1,4 @@
--- cases: short
+-- cases: short whole
 -- A group of 100,000 rows, 100,000 groups of one, and 100,000 rows that DISTINCT takes once. The sum of 1 to 100,000 is 5,000,050,000. By
 -- hand from docs/LANGUAGE.md.
 CREATE TABLE d (n INTEGER);

@@ -1,4 +1,4 @@
--- cases: short
+-- cases: short whole
 -- 1,000 tuples, items, keys of ORDER BY and columns of GROUP BY; of one row 2,000 and 100,000 members of IN, a sum of 100,000 terms, and
 -- conditions of 2,000. By hand from docs/LANGUAGE.md.
 CREATE TABLE t (n INTEGER);

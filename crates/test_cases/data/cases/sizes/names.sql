@@ -1,4 +1,4 @@
--- cases: short
+-- cases: short whole
 -- Names of 100 bytes and of 70,000, of tables, columns, periods and outputs. By hand from docs/LANGUAGE.md.
 CREATE TABLE {100 t} ({100 a} INTEGER, "{100 b}" VARCHAR(1), {100 s} TIMESTAMP GENERATED ALWAYS AS ROW START,
   {100 e} TIMESTAMP GENERATED ALWAYS AS ROW END, d1 DATE, d2 DATE, PERIOD FOR SYSTEM_TIME ({100 s}, {100 e}),

@@ -1,4 +1,4 @@
--- cases: short
+-- cases: short whole
 -- Numbers of 300 digits and of 70,000: out of range, but for leading zeros. By hand from docs/LANGUAGE.md.
 CREATE TABLE t (n INTEGER, x VARCHAR({299 0}2), m TIMESTAMP({300 0}));
 INSERT INTO t VALUES ({299 0}7, 'ab', TIMESTAMP '2011-01-01 00:00:00.5');

@@ -1,4 +1,4 @@
--- cases: short
+-- cases: short whole
 -- One transaction changes 20 tables and is committed, and one is undone. By hand from docs/LANGUAGE.md.
 {10 CREATE TABLE p# (n INTEGER);
 CREATE TABLE v# (n INTEGER, s TIMESTAMP GENERATED ALWAYS AS ROW START, e TIMESTAMP GENERATED ALWAYS AS ROW END,

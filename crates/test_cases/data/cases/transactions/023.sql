@@ -1,4 +1,3 @@
--- cases: pieces
 -- Made at random. The text comes from a rendering of the language that shares nothing with the engine.
 AT TIMESTAMP '2011-01-01 00:00:00';
 CREATE TABLE "t" (C1 VARCHAR(2), "é" VARCHAR(2), S TIMESTAMP(0) NOT NULL GENERATED ALWAYS AS ROW START, SYS_E TIMESTAMP(12) GENERATED ALWAYS AS ROW END, PERIOD FOR SYSTEM_TIME (S, SYS_E)) WITH SYSTEM VERSIONING;

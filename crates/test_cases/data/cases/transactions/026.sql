@@ -1,4 +1,3 @@
--- cases: pieces
 -- Made at random. The text comes from a rendering of the language that shares nothing with the engine.
 AT TIMESTAMP '2011-01-01 00:00:00';
 CREATE TABLE U ("a b" VARCHAR(1), "a" INT, SYS_S TIMESTAMP GENERATED ALWAYS AS ROW START, E TIMESTAMP WITHOUT TIME ZONE GENERATED ALWAYS AS ROW END NOT NULL, PERIOD FOR SYSTEM_TIME (SYS_S, E)) WITH SYSTEM VERSIONING;

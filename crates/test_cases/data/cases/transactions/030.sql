@@ -1,4 +1,3 @@
--- cases: pieces
 -- Made at random. The text comes from a rendering of the language that shares nothing with the engine.
 CREATE TABLE U ("a" INT NOT NULL, C1 VARCHAR(3), SYS_S TIMESTAMP WITHOUT TIME ZONE GENERATED ALWAYS AS ROW START, E TIMESTAMP(0) GENERATED ALWAYS AS ROW END, PERIOD FOR SYSTEM_TIME (SYS_S, E)) WITH SYSTEM VERSIONING;
 INSERT

@@ -1,4 +1,3 @@
--- cases: pieces
 -- Made at random. The text comes from a rendering of the language that shares nothing with the engine.
 AT TIMESTAMP '2011-01-01 00:00:00';
 CREATE TABLE

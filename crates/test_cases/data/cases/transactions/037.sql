@@ -1,4 +1,3 @@
--- cases: pieces
 -- Made at random. The text comes from a rendering of the language that shares nothing with the engine.
 AT TIMESTAMP '2011-01-01 00:00:00';
 CREATE TABLE W (K INT, S TIMESTAMP GENERATED ALWAYS AS ROW START, E TIMESTAMP(0) WITHOUT TIME ZONE GENERATED ALWAYS AS ROW END, PERIOD FOR SYSTEM_TIME (S, E)) WITH SYSTEM VERSIONING;

@@ -1,3 +1,2 @@
--- cases: pieces
 -- The same within a quote. By hand from docs/LANGUAGE.md.
 'ÿ'

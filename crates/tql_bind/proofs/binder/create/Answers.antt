@@ -6,12 +6,8 @@ use Rattle.tql_spec.specs.Refusal.{first}
 use Rattle.tql_catalog.specs.Tables.{definitions_of}
 use Rattle.tql_syntax_tree.specs.Expressions.{name_of}
 use Rattle.tql_syntax_tree.specs.Statements.{element_of, elements_of}
-use Rattle.tql_bind_table.proofs.Creations.{runs_unchecked}
 use Rattle.tql_bind.proofs.Room.{room_law, free_law, narrow_law, same_table}
 use Rattle.tql_bind.proofs.binder.create.Goals as goal
-
-pub new_table-requires : goal.new_table-requires
-new_table-requires c = runs_unchecked c.args.create.now c.requires.plain
 
 pub returns-in-Ok-clause-sound : goal.returns-in-Ok-clause-sound
 returns-in-Ok-clause-sound c =

@@ -1,4 +1,4 @@
-use Rattle.std.proofs.Common.{◌≡◌, ap, [], map}
+use Rattle.std.proofs.Common.{ap, map}
 use Rattle.std.specs.Prelude.{option_map}
 use Rattle.tql_catalog.specs.Tables.{definitions_of}
 use Rattle.tql_bind_query.specs.Selecting.{typed_query_of}

@@ -1,4 +1,4 @@
-use Rattle.std.proofs.Common.{ap, sym, ◌∙◌, subst}
+use Rattle.std.proofs.Common.{ap, sym, subst}
 use Rattle.tql_spec.specs.Binding as binding
 use Rattle.tql_spec.specs.Names.{expr}
 use Rattle.tql_spec.specs.Syntax as tree

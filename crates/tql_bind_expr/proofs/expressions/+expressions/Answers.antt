@@ -6,7 +6,6 @@ use Rattle.tql_syntax_tree.specs.declared.expression.ExprIn.{ExprIn}
 use Rattle.tql_bind_expr.specs.Bounds.{typed_of}
 use Rattle.tql_bind_expr.specs.Gathered.{Gathers}
 use Rattle.tql_bind_expr.specs.Scopes.{scope_of}
-use Rattle.tql_bind_expr.specs.declared.scope.Typed.{Typed}
 use Rattle.tql_bind_expr.proofs.Gathering.{bound_ok, sound_ok}
 use Rattle.tql_bind_expr.proofs.Loops.{sum_begun, sum_step, sum_done, product_begun, product_step, product_done}
 use Rattle.tql_bind_expr.proofs.Loops.{positive_bound, negative_bound}

@@ -8,4 +8,4 @@ use Rattle.tql_bind_expr.proofs.names.columns_named.Given as goal
 abbrev pub invariant-loop-index : goal.invariant-loop-index
 invariant-loop-index l =
     things_of l.found.items ++ columns_named l.name (l.known.offset + l.index) (map column_of (drop l.index l.columns))
-    ≡ things_of l.fn.found.items ++ columns_named l.name l.known.offset l.known.table.now.columns
+    ≡ things_of l.fn.found.items ++ columns_named l.name l.known.offset (map column_of l.known.columns.now)

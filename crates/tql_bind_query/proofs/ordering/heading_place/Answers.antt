@@ -2,7 +2,6 @@ use Rattle.std.proofs.Common.{ℕ, sym, ap, ◌∙◌, subst, map}
 use Rattle.std.specs.Prelude.{string_bytes}
 use Rattle.tql_spec.specs.Binding.{only_place, places_of}
 use Rattle.tql_spec.specs.Names.{Checked}
-use Rattle.tql_syntax_tree.specs.Expressions.{name_of}
 use Rattle.tql_bind_expr.specs.Gathered.{Gathers}
 use Rattle.tql_bind_query.proofs.ordering.heading_place.Goals as goal
 

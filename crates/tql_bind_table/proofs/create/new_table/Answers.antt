@@ -8,6 +8,7 @@ use Rattle.tql_catalog.specs.Tables.{definitions_of}
 use Rattle.tql_syntax_tree.specs.Statements.{create_of}
 use Rattle.tql_bind_expr.specs.Gathered.{Gathers}
 use Rattle.tql_bind_expr.proofs.Gathering.{first_is}
+use Rattle.tql_bind_check.specs.Checking.{checks_in, elements_in}
 use Rattle.tql_bind_table.specs.NewTables.{written_of, create_in, table_of}
 use Rattle.tql_bind_table.proofs.Creations.{IsDraft, bind_gathered}
 use Rattle.tql_bind_table.proofs.Definable.{can_stand}
@@ -22,9 +23,10 @@ returns-in-Some c =
     let n = string_bytes c.in_ok-name.name in
     let old = c.none-faults.result in
     let new = c.parts_of.new.faults in
-    let t = table_of n d c.in_ok-parts.parts in
-    let g = subst (λ (m : Name). Gathers (create_in defs m (written_of d) tree.is_versioned) old new
-    (table_of m d c.in_ok-parts.parts)) c.deref.ensures c.in_ok-parts.ensures in
+    let t = table_of n c.in_ok-parts.parts in
+    let g = subst (λ (m : Name).
+    Gathers (create_in defs m (written_of d) (checks_in (elements_in tree)) tree.is_versioned) old new
+    (table_of m c.in_ok-parts.parts)) c.deref.ensures c.in_ok-parts.ensures in
     let is : IsDraft tree n (written_of d) =
     record {
       name = c.in_ok-name.ensures;
@@ -37,7 +39,7 @@ returns-in-Some c =
     let all = bind defs (create_of tree) in
     told (λ x. CreateTable x) all c.in-Some.fault
     (first_is all old new (CreateTable t) c.none-faults.ensures
-    (bind_gathered defs tree n (written_of d) old new t c.requires is g)
+    (bind_gathered defs tree n (written_of d) old new t is g)
     ∙ sym c.least.ensures ∙ ap (option_map refusal_of) c.in-Some.is)
 
 pub definition-requires-clause-definable : goal.definition-requires-clause-definable
@@ -48,11 +50,12 @@ definition-requires-clause-definable c =
     let n = string_bytes c.in_ok-name.name in
     let old = c.none-faults.result in
     let new = c.parts_of.new.faults in
-    let t = table_of n d c.in_ok-parts.parts in
-    let g = subst (λ (m : Name). Gathers (create_in defs m (written_of d) tree.is_versioned) old new
-    (table_of m d c.in_ok-parts.parts)) c.deref.ensures c.in_ok-parts.ensures in
-    let all = create_in defs n (written_of d) tree.is_versioned in
-    (can_stand defs n (written_of d) d.applications.items refl tree.is_versioned t
+    let t = table_of n c.in_ok-parts.parts in
+    let g = subst (λ (m : Name).
+    Gathers (create_in defs m (written_of d) (checks_in (elements_in tree)) tree.is_versioned) old new
+    (table_of m c.in_ok-parts.parts)) c.deref.ensures c.in_ok-parts.ensures in
+    let all = create_in defs n (written_of d) (checks_in (elements_in tree)) tree.is_versioned in
+    (can_stand defs n (written_of d) (checks_in (elements_in tree)) d.applications.items refl tree.is_versioned t
     (first_is all old new t c.none-faults.ensures g ∙ sym c.least.ensures
     ∙ ap (option_map refusal_of) c.in-None.is) g.value).definable
 
@@ -64,11 +67,12 @@ definition-requires-clause-constrained c =
     let n = string_bytes c.in_ok-name.name in
     let old = c.none-faults.result in
     let new = c.parts_of.new.faults in
-    let t = table_of n d c.in_ok-parts.parts in
-    let g = subst (λ (m : Name). Gathers (create_in defs m (written_of d) tree.is_versioned) old new
-    (table_of m d c.in_ok-parts.parts)) c.deref.ensures c.in_ok-parts.ensures in
-    let all = create_in defs n (written_of d) tree.is_versioned in
-    (can_stand defs n (written_of d) d.applications.items refl tree.is_versioned t
+    let t = table_of n c.in_ok-parts.parts in
+    let g = subst (λ (m : Name).
+    Gathers (create_in defs m (written_of d) (checks_in (elements_in tree)) tree.is_versioned) old new
+    (table_of m c.in_ok-parts.parts)) c.deref.ensures c.in_ok-parts.ensures in
+    let all = create_in defs n (written_of d) (checks_in (elements_in tree)) tree.is_versioned in
+    (can_stand defs n (written_of d) (checks_in (elements_in tree)) d.applications.items refl tree.is_versioned t
     (first_is all old new t c.none-faults.ensures g ∙ sym c.least.ensures
     ∙ ap (option_map refusal_of) c.in-None.is) g.value).constrained
 
@@ -80,9 +84,10 @@ returns-in_ok-definition-in-None c =
     let n = string_bytes c.in_ok-name.name in
     let old = c.none-faults.result in
     let new = c.parts_of.new.faults in
-    let t = table_of n d c.in_ok-parts.parts in
-    let g = subst (λ (m : Name). Gathers (create_in defs m (written_of d) tree.is_versioned) old new
-    (table_of m d c.in_ok-parts.parts)) c.deref.ensures c.in_ok-parts.ensures in
+    let t = table_of n c.in_ok-parts.parts in
+    let g = subst (λ (m : Name).
+    Gathers (create_in defs m (written_of d) (checks_in (elements_in tree)) tree.is_versioned) old new
+    (table_of m c.in_ok-parts.parts)) c.deref.ensures c.in_ok-parts.ensures in
     let is : IsDraft tree n (written_of d) =
     record {
       name = c.in_ok-name.ensures;
@@ -92,7 +97,7 @@ returns-in_ok-definition-in-None c =
       keys = c.in_ok-draft.ensures.keys;
       references = c.in_ok-draft.ensures.references;
     } in
-    let whole = bind_gathered defs tree n (written_of d) old new t c.requires is g in
+    let whole = bind_gathered defs tree n (written_of d) old new t is g in
     let made = c.in_ok-definition-in-None in
     clean (λ x. CreateTable x) (bind defs (create_of tree)) old new made.field-0 c.none-faults.ensures
     (sym c.least.ensures ∙ ap (option_map refusal_of) c.in-None.is)

@@ -1,7 +1,8 @@
 use Rattle.std.proofs.Common.{◌≡◌, ◌++◌, drop, map}
 use Rattle.tql_spec.specs.Creation.{columns_of, application_parts, system_parts, constraints_of}
 use Rattle.tql_syntax_tree.specs.Statements.{element_of}
-use Rattle.tql_bind_table.specs.NewTables.{columns_in, applications_in, systems_in, elements_in, keys_in}
+use Rattle.tql_bind_check.specs.Checking.{elements_in}
+use Rattle.tql_bind_table.specs.NewTables.{columns_in, applications_in, systems_in, keys_in}
 use Rattle.tql_bind_table.specs.NewTables.{references_in, key_parts, reference_parts}
 use Rattle.tql_bind_table.proofs.draft.draft_of.Given as goal
 

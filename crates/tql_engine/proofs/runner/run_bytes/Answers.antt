@@ -1,6 +1,7 @@
 use Rattle.std.proofs.Common.{refl, ◌∙◌, ap, ◌<◌, length, arith, Some}
 use Rattle.tql_engine.specs.Stands.{StandsFor}
 use Rattle.tql_engine.proofs.Bytes.{runs_bytes}
+use Rattle.tql_engine.proofs.HoldPoints.{bytes_hold}
 use Rattle.tql_engine.proofs.PointRuns.{bytes_agree}
 use Rattle.tql_engine.proofs.runner.run_bytes.Goals as goal
 
@@ -11,9 +12,14 @@ returns-clause-written c s st =
     _ _ _
     (record { had = c.new-source.ensures.left; before = refl; now = refl; short = short }) refl
     (c.new-sink.ensures.written ∙ ap (λ v. Some v.items) c.replace.ensures.value) c.into_bytes.ensures
-    c.run-end.result (c.run-end.ensures s st)
+    c.run-end.result (c.run-end.ensures.ran s st)
 
 pub returns-clause-points : goal.returns-clause-points
 returns-clause-points c s st =
     bytes_agree s (StandsFor c.run-end.new.engine) c.args.script.now c.args.output.now.items c.into_bytes.result.items
     c.run-end.result (returns-clause-written c s st)
+
+pub returns-clause-holds : goal.returns-clause-holds
+returns-clause-holds c s h =
+    bytes_hold c.run-end.new.engine s c.args.script.now c.args.output.now.items c.into_bytes.result.items
+    c.run-end.result h.holds (returns-clause-written c s h.stands)

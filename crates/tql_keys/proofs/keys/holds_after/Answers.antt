@@ -12,13 +12,14 @@ use Rattle.tql_keys.proofs.Freely.{key_after}
 use Rattle.tql_keys.proofs.Stepping.{new_row, left_decides, left_none}
 use Rattle.tql_keys.proofs.keys.holds_after.Goals as goal
 
-pub returns-then-not-are_apart : goal.returns-then-not-are_apart
-returns-then-not-are_apart g c rows gone of judged h =
+pub returns-then-not-apart : goal.returns-then-not-apart
+returns-then-not-apart g c rows gone of judged h =
     let d = c.args.table.now.definition in
     let k = key_of c.args.key.now in
     let added = rows_of c.args.change.now.added.now in
-    let apart : c.are_apart.result ≡ false = search (rules, tests) in
-    let told : c.are_apart.result ≡ key_holds d (new_rows d c.args.change.now.moment added) k = search (rules, tests) in
+    let apart : c.in_ok-apart.apart ≡ false = search (rules, tests) in
+    let told : c.in_ok-apart.apart ≡ key_holds d (new_rows d c.args.change.now.moment added) k =
+    search (rules, tests) in
     key_after d k c.args.change.now.moment gone added rows false _ h (sym apart ∙ told) refl
 
 pub returns-then-not-branch : goal.returns-then-not-branch
@@ -29,8 +30,8 @@ returns-then-not-branch g c rows gone of judged h =
     let added = c.args.change.now.added.now in
     let i = c.loop-row.row-index in
     let F : Row → Bool = is_free d k (shown_rows d (staying gone rows)) in
-    let apart : c.are_apart.result ≡ true = search (rules, tests) in
-    let told : c.are_apart.result ≡ key_holds d (new_rows d m (rows_of added)) k = search (rules, tests) in
+    let apart : c.in_ok-apart.apart ≡ true = search (rules, tests) in
+    let told : c.in_ok-apart.apart ≡ key_holds d (new_rows d m (rows_of added)) k = search (rules, tests) in
     let inside : i < length added = search rules in
     let row : shown_by c.current_row-new.result ≡ new_row d m c.row-item.result = search (rules, tests) in
     let free : c.in_ok-is_free.field-0 ≡ F (shown_by c.current_row-new.result) = search (rules, tests) in
@@ -66,8 +67,8 @@ returns g c rows gone of judged h =
     let added = c.args.change.now.added.now in
     let i = c.loop-row.row-index in
     let F : Row → Bool = is_free d k (shown_rows d (staying gone rows)) in
-    let apart : c.are_apart.result ≡ true = search (rules, tests) in
-    let told : c.are_apart.result ≡ key_holds d (new_rows d m (rows_of added)) k = search (rules, tests) in
+    let apart : c.in_ok-apart.apart ≡ true = search (rules, tests) in
+    let told : c.in_ok-apart.apart ≡ key_holds d (new_rows d m (rows_of added)) k = search (rules, tests) in
     let past : length added ≤ i = search rules in
     key_after d k m gone (rows_of added) rows true true h (sym apart ∙ told)
     (sym (left_none F d m added i past) ∙ c.loop-row.invariant rows gone of judged)

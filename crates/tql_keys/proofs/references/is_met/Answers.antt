@@ -1,5 +1,5 @@
 use Rattle.std.proofs.Common.{◌≡◌, rules, tests, sym, ap, ◌∙◌, ℕ, false, List, map}
-use Rattle.std.specs.Prelude.{◌||◌}
+use Rattle.std.specs.Prelude.{◌||◌, ◌&&◌}
 use Rattle.std.proofs.lemmas.Result.{IfOk-weaker}
 use Rattle.tql_spec.specs.Constraint.{has_null, is_met_by, parents_of, shown_rows}
 use Rattle.tql_spec.specs.Datum.{Datum}
@@ -10,9 +10,10 @@ use Rattle.tql_store_rows.specs.declared.version.Version.{Version}
 use Rattle.tql_value.specs.Views.{datum_of_view, rows_of}
 use Rattle.tql_keys.specs.Asked.{new_rows, row_named}
 use Rattle.tql_keys.specs.Parents.{any_left, any_with}
-use Rattle.tql_keys.specs.Touched.{tuple}
+use Rattle.tql_keys.specs.Touched.{tuple, has_tuple}
 use Rattle.tql_keys.proofs.Children.{parents_told}
 use Rattle.tql_keys.proofs.FoundRows.{found_as}
+use Rattle.tql_keys.proofs.Sameness.{any_bag}
 use Rattle.tql_keys.proofs.references.is_met.Goals as goal
 
 pub returns : goal.returns
@@ -31,15 +32,24 @@ returns g c = IfOk-weaker c.meets.result _ _ (λ met told rows gone of judged.
     let bag = found_as d c.args.parents.now.columns.now f.parent_columns (map datum_of_view c.deref-3.result.now)
     (tuple f.columns r) rows found c.requires.columns values (c.in_ok-found.ensures.rows rows of) in
     let e4 : f.parent_columns ≡ c.args.parents.now.columns.now = sym c.requires.columns in
-    let e5 : tuple f.columns r ≡ map datum_of_view c.deref-4.result.now = cc (c.in_ok-tuple.ensures) in
-    let e6 : found ≡ c.deref-5.result.now = sym c.deref-5.ensures.value in
+    let e5 : tuple f.columns r ≡ map datum_of_view c.deref-5.result.now = cc (c.in_ok-tuple.ensures) in
+    let e6 : found ≡ c.deref-6.result.now = sym c.deref-6.ensures.value in
+    let columns = c.args.parents.now.columns.now in
+    let coming = map shown_by c.args.coming.now in
+    let others = map shown_by c.with_tuple-others.result.now in
+    let sought : map datum_of_view c.deref-5.result.now ≡ map datum_of_view c.deref-4.result.now = cc in
     let nulls : has_null f.columns r ≡ false = search (rules, tests) in
     told parents (λ test.
     parents_told d f r m added rows named gone removed found bag c.in_ok-found.ensures.ids judged test
     ∙ ap (λ (x : List Version). any_left d removed test x
     || any_with f.parent_columns (tuple f.columns r) test (new_rows d m added)) e6
-    ∙ ap (λ (x : List ℕ). any_left d removed test c.deref-5.result.now
+    ∙ ap (λ (x : List ℕ). any_left d removed test c.deref-6.result.now
     || any_with x (tuple f.columns r) test (new_rows d m added)) e4
-    ∙ ap (λ (x : List Datum). any_left d removed test c.deref-5.result.now
-    || any_with c.args.parents.now.columns.now x test (new_rows d m added)) e5)
+    ∙ ap (λ (x : List Datum). any_left d removed test c.deref-6.result.now
+    || any_with columns x test (new_rows d m added)) e5
+    ∙ ap (λ b. any_left d removed test c.deref-6.result.now || b)
+    (sym (any_bag (λ s. has_tuple columns (map datum_of_view c.deref-5.result.now) s && test s) c.requires.coming)
+    ∙ ap (λ (x : List Datum). any_with columns x test coming) sought
+    ∙ sym (c.with_tuple-others.ensures test)
+    ∙ sym (ap (λ (x : List Datum). any_with columns x test others) sought)))
     ∙ sym (ap (λ b. b || is_met_by child d f.by_period parents r) nulls)) c.meets.ensures

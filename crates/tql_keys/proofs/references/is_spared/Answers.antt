@@ -16,8 +16,8 @@ use Rattle.tql_keys.proofs.Parented.{children_told}
 use Rattle.tql_keys.proofs.Stepping.{one_left, none_left}
 use Rattle.tql_keys.proofs.references.is_spared.Goals as goal
 
-pub returns-then-not-branch : goal.returns-then-not-branch
-returns-then-not-branch g c rows children gone of judged there =
+pub returns-then-not-met : goal.returns-then-not-met
+returns-then-not-met g c rows children gone of judged there =
     let d = c.args.parents.now.table.now.definition in
     let cd = c.args.children.now.table.now.definition in
     let f = reference_of c.args.reference.now in
@@ -31,8 +31,8 @@ returns-then-not-branch g c rows children gone of judged there =
     let at : Version → Bool = λ x. F (shown cd (row_found x)) in
     let inside : i < length others = search rules in
     let row : shown_by c.current_row-row.result ≡ shown cd (row_found c.other-item.result) = search (rules, tests) in
-    let met : c.in_ok-is_met.field-0 ≡ at c.other-item.result =
-    c.in_ok-is_met.ensures rows gone of judged ∙ ap F row in
+    let met : c.in_ok-met.met ≡ at c.other-item.result =
+    c.in_ok-met.ensures rows gone of judged ∙ ap F row in
     let values : map datum_of_view c.deref-2.result.now ≡ tuple f.parent_columns t = cc (c.in_ok-tuple.ensures) in
     let bag = found_as cd c.args.children.now.columns.now f.columns (map datum_of_view c.deref-2.result.now)
     (tuple f.parent_columns t) children found c.requires.child_columns values
@@ -40,7 +40,7 @@ returns-then-not-branch g c rows children gone of judged there =
     let told = ap (list_all at) c.as_slice-others.ensures.value
     ∙ children_told cd f t children (row_named c.args.store.now c.args.children.now.table.now.id) found bag
     c.in_ok-found.ensures.ids F in
-    let fails : c.in_ok-is_met.field-0 ≡ false = search (rules, tests) in
+    let fails : c.in_ok-met.met ≡ false = search (rules, tests) in
     sym (sym told ∙ sym (c.loop-other.invariant rows gone of judged)
     ∙ one_left at others i c.other-item.result inside c.other-item.is
     ∙ ap (λ b. b && list_all at (drop (i + 1) others)) (sym met ∙ fails))
@@ -58,9 +58,9 @@ loop-other-preserved g c rows gone of judged =
     let at : Version → Bool = λ x. F (shown cd (row_found x)) in
     let inside : i < length others = search rules in
     let row : shown_by c.current_row-row.result ≡ shown cd (row_found c.other-item.result) = search (rules, tests) in
-    let met : c.in_ok-is_met.field-0 ≡ at c.other-item.result =
-    c.in_ok-is_met.ensures rows gone of judged ∙ ap F row in
-    let holds : c.in_ok-is_met.field-0 ≡ true = search (rules, tests) in
+    let met : c.in_ok-met.met ≡ at c.other-item.result =
+    c.in_ok-met.ensures rows gone of judged ∙ ap F row in
+    let holds : c.in_ok-met.met ≡ true = search (rules, tests) in
     sym (one_left at others i c.other-item.result inside c.other-item.is
     ∙ ap (λ b. b && list_all at (drop (i + 1) others)) (sym met ∙ holds)) ∙ c.loop-other.invariant rows gone of judged
 

@@ -13,14 +13,14 @@ use Rattle.tql_keys.proofs.references.parent_holds_after.Given as goal
 -- the ids that are left decide
 abbrev pub invariant-loop-id : goal.invariant-loop-id
 invariant-loop-id g l =
-    (rows children : List Stamped) (gone : Stamped → Bool) → AreRowsOf l.store l.parent rows
-    → IsJudged (row_named l.store l.parent.id) gone l.change.removed.now
-    → AreRowsOf l.store l.child children
-    → list_all (λ id. of_named (λ r. is_spared l.child.definition l.parent.definition (reference_of l.reference)
-    (shown_rows l.parent.definition (rows_after l.change.moment gone (rows_of l.change.added.now) rows))
-    (shown_rows l.child.definition children) (shown l.parent.definition r))
-    (row_named l.store l.parent.id id)) (drop l.id-index l.change.removed.now)
-    ≡ list_all (λ id. of_named (λ r. is_spared l.child.definition l.parent.definition (reference_of l.reference)
-    (shown_rows l.parent.definition (rows_after l.change.moment gone (rows_of l.change.added.now) rows))
-    (shown_rows l.child.definition children) (shown l.parent.definition r))
-    (row_named l.store l.parent.id id)) l.change.removed.now
+    (rows children : List Stamped) (gone : Stamped → Bool) → AreRowsOf l.store l.fn.parent rows
+    → IsJudged (row_named l.store l.fn.parent.id) gone l.change.removed.now
+    → AreRowsOf l.store l.fn.child children
+    → list_all (λ id. of_named (λ r. is_spared l.fn.child.definition l.fn.parent.definition (reference_of l.reference)
+    (shown_rows l.fn.parent.definition (rows_after l.change.moment gone (rows_of l.change.added.now) rows))
+    (shown_rows l.fn.child.definition children) (shown l.fn.parent.definition r))
+    (row_named l.store l.fn.parent.id id)) (drop l.id-index l.change.removed.now)
+    ≡ list_all (λ id. of_named (λ r. is_spared l.fn.child.definition l.fn.parent.definition (reference_of l.reference)
+    (shown_rows l.fn.parent.definition (rows_after l.change.moment gone (rows_of l.change.added.now) rows))
+    (shown_rows l.fn.child.definition children) (shown l.fn.parent.definition r))
+    (row_named l.store l.fn.parent.id id)) l.change.removed.now

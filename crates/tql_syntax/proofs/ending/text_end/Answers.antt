@@ -1,4 +1,4 @@
-use Rattle.std.proofs.Common.{sym, ◌∙◌, subst, ◌≡◌, List, ℕ, Option, option_map}
+use Rattle.std.proofs.Common.{sym, ◌∙◌, subst, Option, option_map}
 use Rattle.tql_syntax.specs.declared.ending.TransactionEnd as code
 use Rattle.tql_syntax.specs.Endings.{EndsText}
 use Rattle.tql_syntax.proofs.EndingLaws.{not_work, word_decides}

@@ -5,7 +5,6 @@ use Rattle.tql_spec.specs.Binding.{generated_columns}
 use Rattle.tql_spec.specs.Definition.{TableDef, System, cell, with_generated}
 use Rattle.tql_catalog.specs.Defined.{IsDefinition}
 use Rattle.tql_catalog.specs.Definitions.{column_of, system_of}
-use Rattle.tql_catalog.specs.Rows.{stored_width}
 use Rattle.tql_catalog.proofs.StoredNumbers.{stored_count}
 use Rattle.tql_catalog.proofs.table_def.TableDef.stored_number.Goals as goal
 

@@ -6,6 +6,7 @@ use Rattle.tql_engine.proofs.MomentFits.{clock_steps}
 use Rattle.tql_engine.proofs.TransactionKeeps.{dated_below}
 use Rattle.tql_engine.proofs.Doing.{open_entry, commit_refused, commit_does}
 use Rattle.tql_engine.proofs.Typed.{sound_after}
+use Rattle.tql_engine.proofs.HoldPoints.{commit_holds}
 use Rattle.tql_engine.proofs.engine.Engine.commit.Goals as goal
 
 pub invariant_of-self : goal.invariant_of-self
@@ -32,3 +33,13 @@ pub returns-then-not-has_transaction-clause-answered : goal.returns-then-not-has
 returns-then-not-has_transaction-clause-answered c s st =
     commit_refused _ s st (ap (λ (h : EngineModel). is_some h.store.working) (sym c.self.view_is)
     ∙ sym c.has_transaction.ensures ∙ c.if-not-has_transaction.true)
+
+pub returns-clause-holds : goal.returns-clause-holds
+returns-clause-holds c s h =
+    record { stands = (returns-clause-answered c s h.stands).stands; holds = commit_holds s h.holds }
+
+pub returns-then-not-has_transaction-clause-holds : goal.returns-then-not-has_transaction-clause-holds
+returns-then-not-has_transaction-clause-holds c s h = record {
+  stands = (returns-then-not-has_transaction-clause-answered c s h.stands).stands;
+  holds = commit_holds s h.holds;
+}

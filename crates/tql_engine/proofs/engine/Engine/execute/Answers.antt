@@ -1,4 +1,4 @@
-use Rattle.std.proofs.Common.{◌≡◌, ◌∙◌, sym, ap, subst, List, Some, None, Err}
+use Rattle.std.proofs.Common.{◌≡◌, ◌∙◌, sym, ap, subst, List, None, Err}
 use Rattle.std.specs.List.{list_all}
 use Rattle.std.specs.Prelude.{option_map, IsTrue}
 use Rattle.tql_spec.specs.Binding.{bind}
@@ -44,8 +44,9 @@ pub perform-requires-clause-parents : goal.perform-requires-clause-parents
 perform-requires-clause-parents c = λ d e.
     let ds = definitions_of c.self.inside.tables in
     let tree = statement_of c.args.statement.now in
+    let binds = c.in-Ok.ensures.binds in
     subst (λ (h : EngineModel). IsTrue (list_all (can_have (definitions_of h.tables)) d.references)) c.self.view_is
-    (parents_there ds tree d c.requires.runs (c.in-Ok.ensures.binds.1 ∙ e))
+    (parents_there ds tree d (none_first (bind ds tree).faults binds.0) (binds.1 ∙ e))
 
 pub perform-requires-clause-typed : goal.perform-requires-clause-typed
 perform-requires-clause-typed c =

@@ -1,7 +1,6 @@
 use Rattle.std.proofs.Common.{◌∙◌, ap, sym, subst}
 use Rattle.std.specs.Prelude.{All}
 use Rattle.tql_bound.specs.Changes.{insertion_of}
-use Rattle.tql_bound.specs.declared.change.Insertion.{Insertion}
 use Rattle.tql_catalog.specs.Rows.{IsRowOf}
 use Rattle.tql_catalog.specs.declared.catalog.Table.{Table}
 use Rattle.tql_store.proofs.Judging.{none-removable}

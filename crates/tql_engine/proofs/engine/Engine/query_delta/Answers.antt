@@ -1,16 +1,13 @@
-use Rattle.std.proofs.Common.{◌≡◌, ◌∙◌, sym, subst, List, [], Some, ℕ}
-use Rattle.std.specs.Prelude.{slice_get}
+use Rattle.std.proofs.Common.{◌∙◌, sym, subst, List, [], Some}
 use Rattle.tql_spec.specs.Datum.{Row}
 use Rattle.tql_spec.specs.Machine.{State}
-use Rattle.tql_bound.specs.Placed.{IsPlacedQuery}
 use Rattle.tql_bound.specs.Queries.{bound_query_of}
 use Rattle.tql_bound.specs.declared.change.QueryInsertion.{QueryInsertion}
-use Rattle.tql_catalog.specs.Tables.{definitions_of}
 use Rattle.tql_catalog.specs.declared.catalog.Table.{Table}
 use Rattle.tql_dml.specs.Alters.{Alters, added_rows}
 use Rattle.tql_value.specs.Views.{rows_of}
 use Rattle.tql_engine.specs.Adding.{Adds}
-use Rattle.tql_engine.specs.Stands.{EngineModel, StandsFor}
+use Rattle.tql_engine.specs.Stands.{StandsFor}
 use Rattle.tql_engine.proofs.Printing.{answer_prints, rows_print}
 use Rattle.tql_engine.proofs.QueryInserting.{adds_of, not_answered}
 use Rattle.tql_engine.proofs.Standing.{place_law, some_is}

@@ -4,6 +4,7 @@ use Rattle.std.specs.Prelude.{is_some}
 use Rattle.tql_engine.specs.Stands.{EngineModel, StandsFor}
 use Rattle.tql_engine.proofs.Doing.{rollback_refused, rollback_does}
 use Rattle.tql_engine.proofs.Typed.{sound_after}
+use Rattle.tql_engine.proofs.HoldPoints.{rollback_holds}
 use Rattle.tql_engine.proofs.engine.Engine.rollback.Goals as goal
 
 pub invariant_of-self : goal.invariant_of-self
@@ -26,3 +27,13 @@ pub returns-then-not-has_transaction-clause-answered : goal.returns-then-not-has
 returns-then-not-has_transaction-clause-answered c s st =
     rollback_refused _ s st (ap (λ (h : EngineModel). is_some h.store.working) (sym c.self.view_is)
     ∙ sym c.has_transaction.ensures ∙ c.if-not-has_transaction.true)
+
+pub returns-clause-holds : goal.returns-clause-holds
+returns-clause-holds c s h =
+    record { stands = (returns-clause-answered c s h.stands).stands; holds = rollback_holds s h.holds }
+
+pub returns-then-not-has_transaction-clause-holds : goal.returns-then-not-has_transaction-clause-holds
+returns-then-not-has_transaction-clause-holds c s h = record {
+  stands = (returns-then-not-has_transaction-clause-answered c s h.stands).stands;
+  holds = rollback_holds s h.holds;
+}

@@ -2,7 +2,7 @@ use Rattle.std.proofs.Common.{sym, subst, map, List, ℕ}
 use Rattle.std.proofs.lemmas.Result.{IfOk-weaker}
 use Rattle.tql_store_index.specs.Tuple.{is_at}
 use Rattle.tql_value.specs.Views.{datum_of_view}
-use Rattle.tql_keys.specs.Asked.{AreStoredAt}
+use Rattle.tql_catalog.specs.Rows.{AreStoredAt}
 use Rattle.tql_keys.proofs.FoundRows.{rows_are_found, names_are_found}
 use Rattle.tql_keys.proofs.finding.Chain.find.Goals as goal
 

@@ -1,0 +1,27 @@
+-- Changes of parents and children in a transaction are tested on the rows as changed so far; ROLLBACK gives back those that the keys
+-- and references are asked of. By hand from docs/LANGUAGE.md.
+CREATE TABLE p (a INTEGER, PRIMARY KEY (a));
+CREATE TABLE c (a INTEGER, FOREIGN KEY (a) REFERENCES p (a));
+INSERT INTO p VALUES (1), (2);
+INSERT INTO c VALUES (1);
+START TRANSACTION;
+DELETE FROM c;
+DELETE FROM p;
+INSERT INTO p VALUES (2), (3);
+INSERT INTO c VALUES (3), (2);
+INSERT INTO c VALUES (1);
+INSERT INTO p VALUES (3);
+ROLLBACK;
+INSERT INTO c VALUES (3);
+INSERT INTO p VALUES (2);
+INSERT INTO c VALUES (2);
+DELETE FROM p WHERE a = 1;
+START TRANSACTION;
+INSERT INTO p VALUES (3);
+UPDATE c SET a = 3;
+DELETE FROM p WHERE a < 3;
+COMMIT;
+INSERT INTO c VALUES (1);
+INSERT INTO p VALUES (1);
+INSERT INTO p VALUES (3);
+SELECT p.a, c.a FROM p LEFT JOIN c ON c.a = p.a;

@@ -1,0 +1,144 @@
+-- Made at random. The text comes from a rendering of the language that shares nothing with the engine.
+AT TIMESTAMP '2011-01-01 00:00:00';
+CREATE TABLE "x y" (SYS_S;
+CREATE TABLE U (C VARCHAR(65535), CONSTRAINT c1 UNIQUE (C, "p q" WITHOUT OVERLAPS), PERIOD FOR "p q" (F, DE), CONSTRAINT c1 PRIMARY KEY (C), F DATE, DE DATE, CONSTRAINT c1 PRIMARY KEY (C), "a b" INTEGER, ACTION VARCHAR(65535));
+CREATE TABLE-- é
+"t"--
+(c-- é
+VARCHAR(2)--
+Not
+NULL,	Of VARCHAR(9999999999999999999999999),
+DS TIMESTAMP--
+WITHOUT
+TIME Zone,	G timestamp(6)-- é
+WITHOUT TIME  ZONE,-- é
+period -- it;s "a"
+FOR P (DS,
+g),-- é
+SYS_S
+Timestamp	WITHOUT-- é
+TIME -- it;s "a"
+Zone
+Generated	always  AS--
+ROW  Start--
+NOT	NULL, -- it;s "a"
+SYS_E  timestamp(13)--
+not -- it;s "a"
+NULL -- it;s "a"
+Generated ALWAYS
+AS ROW	start,--
+period--
+FOR-- é
+system_time -- it;s "a"
+(Sys_s,
+SYS_E) ,
+PRIMARY -- it;s "a"
+KEY (C,	P-- é
+Without-- é
+overlaps))-- é
+WITH SYSTEM--
+VERSIONING;
+INSERT INTO NOSUCH VALUES (-1);
+CREATE TABLE LOG (X VARCHAR(3), OF VARCHAR(2), N VARCHAR(003) NOT NULL, PRIMARY KEY (N, X), UNIQUE (OF, N));
+INSERT-- é
+INTO LOG
+values--
+(NULL, -- it;s "a"
+'''''', '𝄞'),
+('' ,  '"', -- it;s "a"
+'A');
+INSERT INTO LOG (OF) VALUES ('ab');
+SELECT ALL OF, OF FROM LOG;
+CREATE TABLE T (A DATE, F TIMESTAMP, G TIMESTAMP(0), PERIOD FOR EP (F, G), S TIMESTAMP(12) WITHOUT TIME ZONE GENERATED ALWAYS AS ROW START NOT NULL, SYS_E TIMESTAMP(6) GENERATED ALWAYS AS ROW END, PERIOD FOR SYSTEM_TIME (S, SYS_E), UNIQUE (A, EP WITHOUT OVERLAPS)) WITH SYSTEM VERSIONING;
+UPDATE LOG SET OF = (X) WHERE LOG.X > 'A' AND PERIOD ((TIMESTAMP '2011-01-01 00:00:00'), TIMESTAMP '9999-12-31 23:59:59.999998') OVERLAPS PERIOD (TIMESTAMP '0001-01-01 00:00:00.000001', TIMESTAMP '2011-01-01 02:00:00');
+INSERT INTO NOSUCH VALUES (3037000500);
+SELECT 'a' + 1 FROM NOSUCH WHERE nocol = 1 AND 9223372036854775807 + 1 > 0 ORDER BY 9;
+INSERT INTO LOG VALUES ('ab', 'b', '
+'), ('b', 'A', ('a')), ('a', 'b', '
+');
+AT TIMESTAMP '2011-01-02 00:00:00';
+SELECT  *-- é
+FROM
+T--
+FOR
+system_time -- it;s "a"
+AS OF TIMESTAMP
+'2011-01-01 00:00:00.000000999999';
+UPDATE T FOR PORTION OF EP FROM TIMESTAMP '2011-01-01 03:00:00.000000999999' TO TIMESTAMP '2011-01-01 08:00:00' SET A = A;
+DELETE FROM LOG WHERE (LOG.X IS NULL) AND OF >= N OR 'a' <= N;
+INSERT INTO T (G, F) VALUES (TIMESTAMP '2011-01-01 01:00:00', TIMESTAMP '2011-01-01 03:00:00'), (TIMESTAMP '2011-01-01 08:00:00', TIMESTAMP '2011-01-01 07:00:00');
+CREATE--
+table--
+U ( END -- it;s "a"
+Date, START
+Integer,  F
+TIMESTAMP,	G-- é
+TIMESTAMP(6)-- é
+WITHOUT TIME-- é
+ZONE, Period
+For	EP (F,--
+G), S
+TIMESTAMP(12)  Without	time	ZONE-- é
+NOT -- it;s "a"
+Null--
+generated -- it;s "a"
+Always-- é
+AS -- it;s "a"
+ROW-- é
+Start, Sys_e
+Timestamp(0)	WITHOUT
+Time
+ZONE  GENERATED ALWAYS  as
+ROW--
+end,
+PERIOD
+FOR SYSTEM_TIME-- é
+(S, SYS_E), UNIQUE	(END ) )--
+WITH -- it;s "a"
+SYSTEM
+Versioning;
+INSERT INTO LOG (N, X) VALUES ('ab', 'it''s');
+INSERT INTO LOG (X, N) VALUES ('b', 'A');
+INSERT -- it;s "a"
+into LOG
+VALUES	('''''', -- it;s "a"
+'a',-- é
+'A'), ('A', -- it;s "a"
+NULL, 'A'), -- it;s "a"
+ ('A',
+'"', 'ab') ;
+INSERT INTO LOG VALUES ('ab', '; ', 'a');
+update Log Set
+OF =  LOG.OF Where
+LOG.n	=
+'''''';
+INSERT INTO T (A, G, F) VALUES (DATE '2011-01-05', TIMESTAMP '2011-01-01 08:00:00', TIMESTAMP '2011-01-01 07:00:00.0000009');
+UPDATE--
+Log -- it;s "a"
+SET
+N  =--
+n,  X
+= -- it;s "a"
+(N) -- it;s "a"
+WHERE
+NOT  LOG.OF -- it;s "a"
+= -- it;s "a"
+'b';
+UPDATE  T	FOR	PORTION OF--
+EP-- é
+FROM  timestamp
+'2011-01-01 08:00:00'-- é
+to--
+timestamp -- it;s "a"
+'2011-01-01 08:00:00.000001' SET
+A =
+A--
+WHERE--
+period
+(TIMESTAMP-- é
+'2011-01-01 07:00:00',
+T .G) OVERLAPS
+ep;
+DELETE FROM T FOR PORTION OF EP FROM TIMESTAMP '2011-01-01 07:00:00' TO TIMESTAMP '2011-01-01 09:00:00' WHERE SYS_E <> TIMESTAMP '2011-01-01 07:00:00.000000';
+INSERT INTO T VALUES (NULL, TIMESTAMP '2011-01-01 04:00:00', TIMESTAMP '2011-01-01 04:00:00'), (NULL, TIMESTAMP '2011-01-01 04:00:00', TIMESTAMP '2011-01-01 05:00:00');
+AT TIMESTAMP '2011-01-02 00:00:01.000008';

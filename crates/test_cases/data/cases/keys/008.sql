@@ -1,0 +1,89 @@
+-- Made at random. The text comes from a rendering of the language that shares nothing with the engine.
+AT TIMESTAMP '2011-01-01 00:00:00';
+CREATE TABLE EMP ("é" INT, PERIOD FOR P (F, G), UNIQUE ("é", P WITHOUT OVERLAPS), "q""q" BIGINT NOT NULL, END DATE NOT NULL, F DATE, G DATE);
+INSERT INTO EMP VALUES (3, 0 * 3, DATE '2011-01-09', DATE '9999-12-31', DATE '9999-12-31');
+INSERT INTO EMP (F, "q""q", END, G) VALUES (DATE '2011-01-01', 1, DATE '2011-01-08', DATE '2011-01-02'), (DATE '2011-01-06', 2, DATE '2011-01-02', DATE '2011-01-08');
+INSERT INTO EMP VALUES ((-1), -1 - 3, DATE '2011-01-10', DATE '2011-01-09', DATE '2011-01-13'), (-(-1), 2, DATE '2011-01-02', DATE '2011-01-07', DATE '2011-01-12');
+START
+TRANSACTION;
+SELECT EMP.G, EMP.END AS K FROM EMP INNER JOIN EMP AS B ON EMP.F = B.F AND B."é" = -1;
+COMMIT;
+CREATE TABLE U ("a b" INT, DS TIMESTAMP(0), G TIMESTAMP(0) WITHOUT TIME ZONE, PERIOD FOR EP (DS, G));
+insert-- é
+into
+U -- it;s "a"
+ (G ,-- é
+DS ,  "a b") VALUES ( TIMESTAMP -- it;s "a"
+'9999-12-31 23:59:59.999998', -- it;s "a"
+TIMESTAMP-- é
+'2011-01-01 01:00:00',  -1);
+UPDATE  u
+FOR  PORTION -- it;s "a"
+OF	Ep	From  TIMESTAMP -- it;s "a"
+'2011-01-01 01:00:00'	TO-- é
+timestamp -- it;s "a"
+'9999-12-31 23:59:59.999998'-- é
+SET	"a b"--
+=  "a b"-- é
++ -- it;s "a"
+1;
+DELETE  From  emp  FOR	portion
+OF	P-- é
+FROM	DATE--
+'2011-01-07'
+TO-- é
+DATE  '2011-01-10'  WHERE -- it;s "a"
+Emp.p
+contains EMP.p;
+DROP TABLE U;
+SELECT ALL * FROM EMP JOIN EMP AS Q ON EMP."q""q" < 0;
+CREATE TABLE "x y" (A VARCHAR(1), "a b" VARCHAR(003) NOT NULL, CHECK (PERIOD (TIMESTAMP '2011-01-01 00:00:00.000004', TIMESTAMP '2011-01-01 00:00:00.000003') PRECEDES PERIOD (TIMESTAMP '2010-12-31 23:59:59.999999', TIMESTAMP '2011-01-01 00:00:00') AND 3 <= -1), PRIMARY KEY ("a b"));
+CREATETABLE "x y" (Y   INT, PRIMARY KEY (Y, Y));
+SELECT DISTINCT EMP.END, END C2, EMP."é" FROM EMP;
+DELETE FROM EMP FOR PORTION OF P FROM DATE '2010-12-31' TO DATE '2011-01-04' WHERE NOT G = DATE '2011-01-10';
+INSERT
+into
+"x y"	VALUES-- é
+( 'b', 'a'),--
+('A',  'é');
+DELETE -- it;s "a"
+from EMP  FOR PORTION -- it;s "a"
+OF--
+P  FROM	DATE  '2011-01-02' to -- it;s "a"
+DATE '2011-01-08'-- é
+WHERE
+Emp."é" = 2
+and emp."é" + 4611686018427387904--
+<>
+1	or	Emp."q""q" -- it;s "a"
+>= ("é");
+AT TIMESTAMP '2010-12-31 23:00:00.000007';
+INSERT INTO "x y" VALUES ('A', 'a');
+INSERT  INTO  "x y"	VALUES  (NULL,  'b'), (NULL,	'ab'), ( 'é',
+'
+');
+COMMIT;
+INSERT INTO EMP VALUES (NULL, -1, DATE '2011-01-06', DATE '2011-01-07', DATE '2011-01-10');
+INSERT INTO "x y" ("a b") SELECT DISTINCT MIN("q""q"), END, "é" AS C2 FROM EMP WHERE EMP.END IS NOT NULL AND "q""q" > 2 GROUP BY EMP.END, "é";
+SELECT	DISTINCT -- it;s "a"
+"q""q" from	EMP
+WHERE "é"
++-- é
+Emp. "é"--
+=  3 -- it;s "a"
+AND-- é
+PERIOD (DATE
+'2011-01-06', Emp.F)-- é
+PRECEDES-- é
+P  AND-- é
+P--
+immediately SUCCEEDS P;
+SELECT ALL * FROM EMP;
+INSERT INTO "x y" VALUES ('i', 'zz');
+UPDATE "x y" FOR PORTION OF SYSTEM_TIME FROM DATE '2011-01-02' TO DATE '2011-01-12' SET "a b" = 'a' WHERE "a b" = 'a' AND COUNT(*) = 1;
+delete	FROM EMP
+WHERE  G-- é
+ =	F-- é
+AND 3-- é
+=
+0;

@@ -1,0 +1,128 @@
+-- Made at random. The text comes from a rendering of the language that shares nothing with the engine.
+CREATE TABLE V ("a" INTEGER NOT NULL, F DATE, DE DATE, PERIOD FOR P (F, DE));
+INSERT INTO V (DE, F, "a") SELECT F, (DE), V."a" FROM V WHERE PERIOD (DATE '2011-01-01', F) IMMEDIATELY SUCCEEDS PERIOD (DATE '2011-01-07', F) OR F >= (F);
+CREATE TABLE EMP (OF BIGINT, Y VARCHAR(003), C1 INTEGER, PRIMARY KEY (Y));
+DELETE FROM EMP WHERE NOT Y <> EMP.Y;
+Delete--
+FROM-- é
+V FOR portion-- é
+OF
+P  FROM  DATE	'2011-01-06'	to	Date--
+'2011-01-07'	where	"a"
+IN  (1,
+1);
+SELECT DATE '2011-01-08' FROM EMP WHERE (PERIOD ((TIMESTAMP '0001-01-01 00:00:00'), TIMESTAMP '0001-01-01 00:00:00') EQUALS PERIOD (TIMESTAMP '2011-01-01 01:00:00', TIMESTAMP '0001-01-01 00:00:00')) AND 1 NOT BETWEEN -1 AND C1 OR NOT (EMP.OF IN (1) OR EMP.Y = Y);
+INSERT--
+INTO V -- it;s "a"
+SELECT
+ALL-- é
+DATE
+'2011-01-08'  AS
+C2, 2,--
+4611686018427387904,-- é
+EMP .c1
+AS--
+k, -- it;s "a"
+Of
+FROM -- it;s "a"
+EMP	GROUP--
+BY  c1 ,
+Of;
+SELECT DISTINCT SUM(EMP.OF), MAX(OF) AS A, COUNT(*) FROM EMP CROSS JOIN V B;
+Select  *-- é
+FROM
+v--
+AS  A  INNER	JOIN	V AS--
+"z" on "z"."a"-- é
+=  "z"."a" - -- é
+-1 AND "z".P
+contains  DATE	'2011-01-01' Inner--
+JOIN EMP as	B  ON -- it;s "a"
+B.C1 Between--
+0
+And -- it;s "a"
+4611686018427387904 -- it;s "a"
+AND (C1
+is
+not NULL) -- it;s "a"
+OR A."a"
+=
+"z"."a" Order	BY -- it;s "a"
+1--
+DESC, 1-- é
+Asc;
+INSERT INTO V VALUES (2, DATE '2011-01-06', DATE '2011-01-08');
+INSERT INTO V VALUES (+(-1), DATE '2011-01-08', DATE '2011-01-11');
+AT-- é
+timestamp '0001-01-01 00:00:01.000004';
+INSERT-- é
+Into--
+V	values-- é
+(2, 
+DATE '2011-01-08',
+DATE -- it;s "a"
+'2011-01-11');
+insert	INTO-- é
+EMP	Values (2, -- it;s "a"
+'b', 0) ;
+SELECT ALL 'a' FROM EMP AS "z" JOIN EMP AS A ON "z".C1 = A.C1 WHERE "z".C1 IN (2, "z".OF + 9223372036854775807 - 9223372036854775807) AND +"z".C1 = A.OF OR (A.OF NOT IN (-1) AND (NOT A.C1 = +"z".C1 AND NOT "z".C1 < 1 OR A.C1 >= "z".OF));
+SELECT * FROM V WHERE (P CONTAINS PERIOD (DE, DE) AND V.P PRECEDES PERIOD (V.DE, F) OR V.P IMMEDIATELY PRECEDES P AND NOT DE <> DATE '2011-01-08') OR -1 < -1;
+START TRANSACTION;
+INSERT--
+INTO  V Values
+(9223372036854775807-- é
+-	1,--
+DATE	'2011-01-10',
+DATE '2011-01-12'),-- é
+(-1,--
+DATE '2011-01-05',	DATE
+'2011-01-07');
+ROLLBACK;
+SELECT x FROM t WHERE ((((((((((((((((((((((((((((((((((((((((((((((((((((((((((((((((x)))))))))))))))))))))))))))))))))))))))))))))))))))))))))))))))) = 1;
+CREATE TABLE T ("a" VARCHAR(10), WITHOUT INTEGER, F DATE, DE DATE, PERIOD FOR "p q" (F, DE), CONSTRAINT c1 FOREIGN KEY ("a") REFERENCES EMP (Y));
+INSERT--
+INTO EMP	SELECT Emp.OF, EMP.Y, 2-- é
+From-- é
+Emp -- it;s "a"
+where EMP.C1 -- it;s "a"
+=	c1;
+INSERT INTO EMP VALUES (0, 'b', 1);
+INSERT into T  ("a",
+WITHOUT,-- é
+F, de) -- it;s "a"
+VALUES -- it;s "a"
+('b',
+0,--
+Date
+'2011-01-02',--
+DATE '2011-01-07');
+SELECT MIN(T.WITHOUT) M FROM T LEFT OUTER JOIN T Q ON T.WITHOUT = Q.WITHOUT AND Q."p q" OVERLAPS T."p q" AND PERIOD (Q.F, DATE '2011-01-01') SUCCEEDS Q."p q" CROSS JOIN T AS R WHERE R."a" IS NULL GROUP BY R."a" HAVING NOT 1 IN (MAX(R.WITHOUT), SUM(R.WITHOUT * 4611686018427387904)) AND (MIN(Q."a") <> 'A') AND COUNT(*) >= 0 OR NOT (NOT COUNT(Q."a") NOT BETWEEN -1 AND 3 AND SUM(R.WITHOUT * 3074457345618258602) = 1 OR PERIOD (MAX(R.DE), MIN(Q.DE)) EQUALS PERIOD (DATE '2011-01-08', MAX(R.DE))) AND (0 < SUM(T.WITHOUT) OR PERIOD (DATE '2011-01-07', DATE '2011-01-11') EQUALS PERIOD (MAX(T.F), DATE '2011-01-06')) ORDER BY 1 ASC;
+SELECT--
+All
+V.F,	"a"-- é
+FROM -- it;s "a"
+Emp -- it;s "a"
+join V
+on P	IMMEDIATELY PRECEDES-- é
+PERIOD (DE,  F)
+AND P OVERLAPS  p-- é
+OR
+ (C1) is--
+NOT
+NULL WHERE
+NOT P
+overlaps  P;
+DELETE FROM EMP WHERE NOT C1 < C1 OR Q.X >= 1;
+DELETE FROM EMP WHERE C1 > 1;
+update -- it;s "a"
+Emp--
+SET -- it;s "a"
+C1--
+=
+c1	+	1,
+Y
+=  Y;
+SELECT ALL TIMESTAMP '0001-01-01 00:00:00.000003', MAX(V."a"), 'A' FROM V WHERE P CONTAINS DATE '2011-01-11' AND P OVERLAPS V.P AND V.DE IN (DE, F) OR DE >= DATE '2011-01-04' HAVING SUM("a") BETWEEN MIN("a") AND COUNT(*) ORDER BY 1 ASC;
+SELECT * FROM V;
+SELECT * FROM EMP;
+SELECT * FROM T;

@@ -1,0 +1,107 @@
+-- Made at random. The text comes from a rendering of the language that shares nothing with the engine.
+AT TIMESTAMP '2011-01-01 00:00:00';
+CREATE TABLE U (C1 INTEGER, X INTEGER NOT NULL, S TIMESTAMP WITHOUT TIME ZONE GENERATED ALWAYS AS ROW START, E TIMESTAMP(6) NOT NULL GENERATED ALWAYS AS ROW END, PERIOD FOR SYSTEM_TIME (S, E), UNIQUE (C1)) WITH SYSTEM VERSIONING;
+CREATE-- é
+TABLE "x y" (ROW
+bigint not	NULL,
+end	Varchar(3));
+UPDATE U SET C1 = X - X WHERE S >= TIMESTAMP '0001-01-01 00:00:00';
+DELETE FROM U WHERE NOT PERIOD (TIMESTAMP '2011-01-01 00:00:00', S) PRECEDES U.SYSTEM_TIME;
+INSERT
+Into u--
+(C1, X)
+Values-- é
+(3, -1);
+INSERT INTO "x y" (ROW) VALUES (-1), (-4611686018427387904), (3);
+INSERT INTO U VALUES (0);
+Update	U
+set	X-- é
+= X-- é
++
+1,--
+C1 = X--
+- --
+X
++
+X;
+DELETE--
+FROM--
+u--
+WHERE SYSTEM_TIME
+OVERLAPS	u.SYSTEM_TIME;
+SELECT
+ *  FROM -- it;s "a"
+"x y" -- it;s "a"
+R
+CROSS join -- it;s "a"
+"x y" -- it;s "a"
+cross--
+JOIN
+"x y"
+A;
+SELECT
+count(row),
+MAX("x y".END) M,-- é
+COUNT(*)	FROM	"x y"
+ORDER by
+2--
+DESC;
+Create--
+TABLE	log (WORK Varchar(003 ),	K VARCHAR(10), -- it;s "a"
+v
+Integer,  unique (K, -- it;s "a"
+V) ,	CONSTRAINT C1-- é
+foreign	KEY-- é
+(V )  References -- it;s "a"
+u--
+(C1)	ON -- it;s "a"
+UPDATE NO	action--
+ON--
+DELETE -- it;s "a"
+No	ACTION);
+START TRANSACTION;
+UPDATE "x y" SET ROW = (ROW), END = END WHERE ROW >= (ROW) AND ROW >= 0 AND NOT END < 'A' OR PERIOD (TIMESTAMP '2011-01-01 00:00:00.000006', TIMESTAMP '2011-01-01 00:00:00.000006') OVERLAPS PERIOD (TIMESTAMP '2011-01-01 00:00:00.000006', TIMESTAMP '2011-01-01 00:00:00.000006');
+INSERT INTO LOG (WORK, V, K) SELECT B.ROW FROM "x y" JOIN "x y" B ON "x y".END = B.END AND B.ROW > "x y".ROW OR ("x y".ROW IS NULL AND B.ROW = 3 OR B.ROW > 1 AND "x y".ROW - B.ROW < 1) AND "x y".ROW >= -1 AND B.ROW IN (2) WHERE (NOT "x y".ROW NOT BETWEEN 2 AND -1 OR B.ROW <> "x y".ROW) AND NOT "x y".ROW >= 1 AND B.ROW > "x y".ROW OR "x y".ROW = (3);
+SELECT COUNT(TIMESTAMP '2011-01-01 00:00:00.000002999999'), MAX(ROW), SUM(-ROW), ROW FROM "x y" GROUP BY ROW ORDER BY 2 DESC;
+INSERT	INTO
+"x y"-- é
+VALUES  (0,--
+('A'));
+INSERT -- it;s "a"
+into	U -- it;s "a"
+Values
+(3, -- it;s "a"
+-1);
+INSERT INTO LOG VALUES (NULL, '|', 3), ('ab', '''''', 3);
+INSERT INTO LOG VALUES (('A'), 'b', 3);
+INSERT INTO t VALUES ();
+UPDATE "x y" SET ROW = 0 * ROW WHERE PERIOD (TIMESTAMP '2011-01-01 02:00:00', TIMESTAMP '2011-01-01 00:00:00.000006') CONTAINS TIMESTAMP '0001-01-01 00:00:00' OR 2 IS NULL;
+INSERT INTO "x y" (END, ROW) SELECT (END), ROW FROM "x y";
+delete	FROM  U WHERE
+Period
+(S,--
+E)  OVERLAPS PERIOD  (TIMESTAMP '2011-01-01 00:00:00.000004',   TIMESTAMP '2011-01-01 00:00:00.000006') --
+OR	X -- it;s "a"
+*
+C1 -- it;s "a"
+<
+1  and
+C1 =  0;
+COMMIT WORK;
+START TRANSACTION;
+INSERT  into
+"x y"--
+VALUES--
+(2,	NULL);
+UPDATE LOG SET K = NULL WHERE TIMESTAMP '2011-01-01 00:00:00.000006' IS NOT NULL AND (LOG.V <= V OR LOG.K <= 'ab');
+Insert INTO-- é
+LOG (V,
+WORK)--
+SELECT 2,	LOG.WORK-- é
+FROM LOG WHERE	Log. K  >  LOG.WORK
+AND
+NOT--
+v--
+<= -- it;s "a"
+-V;
+ROLLBACK;

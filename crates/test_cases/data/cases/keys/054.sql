@@ -1,0 +1,122 @@
+-- Made at random. The text comes from a rendering of the language that shares nothing with the engine.
+AT TIMESTAMP '2011-01-01 00:00:00';
+CREATE TABLE "x y" (N BIGINT NOT NULL, END VARCHAR(2), ACTION INT, F DATE, DE DATE, PERIOD FOR EP (F, DE), PRIMARY KEY (N, EP WITHOUT OVERLAPS));
+AT TIMESTAMP '2011-01-01 00:59:59.999999';
+INSERT INTO "x y" (DE, N, F) VALUES (DATE '2011-01-07', 2, DATE '2011-01-06');
+INSERT -- it;s "a"
+INTO
+"x y"	select	3,-- é
+(END),--
+n, (DE),	DE
+FROM-- é
+"x y"
+WHERE	(ep--
+contains period
+(F,
+"x y".DE));
+CREATE TABLE U (OF INT NOT NULL, "a b" TIMESTAMP NOT NULL, F DATE, DE DATE, PERIOD FOR P (F, DE), FOREIGN KEY (OF, PERIOD P) REFERENCES "x y" (N, PERIOD EP), CONSTRAINT c1 PRIMARY KEY ("a b"));
+SELECT DISTINCT DATE '2011-01-03', A.N, DATE '2011-01-06', A.N FROM "x y" LEFT OUTER JOIN "x y" AS Q ON (NOT -1 <> Q.ACTION) JOIN "x y" "z" ON "x y".DE = "z".DE, "x y" AS A WHERE NOT "z".EP IMMEDIATELY PRECEDES "x y".EP AND PERIOD (A.F, A.DE) EQUALS A.EP GROUP BY A.N;
+CREATE	table  "t"--
+("a b"
+INT, SYS_S--
+TIMESTAMP(13 )--
+Without--
+TIME  ZONE generated--
+ALWAYS As
+ROW--
+Start,  E -- it;s "a"
+TIMESTAMP(0)
+Generated  ALWAYS--
+AS	ROW  END,-- é
+END
+timestamp
+Generated-- é
+Always AS -- it;s "a"
+Row
+START,
+PERIOD FOR SYSTEM_TIME  (SYS_S,	E)) -- it;s "a"
+WITH
+System -- it;s "a"
+VERSIONING;
+Update	"x y"--
+FOR  PORTION -- it;s "a"
+Of--
+ep
+FROM--
+date
+'2011-01-03' to
+Date-- é
+'2011-01-07'-- é
+Set -- it;s "a"
+action--
+= ACTION;
+SELECT * FROM "x y";
+AT TIMESTAMP '2011-01-01 01:00:01';
+INSERT INTO "x y" VALUES (2, 'a', 1, DATE '2011-01-05', DATE '2011-01-06');
+START TRANSACTION;
+Insert--
+into u	SELECT  0 ,	"x", "x",  "x y".Action	from	"x y";
+INSERT	INTO
+U  VALUES-- é
+(2,--
+Timestamp  '2011-01-01 01:00:00.000000' ,--
+DATE  '2011-01-05',
+DATE '2011-01-06'), (2, -- it;s "a"
+TIMESTAMP--
+'2011-01-01 01:00:01',  DATE -- it;s "a"
+'2011-01-05', -- é
+DATE	'2011-01-07');
+INSERT INTO "x y" (END, N, DE) VALUES ('b', 1 * 0, DATE '2011-01-12');
+SELECT SUM(OF * 4611686018427387904), COUNT(*) FROM U AS B GROUP BY F;
+insert  INTO
+"x y"
+VALUES (2, NULL, 1,
+date	'2011-01-05',--
+date
+'2011-01-07'),   (-(-1),  NULL ,
+(3),	DATE '2011-01-05', -- it;s "a"
+Date -- it;s "a"
+'2011-01-09'),--
+(2,
+NULL,
+4294967296,
+date  '2011-01-06', date-- é
+'2011-01-09' );
+SELECT 9223372036854775808 FROM "x y" WHERE nocol = 1 AND 9223372036854775808 IS NULL;
+COMMIT WORK;
+INSERT INTO "x y" VALUES (2, '|', 1, DATE '2011-01-07', DATE '2011-01-11'), (1, 'A', 3, DATE '2011-01-02', DATE '2011-01-07');
+SELECT -1, '𝄞', COUNT('it''s'), U."a b" FROM U JOIN U AS B ON U."a b" = B."a b" WHERE B.OF = 1 AND B.OF * B.OF <> 0 GROUP BY U."a b" HAVING COUNT(*) IS NOT NULL ORDER BY C1 ASC, 4 DESC;
+AT -- it;s "a"
+TIMESTAMP-- é
+'2011-01-01 01:00:01.000003';
+SELECT -- it;s "a"
+TIMESTAMP--
+'2011-01-01 01:00:01' -- it;s "a"
+as	k,--
+1,-- é
+"z" .N, -- it;s "a"
+"x y".F -- it;s "a"
+FROM  "x y" AS "z"-- é
+Cross
+JOIN
+"x y" -- it;s "a"
+group
+BY	"z".N,--
+"x y".F;
+DELETE FROM "x y" FOR PORTION OF EP FROM DATE '2011-01-07' TO DATE '2011-01-08';
+SELECT
+*
+FROM U;
+INSERT INTO "x y" (N, END, ACTION, F, DE) VALUES (1, 'a', 1, DATE '2011-01-02', DATE '2011-01-12');
+CREATE TABLE LOG (C INT, "a b" BIGINT, B VARCHAR(003) NOT NULL, S TIMESTAMP WITHOUT TIME ZONE NOT NULL GENERATED ALWAYS AS ROW START, SYS_E TIMESTAMP GENERATED ALWAYS AS ROW END, PERIOD FOR SYSTEM_TIME (S, SYS_E)) WITH SYSTEM VERSIONING;
+Update "x y" SET	N = N
++--
+1;
+INSERT INTO "x y" (END, N, F, DE) VALUES ('''''', 3, DATE '2011-01-08', DATE '2011-01-11');
+SELECT x FROM t AS OF TIMESTAMP '2011-01-01 00:00:00';
+SELECT * FROM "x y";
+SELECT * FROM U;
+SELECT * FROM LOG;
+SELECT * FROM LOG FOR SYSTEM_TIME BETWEEN TIMESTAMP '0001-01-01 00:00:00' AND TIMESTAMP '9999-12-31 23:59:59.999999';
+SELECT * FROM LOG FOR SYSTEM_TIME AS OF TIMESTAMP '2011-01-01 01:00:01.000005';
+SELECT * FROM LOG FOR SYSTEM_TIME AS OF TIMESTAMP '2011-01-01 01:00:01.000000999999';

@@ -1,0 +1,174 @@
+-- Made at random. The text comes from a rendering of the language that shares nothing with the engine.
+CREATE TABLE "x y" (WORK BIGINT, OF INT, S TIMESTAMP(0) GENERATED ALWAYS AS ROW START, SYS_E TIMESTAMP WITHOUT TIME ZONE GENERATED ALWAYS AS ROW END, PERIOD FOR SYSTEM_TIME (S, SYS_E)) WITH SYSTEM VERSIONING;
+UPDATE "x y" SET WORK = WORK + 1, OF = "x y".WORK;
+UPDATE "x y" SET OF = OF, WORK = NULL;
+Insert INTO -- it;s "a"
+"x y" (WORK)	values	(3);
+create-- é
+TABLE--
+Emp--
+(C-- é
+int,
+Z0	INTEGER , Z1
+INTEGER, z2 INTEGER,-- é
+Z3  INTEGER,  -- it;s "a"
+z4-- é
+INTEGER,-- é
+z5--
+INTEGER, -- it;s "a"
+Z6-- é
+INTEGER,--
+Z7 integer,--
+Z8--
+INTEGER,	Z9  INTEGER, Z10 integer,  Z11 INTEGER, z12
+INTEGER,
+Z13-- é
+integer,
+Z14 INTEGER, Z15  integer,	Z16--
+integer,
+Z17  INTEGER, z18
+integer, -- it;s "a"
+Z19	integer, Z20 -- it;s "a"
+INTEGER, -- it;s "a"
+Z21  INTEGER,
+Z22 INTEGER,
+Z23  INTEGER,	Z24 INTEGER , Z25	INTEGER, -- it;s "a"
+Z26  Integer,
+Z27--
+integer ,
+Z28-- é
+INTEGER,
+Z29-- é
+integer,
+Z30 INTEGER,  Z31 INTEGER,--
+Z32 INTEGER, Z33 INTEGER, Z34 -- it;s "a"
+INTEGER,
+Z35 integer,  z36
+Integer, -- it;s "a"
+Z37 -- it;s "a"
+INTEGER, Z38 INTEGER, z39--
+INTEGER, Z40 -- it;s "a"
+INTEGER,
+Z41 INTEGER,
+Z42 Integer,--
+Z43 INTEGER,-- é
+Z44--
+INTEGER, Z45  INTEGER ,
+Z46
+INTEGER,--
+Z47  integer,--
+Z48
+INTEGER,
+Z49 INTEGER,
+z50	integer, Z51  INTEGER, Z52 -- it;s "a"
+INTEGER,-- é
+Z53  INTEGER ,--
+z54 INTEGER,	z55 -- it;s "a"
+integer,-- é
+Z56 INTEGER, Z57	integer, -- it;s "a"
+Z58-- é
+integer, Z59
+INTEGER,--
+Z60 integer,  z61--
+Integer,  Z62 INTEGER, Z63--
+INTEGER,  s Integer
+GENERATED-- é
+ALWAYS
+AS  ROW
+Start,--
+E	Timestamp	WITHOUT -- it;s "a"
+Time-- é
+ZONE	Generated
+ALWAYS AS	ROW--
+end, -- it;s "a"
+row	TIMESTAMP Generated ALWAYS  as ROW START, period-- é
+For	SYSTEM_TIME (S, E),--
+UNIQUE  (C) ,--
+UNIQUE
+(C,  Nosuch))--
+WITH
+SYSTEM
+versioning;
+SELECT A.WORK, A.OF FROM "x y" A, "x y" FOR SYSTEM_TIME AS OF TIMESTAMP '0001-01-01 00:00:00.000001';
+SELECT SUM(WORK * 3074457345618258602) FROM "x y" FOR SYSTEM_TIME FROM TIMESTAMP '0001-01-01 00:00:00.000002' TO TIMESTAMP '0001-01-01 00:00:00.000002' A GROUP BY A.SYS_E HAVING MIN(OF) IN (0) OR SUM(WORK) NOT IN (SUM(OF * 4611686018427387904));
+UPDATE "x y" SET WORK = 3;
+INSERT INTO--
+"x y"  (WORK,-- é
+of) VALUES  (- 1,  3);
+update -- it;s "a"
+"x y"  SET-- é
+Work
+=-- é
+(OF);
+INSERT INTO "x y" VALUES (0, 1), (0, 0);
+UPDATE "x y" SET OF = 0 - OF + WORK;
+SELECT * FROM "x y" FOR SYSTEM_TIME FROM TIMESTAMP '0001-01-01 00:00:00.000003999999' TO TIMESTAMP '0001-01-01 00:00:00.000004';
+SELECT * FROM "x y" FOR SYSTEM_TIME AS OF TIMESTAMP '2011-01-01 00:00:00.12a';
+insert--
+INTO--
+"x y"  (Work) SELECT-- é
+(OF) From "x y"
+WHERE
+TIMESTAMP  '0001-01-01 00:00:00.000008' not -- it;s "a"
+BETWEEN TIMESTAMP  '0001-01-01 00:00:00.000007'
+AND
+Timestamp
+'0001-01-01 00:00:00.000008999999' -- it;s "a"
+And
+WORK -- it;s "a"
+= 3;
+CREATE TABLE "t" (A INTEGER GENERATED ALWAYS AS ROW START, B VARCHAR(0), C DATE, D DATE, PERIOD FOR P (C, D), PRIMARY KEY (A, P WITHOUT OVERLAPS), CHECK (A > 0), UNIQUE (B));
+DELETE FROM "x y" WHERE "x y".OF > 0 AND OF + "x y".OF <> 0;
+CREATE TABLE V (A INTEGER, B VARCHAR(3), C DATE, D DATE, PERIOD FOR P (A, NOCOL), PRIMARY KEY (A, P WITHOUT OVERLAPS), CHECK (A > 0), FOREIGN KEY (A) REFERENCES "x y" (OF));
+DELETE FROM  "x y";
+INSERT INTO "x y" (WORK) VALUES (-1), (00);
+SELECT DISTINCT * FROM "x y" FOR SYSTEM_TIME AS OF TIMESTAMP '2011-01-01 00:00:00' A ORDER BY 1 DESC, 1 ASC;
+INSERT INTO "x y" (WORK, OF) VALUES (NULL, 3), (0, 3);
+AT
+TIMESTAMP -- it;s "a"
+'0001-01-01 00:00:00.000013';
+UPDATE  "x y"
+SET WORK-- é
+= of,-- é
+of =
+work WHERE--
+not--
+Work
+> -- it;s "a"
+3 OR
+OF-- é
+<>  0--
+And-- é
+"x y".WORK -  9223372036854775807
+<	0;
+DROP TABLE "x y" RESTRICT;
+create	Table EMP  ("q""q" VARCHAR(10) , -- it;s "a"
+Ds -- it;s "a"
+date,
+"a"-- é
+INT,-- é
+SYS_E--
+TIMESTAMP
+GENERATED  ALWAYS
+AS--
+ROW	end,	PERIOD
+for
+system_time (s,
+SYS_E),--
+S TIMESTAMP(0)
+GENERATED
+always  AS
+Row
+START,  PERIOD -- it;s "a"
+FOR-- é
+"p q"	(DS,  DE),--
+DE DATE) with-- é
+SYSTEM
+versioning;
+INSERT INTO EMP ("a", DE, "q""q", DS) VALUES (-1, DATE '2011-01-04', '; --', DATE '2011-01-03');
+CREATE TABLE W (DS DATE, S TIMESTAMP(0) GENERATED ALWAYS AS ROW START, PRIMARY KEY (Y), SYS_E TIMESTAMP(12) WITHOUT TIME ZONE GENERATED ALWAYS AS ROW END, PERIOD FOR SYSTEM_TIME (S, SYS_E), Y VARCHAR(1), PERIOD FOR P (DS, DE), DE DATE) WITH SYSTEM VERSIONING;
+INSERT INTO
+W -- it;s "a"
+VALUES (DATE -- it;s "a"
+'2011-01-05',  'a',  date '2011-01-10');
+INSERT INTO EMP (DS, DE) VALUES (DATE '2011-01-06', DATE '2011-01-08'), (DATE '2011-01-09', DATE '2011-01-13');

@@ -1,0 +1,84 @@
+//! Whether rows that come clash with one another. Those that can are sorted by their places, and then neighbours alone
+//! are compared.
+ghost use Rattle.std.specs.Prelude.{◌≡◌, not, map, filter, IfOk};
+ghost use Rattle.tql_spec.specs.Constraint.{clash as clash_in, key_holds};
+ghost use Rattle.tql_catalog.specs.Definitions.{key_of};
+ghost use Rattle.tql_expr.specs.Shown.{shown_by};
+ghost use Rattle.tql_value.specs.Views.{rows_of};
+ghost use Rattle.tql_keys.specs.Asked.{new_rows};
+ghost use Rattle.tql_keys.specs.Places.{can_clash as can_clash_in, with_first, all_neighbours};
+
+use crate::places::sort_by_places;
+use crate::reading::{clash, current_rows, period};
+use std::alloc::AllocError;
+use tql_catalog::constraint::Key;
+use tql_catalog::table_def::TableDef;
+use tql_expr::stored::StoredRow;
+use tql_memory::Memory;
+use tql_value::value::Value;
+
+/// Whether a row can clash with another: WITHOUT OVERLAPS only where its period rises.
+fn can_clash(definition: &TableDef, key: &Key, row: &StoredRow<'_>) -> bool
+    ensures { result ≡ can_clash_in definition.now (key_of key.now) (shown_by row.now) }
+{
+    if !key.by_period {
+        return true;
+    }
+    period(definition, row).is_some()
+}
+
+/// Keeps those of these rows that can clash.
+fn keep_rivals(definition: &TableDef, key: &Key, rows: &mut Vec<StoredRow<'_>, Memory>)
+    ensures { map shown_by rows.new.items
+        ≡ filter (can_clash_in definition.now (key_of key.now)) (map shown_by rows.old.items) }
+{
+    rows.retain(|row| can_clash(definition, key, row));
+}
+
+/// Whether a row does not clash with the first of those behind it.
+fn is_apart_from_first(
+    definition: &TableDef,
+    key: &Key,
+    row: &StoredRow<'_>,
+    behind: &[StoredRow<'_>],
+) -> bool
+    ensures { result ≡ with_first (λ r s. not (clash_in definition.now (key_of key.now) r s)) (shown_by row.now)
+        (map shown_by behind.now) }
+{
+    match behind.first() {
+        Some(next) => !clash(definition, key, row, next),
+        None => true,
+    }
+}
+
+/// Whether no two neighbours clash.
+fn are_neighbours_apart(definition: &TableDef, key: &Key, rows: &[StoredRow<'_>]) -> bool
+    ensures { result ≡ all_neighbours (λ r s. not (clash_in definition.now (key_of key.now) r s))
+        (map shown_by rows.now) }
+{
+    let mut left = rows;
+    while let [row, behind @ ..] = left {
+        if !is_apart_from_first(definition, key, row, behind) {
+            return false;
+        }
+        left = behind;
+    }
+    true
+}
+
+/// Whether no two of these rows, which begin at a moment, clash in the key. It costs what sorting them costs.
+pub(crate) fn are_apart(
+    memory: Memory,
+    definition: &TableDef,
+    key: &Key,
+    rows: &[Vec<Value, Memory>],
+    moment: i64,
+) -> Result<bool, AllocError>
+    ensures { IfOk result (λ apart. apart
+        ≡ key_holds definition.now (new_rows definition.now moment (rows_of rows.now)) (key_of key.now)) }
+{
+    let mut rivals = current_rows(memory, definition, rows, moment)?;
+    keep_rivals(definition, key, &mut rivals);
+    sort_by_places(definition, &key.columns, &mut rivals);
+    Ok(are_neighbours_apart(definition, key, &rivals))
+}

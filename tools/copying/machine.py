@@ -1,0 +1,199 @@
+"""A machine that copies all of its tables at every commit, and tests every key and every reference of every copy, point by point."""
+from copying.changes import completed
+from copying.queries import Select
+from copying.tables import Key, Reference, Table, define
+from copying.values import E20, E24, E30, E35, E36, E40, E41, HIGH, Refused, first
+
+
+def held(rows: list, places: tuple) -> list:
+    """The values of some columns of each row, without those that have a NULL among them."""
+    return [it for it in (tuple(row[at] for at in places) for row in rows) if None not in it]
+
+
+def on_point(table: Table, rows: list, point: int) -> list:
+    """The rows whose application period has a point."""
+    return [it for it in rows if point in table.points(it)]
+
+
+def is_key(table: Table, key: Key, rows: list) -> bool:
+    """Whether a key holds of rows: of a key without overlaps, at each point."""
+    bags = [rows]
+    if key.has_period:
+        bags = [on_point(table, rows, it) for it in {point for row in rows for point in table.points(row)}]
+    return all(len({*values}) == len(values) for values in (held(it, key.places) for it in bags))
+
+
+def is_met(table: Table, reference: Reference, rows: list, parents: list) -> bool:
+    """Whether each row of a child finds what it refers to: with PERIOD, at each point of its period."""
+    parent = reference.parent
+    for row in rows:
+        wanted = held([row], reference.places)
+        for point in table.points(row) if reference.has_period else (None,):
+            bag = parents if point is None else on_point(parent, parents, point)
+            if wanted and wanted[0] not in held(bag, reference.parents):
+                return False
+    return True
+
+
+class Machine:
+    """The copies of all commits, the oldest first, with their moments; the tables; the moment of the next commit. An open transaction counts as
+    the last commit. A row of a copy is its values, of which the generated ones are empty, with the moment of its commit."""
+
+    def __init__(self) -> None:
+        self.commits: list = []
+        self.tables: dict = {}
+        self.is_open, self.next = False, 0
+
+    # ---- what is there
+
+    def rows(self, name: str) -> list:
+        """The rows of a table now."""
+        return self.commits[-1][1].get(name, []) if self.commits else []
+
+    def values(self, name: str) -> list:
+        return [row for row, _ in self.rows(name)]
+
+    def until(self, at: int) -> int:
+        return self.commits[at + 1][0] if at + 1 < len(self.commits) else HIGH
+
+    def end_of(self, name: str, at: int, row: tuple) -> int:
+        """Where a row of a copy ends: at the first later copy that lacks it."""
+        return next((moment for moment, copy in self.commits[at:] if row not in copy.get(name, [])), HIGH)
+
+    def asked(self, reference) -> list:
+        """The rows of a reference of FROM: of the last copy, or of those that its clause asks for, each once."""
+        name, span, found, seen = reference.table, reference.span, [], set()
+        for at, (moment, copy) in enumerate(self.commits):
+            if span.holds(moment, self.until(at)) if span else at + 1 == len(self.commits):
+                found += [(row, self.end_of(name, at, row)) for row in copy.get(name, []) if row not in seen]
+                seen = {row for row, _ in found}
+        return [completed(self.tables[name], row, start, end) for (row, start), end in found]
+
+    # ---- steps
+
+    def answer(self, statement) -> str:
+        """The reply to a statement."""
+        try:
+            return getattr(self, type(statement).__name__.lower())(statement)
+        except Refused as why:
+            return f"REFUSED {why}\n"
+
+    def stop(self, faults: list) -> None:
+        if faults:
+            raise Refused(first(faults))
+
+    def select(self, query: Select) -> str:
+        self.stop(query.bind(self.tables))
+        return query.printed(self.asked)
+
+    def insert(self, change) -> str:
+        return self.change(change)
+
+    def change(self, change) -> str:
+        rows, count = self.changed(change)
+        self.copied()[change.table] = rows
+        self.end()
+        return f"{change.verb} {count}\n"
+
+    def changed(self, change) -> tuple:
+        """The rows of the table after a change, and how many it inserts or touches."""
+        if not self.is_open and self.next == HIGH:
+            raise Refused(E41)
+        self.stop(change.bind(self.tables))
+        table = self.tables[change.table]
+        stay, come, count, faults = change.rows(table, self.rows(change.table), self.asked)
+        self.stop(faults + [it for row in come for it in table.row_faults(row)])
+        rows = stay + [(row, self.next) for row in come]
+        self.hold(change.table, [row for row, _ in rows])
+        return rows, count
+
+    def hold(self, name: str, rows: list) -> None:
+        """Tests all keys and all references, with these rows in a table."""
+        after = {it: rows if it == name else self.values(it) for it in self.tables}
+        faults = [E35 for it, table in self.tables.items() for key in table.keys if not is_key(table, key, after[it])]
+        faults += [E36 for it, table in self.tables.items() for reference in table.references
+                   if not is_met(table, reference, after[it], after[reference.parent.name])]
+        self.stop(faults)
+
+    def copied(self) -> dict:
+        """A new copy of the tables, or the one of the open transaction."""
+        if not self.is_open:
+            last = self.commits[-1][1] if self.commits else {}
+            self.commits.append((self.next, {table: [*rows] for table, rows in last.items()}))
+        return self.commits[-1][1]
+
+    def end(self) -> None:
+        """Goes on to the next moment, where no transaction is open."""
+        self.next += not self.is_open
+
+    def turn(self, turn) -> str:
+        if self.is_open == (turn.verb == "START TRANSACTION"):
+            raise Refused(E40)
+        if turn.verb == "START TRANSACTION":
+            if self.next == HIGH:
+                raise Refused(E41)
+            self.copied()
+        self.is_open = turn.verb == "START TRANSACTION"
+        if turn.verb == "ROLLBACK":
+            self.commits.pop()
+        if turn.verb == "COMMIT":
+            self.end()
+        return f"{turn.verb}\n"
+
+    def rest(self) -> None:
+        if self.is_open:
+            raise Refused(E40)
+
+    def definition(self, definition) -> str:
+        self.rest()
+        faults, table = define(self.tables, definition)
+        self.stop(faults)
+        self.tables[table.name] = table
+        return "CREATE TABLE\n"
+
+    def drop(self, drop) -> str:
+        self.rest()
+        if drop.table not in self.tables:
+            raise Refused(E20)
+        if any(it.parent.name == drop.table for table in self.tables.values() for it in table.references):
+            raise Refused(E24)
+        del self.tables[drop.table]
+        for _, copy in self.commits:
+            copy.pop(drop.table, None)
+        return "DROP TABLE\n"
+
+    def at(self, at) -> str:
+        self.rest()
+        if at.moment.value is None:
+            raise Refused(E30)
+        if self.commits and at.moment.value <= self.commits[-1][0]:
+            raise Refused(E41)
+        self.next = at.moment.value
+        return "AT\n"
+
+    def odd(self, odd) -> str:
+        raise Refused(odd.why)
+
+
+class Turn:
+    """START TRANSACTION, COMMIT or ROLLBACK."""
+
+    def __init__(self, verb: str, after: str = "") -> None:
+        self.verb, self.text = verb, verb + after
+
+
+class Drop:
+    def __init__(self, table: str, text: str) -> None:
+        self.table, self.text = table, text
+
+
+class At:
+    def __init__(self, moment) -> None:
+        self.moment, self.text = moment, f"AT {moment.text}"
+
+
+class Odd:
+    """A text that is no statement."""
+
+    def __init__(self, text: str, why: str) -> None:
+        self.text, self.why = text, why

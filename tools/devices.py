@@ -1,0 +1,119 @@
+#!/usr/bin/env python3
+"""Tries the program where what it reads or writes fails, where memory or the stack is short, and on statements at each limit. Outside the gate.
+
+Usage: tools/devices.py        (make devices; first: make build)
+
+Each line that it prints is a trial: what was tried, the status, and `ok` or what was wanted. A program that dies by a signal is wrong wherever
+it does. The status is 1 where one is wrong.
+"""
+import os
+import resource
+import subprocess
+import sys
+import tempfile
+from pathlib import Path
+
+sys.dont_write_bytecode = True
+
+TOP = Path(__file__).resolve().parent.parent
+PROGRAM = str(TOP / "tql")
+ROWS = "CREATE TABLE t (x INTEGER, y VARCHAR(40));\n" + "".join(
+    "INSERT INTO t VALUES " + ", ".join(f"({i * 1000 + j}, 'a text of some length')" for j in range(1000)) + ";\n" for i in range(100))
+TABLE = ROWS + "SELECT * FROM t;\n"
+wrong = 0
+
+
+def told(what: str, status: int, fits: bool, wanted: str) -> None:
+    """One line of a trial."""
+    global wrong
+    wrong += not fits
+    print(f"{what}: status {status}, {'ok' if fits else 'WRONG, wanted ' + wanted}", flush=True)
+
+
+def limited(kind: int, bytes_: int):
+    """What sets a limit in the child."""
+    return lambda: resource.setrlimit(kind, (bytes_, bytes_))
+
+
+def run(words: list[str], script: str = "", **more) -> subprocess.CompletedProcess:
+    """The program run on a script on its standard input."""
+    more.setdefault("stdout", subprocess.PIPE)
+    return subprocess.run([PROGRAM, *words], input=script.encode(), stderr=subprocess.PIPE, timeout=300, check=False, **more)
+
+
+def outputs(room: Path) -> None:
+    """The standard output closed, full, and left in the middle of a table."""
+    ran = run([], TABLE, stdout=None, preexec_fn=lambda: os.close(1))
+    told("the standard output is closed", ran.returncode, ran.returncode == 3 and b"tql: cannot write" in ran.stderr, "3, and that it cannot write")
+    with open("/dev/full", "wb") as full:
+        ran = run([], TABLE, stdout=full)
+    told("the device is full", ran.returncode, ran.returncode == 3 and b"tql: cannot write" in ran.stderr, "3, and that it cannot write")
+    (room / "table.sql").write_text(TABLE, encoding="utf-8")
+    started = subprocess.Popen([PROGRAM, str(room / "table.sql")], stdout=subprocess.PIPE, stderr=subprocess.PIPE)
+    started.stdout.read(100000)
+    started.stdout.close()
+    said = started.stderr.read()
+    status = started.wait(60)
+    told("the reader goes away in the middle of a table", status, status == 3 and b"tql: cannot write" in said, "3, and that it cannot write")
+
+
+def inputs(room: Path) -> None:
+    """A script that is a folder, one that may not be read, and one that shrinks while it is read."""
+    ran = run([str(room)])
+    told("the script is a folder", ran.returncode, ran.returncode == 3 and b"tql: cannot read" in ran.stderr, "3, and that it cannot read")
+    secret = room / "secret.sql"
+    secret.write_text("COMMIT;\n", encoding="utf-8")
+    secret.chmod(0)
+    room.chmod(0o755)
+    ran = run([str(secret)], preexec_fn=(lambda: os.setuid(65534)) if os.getuid() == 0 else None)
+    told("the script may not be read", ran.returncode, ran.returncode == 3 and b"tql: cannot read" in ran.stderr, "3, and that it cannot read")
+    shrinking = room / "shrinking.sql"
+    shrinking.write_text(TABLE * 20, encoding="utf-8")
+    started = subprocess.Popen([PROGRAM, str(shrinking)], stdout=subprocess.PIPE, stderr=subprocess.DEVNULL)
+    got = started.stdout.read(100)
+    os.truncate(shrinking, 70000)
+    got += started.stdout.read()
+    status = started.wait(300)
+    told("the script shrinks while it is read", status, status in (0, 1, 3) and got.startswith(b"CREATE TABLE\n"), "0, 1 or 3")
+
+
+def memory(room: Path) -> None:
+    """A script that grows, under ten limits of memory."""
+    script = "CREATE TABLE t (x INTEGER);\n" + "INSERT INTO t VALUES (1), (2), (3), (4);\n" + "INSERT INTO t SELECT * FROM t;\n" * 22 + "SELECT COUNT(*) FROM t;\n"
+    for size in (8, 12, 16, 24, 32, 48, 64, 96, 128, 192):
+        ran = run([], script, preexec_fn=limited(resource.RLIMIT_AS, size << 20))
+        refused = ran.stdout.count(b"E01")
+        told(f"{size} MiB of memory ({refused} statements refused)", ran.returncode, ran.returncode in (0, 1, 3), "0, 1 or 3")
+
+
+def stack(room: Path) -> None:
+    """Long and deep statements with a stack of 256 KiB."""
+    long = {
+        "64 parentheses": "SELECT " + "(" * 64 + "1" + ")" * 64 + " FROM t;",
+        "64 parentheses of conditions": "SELECT x FROM t WHERE " + "(NOT " * 64 + "x = 1" + ")" * 64 + ";",
+        "a condition of 50,000 terms": "SELECT x FROM t WHERE x = 0" + " OR x = 1" * 50000 + ";",
+        "IN of 100,000": "SELECT x FROM t WHERE x IN (0" + ", 1" * 100000 + ");",
+        "a sum of 250,000": "SELECT 1" + " + 1" * 250000 + " FROM t;",
+        "a product of 250,000": "SELECT 1" + " * 1" * 250000 + " FROM t;",
+        "10,000 rows": "INSERT INTO t VALUES (1)" + ", (2)" * 9999 + ";",
+        "quotes that never close": "SELECT '" + "x" * 900000,
+        "a comment of a mebibyte": "--" + "x" * 1000000 + "\nSELECT x FROM t;",
+    }
+    for what, statement in long.items():
+        ran = run([], f"CREATE TABLE t (x INTEGER);\nINSERT INTO t VALUES (1);\n{statement}\nSELECT COUNT(*) FROM t;\n",
+                  preexec_fn=limited(resource.RLIMIT_STACK, 256 << 10))
+        told(f"{what}, with a stack of 256 KiB", ran.returncode, ran.returncode in (0, 1) and ran.stdout.startswith(b"CREATE TABLE\nINSERT 1\n"), "0 or 1")
+
+
+def main() -> int:
+    if not Path(PROGRAM).exists():
+        sys.exit("no ./tql: make build")
+    with tempfile.TemporaryDirectory(prefix="tql-devices-") as folder:
+        for trials in (outputs, inputs, memory, stack):
+            trials(Path(folder))
+    print(f"{wrong} wrong")
+    return 1 if wrong else 0
+
+
+if __name__ == "__main__":
+    sys.exit(main())
