@@ -8,10 +8,11 @@
 # make copies   looks whether the scripts of crates/test_cases/data/cases/copies are what tools/copies.py writes
 # make points   looks whether the scripts of crates/test_cases/data/cases/points are what tools/points.py writes
 # make devices  tries ./tql where what it reads or writes fails, and where memory or the stack is short
+# make growth-times   times ./tql on inputs of 1, 2, 4 and 8 times a size, and fails where a doubling more than triples the time
 # make fuzz     tries the program for SECONDS on scripts that nobody has written, against the machines of tools/ (SECONDS=60)
 # make cost     what each crate weighs in the gate, and which are over a bound
 # make documents   whether the documents name what is there, and which lines are too long, in seconds
-.PHONY: run build test edits lines earned bench-index copies points devices fuzz cost documents
+.PHONY: run build test edits lines earned bench-index copies points devices growth-times fuzz cost documents
 .NOTPARALLEL:
 SECONDS ?= 60
 SCRIPT ?= crates/test_cases/data/cases/examples/march.sql
@@ -45,6 +46,9 @@ points:
 
 devices:
 	@tools/devices.py
+
+growth-times:
+	@tools/sizes.py
 
 fuzz:
 	@tools/fuzz.py $(SECONDS)

@@ -21,15 +21,15 @@ from copying.values import MOMENT
 
 FOLDER = Path(__file__).resolve().parent.parent / "crates" / "test_cases" / "data" / "cases" / "copies"
 HEAD = "-- Made at random (tools/copies.py). The text comes from a machine that copies its tables at every commit.\n"
-# How many scripts, and how many statements each has besides its beginning and its end.
-SCRIPTS, LENGTH = 200, 40
+# How many scripts, how many statements each has besides its beginning and its end, and of how many scripts each growth is refused in turn.
+SCRIPTS, LENGTH, IN_TURN = 200, 40, 10
 
 
 def script(seed: int) -> tuple[str, str]:
     """A script that begins with three definitions and some rows, and at its end asks what all tables hold and held; and what the machine
     prints."""
     machine = Machine()
-    maker, sql, text = Maker(seed, machine), HEAD, ""
+    maker, sql, text = Maker(seed, machine), ("-- cases: in-turn\n" if seed <= IN_TURN else "") + HEAD, ""
 
     def add(statement) -> None:
         nonlocal sql, text

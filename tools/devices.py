@@ -20,6 +20,8 @@ PROGRAM = str(TOP / "tql")
 ROWS = "CREATE TABLE t (x INTEGER, y VARCHAR(40));\n" + "".join(
     "INSERT INTO t VALUES " + ", ".join(f"({i * 1000 + j}, 'a text of some length')" for j in range(1000)) + ";\n" for i in range(100))
 TABLE = ROWS + "SELECT * FROM t;\n"
+# The stack, in KiB, with which all long and deep statements have to be answered.
+STACK = 256
 wrong = 0
 
 
@@ -86,11 +88,61 @@ def memory(room: Path) -> None:
         told(f"{size} MiB of memory ({refused} statements refused)", ran.returncode, ran.returncode in (0, 1, 3), "0, 1 or 3")
 
 
+def nested(front: str, inside: str, back: str = ")", depth: int = 64) -> str:
+    """A form inside itself."""
+    return front * depth + inside + back * depth
+
+
+def deep() -> dict[str, str]:
+    """The forms that call themselves deepest: 64 parentheses, and in each a list of every kind, a NOT and a sign."""
+    both = nested("(x = 0 OR x = 1 AND NOT ", "(x = 1)", " AND x = 1 OR x = 2)", 63)
+    signed = nested("-(1 + 0 * ", "x", " * 1 - 1)")
+    mixed = nested("(x = 0 OR x = 1 AND NOT ", "x + 1 > " + nested("-(0 * ", "x", " + 1)", 32), " OR x = 2)", 32)
+    return {
+        "64 parentheses": "SELECT " + nested("(", "1") + " FROM t;",
+        "64 parentheses, each with a sign and lists": f"SELECT {signed} FROM t;",
+        "64 parentheses of conditions": "SELECT x FROM t WHERE " + nested("(NOT ", "x = 1") + ";",
+        "64 parentheses of conditions, each with lists": f"SELECT x FROM t WHERE {both};",
+        "32 of conditions and 32 of numbers in them": f"SELECT x FROM t WHERE {mixed};",
+        "the same in ON": f"SELECT t.x FROM t LEFT JOIN t u ON {both.replace('x', 'u.x')};",
+        "the same in HAVING": f"SELECT x FROM t GROUP BY x HAVING {both};",
+        "the same in UPDATE": f"UPDATE t SET x = {nested('-(0 * ', 'x', ' + 1)')} WHERE {both};",
+        "the same in DELETE": f"DELETE FROM t WHERE {both};",
+        "the same in a CHECK": f"CREATE TABLE u (x INTEGER, CHECK ({nested('(x = 0 OR x = 1 AND NOT ', '(x = 1)', ' OR x = 2)', 61)}));\n"
+                               "INSERT INTO u VALUES (1);\nDROP TABLE u;",
+        "in an aggregate": f"SELECT SUM({nested('-(1 + 0 * ', 'x', ' * 1 - 1)', 63)}) FROM t;",
+        "in IN and BETWEEN": f"SELECT x FROM t WHERE x IN ({nested('(', 'x', ')', 63)}) AND x BETWEEN {nested('(', 'x')} AND {nested('(', 'x')};",
+        "in PERIOD": "SELECT x FROM t WHERE PERIOD (" + nested("(", "DATE '2011-01-01'", ")", 63) + ", " + nested("(", "DATE '2011-01-02'", ")", 63)
+                     + ") CONTAINS DATE '2011-01-01';",
+        "65 parentheses": "SELECT x FROM t WHERE " + nested("(NOT ", "x = 1", ")", 65) + ";",
+        "a million open parentheses": "SELECT " + "(" * 1000000 + " FROM t;",
+        "20,000 closed versions": "CREATE TABLE h (x INTEGER, s TIMESTAMP GENERATED ALWAYS AS ROW START, e TIMESTAMP GENERATED ALWAYS AS ROW END, "
+                                  "PERIOD FOR SYSTEM_TIME (s, e)) WITH SYSTEM VERSIONING;\nINSERT INTO h VALUES (0);\n" + "UPDATE h SET x = x + 1;\n" * 20000
+                                  + "SELECT x FROM h FOR SYSTEM_TIME AS OF TIMESTAMP '0001-01-01 00:00:00.005';",
+    }
+
+
+def passes(statement: str, stack_: int) -> tuple[int, bool]:
+    """The status of a run with so many KiB of stack, and whether the statement and one behind it were answered."""
+    ran = run([], f"CREATE TABLE t (x INTEGER);\nINSERT INTO t VALUES (1);\n{statement}\nSELECT COUNT(*) FROM t;\n",
+              preexec_fn=limited(resource.RLIMIT_STACK, stack_ << 10))
+    has_ended = not statement.endswith(";") or ran.stdout.endswith(b" rows)\n")
+    return ran.returncode, ran.returncode in (0, 1) and ran.stdout.startswith(b"CREATE TABLE\nINSERT 1\n") and has_ended
+
+
+def least_stack(room: Path) -> None:
+    """The least stack with which all forms of `deep` are answered; 8 MiB is what most systems give."""
+    for size in (64, 96, 128, 192, 256, 384, 512, 768, 1024, 2048, 4096, 8192):
+        if all(passes(it, size)[1] for it in deep().values()):
+            told(f"the deepest forms are answered with a stack of {size} KiB", 0, size <= STACK, f"{STACK} KiB or less")
+            return
+    told("the deepest forms", 1, False, "answers with a stack of 8 MiB")
+
+
 def stack(room: Path) -> None:
-    """Long and deep statements with a stack of 256 KiB."""
+    """Long and deep statements with a short stack."""
     long = {
-        "64 parentheses": "SELECT " + "(" * 64 + "1" + ")" * 64 + " FROM t;",
-        "64 parentheses of conditions": "SELECT x FROM t WHERE " + "(NOT " * 64 + "x = 1" + ")" * 64 + ";",
+        **deep(),
         "a condition of 50,000 terms": "SELECT x FROM t WHERE x = 0" + " OR x = 1" * 50000 + ";",
         "IN of 100,000": "SELECT x FROM t WHERE x IN (0" + ", 1" * 100000 + ");",
         "a sum of 250,000": "SELECT 1" + " + 1" * 250000 + " FROM t;",
@@ -100,16 +152,15 @@ def stack(room: Path) -> None:
         "a comment of a mebibyte": "--" + "x" * 1000000 + "\nSELECT x FROM t;",
     }
     for what, statement in long.items():
-        ran = run([], f"CREATE TABLE t (x INTEGER);\nINSERT INTO t VALUES (1);\n{statement}\nSELECT COUNT(*) FROM t;\n",
-                  preexec_fn=limited(resource.RLIMIT_STACK, 256 << 10))
-        told(f"{what}, with a stack of 256 KiB", ran.returncode, ran.returncode in (0, 1) and ran.stdout.startswith(b"CREATE TABLE\nINSERT 1\n"), "0 or 1")
+        status, fits = passes(statement, STACK)
+        told(f"{what}, with a stack of {STACK} KiB", status, fits, "0 or 1, and a reply to the last statement")
 
 
 def main() -> int:
     if not Path(PROGRAM).exists():
         sys.exit("no ./tql: make build")
     with tempfile.TemporaryDirectory(prefix="tql-devices-") as folder:
-        for trials in (outputs, inputs, memory, stack):
+        for trials in (outputs, inputs, memory, stack, least_stack):
             trials(Path(folder))
     print(f"{wrong} wrong")
     return 1 if wrong else 0

@@ -7,7 +7,7 @@ The documents are README.md, docs/*.md and the README.md files of crates, benche
 in crates/. Each path from the top (crates/.., docs/.., tools/.., benches/.., examples/..), from a crate (tql_lex/src/scan.rt) or in one
 (specs/Runs.antt in the README.md of its crate), and each name of a file of code, definitions, scripts or documents (scan.rt) is that of
 something that is there. Words in capitals alone, as NAME, stand for any name. Each name in backticks (Engine::step) stands in the sources, beside
-their remarks; not so in docs/LANGUAGE.md, whose names are those of SQL. Each crate has its line in docs/ARCHITECTURE.md. Of each line
+their remarks; not so in docs/LANGUAGE.md, QUESTIONS.md and MOVING.md, whose names are those of SQL. Each crate has its line in docs/ARCHITECTURE.md. Of each line
 '| `Module` | 12 |' of docs/DEFINITIONS.md the number is that of the lines of the module of tql_spec, or of that file of another crate; --count
 writes the numbers anew. A line of .rt and .antt has at most 120 characters, but for the attributes #[tactic(..)], which the formatter joins. The
 status is 1 where something is not so.
@@ -23,6 +23,8 @@ CRATE = re.compile(r"(?<![\w/.-])(?:tql|test)_[a-z_]*[a-z]\b")
 # A path or the name of a file, without the mark behind it.
 NAMED = re.compile(r"(?<![\w/:*+-])(?<!\w\.)(?:\.\./)*(?:[\w.+-]+/)*[\w+-]*[\w+](?:\.[\w]+)*(?<!\.)/?")
 FILE = re.compile(r"\.(?:rt|antt|py|sh|md|edit)$")
+# Documents whose names in backticks are those of SQL.
+OF_SQL = ("LANGUAGE.md", "QUESTIONS.md", "MOVING.md")
 FOLDERS, PARTS = ("crates", "docs", "tools", "benches", "examples"), ("src", "specs", "proofs", "must-fail", "edits", "data")
 ANY_NAME = re.compile(r"(?:^|/)(?:NAME|FOLDER|PATH|CRATE|EDIT|EXAMPLE)(?:[./]|$)")
 # A name of the sources in backticks; the words of the sources, remarks apart; and what no source names.
@@ -97,7 +99,7 @@ def main(words: list[str]) -> int:
             said = f"{document.relative_to(TOP)}:{at}"
             wrong += [f"{said}: there is no crate {it}" for it in CRATE.findall(line) if it not in crates]
             wrong += [f"{said}: there is no {it}" for it in NAMED.findall(line) if not is_there(it, document, files, crates)]
-            if document.name != "LANGUAGE.md":
+            if document.name not in OF_SQL:
                 wrong += [f"{said}: no source names {it}" for it in QUOTED.findall(line) if not named.issuperset(it.split("::"))]
     rows = (TOP / "docs" / "ARCHITECTURE.md").read_text(encoding="utf-8")
     wrong += [f"docs/ARCHITECTURE.md: no line of the crate {it}" for it in sorted(crates) if f"\n| {it} |" not in rows]

@@ -1,7 +1,7 @@
 //! A case: a script `NAME.sql`, and what it prints: run in `NAME.out`, checked in `NAME.check.out`, checked with its
 //! neighbours in `NAME.marks`.
 use crate::compare::text_difference;
-use crate::growths::growth_fault;
+use crate::growths::{growth_fault, turn_fault};
 use crate::neighbours::marks;
 use crate::runs::{Answering, answer};
 use crate::short::written_out;
@@ -15,8 +15,10 @@ use std::io::{self, ErrorKind};
 struct Directives {
     /// The script is given whole alone, and not in pieces of 1, 2, 3 and 7 bytes too.
     is_whole: bool,
-    /// Each growth of the run is refused in turn.
+    /// Each growth of the run is refused in turn, each in runs of its own.
     by_growths: bool,
+    /// Each growth of each statement is refused in turn, all on one engine.
+    in_turn: bool,
     /// The script and its listed texts are in the short form.
     is_short: bool,
     /// The last statement of the run makes at most so many growths.
@@ -43,6 +45,7 @@ fn directives_in(script: &[u8]) -> io::Result<Directives> {
     let mut found = Directives {
         is_whole: false,
         by_growths: false,
+        in_turn: false,
         is_short: false,
         most_growths: None,
     };
@@ -50,6 +53,7 @@ fn directives_in(script: &[u8]) -> io::Result<Directives> {
         match word {
             "whole" => found.is_whole = true,
             "growths" => found.by_growths = true,
+            "in-turn" => found.in_turn = true,
             "short" => found.is_short = true,
             _ => found.most_growths = Some(bound_in(word)?),
         }
@@ -105,13 +109,17 @@ fn listed_fault(
     script: &[u8],
     directives: Directives,
     listed: &[u8],
+    refused: &mut u64,
 ) -> io::Result<Option<String>> {
     let mut fault = text_fault(alloc, answering, script, usize::MAX, listed)?;
     if fault.is_none() && !directives.is_whole {
         fault = pieces_fault(alloc, answering, script, listed)?;
     }
     if fault.is_none() && directives.by_growths {
-        fault = growth_fault(alloc, answering, script, listed)?;
+        fault = growth_fault(alloc, answering, script, listed, refused)?;
+    }
+    if fault.is_none() && directives.in_turn && answering == Answering::Run {
+        fault = turn_fault(alloc, script, listed, refused)?;
     }
     if fault.is_none()
         && answering == Answering::Run
@@ -169,10 +177,18 @@ fn fault_in(
     script: &Script,
     listing: Listing,
     listed: &[u8],
+    refused: &mut u64,
 ) -> io::Result<Option<String>> {
     match listing {
         Listing::Text(answering) => {
-            listed_fault(alloc, answering, &script.bytes, script.directives, listed)
+            listed_fault(
+                alloc,
+                answering,
+                &script.bytes,
+                script.directives,
+                listed,
+                refused,
+            )
         }
         Listing::Marks => {
             let marks = marks(alloc, str::from_utf8(&script.bytes).unwrap_or("?"))?;
@@ -181,8 +197,13 @@ fn fault_in(
     }
 }
 
-/// Where a case differs from what is listed; None where it does not.
-pub fn fault_of(rt: &HostRuntime, folder: &str, name: &str) -> io::Result<Option<String>> {
+/// Where a case differs from what is listed; None where it does not. The growths that were refused are counted.
+pub fn fault_of(
+    rt: &HostRuntime,
+    folder: &str,
+    name: &str,
+    refused: &mut u64,
+) -> io::Result<Option<String>> {
     let alloc = rt.alloc();
     let base = format!(in alloc; "{folder}/{name}")?;
     let script = script_of(rt, base.as_str())?;
@@ -191,7 +212,7 @@ pub fn fault_of(rt: &HostRuntime, folder: &str, name: &str) -> io::Result<Option
         if let Some(listed) = bytes_of(rt, base.as_str(), ending)? {
             is_compared = true;
             let listed = spelled(alloc, script.directives, listed)?;
-            if let Some(fault) = fault_in(alloc, &script, listing, &listed)? {
+            if let Some(fault) = fault_in(alloc, &script, listing, &listed, refused)? {
                 return Ok(Some(format!(in alloc; "{ending} {fault}")?));
             }
         }

@@ -1,20 +1,13 @@
-//! Runs of a script in which each growth is refused in turn, in two ways: no memory is granted from there on, or only
-//! that one growth is refused. A statement that finds no memory has changed nothing: tried again with memory, it and
+//! Runs of a script in which each growth is refused in turn, in three ways: no memory is granted from there on; or the
+//! statement that met it is tried again with memory; or, on one engine, each statement is tried with no growth
+//! granted, with one, and so on. A statement that finds no memory has changed nothing: tried again with memory, it and
 //! all later ones are answered as they are listed.
-ghost use Rattle.std.specs.Prelude.{◌≡◌, [], OnOk};
-
+use crate::compare::text_difference;
 use crate::runs::{Answering, answer};
-use crate::steps::{reply_text, step_all};
+use crate::steps::{Manner, NO_MEMORY, NOT_UTF8, TOO_LONG, UNFINISHED, step_all};
 use std::alloc::{AllocError, Global};
 use std::io;
-use tql_engine::engine::Engine;
-use tql_lex::piece::Piece;
-use tql_lex::splitter::{LONGEST_PART, Splitter};
-use tql_memory::{Memory, memory};
 use tql_run::runner::Fault;
-
-/// What a statement is answered that finds no memory.
-const NO_MEMORY: &[u8] = b"REFUSED E01 out of memory\n";
 
 /// What a COMMIT and a ROLLBACK are answered, and either where no transaction is open.
 const COMMITTED: &[u8] = b"COMMIT\n";
@@ -23,47 +16,11 @@ const ROLLED_BACK: &[u8] = b"ROLLBACK\n";
 
 const NOT_OPEN: &[u8] = b"REFUSED E40 not in this transaction state\n";
 
-/// More growths than a script of the cases makes.
-const MOST_GROWTHS: u64 = 4000;
+/// What is told of the bytes alone, which takes no memory.
+const OF_BYTES: [&[u8]; 3] = [TOO_LONG, NOT_UTF8, UNFINISHED];
 
-/// What an engine answers to the statements that are whole in what was fed, behind what it answered before. One that
-/// finds no memory is tried again with memory enough.
-fn retried_in(
-    alloc: Global,
-    memory: Memory,
-    engine: &mut Engine,
-    splitter: &mut Splitter,
-    text: &mut Vec<u8>,
-) -> io::Result<()>
-    ensures ended { splitter.new.ended ≡ splitter.old.ended }
-    ensures drained { OnOk result (splitter.new.ready ≡ []) }
-{
-    while let Some(piece) = splitter.next_statement() {
-        let Piece::Text(statement) = piece else {
-            continue;
-        };
-        let mut reply = reply_text(alloc, engine, statement)?;
-        if reply.as_slice() == NO_MEMORY {
-            memory.grant(u64::MAX);
-            reply = reply_text(alloc, engine, statement)?;
-        }
-        text.extend_from_slice(&reply)?;
-    }
-    Ok(())
-}
-
-/// What a new engine answers that is granted so many growths, then refused one, and then granted all.
-fn retried(alloc: Global, script: &[u8], granted: u64) -> io::Result<Vec<u8>> {
-    let mut splitter = Splitter::new(memory(alloc, u64::MAX)?)?;
-    let memory = memory(alloc, granted)?;
-    let mut engine = Engine::new(memory);
-    let mut text = Vec::new(alloc);
-    for part in script.chunks(LONGEST_PART) {
-        splitter.feed(part);
-        retried_in(alloc, memory, &mut engine, &mut splitter, &mut text)?;
-    }
-    Ok(text)
-}
+/// More growths than a script of the cases makes that is run for each of them.
+const MOST_GROWTHS: u64 = 20_000;
 
 /// The listed text of a script.
 #[derive(Drop)]
@@ -92,21 +49,31 @@ fn reply_ends(
     listed: &[u8],
 ) -> io::Result<Vec<usize>> {
     match answering {
-        Answering::Run => Ok(step_all(alloc, script)?.ends),
+        Answering::Run => Ok(step_all(alloc, script, Manner::Once, u64::MAX)?.ends),
         Answering::Check => Ok(line_ends(alloc, listed)?),
     }
 }
 
-/// What lies behind the reply to a statement that found no memory. A COMMIT and a ROLLBACK take none: they are answered
-/// as listed, or that no transaction is open.
+/// Whether what is listed may be answered without memory: of a COMMIT and a ROLLBACK, and of what is told of the bytes.
+fn takes_no_memory(listed: &[u8]) -> bool {
+    listed == COMMITTED || listed == ROLLED_BACK || listed == NOT_OPEN || OF_BYTES.contains(&listed)
+}
+
+/// What lies behind the reply to a statement that found no memory: it is answered that there is none. A COMMIT and a
+/// ROLLBACK take none: they are answered as listed, or that no transaction is open. What is told of the bytes takes
+/// none either, but a text of over 65,536 bytes may not have found it.
 fn behind_refusal<'a>(listed: &[u8], text: &'a [u8]) -> Option<&'a [u8]> {
-    if listed != COMMITTED && listed != ROLLED_BACK && listed != NOT_OPEN {
-        return text.strip_prefix(NO_MEMORY);
+    if listed == COMMITTED || listed == ROLLED_BACK {
+        return text
+            .strip_prefix(listed)
+            .or_else(|| text.strip_prefix(NOT_OPEN));
     }
-    match text.strip_prefix(listed) {
-        Some(rest) => Some(rest),
-        None => text.strip_prefix(NOT_OPEN),
+    if takes_no_memory(listed)
+        && let Some(rest) = text.strip_prefix(listed)
+    {
+        return Some(rest);
     }
+    text.strip_prefix(NO_MEMORY)
 }
 
 /// Whether a text has the first of the listed replies, and then for each other statement what it is answered without
@@ -172,18 +139,22 @@ fn is_retried_well(
     granted: u64,
 ) -> io::Result<bool> {
     match answering {
-        Answering::Run => Ok(retried(alloc, script, granted)?.as_slice() == listed),
+        Answering::Run => {
+            let replies = step_all(alloc, script, Manner::Retried, granted)?;
+            Ok(replies.text.as_slice() == listed)
+        }
         Answering::Check => Ok(true),
     }
 }
 
 /// Refuses a script's first growth, then its second, and so on, until there is more memory than it asks for; tells at
-/// which one a reply is wrong.
+/// which one a reply is wrong, and counts those that were refused.
 pub fn growth_fault(
     alloc: Global,
     answering: Answering,
     script: &[u8],
     text: &[u8],
+    refused: &mut u64,
 ) -> io::Result<Option<String>> {
     let ends = reply_ends(alloc, answering, script, text)?;
     let listed = Listed { text, ends };
@@ -191,7 +162,7 @@ pub fn growth_fault(
         let sweep = run_in(alloc, answering, script, &listed, granted)?;
         let is_well = is_retried_well(alloc, answering, script, text, granted)?;
         match sweep {
-            Sweep::UsedUp if is_well => {}
+            Sweep::UsedUp if is_well => *refused = refused.saturating_add(1),
             Sweep::Ended if is_well && granted > 1 => return Ok(None),
             _ => {
                 let fault = format!(in alloc; "differs where {granted} growths are granted")?;
@@ -200,4 +171,20 @@ pub fn growth_fault(
         }
     }
     Ok(Some(String::from_str(alloc, "does not end its growths")?))
+}
+
+/// Tries each statement of a script with no growth granted, with one, and so on, until it finds memory; tells where it
+/// is then answered otherwise than it is listed, and counts the growths that were refused.
+pub fn turn_fault(
+    alloc: Global,
+    script: &[u8],
+    text: &[u8],
+    refused: &mut u64,
+) -> io::Result<Option<String>> {
+    let replies = step_all(alloc, script, Manner::InTurn, 0)?;
+    *refused = refused.saturating_add(replies.refused);
+    match text_difference(alloc, text, &replies.text)? {
+        Some(fault) => Ok(Some(format!(in alloc; "with its growths refused in turn {fault}")?)),
+        None => Ok(None),
+    }
 }

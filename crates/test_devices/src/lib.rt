@@ -1,5 +1,5 @@
-//! Readers and writers of bytes that give and take so many at once, and fail where they are told to: the devices of
-//! the crates of tests.
+//! Readers and writers of bytes that give and take so many at once, and fail or end where they are told to: the devices
+//! of the crates of tests.
 #![tactic(auto)]
 
 use std::alloc::Global;
@@ -8,8 +8,11 @@ use std::io::{self, Error, ErrorKind, Read, Write};
 /// What a run of a script meets: its devices, and its memory.
 #[derive(Clone, Copy)]
 pub struct Setting {
-    /// How many bytes a read gives at once, at the most.
+    /// How many bytes a read gives at once, at the most, and how many a write takes.
     pub size: usize,
+    pub taken: usize,
+    /// How many reads give bytes: behind them the input ends, whatever is left.
+    pub giving: u64,
     /// How many reads do well, how many writes, and how many flushes.
     pub reads: u64,
     pub writes: u64,
@@ -21,6 +24,8 @@ pub struct Setting {
 /// Devices that do not fail, and memory that does not end.
 pub const SOUND: Setting = Setting {
     size: usize::MAX,
+    taken: usize::MAX,
+    giving: u64::MAX,
     reads: u64::MAX,
     writes: u64::MAX,
     flushes: u64::MAX,
@@ -33,6 +38,7 @@ impl Setting {
         Chunks {
             left: script,
             size: self.size,
+            giving_left: self.giving,
             reads_left: self.reads,
             interrupts: 0,
             interrupts_left: 0,
@@ -43,19 +49,22 @@ impl Setting {
     pub fn writer(self, alloc: Global) -> Kept {
         Kept {
             bytes: Vec::new(alloc),
-            size: usize::MAX,
+            size: self.taken,
             writes_left: self.writes,
             flushes_left: self.flushes,
+            failed_writes: 0,
+            failed_flushes: 0,
         }
     }
 }
 
-/// A reader of bytes that gives so many at once, fails where it has no reads left, and is interrupted so many times
-/// before each read.
+/// A reader of bytes that gives so many at once, fails where it has no reads left, gives none where it has given so
+/// often, and is interrupted so many times before each read.
 #[derive(Drop)]
 pub struct Chunks<'a> {
     pub left: &'a [u8],
     pub size: usize,
+    pub giving_left: u64,
     pub reads_left: u64,
     pub interrupts: u64,
     pub interrupts_left: u64,
@@ -72,6 +81,10 @@ impl Read for Chunks<'_> {
             return Err(Error::from(ErrorKind::BrokenPipe));
         };
         self.reads_left = reads_left;
+        let Some(giving_left) = self.giving_left.checked_sub(1) else {
+            return Ok(0);
+        };
+        self.giving_left = giving_left;
         let count = self.size.min(self.left.len()).min(buf.len());
         let (given, left) = self.left.split_at(count);
         buf[..count].copy_from_slice(given);
@@ -80,28 +93,36 @@ impl Read for Chunks<'_> {
     }
 }
 
-/// A writer that takes so many bytes at once, and fails where it has no writes left, or no flushes.
+/// A writer that takes so many bytes at once, and fails where it has no writes left, or no flushes. It counts the
+/// writes that failed or took none of some bytes, and the flushes that failed.
 #[derive(Drop)]
 pub struct Kept {
     pub bytes: Vec<u8>,
     pub size: usize,
     pub writes_left: u64,
     pub flushes_left: u64,
+    pub failed_writes: u64,
+    pub failed_flushes: u64,
 }
 
 impl Write for Kept {
     fn write(&mut self, buf: &[u8]) -> io::Result<usize> {
         let Some(writes_left) = self.writes_left.checked_sub(1) else {
+            self.failed_writes = self.failed_writes.saturating_add(1);
             return Err(Error::from(ErrorKind::BrokenPipe));
         };
         self.writes_left = writes_left;
         let (taken, _) = buf.split_at(self.size.min(buf.len()));
         self.bytes.extend_from_slice(taken)?;
+        if taken.is_empty() && !buf.is_empty() {
+            self.failed_writes = self.failed_writes.saturating_add(1);
+        }
         Ok(taken.len())
     }
 
     fn flush(&mut self) -> io::Result<()> {
         let Some(flushes_left) = self.flushes_left.checked_sub(1) else {
+            self.failed_flushes = self.failed_flushes.saturating_add(1);
             return Err(Error::from(ErrorKind::BrokenPipe));
         };
         self.flushes_left = flushes_left;

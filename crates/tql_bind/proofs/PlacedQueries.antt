@@ -100,6 +100,7 @@ source_placed defs offset r e = record {
   versioned = past_versioned (table_at defs (table_number defs r.table).value) r.span
       (front_none (when (table_at defs (table_number defs r.table).value) r.span).faults _
       (behind_none (table_number defs r.table).faults _ e));
+  width = refl;
 }
 
 join_placed : (defs : List TableDef) (so : Joined) (j : JoinTree) → AreJoinsPlaced defs so.joins

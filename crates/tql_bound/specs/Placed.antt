@@ -1,14 +1,15 @@
 -- Queries whose tables are there.
-use Rattle.std.specs.Prelude.{ℕ, ◌<◌, ◌||◌, IsTrue, List, [], ◌∷◌, length, is_some}
+use Rattle.std.specs.Prelude.{◌≡◌, ℕ, ◌<◌, ◌||◌, IsTrue, List, [], ◌∷◌, length, is_some}
 use Rattle.tql_spec.specs.Definition.{TableDef, table_at}
 use Rattle.tql_spec.specs.Query.{Chain, Cross, Inner, Join, Left, Query, Ref}
 use Rattle.tql_spec.specs.QueryLaws.{NamesGroups}
 use Rattle.tql_value.specs.When.{is_now}
 
--- a reference to a table that is there, system-versioned where its past is asked for
+-- a reference to a table that is there, system-versioned where its past is asked for, with as many columns
 pub record IsPlacedRef (defs : List TableDef) (r : Ref) : Type 0 where
   pub table : r.table < length defs
   pub versioned : IsTrue (is_now r.when || is_some (table_at defs r.table).system)
+  pub width : r.width ≡ length (table_at defs r.table).columns
 
 -- the reference of a join
 abbrev pub ref_of : Join → Ref

@@ -1,8 +1,8 @@
--- What a query finds: the versions of the store, as rows that can be printed.
+-- What a query finds: the versions of the store, as rows that can be printed and have all columns of their tables.
 use Rattle.std.proofs.Common.{◌≡◌, ℕ, zero, suc, Bool, true, false, cond, List, [], ◌∷◌, ◌++◌, map, filter}
-use Rattle.std.proofs.Common.{refl, sym, ap, subst, ◌∙◌, arith}
+use Rattle.std.proofs.Common.{refl, sym, ap, subst, ◌∙◌, ◌+◌, arith, length}
 use Rattle.std.specs.Prelude.{ℤ, pos, ◌+ℤ◌, ◌≤ℤ◌, ◌&&◌, not, int_le, int_lt, slice_get, All, Option}
-use Rattle.std.specs.Prelude.{Some, None, if◌then◌else◌}
+use Rattle.std.specs.Prelude.{Some, None, if◌then◌else◌, insert, nat_lt}
 use Rattle.std.specs.List.{AllByRecursion}
 use Rattle.std.specs.Ordering.{is_gt}
 use Rattle.std.specs.declared.cmp.Ordering.{Ordering}
@@ -10,22 +10,25 @@ use Rattle.std.proofs.lemmas.Int.{ints}
 use Rattle.std.proofs.lemmas.List.Elements.{All-from_recursion, recursion_from_All}
 use Rattle.tql_spec.specs.Words.{listed}
 use Rattle.tql_spec.specs.Calendar.{first_moment, high}
-use Rattle.tql_spec.specs.Datum.{Row}
-use Rattle.tql_spec.specs.Definition.{Stamped, Version, TableDef, table_at, full}
+use Rattle.tql_spec.specs.Datum.{Moment, Row}
+use Rattle.tql_spec.specs.Definition.{Stamped, System, Version, TableDef, table_at, full, with_generated}
 use Rattle.tql_spec.specs.History.{Copy, Entry, TableEntry, When, Now, AsOf, FromTo, Between, FallingFrom, has_row}
 use Rattle.tql_spec.specs.History.{has_version, rows_in, table_history, completed, ends_before, still, meets}
 use Rattle.tql_spec.specs.History.{as_of_from, found_from, found, versions}
 use Rattle.tql_spec.specs.Machine.{State, entries}
 use Rattle.tql_spec.specs.Query.{OrderKey, placed, row_order, in_order}
+use Rattle.tql_catalog.specs.Defined.{IsDefinition}
 use Rattle.tql_catalog.specs.Tables.{definitions_of}
 use Rattle.tql_catalog.specs.declared.catalog.Table.{Table}
 use Rattle.tql_catalog.specs.Rows.{IsRowOf}
+use Rattle.tql_dml.proofs.Rows.{shown_width}
+use Rattle.tql_expr.proofs.Inserted.{length_inserted}
 use Rattle.tql_expr.proofs.Printing.{generated_prints}
 use Rattle.tql_store.specs.Represents.{seen_by}
 use Rattle.tql_value.specs.Points.{IsPrintable, ArePrintable, IsMoment}
 use Rattle.tql_engine.specs.Fitting.{RowsFit, CopyFits, HistoryFits, WorkingFits}
 use Rattle.tql_engine.specs.Stands.{EngineModel, StandsFor, AreSince, IsDated, copies_of, open_moment, working_of}
-use Rattle.tql_engine.proofs.Standing.{some_is, definition_law}
+use Rattle.tql_engine.proofs.Standing.{some_is, defined_law, definition_law}
 use Rattle.tql_engine.proofs.Copies.{history_found}
 
 -- ---- rows
@@ -208,6 +211,45 @@ versions_print : (d : TableDef) (vs : List Version) → VersionsFit d vs
     → AllByRecursion (All IsPrintable) (map (full d) vs)
 versions_print d [] f = tt
 versions_print d (v ∷ vs) f = (version_prints d v f.0, versions_print d vs f.1)
+
+-- ---- how wide they are
+
+-- a row is as wide whenever its version ends
+by_end : (s : Option System) (cells : Row) (m e f : ℤ)
+    → length (with_generated s cells m e) ≡ length (with_generated s cells m f)
+by_end None cells m e f = refl
+by_end (Some s) cells m e f = either (nat_lt s.start s.end)
+  where
+    either : (b : Bool)
+        → length (cond b (insert (insert cells s.start (Moment m)) s.end (Moment e))
+        (insert (insert cells s.end (Moment e)) s.start (Moment m)))
+        ≡ length (cond b (insert (insert cells s.start (Moment m)) s.end (Moment f))
+        (insert (insert cells s.end (Moment f)) s.start (Moment m)))
+    either true =
+        length_inserted (insert cells s.start (Moment m)) s.end (Moment e)
+        ∙ sym (length_inserted (insert cells s.start (Moment m)) s.end (Moment f))
+    either false =
+        length_inserted (insert cells s.end (Moment e)) s.start (Moment m)
+        ∙ ap (λ n. n + 1) (length_inserted cells s.end (Moment e) ∙ sym (length_inserted cells s.end (Moment f)))
+        ∙ sym (length_inserted (insert cells s.end (Moment f)) s.start (Moment m))
+
+versions_wide : (d : TableDef) (vs : List Version) → IsDefinition d → VersionsFit d vs
+    → AllByRecursion (λ (row : Row). length row ≡ length d.columns) (map (full d) vs)
+versions_wide d [] right f = tt
+versions_wide d (v ∷ vs) right f = (
+  by_end d.system v.row.cells v.row.start v.end high ∙ shown_width d v.row right f.0.cells.width,
+  versions_wide d vs right f.1,
+)
+
+-- the rows that a query finds have all columns of their table
+pub found_wide : (h : EngineModel) (s : State) (t : ℕ) (p : Table) (when : When) → StandsFor h s
+    → slice_get h.tables t ≡ Some p
+    → All (λ (row : Row). length row ≡ length p.definition.columns) (rows_when s t when)
+found_wide h s t p when f e =
+    let P = λ (row : Row). length row ≡ length p.definition.columns in
+    subst (All P) (sym (rows_are h s t p when f e))
+    (All-from_recursion P (map (full p.definition) (versions_found s t when))
+    (versions_wide p.definition (versions_found s t when) (defined_law h s t p f e) (versions_fit h s t p when f e)))
 
 -- ---- in the printed order
 

@@ -28,12 +28,13 @@ use Rattle.tql_catalog.specs.declared.catalog.Table.{Table}
 use Rattle.tql_expr.specs.Meaning.{cond}
 use Rattle.tql_expr.specs.declared.terms.Terms.{Terms}
 use Rattle.tql_plan.specs.Meaning.{Bags, meaning, source_for, sources_of, table_number_at}
+use Rattle.tql_plan.specs.Nodes.{Scan}
 use Rattle.tql_plan.specs.declared.plan.Plan.{Plan}
-use Rattle.tql_exec.specs.Found.{IsReadable, bags_in, completed}
+use Rattle.tql_exec.specs.Found.{AreWide, IsReadable, bags_in, completed}
 use Rattle.tql_store.specs.StoreModel.{has_table, is_versioned}
 use Rattle.tql_store.specs.Represents.{seen_by}
 use Rattle.tql_engine.specs.Stands.{EngineModel, StandsFor, copies_of, working_of}
-use Rattle.tql_engine.proofs.Asked.{seen_law}
+use Rattle.tql_engine.proofs.Asked.{found_wide, seen_law}
 use Rattle.tql_engine.proofs.Standing.{there_law, versioned_law}
 
 -- ---- a table
@@ -197,4 +198,28 @@ sources_readable h s x p st placed same =
     (All-map (IsReadable h.store) (λ (r : Reference). source_for h.tables (reference_of r)) (references_of x)
     (All-weaker (IsThere (definitions_of h.tables)) (λ r. IsReadable h.store (source_for h.tables (reference_of r)))
     (readable h s st) (references_of x)
+    (references_there (definitions_of h.tables) x placed)))
+
+-- what a scan finds is as wide as it says
+scan_wide : (h : EngineModel) (s : State) → StandsFor h s → (r : Reference) → IsThere (definitions_of h.tables) r
+    → All (λ (row : Row). length row ≡ r.width) (bags_of h s (source_for h.tables (reference_of r)))
+scan_wide h s st r placed =
+    let t = table_there h.tables r.table placed.table in
+    let p : Table = t.0 in
+    subst (All (λ (row : Row). length row ≡ r.width)) (sym (bag_is h s st (reference_of r) placed))
+    (subst (λ n. All (λ (row : Row). length row ≡ n) (bag_of s (reference_of r)))
+    (sym (placed.width ∙ ap (λ (d : TableDef). length d.columns) (defined_as h.tables r.table p t.1)))
+    (found_wide h s r.table p (reference_of r).when st t.1))
+
+-- and so is what those of a plan find
+pub sources_wide : (h : EngineModel) (s : State) (x : BoundQuery) (p : Plan) → StandsFor h s
+    → IsPlacedQuery (definitions_of h.tables) (bound_query_of x)
+    → sources_of p ≡ map (λ (r : Reference). source_for h.tables (reference_of r)) (references_of x)
+    → AreWide (bags_of h s) (sources_of p)
+sources_wide h s x p st placed same =
+    let P = λ (c : Scan). All (λ (row : Row). length row ≡ c.width) (bags_of h s c) in
+    subst (All P) (sym same)
+    (All-map P (λ (r : Reference). source_for h.tables (reference_of r)) (references_of x)
+    (All-weaker (IsThere (definitions_of h.tables)) (λ r. P (source_for h.tables (reference_of r)))
+    (scan_wide h s st) (references_of x)
     (references_there (definitions_of h.tables) x placed)))

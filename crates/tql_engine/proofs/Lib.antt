@@ -13,6 +13,7 @@ pub mod Faults
 pub mod Finding
 pub mod Inserting
 pub mod LaterLemmas
+pub mod Looking
 pub mod Modifying
 pub mod MomentFits
 pub mod Printing

@@ -1,5 +1,5 @@
 -- A change of one table: its keys and references, and what it leaves, are the machine's.
-use Rattle.std.proofs.Common.{◌≡◌, refl, ap, sym, subst, ◌∙◌, ℕ, zero, suc, Bool, List, [], ◌∷◌, ◌++◌, length, map}
+use Rattle.std.proofs.Common.{◌≡◌, refl, ap, sym, subst, ◌∙◌, ℕ, zero, suc, Bool, List, [], ◌∷◌, ◌++◌, length}
 use Rattle.std.proofs.Common.{filter, Option, Some, None, Result, Err, arith}
 use Rattle.std.specs.Prelude.{ℤ, ◌<ℤ◌, not, IsNone, slice_get, slice_set}
 use Rattle.std.specs.List.{AllByRecursion}
@@ -8,14 +8,14 @@ use Rattle.std.proofs.lemmas.List.Elements.{All-from_recursion}
 use Rattle.tql_spec.specs.Bag.{SameBag}
 use Rattle.tql_spec.specs.Calendar.{high}
 use Rattle.tql_spec.specs.Datum.{Row}
-use Rattle.tql_spec.specs.Definition.{Stamped, TableDef, Version}
-use Rattle.tql_spec.specs.History.{Copy, Entry, Now, current, completed, still, rows_in}
+use Rattle.tql_spec.specs.Definition.{Stamped, TableDef}
+use Rattle.tql_spec.specs.History.{Copy, Entry, rows_in}
 use Rattle.tql_spec.specs.Machine.{State, Change, ChangeRows, Done, Refused, step, unless_refused}
 use Rattle.tql_spec.specs.Machine.{constraint_faults}
 use Rattle.tql_spec.specs.Refusal as spec
 use Rattle.tql_spec.specs.Refusal.{first, fault_if, DuplicateKey, ReferenceNotMet}
 use Rattle.tql_spec.specs.Run.{CopyHolds, ConstraintsHold}
-use Rattle.tql_spec.proofs.Bags.{same-map, same-refl, same-sym, same-trans, same-append, same-filter}
+use Rattle.tql_spec.proofs.Bags.{same-refl, same-sym, same-trans, same-append, same-filter}
 use Rattle.tql_catalog.specs.Rows.{stored_width}
 use Rattle.tql_catalog.specs.Tables.{definitions_of}
 use Rattle.tql_catalog.specs.declared.catalog.Table.{Table}
@@ -24,12 +24,9 @@ use Rattle.tql_engine.proofs.SameFaults.{SameCopy, rows_bag, set_bag, faults_bag
 use Rattle.tql_result.specs.Replies.{plain_verb}
 use Rattle.tql_result.specs.declared.reply.Verb.{Verb}
 use Rattle.tql_store.specs.Changes.{rows_after}
-use Rattle.tql_store.specs.Represents.{Answers, Judged}
-use Rattle.tql_store.specs.StoreModel.{StoreModel, live}
+use Rattle.tql_store.specs.Represents.{Judged}
+use Rattle.tql_store.specs.StoreModel.{StoreModel}
 use Rattle.tql_store.specs.declared.store.Delta.{Delta}
-use Rattle.tql_store.proofs.StoreLaws.{answers-found}
-use Rattle.tql_store_rows.specs.Changes.{is_current}
-use Rattle.tql_value.specs.declared.when.When.TheVariants as when
 use Rattle.tql_value.specs.Refusals.{refusal_of}
 use Rattle.tql_value.specs.Views.{rows_of}
 use Rattle.tql_value.specs.declared.refusal.Refusal.{Refusal}
@@ -38,31 +35,19 @@ use Rattle.tql_engine.specs.Committing.{ChangesRows}
 use Rattle.tql_engine.specs.Effects.{Does, Refuses}
 use Rattle.tql_engine.specs.Fitting.{RowsFit}
 use Rattle.tql_engine.specs.Making.{Changes}
-use Rattle.tql_engine.specs.Stands.{EngineModel, StandsFor, copies_of, working_of}
+use Rattle.tql_engine.specs.Stands.{EngineModel, StandsFor}
 use Rattle.tql_engine.proofs.Added.{after_faults, altered_by}
-use Rattle.tql_engine.proofs.Asked.{rows_fit, seen_law}
+use Rattle.tql_engine.proofs.Asked.{rows_fit}
 use Rattle.tql_engine.proofs.ChangeKeeps.{working_now, working_rows, with_table_rows, AreRowsOf, begun_at, change_law}
 use Rattle.tql_engine.proofs.ChangeKeeps.{rows_both, rows_left, begun_fit}
 use Rattle.tql_engine.proofs.Copies.{fits_length}
 use Rattle.tql_engine.proofs.Doing.{by_step, change_step, refuses}
 use Rattle.tql_engine.proofs.Faults.{refused}
 use Rattle.tql_engine.proofs.Holding.{newest_holds}
-use Rattle.tql_engine.proofs.Modifying.{copy_fits, moment_dated, now_is, rows_of_completed}
+use Rattle.tql_engine.proofs.Looking.{copy_fits, current_rows, moment_dated}
 use Rattle.tql_engine.proofs.Swapping.{rows_fit_same, swapped}
 
--- ---- the store's current rows are those of the working copy
-
-pub current_rows : (h : EngineModel) (s : State) (t : ℕ) (p : Table) → StandsFor h s → slice_get h.tables t ≡ Some p
-    → SameBag (working_rows s t) (map (λ (v : Version). v.row) (filter is_current (live h.store p.id)))
-current_rows h s t p st e =
-    let found : List Version = filter is_current (live h.store p.id) in
-    let answers : Answers h.store p.id Now found =
-    answers-found h.store p.id when.Now found refl (same-refl found) in
-    let same : SameBag found (completed still (working_rows s t)) =
-    subst (SameBag found) (ap current (seen_law h s t p st e) ∙ now_is s t)
-    (answers (copies_of h.tables s.history) (working_of h.tables s.transaction) st.stands) in
-    same-sym (subst (SameBag (map (λ (v : Version). v.row) found)) (rows_of_completed (working_rows s t))
-    (same-map (λ (v : Version). v.row) same))
+-- ---- the working copy is one of the store
 
 cells_wide : (d : TableDef) (rows : List Stamped) → RowsFit d rows
     → AllByRecursion (λ (x : Stamped). length x.cells ≡ stored_width d) rows

@@ -25,7 +25,7 @@ use Rattle.tql_engine.proofs.ChangeKeeps.{working_now, with_table_rows, set_fits
 -- ---- rows that fit
 
 -- what is true of each row of a list is true of its members
-of_members : (P : Stamped → Type 0) (xs : List Stamped) → AllByRecursion P xs → (r : Stamped) → In r xs → P r
+pub of_members : (P : Stamped → Type 0) (xs : List Stamped) → AllByRecursion P xs → (r : Stamped) → In r xs → P r
 of_members P [] a r m = absurd m
 of_members P (x ∷ xs) a r (inl e) = subst P (sym e) a.0
 of_members P (x ∷ xs) a r (inr m) = of_members P xs a.1 r m

@@ -1,30 +1,30 @@
--- What a modification gives, from the versions that its table has now.
-use Rattle.std.specs.Prelude.{List, map, All, Result, Ok, Err, IfOk, ⊤}
-use Rattle.tql_spec.specs.History.{Now}
+-- What a modification gives, from those versions of its table that were looked at.
+use Rattle.std.specs.Prelude.{List, length, All, Option, Result, Ok, Err, IfOk, ⊤}
 use Rattle.tql_bound.specs.declared.change.Modification.{Modification}
 use Rattle.tql_catalog.specs.Rows.{IsRowOf}
 use Rattle.tql_catalog.specs.declared.catalog.Table.{Table}
-use Rattle.tql_dml.specs.Alters.{Alters, gone, fates, coming, modified, IsVersionOf, AreTyped}
+use Rattle.tql_dml.specs.Alters.{Alters, gone, fates, coming, conds_in, modified, IsVersionOf, AreTyped}
+use Rattle.tql_plan_access.specs.Access.{Serves}
 use Rattle.tql_value.specs.Views.{rows_of}
-use Rattle.tql_store.specs.Represents.{Answers}
 use Rattle.tql_store.specs.StoreModel.{StoreModel}
-use Rattle.tql_store_rows.specs.Changes.{is_current}
-use Rattle.tql_store_rows.specs.Readings.{version_shown as version_of}
-use Rattle.tql_store.specs.Views.{Names, NamesOnce}
+use Rattle.tql_store.specs.Views.{IsFound}
 use Rattle.tql_store.specs.declared.store.Delta.{Delta}
+use Rattle.tql_store_index.specs.Basis.{Sought, is_looked_at}
 use Rattle.tql_store_rows.specs.declared.version.Version.{Version}
 use Rattle.tql_value.specs.declared.refusal.Refusal.{Refusal}
 use Rattle.tql_value.specs.declared.refusal.Refusal.TheVariants.{OutOfMemory}
+use Rattle.tql_value.specs.declared.when.When.TheVariants.{Now}
 
--- the change, or its fault, by the versions that the store answered
+-- the change, or its fault, by the versions that were looked at: of the table's current ones those that are sought,
+-- which are all that WHERE can be true of
 pub record Made (h : StoreModel) (p : Table) (x : Modification) (result : Result Delta Refusal) : Type 0 where
-  pub found : List Version
-  pub names : All (Names h p.id) found
-  pub once : NamesOnce h p.id is_current found
-  pub answers : Answers h p.id Now (map version_of found)
-  pub alters : Alters p.id (gone p.definition x found) (λ m. coming (fates p.definition found x m))
-      (modified p.definition found x) result
-  pub fits : All (IsVersionOf p.definition) found → AreTyped p.definition found x
+  pub sought : Option Sought
+  pub serves : Serves p.definition.system (length p.definition.columns) (conds_in x) sought
+  pub seen : List Version
+  pub found : IsFound h p.id Now (is_looked_at sought) seen
+  pub alters : Alters p.id (gone p.definition x seen) (λ m. coming (fates p.definition seen x m))
+      (modified p.definition seen x) result
+  pub fits : All (IsVersionOf p.definition) seen → AreTyped p.definition seen x
       → IfOk result (λ delta. All (IsRowOf p.definition) (rows_of delta.added.items))
 
 -- by its result; memory may have run out

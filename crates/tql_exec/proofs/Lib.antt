@@ -1,3 +1,4 @@
 pub mod OverBags
 pub mod Printed
 pub mod Early
+pub mod Looked

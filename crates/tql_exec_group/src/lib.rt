@@ -3,5 +3,6 @@
 
 mod aggregates;
 mod group;
+mod keyed;
 mod runs;
 pub mod showing;

@@ -8,53 +8,34 @@ ghost use Rattle.tql_exec_join.specs.Bags.{GivesBag};
 ghost use Rattle.tql_value.specs.Views.{rows_of};
 ghost use Rattle.tql_exec_group.specs.Runs.{AreSorted};
 
-use crate::group::Group;
-use crate::runs::{run_length, sort_by_columns};
+use crate::group::{Group, Run};
+use crate::keyed::Keyed;
+use crate::runs::{run_length, sorted_rows};
 use tql_exec_join::joined::Joined;
+use tql_expr::columns::Columns;
 use tql_expr::terms::{CondId, ExprId, Terms};
 use tql_expr::values::values_on;
 use tql_memory::Memory;
 use tql_value::refusal::Refusal;
 use tql_value::value::Value;
 
-/// Adds the values of the items where the row passes the conjuncts.
-fn add_row(
+/// Adds the values of the items on a row or on a group where it passes the conjuncts.
+fn add_scope<C: Columns>(
     memory: Memory,
     terms: &Terms,
     having: &[CondId],
     items: &[ExprId],
-    row: &Joined<'_>,
+    scope: &C,
     made: &mut Vec<Vec<Value, Memory>, Memory>,
 ) -> Result<(), Refusal>
     requires having { All (HasCond terms.now) having.now }
     requires items { All (HasExpr terms.now) items.now }
     ensures { Evaluated (λ _. rows_of made.new.items) (behind (rows_of made.old.items)
-        (shown (map (cond terms.now) having.now) (map (expr terms.now) items.now) (alone row.now ∷ []))) result }
+        (shown (map (cond terms.now) having.now) (map (expr terms.now) items.now)
+        (record { row = C.values scope.now; group = C.group scope.now } ∷ []))) result }
 {
-    if terms.passes(having, row)? {
-        let values = values_on(memory, terms, items, row)?;
-        made.push(values)?;
-    }
-    Ok(())
-}
-
-/// Adds the values of the items where the group of these rows passes the conjuncts.
-fn add_group(
-    memory: Memory,
-    terms: &Terms,
-    having: &[CondId],
-    items: &[ExprId],
-    rows: &[Joined<'_>],
-    made: &mut Vec<Vec<Value, Memory>, Memory>,
-) -> Result<(), Refusal>
-    requires having { All (HasCond terms.now) having.now }
-    requires items { All (HasExpr terms.now) items.now }
-    ensures { Evaluated (λ _. rows_of made.new.items) (behind (rows_of made.old.items)
-        (shown (map (cond terms.now) having.now) (map (expr terms.now) items.now) (of_group rows.now ∷ []))) result }
-{
-    let group = Group { rows };
-    if terms.passes(having, &group)? {
-        let values = values_on(memory, terms, items, &group)?;
+    if terms.passes(having, scope)? {
+        let values = values_on(memory, terms, items, scope)?;
         made.push(values)?;
     }
     Ok(())
@@ -75,7 +56,7 @@ fn show_rows(
 {
     let mut made = Vec::new(memory);
     for row in rows {
-        add_row(memory, terms, having, items, row, &mut made)?;
+        add_scope(memory, terms, having, items, row, &mut made)?;
     }
     Ok(made)
 }
@@ -94,7 +75,7 @@ fn show_all(
         (shown (map (cond terms.now) having.now) (map (expr terms.now) items.now) (of_group rows.now ∷ [])) result }
 {
     let mut made: Vec<Vec<Value, Memory>, Memory> = Vec::new(memory);
-    add_group(memory, terms, having, items, rows, &mut made)?;
+    add_scope(memory, terms, having, items, &Group { rows }, &mut made)?;
     Ok(made)
 }
 
@@ -105,7 +86,7 @@ fn show_runs(
     columns: &[usize],
     having: &[CondId],
     items: &[ExprId],
-    rows: &[Joined<'_>],
+    rows: &[Keyed<'_>],
 ) -> Result<Vec<Vec<Value, Memory>, Memory>, Refusal>
     requires having { All (HasCond terms.now) having.now }
     requires items { All (HasExpr terms.now) items.now }
@@ -119,7 +100,7 @@ fn show_runs(
     while start < rows.len() {
         let left = &rows[start..];
         let run = &left[..run_length(columns, left)];
-        add_group(memory, terms, having, items, run, &mut made)?;
+        add_scope(memory, terms, having, items, &Run { rows: run }, &mut made)?;
         start += run.len();
     }
     Ok(made)
@@ -127,8 +108,8 @@ fn show_runs(
 
 /// The values of the items for each row that passes the conjuncts of HAVING; in a grouped query for each group: of
 /// the rows that have one tuple in the grouping columns, NULL like NULL, or of all rows where no column is named
-/// (ISO/IEC 9075-2:2011, 7.9, 7.10, 7.12). The rows change their places: they are sorted by the grouping columns.
-/// Refused where an evaluation that is reached leaves 64 bits, or for memory.
+/// (ISO/IEC 9075-2:2011, 7.9, 7.10, 7.12). What is sorted by the grouping columns are references to the rows, each with
+/// its first key at hand. Refused where an evaluation that is reached leaves 64 bits, or for memory.
 pub fn show(
     memory: Memory,
     terms: &Terms,
@@ -152,6 +133,6 @@ pub fn show(
     if columns.is_empty() {
         return show_all(memory, terms, having, items, rows);
     }
-    sort_by_columns(columns, rows);
-    show_runs(memory, terms, columns, having, items, rows)
+    let sorted = sorted_rows(memory, columns, rows)?;
+    show_runs(memory, terms, columns, having, items, &sorted)
 }

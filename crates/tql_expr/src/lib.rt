@@ -4,6 +4,7 @@
 
 mod chains;
 pub mod columns;
+pub mod constants;
 pub mod equality;
 mod evaluation;
 pub mod node;

@@ -1,4 +1,6 @@
 pub mod Sources
 pub mod Chains
 pub mod Demanded
+pub mod DemandedKeys
 pub mod Asked
+pub mod Served

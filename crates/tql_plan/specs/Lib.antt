@@ -3,3 +3,4 @@ pub mod Meaning
 pub mod Planned
 pub mod Maps
 pub mod Asked
+pub mod Served

@@ -1,18 +1,21 @@
 //! In how many places a plan finds rows otherwise than by reading and comparing all.
-ghost use Rattle.std.specs.Prelude.{◌≡◌};
-ghost use Rattle.tql_plan.specs.Maps.{chains_maps, maps_of, products_maps, steps_maps, with_map};
+ghost use Rattle.std.specs.Prelude.{◌≡◌, if◌then◌else◌, option_map};
+ghost use Rattle.tql_plan.specs.Maps.{chains_maps, intervals_of, keys_of, maps_of, products_maps, steps_maps, with_map};
+ghost use Rattle.tql_plan_access.specs.Access.{is_by_key, is_by_period};
+ghost use Rattle.tql_store_index.specs.Basis.{sought_of};
 
 use crate::plan::{ChainPlan, Plan, Product, Step};
 use tql_expr::equality::Equality;
+use tql_store_index::basis::Sought;
 
 /// In how many places of a plan rows are found otherwise than by reading and comparing all.
 #[derive(Clone, Copy, PartialEq, Eq, Debug)]
 pub struct Counts {
     /// Joins and products whose partners are found by an equality.
     pub maps: usize,
-    /// Scans that read by a key: none yet.
+    /// Scans whose rows are found by the values of a key or of a reference.
     pub keys: usize,
-    /// Scans that read by a point or a period: none yet.
+    /// Scans whose rows are found by their application period, which holds a point or shares one with a period.
     pub intervals: usize,
 }
 
@@ -59,18 +62,39 @@ fn with_products(count: usize, products: &[Product]) -> usize
     maps
 }
 
+/// One where rows are found by their values.
+fn key_count(sought: Option<Sought<'_>>) -> usize
+    ensures { result ≡ (if is_by_key (option_map sought_of sought.entry) then 1 else 0) }
+{
+    match sought {
+        Some(Sought::With(_, _)) => 1,
+        _ => 0,
+    }
+}
+
+/// One where rows are found by their application period.
+fn interval_count(sought: Option<Sought<'_>>) -> usize
+    ensures { result ≡ (if is_by_period (option_map sought_of sought.entry) then 1 else 0) }
+{
+    match sought {
+        Some(Sought::Holding(_, _, _) | Sought::Sharing(_, _, _)) => 1,
+        _ => 0,
+    }
+}
+
 impl<'a> Plan<'a> {
     /// In how many places this plan finds rows otherwise than by reading and comparing all.
     pub fn counts(&self) -> Counts
         ensures maps { result.maps ≡ maps_of self.now }
-        ensures others { (result.keys ≡ 0) × (result.intervals ≡ 0) }
+        ensures keys { result.keys ≡ keys_of self.now }
+        ensures intervals { result.intervals ≡ intervals_of self.now }
     {
         let maps = with_products(chain_maps(&self.chains), &self.products);
         let maps = with_equality(maps, self.equality);
         Counts {
             maps,
-            keys: 0,
-            intervals: 0,
+            keys: key_count(self.access.sought()),
+            intervals: interval_count(self.access.sought()),
         }
     }
 }

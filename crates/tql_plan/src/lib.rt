@@ -1,6 +1,7 @@
 //! How a query is answered: which versions are read, and how they are joined. A plan says nothing of the store.
 #![tactic(auto)]
 
+mod accesses;
 pub mod counts;
 pub mod plan;
 pub mod planner;

@@ -99,12 +99,16 @@ listed-ids t gone h i s at (v ∷ vs) names =
         none = let zero_of : cond {A = ℕ} (nat_eq v.id i) 1 0 ≡ 0 =
             ap (λ (b : Bool). cond {A = ℕ} b 1 0) e in omega arith
 
--- the ids of the current versions whose rows go are judged by these rows
-pub judged : (h : StoreModel) (t : ℕ) (gone : Stamped → Bool) (found : List Version) → All (Names h t) found
-    → NamesOnce h t is_current found → Judged h t gone (ids_of gone found)
-judged h t gone found names once = λ i s at.
+-- the ids of the versions whose rows go, among those that pass a test, are judged by these rows, where each current
+-- version whose row goes passes it, and no closed one does
+pub judged_among : (h : StoreModel) (t : ℕ) (gone : Stamped → Bool) (test : definition.Version → Bool)
+    (found : List Version) → All (Names h t) found → NamesOnce h t test found
+    → ((i : ℕ) (v : definition.Version) → named h t i ≡ Some v
+    → (alive v && (test v && gone v.row)) ≡ (alive v && (is_current v && gone v.row)))
+    → Judged h t gone (ids_of gone found)
+judged_among h t gone test found names once agrees = λ i s at.
     listed-ids t gone h i s at found names ∙ ap (λ (n : ℕ). ltb 0 n && gone s.row) (once i s at)
-    ∙ regroup (alive s) (is_current s) (gone s.row)
+    ∙ regroup (alive s) (test s) (gone s.row) ∙ agrees i s at
   where
     regroup : (b c g : Bool) → (ltb 0 (if b && c then 1 else 0) && g) ≡ (b && (c && g))
     regroup true true g = refl
@@ -113,14 +117,19 @@ judged h t gone found names once = λ i s at.
 
 -- ---- they may be taken away
 
+-- no closed version passes a test
+abbrev pub IsOfCurrent : (definition.Version → Bool) → Type 0
+IsOfCurrent test = (v : definition.Version) → test v ≡ true → is_current v ≡ true
+
 -- a version that is named and counted is current
-current-found : (h : StoreModel) (t : ℕ) (all found : List Version) → NamesOnce h t is_current all
+current-found : (h : StoreModel) (t : ℕ) (test : definition.Version → Bool) → IsOfCurrent test
+    → (all found : List Version) → NamesOnce h t test all
     → All (Names h t) found
     → ((i : ℕ) → count_by (λ (v : Version). nat_eq v.id i) found ≤ count_by (λ (v : Version). nat_eq v.id i) all)
     → All (λ id. IsTrue (is_removable h t id)) (map (λ (v : Version). v.id) found)
-current-found h t all [] once names fewer = λ k d l. absurd (omega arith)
-current-found h t all (v ∷ vs) once names fewer =
-    first (current-found h t all vs once (λ k d l. names (suc k) d (omega arith))
+current-found h t test only all [] once names fewer = λ k d l. absurd (omega arith)
+current-found h t test only all (v ∷ vs) once names fewer =
+    first (current-found h t test only all vs once (λ k d l. names (suc k) d (omega arith))
     (λ i. let f = fewer i in omega (arith, counting i v vs)))
   where
     here : nat_eq v.id v.id ≡ true
@@ -134,10 +143,15 @@ current-found h t all (v ∷ vs) once names fewer =
     told true h = refl
     told false h = absurd (omega arith)
 
+    current : (a b c : Bool) → (a && b) ≡ true → (b ≡ true → c ≡ true) → (a && c) ≡ true
+    current true b c e f = f e
+    current false b c e f = absurd (cc)
+
     is_one : is_removable h t v.id ≡ true
     is_one = let e : named h t v.id ≡ Some (version_of v) = names 0 v (omega arith) in
-        ap is_open e ∙ told (alive (version_of v) && is_current (version_of v))
-        (subst (λ (n : ℕ). 1 ≤ n) (once v.id (version_of v) e) some)
+        ap is_open e ∙ current (alive (version_of v)) (test (version_of v)) (is_current (version_of v))
+        (told (alive (version_of v) && test (version_of v))
+        (subst (λ (n : ℕ). 1 ≤ n) (once v.id (version_of v) e) some)) (only (version_of v))
 
     first : All (λ id. IsTrue (is_removable h t id)) (map (λ (x : Version). x.id) vs)
         → All (λ id. IsTrue (is_removable h t id)) (map (λ (x : Version). x.id) (v ∷ vs))
@@ -162,9 +176,10 @@ names-left : (h : StoreModel) (t : ℕ) (p : Version → Bool) (found : List Ver
 names-left h t p found names = All-filter p (Names h t) found names
 
 -- an id that is named is the id of a version
-once-ids : (h : StoreModel) (t : ℕ) (found : List Version) → All (Names h t) found → NamesOnce h t is_current found
+once-ids : (h : StoreModel) (t : ℕ) (test : definition.Version → Bool) (found : List Version) → All (Names h t) found
+    → NamesOnce h t test found
     → (i : ℕ) → count_by (λ (v : Version). nat_eq v.id i) found ≤ 1
-once-ids h t found names once i = named_or (named h t i) refl
+once-ids h t test found names once i = named_or (named h t i) refl
   where
     at_most : (b : Bool) → (if b then 1 else 0) ≤ 1
     at_most true = omega arith
@@ -182,14 +197,16 @@ once-ids h t found names once i = named_or (named h t i) refl
 
     named_or : (o : Option definition.Version) → named h t i ≡ o → count_by (λ (v : Version). nat_eq v.id i) found ≤ 1
     named_or None e = let k = nobody found names e in omega arith
-    named_or (Some v) e = subst (λ (n : ℕ). n ≤ 1) (sym (once i v e)) (at_most (alive v && is_current v))
+    named_or (Some v) e = subst (λ (n : ℕ). n ≤ 1) (sym (once i v e)) (at_most (alive v && test v))
 
--- the ids of some of the current versions
-pub removable : (h : StoreModel) (t : ℕ) (p : Version → Bool) (found : List Version) → All (Names h t) found
-    → NamesOnce h t is_current found → AreRemovable h t (map (λ (v : Version). v.id) (filter p found))
-removable h t p found names once = record {
-  current = current-found h t found (filter p found) once (names-left h t p found names) (λ i. fewer-left p i found);
-  once = λ i. let a = fewer-left p i found in let b = once-ids h t found names once i in let e =
+-- the ids of some of the versions that pass a test which no closed one does
+pub removable_among : (h : StoreModel) (t : ℕ) (test : definition.Version → Bool) → IsOfCurrent test
+    → (p : Version → Bool) (found : List Version) → All (Names h t) found
+    → NamesOnce h t test found → AreRemovable h t (map (λ (v : Version). v.id) (filter p found))
+removable_among h t test only p found names once = record {
+  current = current-found h t test only found (filter p found) once (names-left h t p found names)
+      (λ i. fewer-left p i found);
+  once = λ i. let a = fewer-left p i found in let b = once-ids h t test found names once i in let e =
       sum-map (λ (v : Version). v.id) (λ j. cond {A = ℕ} (nat_eq j i) 1 0) (filter p found) in omega arith;
 }
 
@@ -197,8 +214,8 @@ removable h t p found names once = record {
 pub all_removable : (h : StoreModel) (t : ℕ) (found : List Version) → All (Names h t) found
     → NamesOnce h t is_current found → AreRemovable h t (map (λ (v : Version). v.id) found)
 all_removable h t found names once = record {
-  current = current-found h t found found once names (λ i. omega arith);
-  once = λ i. let b = once-ids h t found names once i in let e =
+  current = current-found h t is_current (λ v e. e) found found once names (λ i. omega arith);
+  once = λ i. let b = once-ids h t is_current found names once i in let e =
       sum-map (λ (v : Version). v.id) (λ j. cond {A = ℕ} (nat_eq j i) 1 0) found in omega arith;
 }
 

@@ -7,7 +7,7 @@ ghost use Rattle.tql_spec.specs.Bag.{SameBag};
 ghost use Rattle.tql_spec.specs.Definition.{Stamped, period_between};
 ghost use Rattle.tql_spec.specs.Period.{holds, share_a_point};
 ghost use Rattle.tql_period.specs.Points.{points_of};
-ghost use Rattle.tql_store_index.specs.Basis.{is_sought, sought_of};
+ghost use Rattle.tql_store_index.specs.Basis.{is_looked_at, is_sought, sought_of};
 ghost use Rattle.tql_store_index.specs.Tuple.{is_at};
 ghost use Rattle.tql_store_rows.specs.Changes.{alive, closing, fresh, pruned, replaced, undone};
 ghost use Rattle.tql_store_rows.specs.Changes.{Under};
@@ -363,6 +363,25 @@ impl<I: IntervalIndex> Store<I> {
     {
         let found = self.rows[usize::from(table.number())].search(self.memory, when, sought)?;
         Ok(found)
+    }
+
+    /// The versions of a table that are asked for (FOR SYSTEM_TIME, ISO/IEC 9075-2:2011, 7.6), and of these, where some
+    /// are sought, those alone.
+    pub fn look(
+        &self,
+        table: TableId,
+        when: When,
+        sought: Option<Sought<'_>>,
+    ) -> Result<Vec<Version<'_>, Memory>, AllocError>
+        requires there { IsTrue (table_there self.now table) }
+        requires versioned { IsTrue (is_now (when_of when) || table_versioned self.now table) }
+        ensures { IfOk result
+            (λ found. IsFound self.now table when (is_looked_at (option_map sought_of sought.entry)) found.items) }
+    {
+        match sought {
+            None => self.found(table, when),
+            Some(sought) => self.search(table, when, sought),
+        }
     }
 
     /// The current rows of a table with these values in these columns; NULL is no value's equal. Each is a version that

@@ -1,5 +1,5 @@
 //! Devices that fail.
-use crate::tests::devices::{Outcome, run_script};
+use crate::tests::devices::run_script;
 use std::test::Fail;
 use test_devices::{SOUND, Setting};
 use tql_engine::engine::Engine;
@@ -80,17 +80,14 @@ fn tells_how_a_run_ended(rt: HostRuntime) -> Result<(), Fail> {
 fn writes_a_beginning_where_a_write_fails(rt: HostRuntime) -> Result<(), Fail> {
     let mut last = 0;
     for writes in 0..200 {
-        let Outcome { end, text } = run_script(
-            &rt,
-            SCRIPT.as_bytes(),
-            Setting { writes, ..SOUND },
-        )?;
+        let found = run_script(&rt, SCRIPT.as_bytes(), Setting { writes, ..SOUND })?;
+        let text = &found.text;
         let is_whole = text.len() == WHOLE.len();
-        let ends_well = match end {
+        let ends_well = match found.end {
             Ok(_) => is_whole && writes > 6,
             Err(fault) => fault == Fault::Write && !is_whole,
         };
-        assert!(rt; ends_well && last <= text.len() && WHOLE.as_bytes().starts_with(&text));
+        assert!(rt; ends_well && last <= text.len() && WHOLE.as_bytes().starts_with(text));
         last = text.len();
     }
     assert_eq!(rt; last, WHOLE.len());

@@ -23,6 +23,8 @@ fn is_cut(alloc: Global, reply: &Reply, text: &[u8], taken: usize) -> bool {
         size: 1,
         writes_left: taken as u64,
         flushes_left: u64::MAX,
+        failed_writes: 0,
+        failed_flushes: 0,
     });
     let is_whole = taken == text.len();
     let pushed = write_reply(&mut sink, reply).is_ok();
@@ -84,6 +86,8 @@ fn flushes_that_fail_are_counted(rt: HostRuntime) {
         size: 1,
         writes_left: 0,
         flushes_left: 0,
+        failed_writes: 0,
+        failed_flushes: 0,
     });
     let found = (sink.flush(), sink.faults());
     assert_eq!(rt; found, (Err(DeviceFault), 1));

@@ -27,6 +27,7 @@ fn an_interrupted_read_is_made_again(rt: HostRuntime) -> Result<(), Fail> {
         let mut source = StdSource::new(Chunks {
             left: b"ab",
             size: 1,
+            giving_left: u64::MAX,
             reads_left: 2,
             interrupts,
             interrupts_left: interrupts,

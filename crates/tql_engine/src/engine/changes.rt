@@ -11,8 +11,9 @@ use tql_bound::change::{Insertion, Modification, QueryInsertion, Work};
 use tql_dml::insertion::{insert_rows, insert_tuples};
 use tql_dml::modification::modify;
 use tql_keys::check::check;
+use tql_plan_access::choosing::access;
 use tql_result::reply::{Reply, Verb};
-use tql_spec::{changes_by_parts, changes_keep_no_order, inserts_keep_no_order};
+use tql_spec::{changes_by_parts, changes_keep_no_order, inserts_keep_no_order, safe_conditions};
 use tql_store::store::Delta;
 use tql_value::refusal::Refusal;
 use tql_value::when::When;
@@ -118,15 +119,22 @@ impl Engine {
         }
     }
 
-    /// What the current versions of the table make of an UPDATE or DELETE.
+    /// What an UPDATE or DELETE makes of the current versions of the table, of which it looks at those alone that are
+    /// sought: WHERE is true of no other.
     fn delta_of(&self, modification: &Modification) -> Result<Delta, Refusal>
         requires { modification.now.table < length self.now.tables }
         ensures { (p : Table) → slice_get self.now.tables modification.now.table ≡ Some p
             → Makes self.now.store p modification.now result }
     {
         let table = self.table_at(modification.table);
-        let found = self.store.found(table.id, When::Now)?;
-        modify(self.memory, table, &found, modification)
+        let access = access(
+            self.memory,
+            &table.definition,
+            &modification.terms,
+            &modification.conjuncts,
+        )?;
+        let seen = self.store.look(table.id, When::Now, access.sought())?;
+        modify(self.memory, table, &seen, modification)
     }
 
     /// UPDATE and DELETE.
@@ -137,6 +145,7 @@ impl Engine {
         ensures { (s : State) → StandsFor self.old s
             → DoesStep self.new s result (step s (machine.ChangeRows (modification_of modification.now))) }
     {
+        safe_conditions();
         changes_keep_no_order();
         changes_by_parts();
         let verb = verb_of(&modification.work);

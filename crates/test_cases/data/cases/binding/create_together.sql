@@ -1,3 +1,4 @@
+-- cases: in-turn
 -- CREATE TABLE: of two faults the first of the order. By hand from docs/LANGUAGE.md.
 CREATE TABLE there (k INT);
 CREATE TABLE there (a INT, a INT);

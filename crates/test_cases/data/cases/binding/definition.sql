@@ -1,3 +1,4 @@
+-- cases: in-turn
 -- A definition as its statements show it: the name, the columns and their order, which take no NULL, the limit of a text, kinds, and
 -- which are generated. By hand from docs/LANGUAGE.md.
 CREATE TABLE "a""b" (i INTEGER NOT NULL, e TIMESTAMP(6) NOT NULL GENERATED ALWAYS AS ROW END, j INT, k BIGINT, v VARCHAR(003) NOT NULL, "d d" DATE, PERIOD FOR SYSTEM_TIME (s, e), m TIMESTAMP(12), s TIMESTAMP GENERATED ALWAYS AS ROW START) WITH SYSTEM VERSIONING;

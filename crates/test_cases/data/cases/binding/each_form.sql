@@ -1,3 +1,4 @@
+-- cases: in-turn
 -- Statements of each form, by what they are refused where there is no table: none is E10. By hand from docs/LANGUAGE.md.
 INSERT INTO t VALUES (1, - 1, + 1, NULL, 'x');
 INSERT INTO t (a, b) VALUES (DATE 'x', TIMESTAMP 'y'), (1, 2);

@@ -1,3 +1,4 @@
+-- cases: in-turn
 -- INSERT: of two faults the first of the order. By hand from docs/LANGUAGE.md.
 CREATE TABLE p (a VARCHAR(9));
 CREATE TABLE t (a INT, s TIMESTAMP GENERATED ALWAYS AS ROW START, b VARCHAR(9), d DATE, e TIMESTAMP GENERATED ALWAYS AS ROW END,

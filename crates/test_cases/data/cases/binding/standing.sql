@@ -1,3 +1,4 @@
+-- cases: in-turn
 -- Statements of the grammar where there is no table t: a key of a column of its period (E23), a table made whose key stands before its column, a check of a name that is none (E21); queries and portions are refused by their tables (E20); a check takes them. By hand from docs/LANGUAGE.md.
 CREATE TABLE t (a DATE, b DATE, PERIOD FOR p (a, b), UNIQUE (a, p WITHOUT OVERLAPS));
 CREATE TABLE w (PRIMARY KEY (a), a INT);

@@ -1,3 +1,4 @@
+-- cases: in-turn
 -- Questions, DELETE and AT: tables by their names, FOR SYSTEM_TIME and its moments refused. By hand from docs/LANGUAGE.md.
 CREATE TABLE plain (a INT);
 CREATE TABLE log (s TIMESTAMP GENERATED ALWAYS AS ROW START, e TIMESTAMP GENERATED ALWAYS AS ROW END, x INT,

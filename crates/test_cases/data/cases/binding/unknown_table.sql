@@ -1,3 +1,4 @@
+-- cases: in-turn
 -- Changes of a table that is not there (E20), whatever else is wrong with them; a check takes them. By hand from docs/LANGUAGE.md.
 INSERT INTO t VALUES (1), (1 + 2);
 INSERT INTO t VALUES (1 * 2);

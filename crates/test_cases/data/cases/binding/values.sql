@@ -1,3 +1,4 @@
+-- cases: growths in-turn
 -- INSERT: values of each kind, NULL in each column, and values by a list of columns. By hand from docs/LANGUAGE.md.
 CREATE TABLE p (a VARCHAR(9));
 CREATE TABLE t (a INT, s TIMESTAMP GENERATED ALWAYS AS ROW START, b VARCHAR(9), d DATE, e TIMESTAMP GENERATED ALWAYS AS ROW END,

@@ -1,3 +1,4 @@
+-- cases: in-turn
 -- The members of WHERE's AND list are applied from the left, each where all before it were true; inside one all is evaluated. UNKNOWN touches nothing. By hand from docs/LANGUAGE.md.
 CREATE TABLE t (x INTEGER);
 INSERT INTO t VALUES (1), (2);

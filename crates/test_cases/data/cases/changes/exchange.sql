@@ -1,3 +1,4 @@
+-- cases: in-turn
 -- SET sees the row as it stood before the statement, and a sum out of range anywhere refuses the whole statement. By hand from docs/LANGUAGE.md.
 CREATE TABLE w (a INTEGER, b INTEGER);
 INSERT INTO w VALUES (1, 2);

@@ -1,3 +1,4 @@
+-- cases: in-turn
 -- The first fault of the table of refusals, whatever was met first. By hand from docs/LANGUAGE.md.
 CREATE TABLE t (x INTEGER);
 INSERT INTO t VALUES (1), (2);

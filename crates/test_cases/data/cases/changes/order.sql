@@ -1,3 +1,4 @@
+-- cases: in-turn
 -- The transaction and the clock come before every fault of names. By hand from docs/LANGUAGE.md.
 CREATE TABLE t (x INTEGER);
 INSERT INTO t VALUES (1), (2);

@@ -1,3 +1,4 @@
+-- cases: in-turn
 -- A CHECK that is UNKNOWN lets a row in; one that is FALSE does not. By hand from docs/LANGUAGE.md.
 CREATE TABLE c (x INTEGER, CHECK (x > 0));
 INSERT INTO c VALUES (NULL);

@@ -1,3 +1,4 @@
+-- cases: in-turn
 -- An UPDATE of a portion asks its CHECKs of the parts that it makes: those before and after with the old values, the one inside with
 -- the new ones, and of no row that it does not touch. By hand from docs/LANGUAGE.md.
 CREATE TABLE c (k INTEGER, x INTEGER, w VARCHAR(3), f DATE, u DATE, s TIMESTAMP GENERATED ALWAYS AS ROW START,

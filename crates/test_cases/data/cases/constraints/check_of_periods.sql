@@ -1,3 +1,4 @@
+-- cases: in-turn
 -- CHECKs of an application period, of its columns and of PERIOD (..), of the table's own columns by its name, and of texts.
 -- By hand from docs/LANGUAGE.md.
 CREATE TABLE "Stay" (room INTEGER, "a b" VARCHAR(5), f DATE, u DATE, PERIOD FOR "in" (f, u),

@@ -1,3 +1,4 @@
+-- cases: in-turn
 -- CHECKs that are TRUE, UNKNOWN and FALSE, by AND, OR, NOT, IN and BETWEEN: each is asked of each new row, and only FALSE refuses it.
 -- By hand from docs/LANGUAGE.md.
 CREATE TABLE c (n INTEGER, a INTEGER, b INTEGER, CHECK (a > 0 AND b > 0), CHECK (NOT a = 5), CHECK (a IN (1, 2, 3, b)),

@@ -1,3 +1,4 @@
+-- cases: in-turn
 -- A CHECK is made on each part that a portion leaves; one evaluated out of range (E30) comes before NULL (E32), in any row.
 -- By hand from docs/LANGUAGE.md.
 CREATE TABLE c (x INTEGER, s DATE, e DATE, PERIOD FOR p (s, e), CHECK (x < 5 OR p CONTAINS DATE '2011-06-01'));

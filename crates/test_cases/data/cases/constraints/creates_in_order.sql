@@ -1,4 +1,4 @@
--- cases: short
+-- cases: short in-turn
 -- Of several faults of a definition the first of the table of refusals is told, whichever element has it: each line has the faults of
 -- the next ones beside its own. By hand from docs/LANGUAGE.md.
 CREATE TABLE t (x INTEGER);

@@ -1,3 +1,4 @@
+-- cases: in-turn
 -- Definitions that are refused for one fault of a constraint. By hand from docs/LANGUAGE.md.
 CREATE TABLE t (x INTEGER);
 CREATE TABLE p (a INTEGER, b INTEGER, UNIQUE (a, b));

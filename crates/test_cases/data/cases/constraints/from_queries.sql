@@ -1,3 +1,4 @@
+-- cases: in-turn
 -- Rows from a query are read before they are written, and tested together: NULLs, keys, references and checks.
 -- By hand from docs/LANGUAGE.md.
 CREATE TABLE k (a INTEGER, b INTEGER, PRIMARY KEY (a));

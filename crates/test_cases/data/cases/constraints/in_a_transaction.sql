@@ -1,3 +1,4 @@
+-- cases: in-turn
 -- Keys and references are tested at each statement of a transaction, not at its COMMIT. By hand from docs/LANGUAGE.md.
 CREATE TABLE p (a INTEGER, PRIMARY KEY (a));
 CREATE TABLE c (a INTEGER, FOREIGN KEY (a) REFERENCES p (a));

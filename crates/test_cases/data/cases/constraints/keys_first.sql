@@ -1,3 +1,4 @@
+-- cases: in-turn
 -- Of a change that breaks a key and a reference, the key is told (E35 before E36): of the child, and of the parent.
 -- By hand from docs/LANGUAGE.md.
 CREATE TABLE p (a INTEGER, PRIMARY KEY (a));

@@ -1,3 +1,4 @@
+-- cases: in-turn
 -- A key is asked of the rows after the statement, not on the way. By hand from docs/LANGUAGE.md.
 CREATE TABLE k (x INTEGER, PRIMARY KEY (x));
 INSERT INTO k VALUES (1), (2);

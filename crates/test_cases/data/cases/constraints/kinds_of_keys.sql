@@ -1,3 +1,4 @@
+-- cases: in-turn
 -- Keys and references of texts, days and moments: texts are equal by their bytes, without blanks filled in, and moments by their
 -- microseconds. By hand from docs/LANGUAGE.md.
 CREATE TABLE k (w VARCHAR(6), d DATE, m TIMESTAMP, UNIQUE (w), UNIQUE (d, m));

@@ -1,3 +1,4 @@
+-- cases: in-turn
 -- Lists of another length, columns and periods of another kind, and kinds in a CHECK (E22); the length of a VARCHAR is not compared.
 -- By hand from docs/LANGUAGE.md.
 CREATE TABLE p (a INTEGER, b VARCHAR(3), f DATE, u DATE, PERIOD FOR q (f, u), UNIQUE (a, b), UNIQUE (f), UNIQUE (b, q WITHOUT OVERLAPS));

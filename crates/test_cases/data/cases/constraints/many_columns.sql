@@ -1,4 +1,4 @@
--- cases: short
+-- cases: short in-turn
 -- Keys and references of 64 columns: rows that differ in the last column alone; and many constraints, which are no columns (E15).
 -- By hand from docs/LANGUAGE.md.
 CREATE TABLE p ({63 a# INT, }b VARCHAR(3), {70 UNIQUE (a#), }UNIQUE (b, {62 a#, }a63));

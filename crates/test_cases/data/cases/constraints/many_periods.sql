@@ -1,4 +1,4 @@
--- cases: short
+-- cases: short in-turn
 -- Rows of one key that meet, some after the others, and a child that they cover with one gap, in one statement and changed in one.
 -- By hand from docs/LANGUAGE.md.
 CREATE TABLE t (n INTEGER, g INTEGER, f TIMESTAMP, u TIMESTAMP, PERIOD FOR p (f, u), UNIQUE (g, p WITHOUT OVERLAPS));

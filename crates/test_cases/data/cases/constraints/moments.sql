@@ -1,3 +1,4 @@
+-- cases: in-turn
 -- Periods of moments: a microsecond that two rows share, and one that no parent covers. By hand from docs/LANGUAGE.md.
 CREATE TABLE p (k VARCHAR(4), f TIMESTAMP(0), u TIMESTAMP, PERIOD FOR x (f, u), UNIQUE (k, x WITHOUT OVERLAPS));
 CREATE TABLE c (u TIMESTAMP, f TIMESTAMP, k VARCHAR(9), PERIOD FOR y (f, u), FOREIGN KEY (k, PERIOD y) REFERENCES p (k, PERIOD x));

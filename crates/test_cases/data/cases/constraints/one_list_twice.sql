@@ -1,3 +1,4 @@
+-- cases: in-turn
 -- Two keys of one list of columns, and in another order; references to each, of one table. By hand from docs/LANGUAGE.md.
 CREATE TABLE k (a INTEGER, b INTEGER, PRIMARY KEY (a), UNIQUE (a), UNIQUE (a), UNIQUE (a, b), UNIQUE (b, a));
 CREATE TABLE c (x INTEGER, y INTEGER, FOREIGN KEY (x) REFERENCES k (a), FOREIGN KEY (x) REFERENCES k (a),

@@ -1,3 +1,4 @@
+-- cases: in-turn
 -- Days of a child that several parent rows cover which meet, in any order, and days that one of them leaves out.
 -- By hand from docs/LANGUAGE.md.
 CREATE TABLE rate (k INTEGER, v INTEGER, f DATE, u DATE, PERIOD FOR p (f, u), PRIMARY KEY (k, p WITHOUT OVERLAPS));

@@ -1,3 +1,4 @@
+-- cases: in-turn
 -- Keys and references are asked of current rows alone: versions of the past conflict with nothing and cover nothing.
 -- By hand from docs/LANGUAGE.md.
 CREATE TABLE p (a INTEGER, s TIMESTAMP GENERATED ALWAYS AS ROW START, e TIMESTAMP GENERATED ALWAYS AS ROW END,

@@ -1,3 +1,4 @@
+-- cases: in-turn
 -- Rows of one key: a period that overlaps by a day is refused, at either end; one that meets is not.
 -- By hand from docs/LANGUAGE.md.
 CREATE TABLE emp (eno INTEGER, dept VARCHAR(10), estart DATE, eend DATE,

@@ -1,3 +1,4 @@
+-- cases: in-turn
 -- A plain key of a table with a period counts rows, whatever their periods: the parts that a portion leaves are two. And a plain
 -- reference asks for a row, on whatever day. By hand from docs/LANGUAGE.md.
 CREATE TABLE k (a INTEGER, n INTEGER, f DATE, u DATE, PERIOD FOR p (f, u), PRIMARY KEY (a), UNIQUE (f));

@@ -1,3 +1,4 @@
+-- cases: in-turn
 -- A portion that ends where the period begins touches no row, and is a commit; one that is wider changes the whole row.
 -- By hand from docs/LANGUAGE.md.
 CREATE TABLE emp (eno INTEGER, dept VARCHAR(10), estart DATE, eend DATE,

@@ -1,3 +1,4 @@
+-- cases: growths in-turn
 -- A portion inside a period leaves two parts that do not overlap it: the key holds, and the past shows the row as it was.
 -- By hand from docs/LANGUAGE.md.
 CREATE TABLE emp (eno INTEGER, dept VARCHAR(10), estart DATE, eend DATE,

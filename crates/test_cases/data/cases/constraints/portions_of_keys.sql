@@ -1,3 +1,4 @@
+-- cases: in-turn
 -- Portions that carry a part of a row to another key: beside what holds there, onto it, and exchanged with it.
 -- By hand from docs/LANGUAGE.md.
 CREATE TABLE k (a INTEGER, w VARCHAR(1), f DATE, u DATE, PERIOD FOR p (f, u), PRIMARY KEY (a, p WITHOUT OVERLAPS));

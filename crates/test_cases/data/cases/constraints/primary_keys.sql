@@ -1,3 +1,4 @@
+-- cases: in-turn
 -- The columns of a PRIMARY KEY take no NULL without being told so, plain or without overlaps; those of a UNIQUE key take it.
 -- By hand from docs/LANGUAGE.md.
 CREATE TABLE k (n INTEGER, a INTEGER, b VARCHAR(1), c INTEGER, PRIMARY KEY (b, a), UNIQUE (c, b));

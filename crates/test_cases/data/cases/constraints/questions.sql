@@ -1,3 +1,4 @@
+-- cases: in-turn
 -- Questions of a table with a key and both periods: as of moments, over ranges, of its period.
 -- By hand from docs/LANGUAGE.md.
 CREATE TABLE emp (eno INTEGER, dept VARCHAR(10), estart DATE, eend DATE,

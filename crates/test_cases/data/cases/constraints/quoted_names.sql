@@ -1,3 +1,4 @@
+-- cases: in-turn
 -- Names of tables, columns, periods and constraints that are quoted or written in any case, and words that are no names elsewhere.
 -- By hand from docs/LANGUAGE.md.
 create table "p|q" ("a;" Int, "SELECT" varchar(2), End date, "end" date, period for "KEY" (End, "end"),

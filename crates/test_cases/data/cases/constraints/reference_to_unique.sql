@@ -1,3 +1,4 @@
+-- cases: in-turn
 -- A reference to a UNIQUE key whose columns it names in the key's order: a NULL of the parent meets nothing, one of the child needs
 -- nothing. By hand from docs/LANGUAGE.md.
 CREATE TABLE p (a INTEGER, b INTEGER, UNIQUE (b, a));

@@ -1,3 +1,4 @@
+-- cases: in-turn
 -- A reference of two columns to a UNIQUE key that holds NULLs, and names of constraints that stand twice.
 -- By hand from docs/LANGUAGE.md.
 CREATE TABLE p (a INTEGER, b VARCHAR(3), UNIQUE (a, b), CONSTRAINT z CHECK (a < 10), CONSTRAINT z CHECK (p.a <> 5));

@@ -1,3 +1,4 @@
+-- cases: in-turn
 -- Portions of parents and children in a transaction, undone and done again. By hand from docs/LANGUAGE.md.
 CREATE TABLE dept (dno INTEGER, head VARCHAR(4), ds DATE, de DATE, s TIMESTAMP GENERATED ALWAYS AS ROW START,
   e TIMESTAMP GENERATED ALWAYS AS ROW END, PERIOD FOR dp (ds, de), PERIOD FOR SYSTEM_TIME (s, e),

@@ -1,3 +1,4 @@
+-- cases: in-turn
 -- What is wrong with a row comes before what is wrong with the keys and references of all: E30, E31, E32, E33 and E34, in this order, and
 -- then E35 and E36. By hand from docs/LANGUAGE.md.
 CREATE TABLE p (a INTEGER, PRIMARY KEY (a));

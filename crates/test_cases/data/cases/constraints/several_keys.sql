@@ -1,3 +1,4 @@
+-- cases: in-turn
 -- A PRIMARY KEY and a UNIQUE key without overlaps, and a plain one, of one table: NULLs, and the parts that portions leave.
 -- By hand from docs/LANGUAGE.md.
 CREATE TABLE k (a INTEGER, b INTEGER, s DATE, e DATE, PERIOD FOR p (s, e),

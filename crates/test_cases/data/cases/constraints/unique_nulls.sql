@@ -1,3 +1,4 @@
+-- cases: in-turn
 -- Rows with a NULL in a column of a UNIQUE key conflict with nothing there. By hand from docs/LANGUAGE.md.
 CREATE TABLE u (n INTEGER, a INTEGER, b VARCHAR(2), UNIQUE (a, b), UNIQUE (n));
 INSERT INTO u VALUES (NULL, 1, NULL), (NULL, 1, NULL), (NULL, NULL, 'x'), (NULL, NULL, 'x'), (NULL, NULL, NULL),

@@ -1,3 +1,4 @@
+-- cases: in-turn
 -- Made at random (tools/copies.py). The text comes from a machine that copies its tables at every commit.
 AT TIMESTAMP '2011-01-01 00:00:01';
 CREATE TABLE term (PERIOD FOR SYSTEM_TIME (s, "E"), PRIMARY KEY (m, "f to g" WITHOUT OVERLAPS), f DATE, "M" VARCHAR(4), "a b" BIGINT, CHECK (g <> DATE '2012-03-01' AND NOT DATE '2012-02-26' = f), s TIMESTAMP NOT NULL GENERATED ALWAYS AS ROW START, e TIMESTAMP NOT NULL GENERATED ALWAYS AS ROW END, PERIOD FOR "f to g" (f, "G"), "G" DATE) WITH SYSTEM VERSIONING;

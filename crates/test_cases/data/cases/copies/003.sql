@@ -1,3 +1,4 @@
+-- cases: in-turn
 -- Made at random (tools/copies.py). The text comes from a machine that copies its tables at every commit.
 AT TIMESTAMP '2011-01-01 00:00:01';
 CREATE TABLE dept ("q" INT, UNIQUE (d), UNIQUE ("q", X), CHECK (x NOT BETWEEN dept.x AND "q"), X BIGINT, "D" DATE, CONSTRAINT "a b" PRIMARY KEY ("q"));

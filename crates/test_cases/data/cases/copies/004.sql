@@ -1,3 +1,4 @@
+-- cases: in-turn
 -- Made at random (tools/copies.py). The text comes from a machine that copies its tables at every commit.
 AT TIMESTAMP '2011-01-01 00:00:01';
 CREATE TABLE term (s TIMESTAMP NOT NULL GENERATED ALWAYS AS ROW START, f DATE NOT NULL, CONSTRAINT "a b" PRIMARY KEY (d, "f to g" WITHOUT OVERLAPS), PERIOD FOR SYSTEM_TIME (s, "E"), e TIMESTAMP GENERATED ALWAYS AS ROW END NOT NULL, PERIOD FOR "f to g" (f, "G"), d VARCHAR (0004), n_1 INT, g DATE NOT NULL, UNIQUE (f, N_1)) WITH SYSTEM VERSIONING;

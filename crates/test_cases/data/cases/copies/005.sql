@@ -1,3 +1,4 @@
+-- cases: in-turn
 -- Made at random (tools/copies.py). The text comes from a machine that copies its tables at every commit.
 AT TIMESTAMP '2011-01-01 00:00:01';
 CREATE TABLE "Pay" (s TIMESTAMP NOT NULL GENERATED ALWAYS AS ROW START NOT NULL, CONSTRAINT c PRIMARY KEY (d, W), e TIMESTAMP GENERATED ALWAYS AS ROW END NOT NULL, PERIOD FOR SYSTEM_TIME (s, "E"), W VARCHAR(3), d DATE, m INT NOT NULL) WITH SYSTEM VERSIONING;

@@ -1,3 +1,4 @@
+-- cases: in-turn
 -- Made at random (tools/copies.py). The text comes from a machine that copies its tables at every commit.
 AT TIMESTAMP '2011-01-01 00:00:01';
 CREATE TABLE term (M TIMESTAMP(6), e TIMESTAMP GENERATED ALWAYS AS ROW END NOT NULL, PRIMARY KEY (g), k INTEGER, "G" DATE NOT NULL, f DATE, CHECK ("K" NOT IN (3, 3, 3)), PERIOD FOR SYSTEM_TIME (s, "E"), PERIOD FOR "f to g" (f, "G"), s TIMESTAMP NOT NULL GENERATED ALWAYS AS ROW START) WITH SYSTEM VERSIONING;

@@ -1,3 +1,4 @@
+-- cases: in-turn
 -- Made at random (tools/copies.py). The text comes from a machine that copies its tables at every commit.
 AT TIMESTAMP '2011-01-01 00:00:01';
 CREATE TABLE note (PERIOD FOR "f to g" (f, "G"), N_1 VARCHAR(3), G DATE, f DATE, CONSTRAINT c UNIQUE (n_1, D, "f to g" WITHOUT OVERLAPS), w INTEGER, D VARCHAR(3), UNIQUE (d, N_1, "f to g" WITHOUT OVERLAPS), UNIQUE (g));

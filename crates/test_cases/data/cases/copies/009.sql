@@ -1,3 +1,4 @@
+-- cases: in-turn
 -- Made at random (tools/copies.py). The text comes from a machine that copies its tables at every commit.
 AT TIMESTAMP '2011-01-01 00:00:01';
 CREATE TABLE log (PERIOD FOR "f to g" (f, "G"), "G" DATE, """" BIGINT, d DATE, f DATE, CHECK (NOT g = DATE '2012-02-29'), d DATE);

@@ -1,3 +1,4 @@
+-- cases: in-turn
 -- Made at random (tools/copies.py). The text comes from a machine that copies its tables at every commit.
 AT TIMESTAMP '2011-01-01 00:00:01';
 CREATE TABLE use ("a b" BIGINT, CHECK ("USE"."P" PRECEDES PERIOD (TIMESTAMP '2012-02-29 00:00:00.000001', TIMESTAMP '2012-02-29 00:00:00.000002') OR M IS NULL), w INT, f TIMESTAMP, "U" TIMESTAMP WITHOUT TIME ZONE, CHECK ("USE"."W" IS NOT NULL), PERIOD FOR p (f, "U"), M VARCHAR(3));

@@ -1,3 +1,4 @@
+-- cases: in-turn
 -- CREATE TABLE: generated columns and system periods that may not stand so (E23). By hand from docs/LANGUAGE.md.
 CREATE TABLE t (x INTEGER);
 CREATE TABLE u (s TIMESTAMP GENERATED ALWAYS AS ROW START, e TIMESTAMP GENERATED ALWAYS AS ROW END, PERIOD FOR SYSTEM_TIME (s, e)) WITH SYSTEM VERSIONING;

@@ -1,3 +1,4 @@
+-- cases: growths in-turn
 -- CREATE TABLE in an open transaction (E40), before later faults. By hand from docs/LANGUAGE.md.
 CREATE TABLE t (x INTEGER);
 START TRANSACTION;

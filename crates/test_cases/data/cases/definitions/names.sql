@@ -1,3 +1,4 @@
+-- cases: in-turn
 -- CREATE TABLE: names that are repeated or not there (E21), alone and before later faults. By hand from docs/LANGUAGE.md.
 CREATE TABLE t (x INTEGER);
 CREATE TABLE u (x INT, y DATE, X DATE);

@@ -1,3 +1,4 @@
+-- cases: in-turn
 -- Texts near a definition that are none (E10), run and checked. By hand from docs/LANGUAGE.md.
 CREATE TABLE t (x INTEGER);
 CREATE TABLE u ();

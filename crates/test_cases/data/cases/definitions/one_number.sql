@@ -1,3 +1,4 @@
+-- cases: in-turn
 -- Definitions of one number with a system period, by their names: refused by the first fault, and the last one taken. By hand from docs/LANGUAGE.md.
 CREATE TABLE log (x INTEGER, s TIMESTAMP GENERATED ALWAYS AS ROW START,
   e TIMESTAMP GENERATED ALWAYS AS ROW END,

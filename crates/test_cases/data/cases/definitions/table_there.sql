@@ -1,3 +1,4 @@
+-- cases: growths in-turn
 -- CREATE TABLE of a name that is there (E20), alone and before later faults. By hand from docs/LANGUAGE.md.
 CREATE TABLE t (x INTEGER);
 CREATE TABLE t (x INT);

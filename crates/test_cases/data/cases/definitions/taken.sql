@@ -1,3 +1,4 @@
+-- cases: in-turn
 -- CREATE TABLE: definitions that are taken. By hand from docs/LANGUAGE.md.
 CREATE TABLE t (x INTEGER);
 CREATE TABLE u1 (x INT);

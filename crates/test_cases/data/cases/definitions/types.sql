@@ -1,3 +1,4 @@
+-- cases: in-turn
 -- CREATE TABLE: lengths, precisions and kinds that do not fit (E22), alone and before later faults. By hand from docs/LANGUAGE.md.
 CREATE TABLE t (x INTEGER);
 CREATE TABLE u (x VARCHAR(0));

@@ -1,3 +1,4 @@
+-- cases: in-turn
 -- A dropped table is gone at every moment, and a table of its name may be made again with other columns, without the old rows; it is no
 -- commit, so the clock stays. By hand from docs/LANGUAGE.md.
 CREATE TABLE log (x INTEGER, s TIMESTAMP GENERATED ALWAYS AS ROW START, e TIMESTAMP GENERATED ALWAYS AS ROW END,

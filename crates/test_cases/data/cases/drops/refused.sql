@@ -1,3 +1,4 @@
+-- cases: in-turn
 -- DROP TABLE inside a transaction (E40) comes before a table that is not there (E20), and changes nothing; outside it runs with the clock
 -- at its end too. By hand from docs/LANGUAGE.md.
 CREATE TABLE t (x INTEGER);

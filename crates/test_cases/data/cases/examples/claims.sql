@@ -1,3 +1,4 @@
+-- cases: in-turn
 -- An insurer asks: which claims did the office know at half past nine, and what came in later?
 CREATE TABLE claim (
   number BIGINT NOT NULL,

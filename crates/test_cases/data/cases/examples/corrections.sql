@@ -1,3 +1,4 @@
+-- cases: in-turn
 -- An insurer asks: what was held in reserve at the end of June, and what was corrected in July?
 CREATE TABLE reserve (
   claim INTEGER,

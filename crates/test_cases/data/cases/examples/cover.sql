@@ -1,3 +1,4 @@
+-- cases: in-turn
 -- An insurer asks: which house was covered on the day of the storm, and did the office know so when the claim came in?
 CREATE TABLE policy (
   number INTEGER NOT NULL,

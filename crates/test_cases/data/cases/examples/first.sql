@@ -1,3 +1,4 @@
+-- cases: growths in-turn
 -- What did the log say on the first of January, and until when did it stand?
 CREATE TABLE log (x INTEGER, s TIMESTAMP GENERATED ALWAYS AS ROW START,
   e TIMESTAMP GENERATED ALWAYS AS ROW END,

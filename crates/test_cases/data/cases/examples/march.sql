@@ -1,3 +1,4 @@
+-- cases: in-turn
 -- An auditor asks: what did we believe on 31 March, and why did the pay slip say so?
 CREATE TABLE pay (employee INTEGER, cents INTEGER, because VARCHAR(40),
   known_from TIMESTAMP GENERATED ALWAYS AS ROW START, known_to TIMESTAMP GENERATED ALWAYS AS ROW END,

@@ -1,3 +1,4 @@
+-- cases: in-turn
 -- A payroll office asks: who is paid what on which day, after a higher rate for some months of nights, and what did we think before?
 CREATE TABLE rates (employee INTEGER, cents INTEGER, because VARCHAR(20), holds_from DATE, holds_to DATE,
   known_from TIMESTAMP GENERATED ALWAYS AS ROW START, known_to TIMESTAMP GENERATED ALWAYS AS ROW END,

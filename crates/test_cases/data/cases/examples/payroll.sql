@@ -1,3 +1,4 @@
+-- cases: in-turn
 -- A payroll office asks: what had each run of March paid, and what did we know before it?
 CREATE TABLE pay (
   employee INTEGER,

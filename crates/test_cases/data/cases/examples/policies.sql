@@ -1,3 +1,4 @@
+-- cases: in-turn
 -- An insurer asks: did the policy stand in the books at the moment when its claim came in?
 CREATE TABLE policies (
   policy INTEGER,

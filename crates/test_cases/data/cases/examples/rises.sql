@@ -1,3 +1,4 @@
+-- cases: in-turn
 -- A payroll office asks: whose rate was raised in April, what did the slips of March still say of them, and what is their pay of a year now?
 CREATE TABLE pay (employee INTEGER NOT NULL, grade VARCHAR(2), cents INTEGER,
   known_from TIMESTAMP GENERATED ALWAYS AS ROW START, known_to TIMESTAMP GENERATED ALWAYS AS ROW END,

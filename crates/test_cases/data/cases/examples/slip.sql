@@ -1,3 +1,4 @@
+-- cases: in-turn
 -- An auditor asks: the pay slip of 25 March says 1,600.00; which rate and hours did the office know then, and what has come since?
 CREATE TABLE rate (employee INTEGER NOT NULL, since DATE NOT NULL, cents_an_hour INTEGER NOT NULL,
   known_from TIMESTAMP GENERATED ALWAYS AS ROW START, known_to TIMESTAMP GENERATED ALWAYS AS ROW END,

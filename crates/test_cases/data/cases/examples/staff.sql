@@ -1,3 +1,4 @@
+-- cases: in-turn
 -- A payroll office asks: is each rate one of somebody who works here, the only one of its day, and within reason?
 CREATE TABLE staff (employee INTEGER, name VARCHAR(20) NOT NULL, PRIMARY KEY (employee));
 CREATE TABLE rate (employee INTEGER, cents INTEGER NOT NULL, holds_from DATE, holds_to DATE,

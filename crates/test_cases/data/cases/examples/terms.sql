@@ -1,3 +1,4 @@
+-- cases: in-turn
 -- An insurer asks: is there a policy behind each cover on every day, and one premium a day for each policy?
 CREATE TABLE policy (number INTEGER, cents INTEGER NOT NULL, runs_from DATE, runs_to DATE,
   PERIOD FOR runs (runs_from, runs_to), PRIMARY KEY (number, runs WITHOUT OVERLAPS));

@@ -1,3 +1,4 @@
+-- cases: in-turn
 -- An auditor asks: who was paid what on 31 March, as the books stood on that day and as they stand now?
 CREATE TABLE pay (
   employee INTEGER NOT NULL,

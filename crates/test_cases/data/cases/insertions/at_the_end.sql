@@ -1,3 +1,4 @@
+-- cases: in-turn
 -- Changes where the clock stands at the highest moment (E41), before later faults. By hand from docs/LANGUAGE.md.
 CREATE TABLE t (d DATE NOT NULL, v VARCHAR(1)); AT TIMESTAMP '9999-12-31 23:59:59.999999';
 INSERT INTO t VALUES (DATE '2011-04-01', 'a');

@@ -1,3 +1,4 @@
+-- cases: in-turn
 -- INSERT into generated columns (E23), alone and before later faults. Outside a transaction, and in one. By hand from docs/LANGUAGE.md.
 CREATE TABLE t ("a b" VARCHAR(4), d DATE NOT NULL, s TIMESTAMP GENERATED ALWAYS AS ROW START,
   e TIMESTAMP GENERATED ALWAYS AS ROW END NOT NULL, m TIMESTAMP(0), n BIGINT, PERIOD FOR SYSTEM_TIME (s, e)) WITH SYSTEM VERSIONING;

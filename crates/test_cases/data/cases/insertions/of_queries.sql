@@ -1,3 +1,4 @@
+-- cases: in-turn
 -- INSERT of a query over an empty table, over one that is not there (E20), and over nine references (E15); `1 + NULL` is no statement (E10). A check refuses the last two. By hand from docs/LANGUAGE.md.
 CREATE TABLE t ("a b" VARCHAR(4), d DATE NOT NULL, s TIMESTAMP GENERATED ALWAYS AS ROW START,
   e TIMESTAMP GENERATED ALWAYS AS ROW END NOT NULL, m TIMESTAMP(0), n BIGINT, PERIOD FOR SYSTEM_TIME (s, e)) WITH SYSTEM VERSIONING;

@@ -1,3 +1,4 @@
+-- cases: in-turn
 -- Made at random. The text comes from a rendering of the language that shares nothing with the engine.
 CREATE TABLE V (Y INT, DS TIMESTAMP, G TIMESTAMP(0) WITHOUT TIME ZONE, UNIQUE (Y, ACTION), CONSTRAINT c1 CHECK (PERIOD (G, TIMESTAMP '9999-12-31 23:59:59.999998999999') OVERLAPS P), PERIOD FOR P (DS, G), ACTION INT);
 SELECT nosuch + 'a' FROM NOSUCH;

@@ -1,3 +1,4 @@
+-- cases: in-turn
 -- Made at random. The text comes from a rendering of the language that shares nothing with the engine.
 create TABLE  W--
 (K

@@ -1,3 +1,4 @@
+-- cases: in-turn
 -- Made at random. The text comes from a rendering of the language that shares nothing with the engine.
 AT TIMESTAMP '2011-01-01 00:00:00';
 CREATE TABLE "x y" (V VARCHAR(1), "q""q" DATE, DS DATE, G DATE, PERIOD FOR P (DS, G), UNIQUE ("q""q", P WITHOUT OVERLAPS));

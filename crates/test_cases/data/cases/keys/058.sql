@@ -1,3 +1,4 @@
+-- cases: in-turn
 -- Made at random. The text comes from a rendering of the language that shares nothing with the engine.
 AT TIMESTAMP '2011-01-01 00:00:00';
 CREATE TABLE EMP (OF VARCHAR(10), K INT, "é" INT, CONSTRAINT c1 UNIQUE (OF), CONSTRAINT c1 UNIQUE (K), UNIQUE (K, OF));

@@ -1,3 +1,4 @@
+-- cases: in-turn
 -- Made at random. The text comes from a rendering of the language that shares nothing with the engine.
 SELECT * FROM NOSUCH;
 CREATE TABLE U ("q""q" INTEGER, DS TIMESTAMP(13) WITHOUT TIME ZONE, G INT, PERIOD FOR P (DS, G), PRIMARY KEY ("q""q", P WITHOUT OVERLAPS), CONSTRAINT c1 PRIMARY KEY ("q""q", P WITHOUT OVERLAPS));

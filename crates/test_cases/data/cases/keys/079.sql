@@ -1,3 +1,4 @@
+-- cases: in-turn
 -- Made at random. The text comes from a rendering of the language that shares nothing with the engine.
 SELECT	nosuch -- it;s "a"
  +	'a' FROM -- it;s "a"

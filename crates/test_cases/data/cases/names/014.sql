@@ -1,3 +1,4 @@
+-- cases: in-turn
 -- Made at random. The text comes from a rendering of the language that shares nothing with the engine.
 AT TIMESTAMP '2011-01-01 00:00:00';
 CREATE TABLE "t" ("a" VARCHAR(65535), SYS_S TIMESTAMP(12) GENERATED ALWAYS AS ROW START, SYS_E TIMESTAMP WITHOUT TIME ZONE GENERATED ALWAYS AS ROW END NOT NULL, PERIOD FOR SYSTEM_TIME (SYS_S, SYS_E)) WITH SYSTEM VERSIONING;

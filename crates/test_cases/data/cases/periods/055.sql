@@ -1,3 +1,4 @@
+-- cases: in-turn
 -- Made at random. The text comes from a rendering of the language that shares nothing with the engine.
 CREATE TABLE T (K VARCHAR(10), PERIOD FOR P (F, DE), F DATE, DE DATE, "é" BIGINT NOT NULL, OF DATE);
 SELECTFROM"z"DE, K   T "z";

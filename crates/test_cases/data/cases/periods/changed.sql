@@ -1,3 +1,4 @@
+-- cases: in-turn
 -- UPDATE may set the ends of a period, under the tests of a new row; a period is no column, so it cannot be set or filled. A text that is too long comes before a period that falls. By hand from docs/LANGUAGE.md.
 CREATE TABLE emp (eno INTEGER, dept VARCHAR(10), estart DATE, eend DATE,
   s TIMESTAMP(12) GENERATED ALWAYS AS ROW START, e TIMESTAMP(12) GENERATED ALWAYS AS ROW END,

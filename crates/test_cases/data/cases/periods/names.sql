@@ -1,3 +1,4 @@
+-- cases: in-turn
 -- Where a period's name can stand, and where a column's; operands of one kind of points; a bad literal has its kind. By hand from docs/LANGUAGE.md.
 CREATE TABLE emp (eno INTEGER, dept VARCHAR(10), estart DATE, eend DATE,
   s TIMESTAMP(12) GENERATED ALWAYS AS ROW START, e TIMESTAMP(12) GENERATED ALWAYS AS ROW END,

@@ -1,3 +1,4 @@
+-- cases: in-turn
 -- The past of a table that has a period of its own as well: AS OF takes the moment of the commit and no earlier one, FROM .. TO leaves the upper moment out, BETWEEN takes it. The clock does not stand still. By hand from docs/LANGUAGE.md.
 CREATE TABLE emp (eno INTEGER, dept VARCHAR(10), estart DATE, eend DATE,
   s TIMESTAMP(12) GENERATED ALWAYS AS ROW START, e TIMESTAMP(12) GENERATED ALWAYS AS ROW END,

@@ -1,3 +1,4 @@
+-- cases: in-turn
 -- CREATE TABLE: application periods that are refused, and which fault is told first. By hand from the rules of 11.3.
 CREATE TABLE a (x INTEGER, b DATE, c TIMESTAMP, PERIOD FOR p (b, c));
 CREATE TABLE a (x INTEGER, b DATE, c DATE, PERIOD FOR p (b, b));

@@ -1,3 +1,4 @@
+-- cases: in-turn
 -- CREATE TABLE: application periods that are taken, in any place among the elements. By hand from the rules of 11.3.
 CREATE TABLE a (x INTEGER, b DATE, c DATE, PERIOD FOR p (b, c));
 CREATE TABLE b (x INTEGER, b TIMESTAMP, c TIMESTAMP(6), PERIOD FOR p (b, c));

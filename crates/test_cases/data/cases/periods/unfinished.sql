@@ -1,3 +1,4 @@
+-- cases: growths in-turn
 -- A DELETE that nothing ends removes nothing, and is refused. By hand from docs/LANGUAGE.md.
 CREATE TABLE emp (eno INTEGER, dept VARCHAR(10), estart DATE, eend DATE,
   s TIMESTAMP(12) GENERATED ALWAYS AS ROW START, e TIMESTAMP(12) GENERATED ALWAYS AS ROW END,

@@ -1,3 +1,4 @@
+-- cases: in-turn
 -- LEFT JOIN on an equality: a condition on the right side in ON restricts what is joined, in WHERE what is left. From sqlite3.
 CREATE TABLE a (x INTEGER, y INTEGER);
 INSERT INTO a VALUES (1, 10), (2, 20), (3, NULL), (NULL, 40), (1, 10);

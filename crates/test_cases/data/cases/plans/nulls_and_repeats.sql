@@ -1,3 +1,4 @@
+-- cases: in-turn
 -- NULL equals nothing, not even NULL, and each of some equal rows has its partners. From sqlite3.
 CREATE TABLE z (y INTEGER);
 INSERT INTO z VALUES (NULL), (1), (1);

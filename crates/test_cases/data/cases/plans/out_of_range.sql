@@ -1,3 +1,4 @@
+-- cases: in-turn
 -- What is out of range is so whatever the plan: an ON is asked on each pair that it meets from the left, WHERE on each row of the product, a conjunct only where all before it were true. By hand from docs/LANGUAGE.md.
 CREATE TABLE t (x INTEGER);
 INSERT INTO t VALUES (1), (2);

@@ -1,3 +1,4 @@
+-- cases: in-turn
 -- A table joined with itself as of two moments, and rows that are joined by their ROW START. By hand from docs/LANGUAGE.md.
 AT TIMESTAMP '2011-01-01 00:00:00';
 CREATE TABLE e (eno INTEGER, dept VARCHAR(9), s TIMESTAMP GENERATED ALWAYS AS ROW START, f TIMESTAMP GENERATED ALWAYS AS ROW END, PERIOD FOR SYSTEM_TIME (s, f)) WITH SYSTEM VERSIONING;

@@ -1,3 +1,4 @@
+-- cases: growths in-turn
 -- An equality of a VARCHAR(3) with a VARCHAR(9), and texts of the same beginning. From sqlite3.
 CREATE TABLE s (k VARCHAR(3), n INTEGER);
 INSERT INTO s VALUES ('a', 1), ('ab', 2), ('abc', 3), ('', 4), (NULL, 5), ('A', 6);

@@ -1,3 +1,4 @@
+-- cases: growths in-turn
 -- A portion that is wider than a period on both sides changes the whole row, and leaves no other part.
 -- By hand from docs/LANGUAGE.md.
 CREATE TABLE emp (eno INTEGER, dept VARCHAR(10), estart DATE, eend DATE,

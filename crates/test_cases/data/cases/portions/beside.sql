@@ -1,3 +1,4 @@
+-- cases: growths in-turn
 -- A portion that ends where a period starts touches nothing; the change commits all the same, and takes a moment.
 -- By hand from docs/LANGUAGE.md.
 CREATE TABLE emp (eno INTEGER, dept VARCHAR(10), estart DATE, eend DATE,

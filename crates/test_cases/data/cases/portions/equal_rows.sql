@@ -1,3 +1,4 @@
+-- cases: growths in-turn
 -- Rows that are equal are all touched, each replaced by its own parts, on a table that is not versioned.
 -- By hand from docs/LANGUAGE.md.
 CREATE TABLE r (x INTEGER, a DATE, b DATE, PERIOD FOR p (a, b));

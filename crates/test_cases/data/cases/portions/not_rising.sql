@@ -1,3 +1,4 @@
+-- cases: growths in-turn
 -- A portion of no point (E31), a text that is too long (E30), a generated column (E23).
 -- By hand from docs/LANGUAGE.md.
 CREATE TABLE emp (eno INTEGER, dept VARCHAR(10), estart DATE, eend DATE,

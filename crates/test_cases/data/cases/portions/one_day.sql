@@ -1,3 +1,4 @@
+-- cases: growths in-turn
 -- DELETE of one day leaves two parts with that day between them, so that none precedes the other immediately.
 -- By hand from docs/LANGUAGE.md.
 CREATE TABLE emp (eno INTEGER, dept VARCHAR(10), estart DATE, eend DATE,

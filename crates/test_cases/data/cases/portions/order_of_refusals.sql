@@ -1,3 +1,4 @@
+-- cases: in-turn
 -- The refusals of a portion in their order, each beside a later one: its name (E21), kinds (E22), a column of the period set
 -- (E23, E22), a literal out of range (E30), and a portion that does not rise (E31), of which nothing is evaluated.
 -- By hand from docs/LANGUAGE.md.

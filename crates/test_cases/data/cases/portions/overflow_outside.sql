@@ -1,3 +1,4 @@
+-- cases: growths in-turn
 -- WHERE is out of range on a row whose period does not meet the portion: no fault; without a portion it is one.
 -- By hand from docs/LANGUAGE.md.
 CREATE TABLE emp (eno INTEGER, dept VARCHAR(10), estart DATE, eend DATE,

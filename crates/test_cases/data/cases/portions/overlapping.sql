@@ -1,3 +1,4 @@
+-- cases: growths in-turn
 -- A second portion over a part of the first, and of what the first left: two rows are touched.
 -- By hand from docs/LANGUAGE.md.
 CREATE TABLE emp (eno INTEGER, dept VARCHAR(10), estart DATE, eend DATE,

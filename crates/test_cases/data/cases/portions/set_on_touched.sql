@@ -1,3 +1,4 @@
+-- cases: in-turn
 -- SET is evaluated on touched rows alone; a portion that only meets a period at its end touches nothing.
 -- By hand from docs/LANGUAGE.md.
 CREATE TABLE emp (eno INTEGER, dept VARCHAR(10), estart DATE, eend DATE,

@@ -1,3 +1,4 @@
+-- cases: in-turn
 -- FOR PORTION OF SYSTEM_TIME is not allowed (E23); on a versioned table its points are compared with moments first (E22).
 -- By hand from docs/LANGUAGE.md.
 CREATE TABLE emp (eno INTEGER, dept VARCHAR(10), estart DATE, eend DATE,

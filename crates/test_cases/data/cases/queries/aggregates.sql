@@ -1,3 +1,4 @@
+-- cases: in-turn
 -- Aggregates inside expressions, in HAVING alone, in lists and periods there, of texts, days and moments, and of expressions that are NULL. By hand from docs/LANGUAGE.md.
 CREATE TABLE g (k INTEGER, n INTEGER, c VARCHAR(3), d DATE, m TIMESTAMP);
 INSERT INTO g VALUES (1, 3, 'a', DATE '2011-01-03', TIMESTAMP '2011-01-01 00:00:00.5'), (1, NULL, 'Z', DATE '2011-01-01', NULL), (1, 5, 'é', NULL, TIMESTAMP '2010-12-31 23:59:59'), (2, NULL, NULL, NULL, NULL), (2, -4, '', DATE '2012-02-29', TIMESTAMP '2011-01-01 00:00:00');

@@ -1,3 +1,4 @@
+-- cases: in-turn
 -- The scope of each ON, chains of several joins, CROSS JOIN and eight references; nine are too many. By hand from docs/LANGUAGE.md.
 CREATE TABLE t (x INTEGER);
 INSERT INTO t VALUES (1), (2);

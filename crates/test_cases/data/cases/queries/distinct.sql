@@ -1,3 +1,4 @@
+-- cases: in-turn
 -- DISTINCT behind groups and the select list, NULL like NULL; ALL keeps repeats; DISTINCT evaluates each item on each row. By hand from docs/LANGUAGE.md.
 CREATE TABLE g (k INTEGER, m INTEGER, n INTEGER);
 INSERT INTO g VALUES (1, 1, 5), (1, 2, 5), (2, 1, 5), (NULL, 1, NULL), (NULL, 2, NULL), (3, NULL, 7);

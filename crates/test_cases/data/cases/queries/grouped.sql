@@ -1,3 +1,4 @@
+-- cases: in-turn
 -- What a grouped query may name, aggregates inside expressions, and MIN and MAX of texts and days. By hand from docs/LANGUAGE.md.
 CREATE TABLE t (x INTEGER);
 INSERT INTO t VALUES (1), (2);

@@ -1,3 +1,4 @@
+-- cases: growths in-turn
 -- Groups with a NULL key, COUNT of rows and of values, HAVING, and DISTINCT in falling order. By hand from docs/LANGUAGE.md.
 CREATE TABLE g (k VARCHAR(2), n INTEGER);
 INSERT INTO g VALUES ('a', 1), (NULL, 5), ('a', NULL), (NULL, 7);

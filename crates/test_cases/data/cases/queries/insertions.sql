@@ -1,3 +1,4 @@
+-- cases: in-turn
 -- INSERT of a query: new rows with all tests, the first fault in the order over all rows and the query; a list leaves the other columns NULL; nothing is changed by a refusal. By hand from docs/LANGUAGE.md.
 CREATE TABLE src (i INTEGER, c VARCHAR(9), a DATE, b DATE);
 INSERT INTO src VALUES (1, 'ab', DATE '2011-01-01', DATE '2011-01-02'), (2, 'abc', DATE '2011-01-01', DATE '2011-01-02'), (3, NULL, DATE '2011-01-01', DATE '2011-01-02'), (4, 'x', DATE '2011-01-02', DATE '2011-01-01'), (5, 'y', NULL, DATE '2011-01-01');

@@ -1,3 +1,4 @@
+-- cases: in-turn
 -- A select list of 64 items and more, of columns, of aggregates and by the star of two tables of 64 columns. By hand from docs/LANGUAGE.md.
 CREATE TABLE t (x INTEGER);
 INSERT INTO t VALUES (1), (2);

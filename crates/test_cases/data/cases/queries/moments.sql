@@ -1,3 +1,4 @@
+-- cases: growths in-turn
 -- One table at two moments beside itself, and SYSTEM_TIME of several references. By hand from docs/LANGUAGE.md.
 CREATE TABLE log (x INTEGER, s TIMESTAMP GENERATED ALWAYS AS ROW START, e TIMESTAMP GENERATED ALWAYS AS ROW END,
   PERIOD FOR SYSTEM_TIME (s, e)) WITH SYSTEM VERSIONING;

@@ -1,3 +1,4 @@
+-- cases: in-turn
 -- ORDER BY headings and positions, rising and falling, and what is no heading. By hand from docs/LANGUAGE.md.
 CREATE TABLE o (a INTEGER, b INTEGER);
 INSERT INTO o VALUES (1, NULL), (2, 1), (NULL, 1), (2, NULL), (2, 1);

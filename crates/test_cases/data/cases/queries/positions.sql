@@ -1,3 +1,4 @@
+-- cases: in-turn
 -- ORDER BY positions: leading zeros, numbers of any length, positions of the star; a quoted name is a heading, a number with a sign is none. By hand from docs/LANGUAGE.md.
 CREATE TABLE o (a INTEGER, "b" INTEGER);
 INSERT INTO o VALUES (1, 2), (2, 1);

@@ -1,3 +1,4 @@
+-- cases: in-turn
 -- An evaluation out of range refuses where it is reached: in ON before WHERE, in a chain also where another is empty; not behind a conjunct that is not TRUE. By hand from docs/LANGUAGE.md.
 CREATE TABLE t (x INTEGER);
 INSERT INTO t VALUES (1), (2);

@@ -1,3 +1,4 @@
+-- cases: in-turn
 -- Eight references are taken and nine are not, in one chain or several, in an INSERT too; before any name is looked at, and behind the grammar. By hand from docs/LANGUAGE.md.
 CREATE TABLE t (x INTEGER);
 INSERT INTO t VALUES (1), (2);

@@ -1,3 +1,4 @@
+-- cases: in-turn
 -- Rows without partners: NULL in every column of the reference, generated ones and the ends of its periods too, tested again by later ONs, WHERE and groups. By hand from docs/LANGUAGE.md.
 CREATE TABLE t (x INTEGER);
 INSERT INTO t VALUES (1), (2);

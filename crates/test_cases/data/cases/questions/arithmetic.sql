@@ -1,3 +1,4 @@
+-- cases: in-turn
 -- Sums from the left, products first; a number in between that leaves 64 bits refuses the question. By hand from docs/LANGUAGE.md.
 CREATE TABLE t (x INTEGER);
 INSERT INTO t VALUES (1), (2);

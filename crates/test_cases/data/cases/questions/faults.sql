@@ -1,3 +1,4 @@
+-- cases: in-turn
 -- The first fault of the table of refusals, whatever was met first. A question needs no moment of the clock, in a transaction or outside one. By hand from docs/LANGUAGE.md.
 CREATE TABLE t (x INTEGER, c VARCHAR(3), d DATE);
 SELECT nocol, 'a' + 1 FROM nosuch FOR SYSTEM_TIME AS OF TIMESTAMP '2011-02-30 00:00:00' WHERE u.x = 'a';

@@ -1,3 +1,4 @@
+-- cases: in-turn
 -- Which questions run, and which are refused by a name or a form: every query of the grammar is bound. By hand from docs/LANGUAGE.md.
 CREATE TABLE t (x INTEGER);
 INSERT INTO t VALUES (1), (2);

@@ -1,3 +1,4 @@
+-- cases: in-turn
 -- A heading is the alias, else the column's name where the item is one column, else C and its position; an alias of the table hides the table's name. By hand from docs/LANGUAGE.md.
 CREATE TABLE t (x INTEGER);
 INSERT INTO t VALUES (1), (2);

@@ -1,3 +1,4 @@
+-- cases: in-turn
 -- Questions of the past with items and WHERE: the moments at which a row began and ended are columns like others. By hand from docs/LANGUAGE.md.
 CREATE TABLE pay (s TIMESTAMP GENERATED ALWAYS AS ROW START, employee INTEGER, cents INTEGER, e TIMESTAMP GENERATED ALWAYS AS ROW END,
   PERIOD FOR SYSTEM_TIME (s, e)) WITH SYSTEM VERSIONING;

@@ -1,3 +1,4 @@
+-- cases: in-turn
 -- An UPDATE makes a new version also where no value differs, and one that touches no row is a commit all the same. By hand from docs/LANGUAGE.md.
 CREATE TABLE log (x INTEGER, s TIMESTAMP GENERATED ALWAYS AS ROW START, e TIMESTAMP GENERATED ALWAYS AS ROW END,
   PERIOD FOR SYSTEM_TIME (s, e)) WITH SYSTEM VERSIONING;

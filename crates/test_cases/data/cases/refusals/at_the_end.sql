@@ -1,3 +1,4 @@
+-- cases: in-turn
 -- No transaction begins at the highest moment (E41), whatever else is wrong; a question is answered. By hand from docs/LANGUAGE.md.
 CREATE TABLE log (x INTEGER, s TIMESTAMP GENERATED ALWAYS AS ROW START,
   e TIMESTAMP GENERATED ALWAYS AS ROW END,

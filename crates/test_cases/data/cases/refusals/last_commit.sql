@@ -1,3 +1,4 @@
+-- cases: in-turn
 -- The last commit is one microsecond before the highest moment. By hand from docs/LANGUAGE.md.
 CREATE TABLE log (x INTEGER, s TIMESTAMP GENERATED ALWAYS AS ROW START,
   e TIMESTAMP GENERATED ALWAYS AS ROW END,

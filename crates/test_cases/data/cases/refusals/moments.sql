@@ -1,3 +1,4 @@
+-- cases: in-turn
 -- AT: moments that are not later than the last commit (E41), and moments that are none (E30). By hand from docs/LANGUAGE.md.
 CREATE TABLE log (x INTEGER, s TIMESTAMP GENERATED ALWAYS AS ROW START,
   e TIMESTAMP GENERATED ALWAYS AS ROW END,

@@ -1,3 +1,4 @@
+-- cases: growths in-turn
 -- A query of nine references or more is refused by its width (E15), also in an INSERT; so it is in a check. By hand from docs/LANGUAGE.md.
 CREATE TABLE log (x INTEGER, s TIMESTAMP GENERATED ALWAYS AS ROW START, e TIMESTAMP GENERATED ALWAYS AS ROW END,
   PERIOD FOR SYSTEM_TIME (s, e)) WITH SYSTEM VERSIONING;

@@ -1,3 +1,4 @@
+-- cases: growths in-turn
 -- Questions of a table that is not there (E20) and of a moment that is none (E30). By hand from docs/LANGUAGE.md.
 CREATE TABLE log (x INTEGER, s TIMESTAMP GENERATED ALWAYS AS ROW START,
   e TIMESTAMP GENERATED ALWAYS AS ROW END,

@@ -1,3 +1,4 @@
+-- cases: in-turn
 -- Texts that are no statement (E10), run and checked. By hand from docs/LANGUAGE.md.
 CREATE TABLE log (x INTEGER, s TIMESTAMP GENERATED ALWAYS AS ROW START,
   e TIMESTAMP GENERATED ALWAYS AS ROW END,

@@ -1,3 +1,4 @@
+-- cases: in-turn
 -- FOR SYSTEM_TIME on a table without versions (E23), before and behind other faults. By hand from docs/LANGUAGE.md.
 CREATE TABLE log (x INTEGER, s TIMESTAMP GENERATED ALWAYS AS ROW START, e TIMESTAMP GENERATED ALWAYS AS ROW END,
   PERIOD FOR SYSTEM_TIME (s, e)) WITH SYSTEM VERSIONING;

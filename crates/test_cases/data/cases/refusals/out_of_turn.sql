@@ -1,3 +1,4 @@
+-- cases: in-turn
 -- Statements that need an open transaction, or none (E40), before other faults. By hand from docs/LANGUAGE.md.
 CREATE TABLE log (x INTEGER, s TIMESTAMP GENERATED ALWAYS AS ROW START,
   e TIMESTAMP GENERATED ALWAYS AS ROW END,

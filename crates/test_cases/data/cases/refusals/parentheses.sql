@@ -1,3 +1,4 @@
+-- cases: in-turn
 -- 64 parentheses open at once are read, 65 are refused (E14), unless the text is not all tokens. By hand from docs/LANGUAGE.md.
 (((((((((((((((((((((((((((((((((((((((((((((((((((((((((((((((((;
 ((((((((((((((((((((((((((((((((((((((((((((((((((((((((((((((((;

@@ -1,3 +1,4 @@
+-- cases: in-turn
 -- INSERT refused by its first fault (E30, E22, E20), and that it changed nothing. By hand from docs/LANGUAGE.md.
 CREATE TABLE log (x INTEGER, s TIMESTAMP GENERATED ALWAYS AS ROW START,
   e TIMESTAMP GENERATED ALWAYS AS ROW END,

@@ -1,3 +1,4 @@
+-- cases: in-turn
 -- A table of all sorts with generated columns between them. By hand from docs/LANGUAGE.md.
 AT TIMESTAMP '2011-01-01 00:00:01';
 CREATE TABLE "sale" ("a b" VARCHAR(4), d DATE NOT NULL, e TIMESTAMP WITHOUT TIME ZONE GENERATED ALWAYS AS ROW END, m TIMESTAMP(0),

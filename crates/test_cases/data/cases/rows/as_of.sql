@@ -1,3 +1,4 @@
+-- cases: growths in-turn
 -- AS OF before the first commit, at it, before the highest moment and at it. By hand from docs/LANGUAGE.md.
 CREATE TABLE log (x INTEGER, s TIMESTAMP GENERATED ALWAYS AS ROW START,
   e TIMESTAMP GENERATED ALWAYS AS ROW END,

@@ -1,3 +1,4 @@
+-- cases: growths in-turn
 -- Blanks and comments stand between any two tokens, and a comment may hold any bytes. By hand from docs/LANGUAGE.md.
 CREATE TABLE log (x INTEGER, s TIMESTAMP GENERATED ALWAYS AS ROW START,
   e TIMESTAMP GENERATED ALWAYS AS ROW END,

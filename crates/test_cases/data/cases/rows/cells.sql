@@ -1,3 +1,4 @@
+-- cases: growths in-turn
 -- Cells of all kinds, NULL, and names in quotes. By hand from docs/LANGUAGE.md.
 CREATE TABLE "n" ("a b" VARCHAR(4), d DATE, m TIMESTAMP(0), s TIMESTAMP GENERATED ALWAYS AS ROW START,
   e TIMESTAMP GENERATED ALWAYS AS ROW END, PERIOD FOR SYSTEM_TIME (s, e)) WITH SYSTEM VERSIONING;

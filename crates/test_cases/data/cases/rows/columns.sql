@@ -1,3 +1,4 @@
+-- cases: growths in-turn
 -- INSERT with a list of columns, and generated columns in any place. By hand from docs/LANGUAGE.md.
 CREATE TABLE t (e TIMESTAMP NOT NULL GENERATED ALWAYS AS ROW END, a INT, PERIOD FOR SYSTEM_TIME ("S", E), b VARCHAR(2),
   s TIMESTAMP(12) GENERATED ALWAYS AS ROW START NOT NULL, c DATE NOT NULL) WITH SYSTEM VERSIONING;

@@ -1,3 +1,4 @@
+-- cases: growths in-turn
 -- One row, and a question of it. By hand from docs/LANGUAGE.md.
 CREATE TABLE log (x INTEGER, s TIMESTAMP GENERATED ALWAYS AS ROW START,
   e TIMESTAMP GENERATED ALWAYS AS ROW END,

@@ -1,3 +1,4 @@
+-- cases: growths in-turn
 -- The clock begins at the first moment; words in small letters. By hand from docs/LANGUAGE.md.
 create table t (a integer, b_1 integer, since timestamp generated always as row start, till timestamp generated always as row end, period for system_time (since, till)) with system versioning;
 insert into T values (-9223372036854775808, +9223372036854775807);

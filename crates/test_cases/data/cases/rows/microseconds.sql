@@ -1,3 +1,4 @@
+-- cases: growths in-turn
 -- Digits past the sixth behind the point are dropped. By hand from docs/LANGUAGE.md.
 CREATE TABLE log (x INTEGER, s TIMESTAMP GENERATED ALWAYS AS ROW START,
   e TIMESTAMP GENERATED ALWAYS AS ROW END,

@@ -1,3 +1,4 @@
+-- cases: growths in-turn
 -- A row that is added and removed in one transaction leaves no version. By hand from docs/LANGUAGE.md.
 CREATE TABLE log (x INTEGER, s TIMESTAMP GENERATED ALWAYS AS ROW START,
   e TIMESTAMP GENERATED ALWAYS AS ROW END,

@@ -1,3 +1,4 @@
+-- cases: growths in-turn
 -- The order of printed rows: NULL first, numbers by value, texts by bytes, days and moments by time. By hand from docs/LANGUAGE.md.
 CREATE TABLE t (n BIGINT, v VARCHAR(65535), d DATE, m TIMESTAMP WITHOUT TIME ZONE);
 INSERT INTO t VALUES (NULL, 'b', NULL, NULL), (NULL, 'ab', NULL, NULL), (NULL, '', NULL, NULL), (NULL, 'B', NULL, NULL),

@@ -1,3 +1,4 @@
+-- cases: in-turn
 -- FROM .. TO and BETWEEN .. AND: their ends, an empty commit between, and ranges that hold no moment. By hand from docs/LANGUAGE.md.
 CREATE TABLE log (x INTEGER, s TIMESTAMP GENERATED ALWAYS AS ROW START,
   e TIMESTAMP GENERATED ALWAYS AS ROW END,

@@ -1,3 +1,4 @@
+-- cases: in-turn
 -- A transaction sees its own changes, and ROLLBACK undoes them. By hand from docs/LANGUAGE.md.
 CREATE TABLE log (x INTEGER, s TIMESTAMP GENERATED ALWAYS AS ROW START,
   e TIMESTAMP GENERATED ALWAYS AS ROW END,

@@ -1,3 +1,4 @@
+-- cases: growths in-turn
 -- Rows of two commits, and equal rows. By hand from docs/LANGUAGE.md.
 CREATE TABLE log (x INTEGER, s TIMESTAMP GENERATED ALWAYS AS ROW START,
   e TIMESTAMP GENERATED ALWAYS AS ROW END,

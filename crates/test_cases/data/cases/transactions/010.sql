@@ -1,3 +1,4 @@
+-- cases: in-turn
 -- Made at random. The text comes from a rendering of the language that shares nothing with the engine.
 AT TIMESTAMP '2011-01-01 00:00:00';
 CREATE TABLE U ("é" DATE, ACTION BIGINT, SYS_S TIMESTAMP(12) NOT NULL GENERATED ALWAYS AS ROW START, E TIMESTAMP(0) WITHOUT TIME ZONE GENERATED ALWAYS AS ROW END, PERIOD FOR SYSTEM_TIME (SYS_S, E)) WITH SYSTEM VERSIONING;

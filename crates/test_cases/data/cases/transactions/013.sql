@@ -1,3 +1,4 @@
+-- cases: in-turn
 -- Made at random. The text comes from a rendering of the language that shares nothing with the engine.
 AT TIMESTAMP '2011-01-01 00:00:00';
 CREATE TABLE "x y" (C INTEGER, A TIMESTAMP(6), "a b" TIMESTAMP, S TIMESTAMP GENERATED ALWAYS AS ROW START, SYS_E TIMESTAMP(0) WITHOUT TIME ZONE GENERATED ALWAYS AS ROW END, PERIOD FOR SYSTEM_TIME (S, SYS_E)) WITH SYSTEM VERSIONING;

@@ -1,3 +1,4 @@
+-- cases: in-turn
 -- Made at random. The text comes from a rendering of the language that shares nothing with the engine.
 CREATE TABLE "t" (OF TIMESTAMP(12), "q""q" VARCHAR(1) NOT NULL, S TIMESTAMP GENERATED ALWAYS AS ROW START NOT NULL, SYS_E TIMESTAMP WITHOUT TIME ZONE GENERATED ALWAYS AS ROW END, PERIOD FOR SYSTEM_TIME (S, SYS_E)) WITH SYSTEM VERSIONING;
 INSERT INTO "t" VALUES (NULL, 'A');

@@ -1,3 +1,4 @@
+-- cases: in-turn
 -- Made at random. The text comes from a rendering of the language that shares nothing with the engine.
 CREATE TABLE EMP (WITHOUT VARCHAR(10), "a b" TIMESTAMP(6) NOT NULL, SYS_S TIMESTAMP WITHOUT TIME ZONE GENERATED ALWAYS AS ROW START NOT NULL, E TIMESTAMP(0) GENERATED ALWAYS AS ROW END, PERIOD FOR SYSTEM_TIME (SYS_S, E)) WITH SYSTEM VERSIONING;
 Insert--

@@ -1,2 +1,3 @@
+-- cases: growths in-turn
 -- The same within a quote. By hand from docs/LANGUAGE.md.
 'ÿ'

@@ -1,3 +1,4 @@
+-- cases: growths in-turn
 -- A text whose quote is never closed takes in the `;` behind it (E12). By hand from docs/LANGUAGE.md.
 CREATE TABLE log (x INTEGER, s TIMESTAMP GENERATED ALWAYS AS ROW START,
   e TIMESTAMP GENERATED ALWAYS AS ROW END,

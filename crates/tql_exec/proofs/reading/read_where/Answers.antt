@@ -1,24 +1,30 @@
--- What passes of the versions that are found, over bags.
-use Rattle.std.proofs.Common.{map, sym, subst, List}
+-- What passes of the versions that are looked at, over bags.
+use Rattle.std.proofs.Common.{List, filter, map, subst}
+use Rattle.tql_spec.specs.Bag.{SameBag}
+use Rattle.tql_spec.specs.Definition.{Version}
 use Rattle.tql_spec.specs.Query.{keep}
-use Rattle.tql_spec.proofs.Bags.{same-map}
 use Rattle.tql_expr.specs.Generated.{generated}
 use Rattle.tql_expr.specs.Meaning.{cond}
-use Rattle.tql_expr.proofs.Evaluations.{no_memory}
+use Rattle.tql_store_index.specs.Basis.{is_looked_at}
 use Rattle.tql_store_rows.specs.Readings.{version_shown as version_of}
-use Rattle.tql_plan.specs.Nodes.{source_of}
+use Rattle.tql_plan.specs.Nodes.{Scan, source_of}
 use Rattle.tql_exec.specs.Found.{bags_in, completed}
-use Rattle.tql_exec.proofs.OverBags.{regiven, given, kept_same, fails_on}
+use Rattle.tql_exec.proofs.OverBags.{regiven, given}
+use Rattle.tql_exec.proofs.Looked.{looked_same, versions_for}
 use Rattle.tql_exec.proofs.reading.read_where.Goals as goal
 
 pub returns : goal.returns
-returns g c copies working r =
-    let filter = map (cond c.args.terms.now) c.args.filter.now in
-    let shown = completed (generated c.args.source.system) in
-    let all = bags_in c.args.store.now copies working (source_of c.args.source) in
-    let rows = map shown (map version_of c.in_ok-versions.versions.items) in
-    regiven (λ v. v.items) (keep filter rows) (keep filter all) c.passing_rows.result
-    (kept_same c.joins_keep_no_order.ensures filter rows all
-    (same-map shown (c.in_ok-versions.ensures.copies copies working r)))
-    (given (λ v. v.items) (keep filter rows) c.passing_rows.result
+returns g c copies working r wide =
+    let conds = map (cond c.args.terms.now) c.args.filter.now in
+    let s : Scan = source_of c.args.source in
+    let found : List Version = map version_of c.in_ok-versions.versions.items in
+    let rows = map (completed (generated c.args.source.system)) found in
+    let all = bags_in c.args.store.now copies working s in
+    regiven (λ v. v.items) (keep conds rows) (keep conds all) c.passing_rows.result
+    (looked_same c.joins_keep_no_order.ensures c.safe_conjuncts_filter.ensures.filter c.args.store.now copies working s
+    conds c.args.access.now c.requires.served wide found
+    (subst (λ o. SameBag found (filter (λ (v : Version). is_looked_at o v.row.cells)
+    (versions_for c.args.store.now copies working s)))
+    c.sought.ensures (c.in_ok-versions.ensures.copies copies working r)))
+    (given (λ v. v.items) (keep conds rows) c.passing_rows.result
     (rw c.deref.ensures.value at c.passing_rows.ensures))

@@ -1,6 +1,7 @@
 -- What the sorted rows show is what the rows show, as a bag.
-use Rattle.std.proofs.Common.{map, subst}
+use Rattle.std.proofs.Common.{map, subst, sym}
 use Rattle.std.specs.Prelude.{Some}
+use Rattle.tql_spec.specs.Bag.{SameBag}
 use Rattle.tql_spec.specs.Query.{scopes}
 use Rattle.tql_spec.specs.QueryLaws.{shown}
 use Rattle.tql_expr.specs.Evaluated.{Evaluated}
@@ -15,12 +16,13 @@ returns c =
     let exprs = map (expr c.args.terms.now) c.args.items.now in
     let columns = c.in-Some.columns.now in
     let rows = c.args.rows.now in
-    let sorted = c.sort_by_columns.new.rows in
+    let sorted = c.deref.result.now in
     let named = rw c.in-Some.is at c.requires.grouped in
     let some = not_empty columns c.if-is_empty.ensures in
     let shown_runs = subst (λ ss. Evaluated (λ v. rows_of v.items) (shown conds exprs ss) c.show_runs.result)
     (scopes_by columns sorted some) c.show_runs.ensures in
+    let same = subst (λ rs. SameBag rs rows) (sym c.deref.ensures.value) c.in_ok-sorted.ensures.same in
     rw c.in-Some.is (gives_bag (λ v. rows_of v.items) (shown conds exprs (scopes (Some columns) sorted))
     (shown conds exprs (scopes (Some columns) rows)) c.show_runs.result
-    (c.groups_keep_no_order.ensures (Some columns) conds exprs sorted rows named c.sort_by_columns.ensures.same)
+    (c.groups_keep_no_order.ensures (Some columns) conds exprs sorted rows named same)
     shown_runs)

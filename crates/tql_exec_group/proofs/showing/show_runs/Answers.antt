@@ -11,8 +11,8 @@ use Rattle.tql_exec_group.proofs.Groups.{next_group, next_within_rows}
 use Rattle.tql_exec_group.proofs.Scopes.{one_more_shown, one_not_shown}
 use Rattle.tql_exec_group.proofs.showing.show_runs.Goals as goal
 
-pub returns-in_err-add_group : goal.returns-in_err-add_group
-returns-in_err-add_group c =
+pub returns-in_err-add_scope : goal.returns-in_err-add_scope
+returns-in_err-add_scope c =
     let conds = map (cond c.args.terms.now) c.args.having.now in
     let exprs = map (expr c.args.terms.now) c.args.items.now in
     let columns = c.args.columns.now in
@@ -25,11 +25,11 @@ returns-in_err-add_group c =
     let all = shown conds exprs (map of_group (groups_by columns rows)) in
     let left : map of_group (groups_by columns (drop start rows)) ≡ of_group run ∷ map of_group
     (groups_by columns (drop (start + length run) rows)) = ap (map of_group) next in
-    let fails : Fails all c.in_err-add_group.field-0.0 =
+    let fails : Fails all c.in_err-add_scope.field-0.0 =
     fails_with (behind done (shown conds exprs (of_group run ∷ []))) all _
     (one_not_shown conds exprs (of_group run) (map of_group (groups_by columns (drop (start + length run) rows)))
     (map of_group (groups_by columns (drop start rows))) done all left c.loop-start.invariant.0)
-    c.in_err-add_group.ensures in
+    c.in_err-add_scope.ensures in
     search rules
 
 pub loop-start-preserved : goal.loop-start-preserved
@@ -48,6 +48,6 @@ loop-start-preserved c =
     (groups_by columns (drop (start + length run) rows)) = ap (map of_group) next in (
       one_more_shown conds exprs (of_group run) (map of_group (groups_by columns (drop (start + length run) rows)))
           (map of_group (groups_by columns (drop start rows)))
-          done (rows_of c.add_group.new.made.items) all left c.in_ok-add_group.ensures c.loop-start.invariant.0,
+          done (rows_of c.add_scope.new.made.items) all left c.in_ok-add_scope.ensures c.loop-start.invariant.0,
       next_within_rows columns rows start c.run_length.result c.loop-start-test.true,
     )

@@ -7,7 +7,7 @@ use Rattle.tql_exec.specs.Found.{ordered}
 use Rattle.tql_expr.specs.Evaluated.{Evaluated}
 use Rattle.tql_value.specs.Views.{rows_of}
 use Rattle.tql_engine.specs.Stands.{EngineModel, StandsFor, copies_of, working_of}
-use Rattle.tql_engine.proofs.Finding.{IsThere, meaning_is, references_there, sources_readable}
+use Rattle.tql_engine.proofs.Finding.{IsThere, meaning_is, references_there, sources_readable, sources_wide}
 use Rattle.tql_engine.proofs.Standing.{place_law}
 use Rattle.tql_engine.proofs.engine.Engine.answered.Goals as goal
 
@@ -42,6 +42,7 @@ returns-clause-rows c s st =
     let back = subst (λ h. StandsFor h s) (sym c.self.view_is) st in
     let means = meaning_is _ s x c.in_ok-plan.plan back placed c.in_ok-plan.ensures.means in
     let given = c.run.ensures.rows (copies_of c.self.inside.tables s.history)
-    (working_of c.self.inside.tables s.transaction) back.stands in
+    (working_of c.self.inside.tables s.transaction) back.stands
+    (sources_wide _ s x c.in_ok-plan.plan back placed c.in_ok-plan.ensures.sources) in
     subst (λ o. Evaluated (λ rows. rows_of rows.rows.items) o c.run.result)
     (λ i. ordered (bound_query_of (c.in_ok-plan.ensures.query i)).ordering (means i)) given

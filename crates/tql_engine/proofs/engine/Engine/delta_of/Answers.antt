@@ -1,27 +1,29 @@
 use Rattle.std.proofs.Common.{◌≡◌, sym, subst, ◌∙◌, Some, List, map, length, All}
-use Rattle.std.specs.Prelude.{slice_get, IsTrue}
+use Rattle.std.specs.Prelude.{slice_get, IsTrue, Option}
 use Rattle.std.proofs.lemmas.List.{length-map}
 use Rattle.std.proofs.lemmas.List.Elements.{All-weaker}
-use Rattle.tql_spec.specs.History.{Now}
 use Rattle.tql_bound.specs.declared.change.Modification.{Modification}
 use Rattle.tql_catalog.specs.Rows.{stored_width}
 use Rattle.tql_catalog.specs.declared.catalog.Table.{Table}
 use Rattle.tql_dml.specs.Alters.{IsVersionOf}
-use Rattle.tql_store.specs.Represents.{Answers}
+use Rattle.tql_expr.specs.Meaning.{cond}
+use Rattle.tql_expr.specs.declared.terms.CondId.{CondId}
+use Rattle.tql_plan_access.specs.Access.{Serves}
 use Rattle.tql_store.specs.StoreModel.{has_table}
-use Rattle.tql_store_rows.specs.Changes.{is_current}
-use Rattle.tql_store_rows.specs.Readings.{version_shown as version_of}
-use Rattle.tql_store.specs.Views.{Names, NamesOnce}
+use Rattle.tql_store.specs.Views.{IsFound}
+use Rattle.tql_store_index.specs.Basis.{Sought, is_looked_at}
 use Rattle.tql_store_rows.specs.declared.version.Version.{Version}
 use Rattle.tql_value.specs.Views.{datum_of_value}
+use Rattle.tql_value.specs.declared.when.When.TheVariants.{Now}
 use Rattle.tql_engine.specs.Modifying.{Makes, Made}
 use Rattle.tql_engine.specs.Stands.{EngineModel, StandsFor}
+use Rattle.tql_engine.proofs.Looking.{read_fit}
+use Rattle.tql_engine.proofs.Modifying.{makes_of}
 use Rattle.tql_engine.proofs.Standing.{some_is, there_law}
-use Rattle.tql_engine.proofs.Modifying.{makes_of, read_fit}
 use Rattle.tql_engine.proofs.engine.Engine.delta_of.Goals as goal
 
-pub found-requires-clause-there : goal.found-requires-clause-there
-found-requires-clause-there c =
+pub look-requires-clause-there : goal.look-requires-clause-there
+look-requires-clause-there c =
     let p : Table = c.table_at-table.result.now in
     let stands = subst (λ h. StandsFor h c.self.invariant.state) c.self.view_is c.self.invariant.stands in
     subst (λ (h : EngineModel). IsTrue (has_table h.store p.id)) (sym c.self.view_is)
@@ -32,27 +34,32 @@ pub modify-requires : goal.modify-requires
 modify-requires c =
     let p : Table = c.table_at-table.result.now in
     let x : Modification = c.args.modification.now in
+    let o : Option Sought = c.in_ok-access.access in
     let there = subst (λ (h : EngineModel). slice_get h.tables x.table ≡ Some p) (sym c.self.view_is)
     c.table_at-table.ensures in
-    let fit = read_fit _ c.self.invariant.state x.table p c.in_ok-found.found.items c.self.invariant.stands there
-    c.in_ok-found.ensures.copies in
+    let found = subst (λ (w : Option Sought). IsFound c.self.inside.store p.id Now (is_looked_at w)
+    c.in_ok-seen.seen.items) c.sought.ensures c.in_ok-seen.ensures in
+    let fit = read_fit _ c.self.invariant.state x.table p o c.in_ok-seen.seen.items c.self.invariant.stands there
+    found.copies in
     subst (λ (vs : List Version). All (λ (v : Version). length v.row.now ≡ stored_width p.definition) vs)
-    (sym c.deref.ensures.value)
+    (sym c.deref-2.ensures.value)
     (All-weaker (IsVersionOf p.definition) (λ (v : Version). length v.row.now ≡ stored_width p.definition)
-    (λ v k. sym (length-map v.row.now datum_of_value) ∙ k.cells.width) c.in_ok-found.found.items fit)
+    (λ v k. sym (length-map v.row.now datum_of_value) ∙ k.cells.width) c.in_ok-seen.seen.items fit)
 
 pub returns : goal.returns
 returns c p e =
     let q : Table = c.table_at-table.result.now in
     let x : Modification = c.args.modification.now in
-    let back = sym c.deref.ensures.value in
+    let o : Option Sought = c.in_ok-access.access in
     let made : Made c.self.inside.store q x c.modify.result = record {
-      found = c.deref.result.now;
-      names = subst (λ (vs : List Version). All (Names c.self.inside.store q.id) vs) back c.in_ok-found.ensures.ids;
-      once = subst (λ (vs : List Version). NamesOnce c.self.inside.store q.id is_current vs) back
-          c.in_ok-found.ensures.once;
-      answers = subst (λ (vs : List Version). Answers c.self.inside.store q.id Now (map version_of vs)) back
-          c.in_ok-found.ensures.copies;
+      sought = o;
+      serves = subst (λ (ids : List CondId). Serves q.definition.system (length q.definition.columns)
+          (map (cond x.terms) ids) o) c.deref.ensures.value c.in_ok-access.ensures.serves;
+      seen = c.deref-2.result.now;
+      found = subst (λ (vs : List Version). IsFound c.self.inside.store q.id Now (is_looked_at o) vs)
+          (sym c.deref-2.ensures.value)
+          (subst (λ (w : Option Sought). IsFound c.self.inside.store q.id Now (is_looked_at w) c.in_ok-seen.seen.items)
+          c.sought.ensures c.in_ok-seen.ensures);
       alters = c.modify.ensures.alters;
       fits = c.modify.ensures.fits;
     } in

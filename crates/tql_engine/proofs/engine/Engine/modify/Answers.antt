@@ -10,7 +10,8 @@ use Rattle.tql_store.specs.Represents.{Judged}
 use Rattle.tql_store.specs.StoreModel.{AreRemovable}
 use Rattle.tql_value.specs.Views.{rows_of}
 use Rattle.tql_engine.specs.Modifying.{Made}
-use Rattle.tql_engine.proofs.Modifying.{modify_errs, modify_makes, read_fit, table_there, gone_removable, gone_judged}
+use Rattle.tql_engine.proofs.Looking.{read_fit}
+use Rattle.tql_engine.proofs.Modifying.{modify_errs, modify_makes, table_there, gone_removable, gone_judged}
 use Rattle.tql_engine.proofs.Standing.{place_law, some_is}
 use Rattle.tql_engine.proofs.Typed.{read_typed}
 use Rattle.tql_engine.proofs.engine.Engine.modify.Goals as goal
@@ -28,8 +29,6 @@ make-requires-clause-made c =
     let t = table_there h.tables x.table (place_law h.tables x.table c.requires.within) in
     let p : Table = t.0 in
     let made : Made h.store p x (Ok c.in-Ok.delta) = c.in-Ok.ensures p t.1 in
-    let judged = subst (λ i. Judged h.store i (touches p.definition (portion_in x) (conds_in x))
-    c.in-Ok.delta.removed.items) (sym made.alters.table) (gone_judged h.store p x c.in-Ok.delta made) in
     record {
       change = modification_of x;
       typed = c.requires.typed;
@@ -39,20 +38,23 @@ make-requires-clause-made c =
             (gone_removable h.store p x c.in-Ok.delta made);
         fit = λ q there. subst (λ (y : Table). All (IsRowOf y.definition) (rows_of c.in-Ok.delta.added.items))
             (some_is p q (sym t.1 ∙ there))
-            (made.fits (read_fit h s x.table p made.found st t.1 made.answers)
-            (read_typed h s p x made.found st typed c.requires.typed t.1 made.answers));
+            (made.fits (read_fit h s x.table p made.sought made.seen st t.1 made.found.copies)
+            (read_typed h s p x made.sought made.seen st typed c.requires.typed t.1 made.found.copies));
       };
-      makes = λ s st. modify_makes c.changes_keep_no_order.ensures c.changes_by_parts.ensures h s p x st t.1
-          c.requires.below made.found made.answers c.in-Ok.delta c.verb_of-verb.result
-          (sym (c.verb_of-verb.ensures x.terms)) judged made.alters;
+      makes = λ s st. modify_makes c.safe_conditions.ensures c.changes_keep_no_order.ensures c.changes_by_parts.ensures
+          h s p x st t.1 c.requires.below made.sought made.serves made.seen made.found.copies c.in-Ok.delta
+          c.verb_of-verb.result (sym (c.verb_of-verb.ensures x.terms))
+          (subst (λ i. Judged h.store i (touches p.definition (portion_in x) (conds_in x)) c.in-Ok.delta.removed.items)
+          (sym made.alters.table)
+          (gone_judged c.safe_conditions.ensures h s p x c.in-Ok.delta st t.1 made)) made.alters;
     }
 
 pub returns-in-Err : goal.returns-in-Err
 returns-in-Err c s st =
     let x : Modification = c.args.modification.now in
     let t = table_there c.args.self.now.tables x.table (place_law c.args.self.now.tables x.table c.requires.within) in
-    modify_errs c.changes_keep_no_order.ensures c.changes_by_parts.ensures c.args.self.now s t.0 x st t.1
-    c.requires.below c.in-Err.refusal (c.in-Err.ensures t.0 t.1)
+    modify_errs c.safe_conditions.ensures c.changes_keep_no_order.ensures c.changes_by_parts.ensures c.args.self.now s
+    t.0 x st t.1 c.requires.below c.in-Err.refusal (c.in-Err.ensures t.0 t.1)
 
 pub returns-in-Ok : goal.returns-in-Ok
 returns-in-Ok c s st =
@@ -62,7 +64,9 @@ returns-in-Ok c s st =
     let p : Table = t.0 in
     let made : Made h.store p x (Ok c.in-Ok.delta) = c.in-Ok.ensures p t.1 in
     let judged = subst (λ i. Judged h.store i (touches p.definition (portion_in x) (conds_in x))
-    c.in-Ok.delta.removed.items) (sym made.alters.table) (gone_judged h.store p x c.in-Ok.delta made) in
+    c.in-Ok.delta.removed.items) (sym made.alters.table)
+    (gone_judged c.safe_conditions.ensures h s p x c.in-Ok.delta st t.1 made) in
     c.make.ensures s (modification_of x) st
-    (modify_makes c.changes_keep_no_order.ensures c.changes_by_parts.ensures h s p x st t.1 c.requires.below made.found
-    made.answers c.in-Ok.delta c.verb_of-verb.result (sym (c.verb_of-verb.ensures x.terms)) judged made.alters)
+    (modify_makes c.safe_conditions.ensures c.changes_keep_no_order.ensures c.changes_by_parts.ensures h s p x st t.1
+    c.requires.below made.sought made.serves made.seen made.found.copies c.in-Ok.delta c.verb_of-verb.result
+    (sym (c.verb_of-verb.ensures x.terms)) judged made.alters)

@@ -1,0 +1,29 @@
+-- A key of texts, which are equal where all their characters are, and keys of a day and of a moment. By hand from docs/LANGUAGE.md.
+CREATE TABLE w (t VARCHAR(10), n INTEGER, PRIMARY KEY (t));
+INSERT INTO w VALUES ('a', 1), ('A', 2), ('a ', 3), ('', 4), ('it''s', 5), ('é', 6), ('ab', 7);
+SELECT n FROM w WHERE t = 'a';
+SELECT n FROM w WHERE t = 'A';
+SELECT n FROM w WHERE t = 'a ';
+SELECT n FROM w WHERE t = '';
+SELECT n FROM w WHERE 'it''s' = t;
+SELECT n FROM w WHERE t = 'é';
+SELECT n FROM w WHERE t = 'b';
+SELECT n FROM w WHERE t = 'a far longer text than any that the column takes';
+SELECT n FROM w WHERE t = 1;
+CREATE TABLE d (day DATE, n INTEGER, moment TIMESTAMP, UNIQUE (day), UNIQUE (moment));
+INSERT INTO d VALUES (DATE '2011-01-01', 1, TIMESTAMP '2011-01-01 00:00:00'),
+  (DATE '2011-01-02', 2, TIMESTAMP '2011-01-01 00:00:00.000001'),
+  (DATE '0001-01-01', 3, TIMESTAMP '0001-01-01 00:00:00'), (DATE '9999-12-31', 4, TIMESTAMP '9999-12-31 23:59:59.999999'),
+  (NULL, 5, NULL), (NULL, 6, NULL), (DATE '1970-01-01', 7, TIMESTAMP '1970-01-01 00:00:00');
+SELECT n FROM d WHERE day = DATE '2011-01-02';
+SELECT n FROM d WHERE DATE '0001-01-01' = day;
+SELECT n FROM d WHERE day = DATE '9999-12-31';
+SELECT n FROM d WHERE day = DATE '1970-01-01';
+SELECT n FROM d WHERE day = DATE '2011-01-03';
+SELECT n FROM d WHERE day = TIMESTAMP '2011-01-01 00:00:00';
+SELECT n FROM d WHERE day = DATE '2011-02-30';
+SELECT n FROM d WHERE moment = TIMESTAMP '2011-01-01 00:00:00.000001';
+SELECT n FROM d WHERE moment = TIMESTAMP '2011-01-01 00:00:00.0000019';
+SELECT n FROM d WHERE moment = TIMESTAMP '1970-01-01 00:00:00';
+SELECT n FROM d WHERE moment = TIMESTAMP '2011-01-01 00:00:00' AND day = DATE '2011-01-02';
+SELECT n FROM d WHERE day IS NULL;

@@ -1,0 +1,19 @@
+-- cases: in-turn
+-- A byte 80 that continues no character, at each such place. By hand from docs/LANGUAGE.md.
+CREATE TABLE t (x INTEGER, y VARCHAR(9));
+INSERT INTO t VALUES (1, NULL);
+SELECT x€ FROM t;
+SELECT x AS "a€b" FROM t;
+SELECT x AS "€" FROM t;
+SELECT x FROM t WHERE y = 'a€b';
+SELECT x FROM t WHERE y = '€';
+SELECT 1€2 FROM t;
+SELECT€ x FROM t;
+SELECT x <€= 1 FROM t;
+SELECT x -- a€b
+FROM t;
+SELECT x FROM t; -- a€b
+
+AT TIMESTAMP '2011-01-01 00:00:00€';
+€;
+SELECT x FROM t;

@@ -1,0 +1,23 @@
+-- UPDATE and DELETE by the key of one column change its row and no other; NULL is no value's equal, and stands on no side of =. By hand from docs/LANGUAGE.md.
+CREATE TABLE t (k INTEGER, v INTEGER, PRIMARY KEY (k));
+INSERT INTO t VALUES (1, 10), (2, 20), (3, 30), (4, 40);
+UPDATE t SET v = v + 1 WHERE k = 2;
+UPDATE t SET v = 0 WHERE 3 = k;
+UPDATE t SET v = 99 WHERE k = 5;
+SELECT * FROM t;
+DELETE FROM t WHERE k = 1;
+DELETE FROM t WHERE k = 1;
+DELETE FROM t WHERE k = NULL;
+UPDATE t SET v = 7 WHERE k = 2 AND k = 3;
+UPDATE t SET v = 8 WHERE k = 2 AND k = 2;
+UPDATE t SET v = 9 WHERE k = 2 OR k = 3;
+DELETE FROM t WHERE k = 'a';
+SELECT * FROM t;
+CREATE TABLE u (k INTEGER, v INTEGER, UNIQUE (k));
+INSERT INTO u VALUES (NULL, 1), (NULL, 2), (5, 3);
+UPDATE u SET v = 4 WHERE k = 5;
+UPDATE u SET k = NULL WHERE k = 5;
+DELETE FROM u WHERE k = 5;
+DELETE FROM u WHERE k = v;
+DELETE FROM u WHERE k IS NULL AND v = 4;
+SELECT * FROM u;

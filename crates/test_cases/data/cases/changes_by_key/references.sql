@@ -1,0 +1,21 @@
+-- By the columns of a reference, under which many rows may stand, equal ones too; and the parent's row by its key. By hand from docs/LANGUAGE.md.
+CREATE TABLE p (k INTEGER, w INTEGER, PRIMARY KEY (k));
+CREATE TABLE c (x INTEGER, k INTEGER, FOREIGN KEY (k) REFERENCES p (k));
+INSERT INTO p VALUES (1, 0), (2, 0), (3, 0);
+INSERT INTO c VALUES (7, 1), (7, 1), (8, 1), (9, 2), (6, NULL);
+UPDATE c SET x = x + 1 WHERE k = 1;
+UPDATE c SET x = 0 WHERE k = 1 AND x = 8;
+UPDATE c SET k = 4 WHERE k = 2;
+UPDATE c SET k = 3 WHERE k = 2;
+DELETE FROM p WHERE k = 2;
+DELETE FROM p WHERE k = 3;
+DELETE FROM c WHERE k = 2;
+DELETE FROM c WHERE k = 3;
+DELETE FROM p WHERE k = 3;
+UPDATE p SET k = 5 WHERE k = 1;
+UPDATE p SET w = 1 WHERE k = 1;
+SELECT * FROM c;
+SELECT * FROM p;
+DELETE FROM c WHERE k = 1;
+DELETE FROM p WHERE k = 1;
+SELECT * FROM c;

@@ -1,0 +1,13 @@
+-- What other systems add to a versioned table by themselves is written out: the two moments, and the period of them.
+-- The text was written by hand from docs/LANGUAGE.md.
+CREATE TABLE price (item INTEGER, cents INTEGER,
+  s TIMESTAMP GENERATED ALWAYS AS ROW START, e TIMESTAMP GENERATED ALWAYS AS ROW END,
+  PERIOD FOR SYSTEM_TIME (s, e), PRIMARY KEY (item)) WITH SYSTEM VERSIONING;
+AT TIMESTAMP '2024-01-10 09:00:00';
+INSERT INTO price (item, cents) VALUES (1, 100), (2, 250);
+AT TIMESTAMP '2024-02-10 09:00:00';
+UPDATE price SET cents = 120 WHERE item = 1;
+SELECT item, cents FROM price;
+SELECT item, cents FROM price FOR SYSTEM_TIME AS OF TIMESTAMP '2024-01-31 00:00:00';
+SELECT * FROM price FOR SYSTEM_TIME FROM TIMESTAMP '2024-01-01 00:00:00' TO TIMESTAMP '2024-02-01 00:00:00';
+SELECT * FROM price FOR SYSTEM_TIME BETWEEN TIMESTAMP '0001-01-01 00:00:00' AND TIMESTAMP '9999-12-31 23:59:59.999999';

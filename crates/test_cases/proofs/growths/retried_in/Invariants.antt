@@ -1,9 +1,0 @@
-use Rattle.std.proofs.Common.{◌≡◌}
-use Rattle.tql_lex.specs.Stream.{to_do}
-use Rattle.test_cases.proofs.growths.retried_in.Given as goal
-
-abbrev pub invariant-loop-piece : goal.invariant-loop-piece
-invariant-loop-piece l = l.splitter.ended ≡ l.fn.splitter.ended
-
-abbrev pub decreases-loop-piece : goal.decreases-loop-piece
-decreases-loop-piece l = to_do l.splitter

@@ -1,0 +1,244 @@
+//! Devices that fail at each of their calls, over scripts of each kind: what was written then is a beginning of what
+//! the script is answered, the fault is the right one, and a second run goes on behind what was run.
+use crate::tests::devices::{Outcome, run_on};
+use crate::tests::scripts::{Cut, SCRIPTS, Script, bytes_from, cut_at, replies_in, text_from};
+use std::test::Fail;
+use test_devices::{SOUND, Setting};
+use tql_engine::engine::Engine;
+use tql_memory::memory;
+use tql_run::runner::{Fault, Summary};
+
+/// More calls of a device than a run of these scripts makes.
+const MOST_CALLS: u64 = 5000;
+
+/// What goes wrong behind so many calls: reads fail, or say that the input has ended; writes or flushes fail.
+#[derive(Clone, Copy, PartialEq, Eq, Debug)]
+enum Failing {
+    Nothing,
+    Reads,
+    End,
+    Writes,
+    Flushes,
+}
+
+/// Reads of three bytes, and of ninety.
+const BY_THREE: Setting = Setting { size: 3, ..SOUND };
+
+const BY_NINETY: Setting = Setting { size: 90, ..SOUND };
+
+/// Reads of ninety bytes, and writes of none, of one, of seven.
+const TAKING_NONE: Setting = Setting {
+    taken: 0,
+    ..BY_NINETY
+};
+
+const TAKING_ONE: Setting = Setting {
+    taken: 1,
+    ..BY_NINETY
+};
+
+const TAKING_SEVEN: Setting = Setting {
+    taken: 7,
+    ..BY_NINETY
+};
+
+/// What devices do, and what goes wrong with the source and with the sink.
+const DEVICES: [(Setting, Failing, Failing); 13] = [
+    (SOUND, Failing::Nothing, Failing::Nothing),
+    (TAKING_NONE, Failing::Nothing, Failing::Nothing),
+    (SOUND, Failing::Reads, Failing::Nothing),
+    (BY_THREE, Failing::Reads, Failing::Nothing),
+    (TAKING_NONE, Failing::Reads, Failing::Nothing),
+    (SOUND, Failing::Nothing, Failing::Writes),
+    (TAKING_ONE, Failing::Nothing, Failing::Writes),
+    (SOUND, Failing::Nothing, Failing::Flushes),
+    (BY_THREE, Failing::Nothing, Failing::Flushes),
+    (TAKING_SEVEN, Failing::Reads, Failing::Writes),
+    (BY_NINETY, Failing::Reads, Failing::Flushes),
+    (TAKING_SEVEN, Failing::End, Failing::Writes),
+    (BY_NINETY, Failing::End, Failing::Flushes),
+];
+
+/// Devices of which something goes wrong behind so many calls.
+fn with_failure(setting: Setting, failing: Failing, calls: u64) -> Setting {
+    match failing {
+        Failing::Nothing => setting,
+        Failing::Reads => Setting {
+            reads: calls,
+            ..setting
+        },
+        Failing::End => Setting {
+            giving: calls,
+            ..setting
+        },
+        Failing::Writes => Setting {
+            writes: calls,
+            ..setting
+        },
+        Failing::Flushes => Setting {
+            flushes: calls,
+            ..setting
+        },
+    }
+}
+
+/// How many of so many bytes come by so many reads.
+fn coming(setting: Setting, reads: u64, length: usize) -> usize {
+    let given = reads.saturating_mul(setting.size as u64);
+    given.min(length as u64) as usize
+}
+
+/// Whether a read fails before one says that the input has ended.
+fn source_fails(setting: Setting, length: usize) -> bool {
+    match setting.reads.checked_sub(1) {
+        Some(before) => {
+            setting.reads <= setting.giving && coming(setting, before, length) < length
+        }
+        None => true,
+    }
+}
+
+/// What a run of a script showed.
+#[derive(Clone, Copy, PartialEq, Eq, Debug)]
+struct Trial {
+    /// Whether all of it is as it is to be.
+    is_right: bool,
+    /// Whether the source failed or ended early, and whether the sink failed.
+    source_failed: bool,
+    sink_failed: bool,
+}
+
+/// What a run counts of a text that it wrote whole.
+fn counted(text: &[u8], cut: &Cut) -> Summary {
+    let mut refused = 0u64;
+    for line in str::from_utf8(text).unwrap_or("").lines() {
+        if line.starts_with("REFUSED ") {
+            refused = refused.saturating_add(1);
+        }
+    }
+    let statements = (cut.count as u64).saturating_add(u64::from(!cut.rest.is_empty()));
+    Summary {
+        statements,
+        refused,
+    }
+}
+
+/// Whether a run ended as it is to, where these bytes of its script came and a read then failed or did not.
+fn ends_well(found: &Outcome, cut: &Cut, fails: bool) -> bool {
+    let faults = (found.source_faults, found.sink_faults);
+    let failed = found.failed_writes.saturating_add(found.failed_flushes);
+    let begins = cut.text.starts_with(&found.text);
+    let is_whole = begins && found.text.len() == cut.text.len();
+    match found.end {
+        Ok(summary) => {
+            !fails
+                && failed == 0
+                && faults == (0, 0)
+                && is_whole
+                && summary == counted(&found.text, cut)
+        }
+        Err(Fault::Read) => fails && failed == 0 && faults == (1, 0) && is_whole,
+        Err(Fault::Write) => failed == 1 && faults == (0, 1) && begins,
+        Err(Fault::Memory) => false,
+    }
+}
+
+/// How many statements of a script ran: where a write failed, the one whose reply it was to write too.
+fn ran(script: Script, found: &Outcome, cut: &Cut) -> usize {
+    let written = replies_in(script, found.text.len());
+    let run = if found.failed_writes > 0 {
+        written.saturating_add(1)
+    } else {
+        written
+    };
+    run.min(cut.count)
+}
+
+/// Whether an engine goes on behind a run as where nothing failed: the statements that did not run are answered.
+fn goes_on(
+    rt: &impl AllocGlobal,
+    engine: &mut Engine,
+    script: Script,
+    ran: usize,
+) -> Result<bool, Fail> {
+    let rest = bytes_from(rt.alloc(), script, ran)?;
+    let found = run_on(rt, engine, &rest, SOUND);
+    Ok(found.end.is_ok() && found.text == text_from(rt.alloc(), script, ran)?)
+}
+
+/// Runs a script, and what did not run of it once more.
+fn tried(rt: &impl AllocGlobal, script: Script, setting: Setting) -> Result<Trial, Fail> {
+    let bytes = bytes_from(rt.alloc(), script, 0)?;
+    let came = coming(setting, setting.reads.min(setting.giving), bytes.len());
+    let fails = source_fails(setting, bytes.len());
+    let mut cut = cut_at(rt.alloc(), script, came)?;
+    if !fails {
+        let rest = cut.rest;
+        cut.text.extend_from_slice(rest.as_bytes())?;
+    }
+    let mut engine = Engine::new(memory(rt.alloc(), setting.granted)?);
+    let found = run_on(rt, &mut engine, &bytes, setting);
+    let run = ran(script, &found, &cut);
+    Ok(Trial {
+        is_right: ends_well(&found, &cut, fails) && goes_on(rt, &mut engine, script, run)?,
+        source_failed: found.source_faults > 0 || came < bytes.len(),
+        sink_failed: found.sink_faults > 0,
+    })
+}
+
+/// Runs a script where its sink fails at its first call, then at its second, and so on, until it does not meet the
+/// failure; gives that run, or the first one that is wrong.
+fn at_each_sink_call(
+    rt: &impl AllocGlobal,
+    script: Script,
+    setting: Setting,
+    failing: Failing,
+) -> Result<Option<Trial>, Fail> {
+    for calls in 0..MOST_CALLS {
+        let trial = tried(rt, script, with_failure(setting, failing, calls))?;
+        if !trial.is_right || !trial.sink_failed || failing == Failing::Nothing {
+            return Ok(Some(trial));
+        }
+    }
+    Ok(None)
+}
+
+/// Whether a script is run as it is to be where its source fails at its first call, then at its second, and so on,
+/// until it does not meet the failure, and at each of these its sink at each of its own.
+fn at_each_call(
+    rt: &impl AllocGlobal,
+    script: Script,
+    setting: Setting,
+    source: Failing,
+    sink: Failing,
+) -> Result<bool, Fail> {
+    for calls in 0..MOST_CALLS {
+        let devices = with_failure(setting, source, calls);
+        match at_each_sink_call(rt, script, devices, sink)? {
+            Some(trial) if !trial.is_right => return Ok(false),
+            Some(trial) if !trial.source_failed || source == Failing::Nothing => return Ok(true),
+            Some(_) => {}
+            None => return Ok(false),
+        }
+    }
+    Ok(false)
+}
+
+/// Whether a script is run as it is to be by all devices; which ones are wrong is told by their number.
+fn by_all_devices(rt: &impl AllocGlobal, script: Script) -> Result<Option<usize>, Fail> {
+    for (number, (setting, source, sink)) in DEVICES.into_iter().enumerate() {
+        if !at_each_call(rt, script, setting, source, sink)? {
+            return Ok(Some(number));
+        }
+    }
+    Ok(None)
+}
+
+#[test]
+fn a_device_fails_at_any_call(rt: HostRuntime) -> Result<(), Fail> {
+    for (number, script) in SCRIPTS.into_iter().enumerate() {
+        let wrong = by_all_devices(&rt, script)?;
+        assert!(rt; wrong.is_none(), "script {number}: devices {wrong:?}");
+    }
+    Ok(())
+}

@@ -1,0 +1,5 @@
+-- Proofs of tql_plan_access.
+pub mod ByKey
+pub mod GivenLists
+pub mod Looked
+pub mod Untouched

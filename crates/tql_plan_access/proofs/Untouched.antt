@@ -1,0 +1,149 @@
+-- A change leaves the rows that it does not look at, so what it makes of those that it looks at is what it makes of
+-- all: the same new rows in the place of as many, and the same fault.
+use Rattle.std.proofs.Common.{◌≡◌, refl, ap, sym, subst, ◌∙◌, suc, Bool, true, false, cond, List, [], ◌∷◌, ◌++◌}
+use Rattle.std.proofs.Common.{length, filter, flat_map}
+use Rattle.std.specs.Prelude.{ℤ, not, Option, Some, None, if◌then◌else◌}
+use Rattle.std.specs.List.{AllByRecursion}
+use Rattle.std.proofs.lemmas.List.Filters.{sum_by-filter_both}
+use Rattle.std.proofs.lemmas.List.Sums.{sum_by-append}
+use Rattle.tql_spec.specs.Bag.{SameBag}
+use Rattle.tql_spec.specs.Calendar.{high}
+use Rattle.tql_spec.specs.Change.{Fate, Untouched, Replaced, Work, fate, fate_where, is_touched, new_rows, outcome_of}
+use Rattle.tql_spec.specs.Change.{replacement, row_faults, touched_count}
+use Rattle.tql_spec.specs.Datum.{Row}
+use Rattle.tql_spec.specs.Definition.{Stamped, TableDef, period_of, shown}
+use Rattle.tql_spec.specs.Expression.{Cond, passes, SafeConditionsAreJudged}
+use Rattle.tql_spec.specs.Period.{Period, share_a_point}
+use Rattle.tql_spec.specs.Words.{◌>>=◌, map_all, with_front}
+use Rattle.tql_spec.proofs.Bags.{same-refl, same-trans, same-append}
+use Rattle.tql_spec.proofs.Members.{by_bool}
+use Rattle.tql_plan_laws.specs.Conjuncts.{AreSafe, meets}
+use Rattle.tql_plan_laws.proofs.Conjuncts.{passes_is}
+use Rattle.tql_store_index.specs.Basis.{Sought, is_looked_at}
+use Rattle.tql_plan_access.specs.Access.{Serves}
+
+-- ---- the rows that are not looked at
+
+-- a row of the table's width that is not looked at
+pub record IsPassedOver (d : TableDef) (o : Option Sought) (r : Stamped) : Type 0 where
+  pub wide : length (shown d r) ≡ length d.columns
+  pub unseen : is_looked_at o r.cells ≡ false
+
+-- of these rows those that are not looked at
+abbrev pub unseen_of : Option Sought → List Stamped → List Stamped
+unseen_of o rows = filter (λ r. not (is_looked_at o r.cells)) rows
+
+-- of rows of the table's width these are passed over
+pub passed_over : (d : TableDef) (o : Option Sought) (rows : List Stamped)
+    → AllByRecursion (λ (r : Stamped). length (shown d r) ≡ length d.columns) rows
+    → AllByRecursion (IsPassedOver d o) (unseen_of o rows)
+passed_over d o [] wide = tt
+passed_over d o (r ∷ rows) wide = either (is_looked_at o r.cells) refl (passed_over d o rows wide.1)
+  where
+    either : (b : Bool) → is_looked_at o r.cells ≡ b → AllByRecursion (IsPassedOver d o) (unseen_of o rows)
+        → AllByRecursion (IsPassedOver d o) (cond (not b) (r ∷ unseen_of o rows) (unseen_of o rows))
+    either true e a = a
+    either false e a = (record { wide = wide.0; unseen = e }, a)
+
+-- those that are looked at, with the others, are all
+pub seen_and_unseen : (o : Option Sought) (seen rows : List Stamped)
+    → SameBag seen (filter (λ (r : Stamped). is_looked_at o r.cells) rows)
+    → SameBag (seen ++ unseen_of o rows) rows
+seen_and_unseen o seen rows b =
+    same-trans (same-append b (same-refl (unseen_of o rows))) (record {
+      totals = λ w.
+          sum_by-append w (filter (λ (r : Stamped). is_looked_at o r.cells) rows) (unseen_of o rows)
+          ∙ sum_by-filter_both (λ (r : Stamped). is_looked_at o r.cells) (λ r. not (is_looked_at o r.cells)) (λ r. refl)
+          w rows;
+    })
+
+-- ---- what becomes of them
+
+-- where not all rows are looked at, no conjunct is out of range
+safe_then : (conds : List Cond) (o : Option Sought) → ((s : Sought) → o ≡ Some s → AreSafe conds) → (cells : Row)
+    → is_looked_at o cells ≡ false → AreSafe conds
+safe_then conds None safe cells e = absurd (cc)
+safe_then conds (Some s) safe cells e = safe s refl
+
+-- the same new rows, and as many that are touched; or none, since an evaluation is out of range
+abbrev pub SameNews : Option (List Fate) → Option (List Fate) → Type 0
+SameNews None None = Unit {0}
+SameNews (Some fs) (Some gs) = (new_rows fs ≡ new_rows gs) × (touched_count fs ≡ touched_count gs)
+SameNews _ _ = ⊥
+
+module _ (law : SafeConditionsAreJudged) (d : TableDef) (conds : List Cond) (o : Option Sought)
+    (serves : Serves d.system (length d.columns) conds o) where
+  -- such a row does not meet WHERE
+  unmet : (r : Stamped) → IsPassedOver d o r → meets conds (shown d r) ≡ false
+  unmet r p = by_bool (meets conds (shown d r))
+      (λ e. absurd (let k : true ≡ false = sym (serves.all r.cells r.start high p.wide e) ∙ p.unseen in cc))
+      (λ e. e)
+
+  -- which is evaluated on it all the same
+  not_passed : (r : Stamped) → IsPassedOver d o r → passes [] (shown d r) conds ≡ Some false
+  not_passed r p =
+      passes_is law conds (shown d r) (safe_then conds o serves.safe r.cells p.unseen)
+      ∙ ap {B = Option Bool} (λ b. Some b) (unmet r p)
+
+  -- so it is not touched
+  pub untouched : (portion : Option Period) (r : Stamped) → IsPassedOver d o r
+      → is_touched d portion conds (shown d r) ≡ Some false
+  untouched None r p = not_passed r p
+  untouched (Some portion) r p = either (share_a_point (period_of d (shown d r)) portion) (not_passed r p)
+    where
+      either : (b : Bool) {q : Option Bool} → q ≡ Some false → (if b then q else Some false) ≡ Some false
+      either true e = e
+      either false e = refl
+
+  module _ (m : ℤ) (portion : Option Period) (work : Work) where
+    abbrev fate_of : Stamped → Option Fate
+    fate_of r = fate d m portion work conds (shown d r)
+
+    stays : (r : Stamped) → IsPassedOver d o r → fate_of r ≡ Some Untouched
+    stays r p =
+        ap (λ q. q >>= λ b. fate_where b (replacement d m portion work (shown d r))) (untouched portion r p)
+
+    rest_stays : (rest : List Stamped) → AllByRecursion (IsPassedOver d o) rest
+        → SameNews (Some []) (map_all fate_of rest)
+    rest_stays [] a = (refl, refl)
+    rest_stays (r ∷ rest) a =
+        subst (λ q. SameNews (Some []) (with_front q (map_all fate_of rest))) (sym (stays r a.0))
+        (more (map_all fate_of rest) (rest_stays rest a.1))
+      where
+        more : (q : Option (List Fate)) → SameNews (Some []) q → SameNews (Some []) (with_front (Some Untouched) q)
+        more None h = absurd h
+        more (Some fs) h = h
+
+    -- a change makes the same new rows of rows as of these with others that are passed over
+    pub same_news : (seen rest : List Stamped) → AllByRecursion (IsPassedOver d o) rest
+        → SameNews (map_all fate_of seen) (map_all fate_of (seen ++ rest))
+    same_news [] rest a = rest_stays rest a
+    same_news (r ∷ seen) rest a =
+        before (fate_of r) (map_all fate_of seen) (map_all fate_of (seen ++ rest)) (same_news seen rest a)
+      where
+        before : (y : Option Fate) (fs gs : Option (List Fate)) → SameNews fs gs
+            → SameNews (with_front y fs) (with_front y gs)
+        before None fs gs h = tt
+        before (Some y) None None h = tt
+        before (Some y) None (Some gs) h = absurd h
+        before (Some y) (Some fs) None h = absurd h
+        before (Some Untouched) (Some fs) (Some gs) h = h
+        before (Some (Replaced new)) (Some fs) (Some gs) h = (ap (λ rows. new ++ rows) h.0, ap suc h.1)
+
+-- ---- what the change is answered with
+
+-- so the count is the same
+pub news_count : (d : TableDef) (seen rows : List Stamped) (o p : Option (List Fate)) → SameNews o p
+    → (outcome_of d seen o).count ≡ (outcome_of d rows p).count
+news_count d seen rows None None h = refl
+news_count d seen rows None (Some gs) h = absurd h
+news_count d seen rows (Some fs) None h = absurd h
+news_count d seen rows (Some fs) (Some gs) h = h.1
+
+-- and so are the faults
+pub news_faults : (d : TableDef) (seen rows : List Stamped) (o p : Option (List Fate)) → SameNews o p
+    → (outcome_of d seen o).faults ≡ (outcome_of d rows p).faults
+news_faults d seen rows None None h = refl
+news_faults d seen rows None (Some gs) h = absurd h
+news_faults d seen rows (Some fs) None h = absurd h
+news_faults d seen rows (Some fs) (Some gs) h = ap (flat_map (λ r. row_faults d (shown d r))) h.0

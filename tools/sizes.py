@@ -1,0 +1,130 @@
+#!/usr/bin/env python3
+"""Times the program on inputs of 1, 2, 4 and 8 times a size, and prints a table. Outside the gate.
+
+Usage: tools/sizes.py [TIMES]        (make growth-times)
+
+Each row is a form of input, each column a size; a time is the least of TIMES runs (by default 3), in milliseconds, the program's start included. What
+the program prints is compared with what docs/LANGUAGE.md says of such an input. The status is 1 where an answer is wrong, or where a doubling more
+than triples the time; what takes less than 50 ms is taken as 50. The program is ./tql where it is there and newer than every source, else one that
+is compiled with checks and without a proof (rt try, a minute or two), on which only the answers and the proportions say something.
+"""
+import subprocess
+import sys
+import tempfile
+import time
+from pathlib import Path
+
+sys.dont_write_bytecode = True
+
+from fuzz import program
+
+FLOOR, TRIPLE = 0.05, 3.0
+MADE, ONE = "CREATE TABLE t (x INTEGER, y VARCHAR(65535));\nINSERT INTO t VALUES (1, 'a');\n", "CREATE TABLE\nINSERT 1\n"
+ROW, NONE = "X\n1\n(1 rows)\n", "X\n(0 rows)\n"
+LONGEST = 1048576
+
+
+def refused(text: str) -> str:
+    """The line of a refusal."""
+    return f"REFUSED {text}\n"
+
+
+def literal(size: int) -> tuple[str, str]:
+    """A text literal: taken by a condition as long as its statement is not too long."""
+    begin, end = "SELECT x FROM t WHERE y = '", "';\nCOMMIT;\n"
+    is_taken = len(begin) + size + 1 <= LONGEST
+    return MADE + begin + "b" * size + end, ONE + (NONE if is_taken else refused("E13 statement too long")) + refused("E40 not in this transaction state")
+
+
+def empty(size: int) -> tuple[str, str]:
+    """Statements that are none."""
+    return ";" * size + "COMMIT;\n", refused("E40 not in this transaction state")
+
+
+def terms(size: int) -> tuple[str, str]:
+    """A condition of so many terms, of which the last is true."""
+    return MADE + "SELECT x FROM t WHERE " + "x=0 OR " * (size - 1) + "x=1;\n", ONE + ROW
+
+
+def members(size: int) -> tuple[str, str]:
+    """IN of so many members, of which the last is found."""
+    return MADE + "SELECT x FROM t WHERE x IN (" + "0," * (size - 1) + "1);\n", ONE + ROW
+
+
+def sums(size: int) -> tuple[str, str]:
+    """A sum of so many terms."""
+    return MADE + "SELECT " + "x+" * (size - 1) + "1 AS x FROM t;\n", ONE + f"X\n{size}\n(1 rows)\n"
+
+
+def nested(size: int) -> tuple[str, str]:
+    """Parentheses in so many statements, as deep as they may be."""
+    deep = "SELECT x FROM t WHERE " + "(" * 32 + "x=" + "(" * 32 + "1" + ")" * 64 + ";\n"
+    return MADE + deep * size, ONE + ROW * size
+
+
+def quote(size: int) -> tuple[str, str]:
+    """A text that never closes."""
+    return "COMMIT;\n'" + "x;" * (size // 2), refused("E40 not in this transaction state") + refused(
+        "E12 unfinished statement" if size + 1 <= LONGEST else "E13 statement too long")
+
+
+def tables(size: int) -> tuple[str, str]:
+    """Tables, each with a row."""
+    made = "".join(f"CREATE TABLE t{i} (x INTEGER);\nINSERT INTO t{i} VALUES ({i});\n" for i in range(size))
+    return made + f"SELECT x FROM t{size - 1};\n", ONE * size + f"X\n{size - 1}\n(1 rows)\n"
+
+
+def references(size: int) -> tuple[str, str]:
+    """So many table references in each of 2,000 queries."""
+    names = ",".join(f"t r{i}" for i in range(size))
+    return MADE + f"SELECT COUNT(*) AS x FROM {names};\n" * 2000, ONE + ROW * 2000
+
+
+FORMS = (
+    ("a text literal, bytes", 125000, literal), ("a text literal that is too long, bytes", 1250000, literal), ("empty statements", 1250000, empty),
+    ("a condition, terms", 12500, terms), ("IN, members", 12500, members), ("a sum, terms", 31250, sums), ("64 parentheses, statements", 1250, nested),
+    ("a quote that never closes, bytes", 125000, quote), ("a quote that never closes, too long, bytes", 1250000, quote), ("tables", 125, tables),
+    ("table references, 2,000 queries", 1, references),
+)
+
+
+def timed(words: list[str], file: Path, times: int) -> tuple[float, str]:
+    """The least time of the program on a file, and what it prints."""
+    best, text = 1e9, ""
+    for _ in range(times):
+        begun = time.monotonic()
+        ran = subprocess.run([*words, "--quiet", str(file)], stdout=subprocess.PIPE, stderr=subprocess.DEVNULL, timeout=600, check=False)
+        best, text = min(best, time.monotonic() - begun), ran.stdout.decode(errors="replace")
+    return best, text
+
+
+def faults(best: list[float]) -> str:
+    """Which doublings more than triple the time."""
+    steep = [i for i in range(1, len(best)) if max(best[i], FLOOR) > TRIPLE * max(best[i - 1], FLOOR)]
+    return ", ".join(f"TOO STEEP at times {2 ** i}" for i in steep)
+
+
+def main() -> int:
+    if sys.argv[2:] or not all(it.isdigit() and int(it) for it in sys.argv[1:]):
+        sys.exit(__doc__)
+    times, wrong = int(sys.argv[1]) if sys.argv[1:] else 3, 0
+    with tempfile.TemporaryDirectory(prefix="tql-sizes-") as room:
+        words, file = program(Path(room)), Path(room) / "script.sql"
+        print("| Input | Size | times 1 | times 2 | times 4 | times 8 |\n|---|---|---|---|---|---|")
+        for what, size, form in FORMS:
+            best, said = [], ""
+            for factor in (1, 2, 4, 8):
+                script, wanted = form(size * factor)
+                file.write_text(script, encoding="utf-8")
+                spent, text = timed(words, file, times)
+                best.append(spent)
+                said += "" if text == wanted else f" WRONG ANSWER at times {factor}"
+            said += " " + faults(best) if faults(best) else ""
+            wrong += bool(said)
+            print(f"| {what} | {size:,} | " + " | ".join(f"{it * 1000:,.0f} ms" for it in best) + f" |{said}", flush=True)
+    print(f"{wrong} wrong")
+    return 1 if wrong else 0
+
+
+if __name__ == "__main__":
+    sys.exit(main())
