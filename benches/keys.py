@@ -1,7 +1,7 @@
 #!/usr/bin/env python3
 """How long rows are made, found and changed by a key, in tql and in sqlite3 over a database in memory, at several sizes N.
 
-Usage: benches/keys.py [N..]        (first: make build; TQL=path of another program; sqlite3 on the path)
+Usage: benches/keys.py [N..]        (first: make build; TQL=path of another program; sqlite3 on the path, and /usr/bin/time)
 
 Three tables: without a key; with one of an INTEGER; with one of an INTEGER and a VARCHAR(20). Of each N one-row INSERTs, then N SELECTs of one row
 by its key, then N UPDATEs of one row by its key; and how much memory a row takes. Then, of a table that keeps its history, N questions AS OF a moment
@@ -30,15 +30,14 @@ def words(who: str, path: str) -> list[str]:
 
 
 def took(who: str, path: str) -> tuple[float, int]:
-    """The lower time of two runs in seconds, and the memory of the last one in KiB."""
-    times, memory = [], 0
+    """The lower time of two runs in seconds, and the most memory of the last one in KiB, as /usr/bin/time tells it (what a child of this
+    program took most would count the memory of this program too)."""
+    times = []
     for _ in range(2):
         began = time.perf_counter()
-        child = subprocess.Popen(words(who, path), stdout=subprocess.DEVNULL, stderr=subprocess.DEVNULL)
-        _, _, used = os.wait4(child.pid, 0)
+        subprocess.run(["/usr/bin/time", "-f", "%M", "-o", path + ".most", *words(who, path)], stdout=subprocess.DEVNULL, stderr=subprocess.DEVNULL, check=False)
         times.append(time.perf_counter() - began)
-        memory = used.ru_maxrss
-    return min(times), memory
+    return min(times), int(Path(path + ".most").read_text(encoding="utf-8").split()[-1])
 
 
 def steps(room: Path, name: str, count: int, parts: dict[str, list[tuple[str, list[str]]]]) -> None:

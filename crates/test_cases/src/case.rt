@@ -3,7 +3,7 @@
 use crate::compare::text_difference;
 use crate::growths::{growth_fault, turn_fault};
 use crate::neighbours::marks;
-use crate::runs::{Answering, answer};
+use crate::runs::{Answering, Granted, answer};
 use crate::short::written_out;
 use crate::steps::bound_fault;
 use std::alloc::{AllocError, Global};
@@ -79,7 +79,7 @@ fn text_fault(
     size: usize,
     listed: &[u8],
 ) -> io::Result<Option<String>> {
-    let outcome = answer(alloc, answering, script, size, u64::MAX)?;
+    let outcome = answer(alloc, answering, script, size, Granted::All)?;
     if outcome.ended_well() {
         Ok(text_difference(alloc, listed, &outcome.text)?)
     } else {

@@ -1,10 +1,11 @@
-//! Runs of a script in which each growth is refused in turn, in three ways: no memory is granted from there on; or the
-//! statement that met it is tried again with memory; or, on one engine, each statement is tried with no growth
-//! granted, with one, and so on. A statement that finds no memory has changed nothing: tried again with memory, it and
-//! all later ones are answered as they are listed.
+//! Runs of a script in which each growth is refused in turn, in four ways: no memory is granted from there on; or the
+//! statement that met it is tried again with memory; or it is refused alone, and all later ones are granted; or, on one
+//! engine, each statement is tried with no growth granted, with one, and so on, and then with its first refused alone,
+//! with its second, and so on. A statement that finds no memory has changed nothing: tried again with memory, it and
+//! all later ones are answered as they are listed; and not tried again, all later ones are as if it had not been there.
 use crate::compare::text_difference;
-use crate::runs::{Answering, answer};
-use crate::steps::{Manner, NO_MEMORY, NOT_UTF8, TOO_LONG, UNFINISHED, step_all};
+use crate::runs::{Answering, Granted, answer};
+use crate::steps::{Manner, NO_MEMORY, NOT_UTF8, Replies, TOO_LONG, UNFINISHED, step_all};
 use std::alloc::{AllocError, Global};
 use std::io;
 use tql_run::runner::Fault;
@@ -28,6 +29,24 @@ struct Listed<'a> {
     text: &'a [u8],
     /// Where in it no reply has been given yet, and where each ends.
     ends: Vec<usize>,
+}
+
+impl Listed<'_> {
+    /// What a statement is answered; nothing where there is none.
+    fn reply(&self, statement: usize) -> &[u8] {
+        match self.ends.get(statement..statement.saturating_add(2)) {
+            Some([from, to]) => self.text.get(*from..*to).unwrap_or(&[]),
+            _ => &[],
+        }
+    }
+
+    /// What the statements behind one are answered.
+    fn behind(&self, statement: usize) -> &[u8] {
+        match self.ends.get(statement.saturating_add(1)) {
+            Some(from) => self.text.get(*from..).unwrap_or(&[]),
+            None => &[],
+        }
+    }
 }
 
 /// Where each line of a text ends, and before them its beginning.
@@ -118,7 +137,13 @@ fn run_in(
     listed: &Listed<'_>,
     granted: u64,
 ) -> io::Result<Sweep> {
-    let outcome = answer(alloc, answering, script, usize::MAX, granted)?;
+    let outcome = answer(
+        alloc,
+        answering,
+        script,
+        usize::MAX,
+        Granted::First(granted),
+    )?;
     let nothing_ran = outcome.end == Err(Fault::Memory) && outcome.text.is_empty();
     let begins = outcome.ended_well() && is_beginning(listed, &outcome.text);
     let is_whole = begins && outcome.text.as_slice() == listed.text;
@@ -129,8 +154,104 @@ fn run_in(
     }
 }
 
-/// Whether a script that is refused one growth is answered as it is listed. A check keeps no state, and needs no such
-/// test.
+/// What the statements behind one are answered where that one is not there. A check keeps no state: they are answered
+/// as they are listed.
+fn behind_unseen(
+    alloc: Global,
+    answering: Answering,
+    script: &[u8],
+    listed: &Listed<'_>,
+    statement: usize,
+) -> io::Result<Vec<u8>> {
+    match answering {
+        Answering::Run => {
+            let Replies { text, ends, .. } = step_all(
+                alloc,
+                script,
+                Manner::Without(statement),
+                u64::MAX,
+            )?;
+            let answered = Listed { text: &text, ends };
+            Ok(Vec::from_slice(alloc, answered.behind(statement))?)
+        }
+        Answering::Check => Ok(Vec::from_slice(alloc, listed.behind(statement))?),
+    }
+}
+
+/// The first statement that a text does not answer as it is listed, and the text from there on; None where it answers
+/// all so.
+fn first_differing<'a>(listed: &Listed<'_>, text: &'a [u8]) -> Option<(usize, &'a [u8])> {
+    let mut left = text;
+    for statement in 0..listed.ends.len().saturating_sub(1) {
+        match left.strip_prefix(listed.reply(statement)) {
+            Some(rest) => left = rest,
+            None => return Some((statement, left)),
+        }
+    }
+    None
+}
+
+/// What a statement leaves to those behind it that found no memory: how they are answered where it is not there. The
+/// last one asked for is kept, since growths are refused in the order of the statements.
+#[derive(Drop)]
+struct Unseen {
+    statement: usize,
+    behind: Vec<u8>,
+}
+
+/// Whether a text is what a script may be answered that one growth is refused of: all as it is listed; or a statement
+/// that there is no memory, and those behind it as if it were not there. A COMMIT and a ROLLBACK take no memory.
+fn is_without_one(
+    alloc: Global,
+    answering: Answering,
+    script: &[u8],
+    listed: &Listed<'_>,
+    text: &[u8],
+    unseen: &mut Unseen,
+) -> io::Result<bool> {
+    let (statement, left) = match first_differing(listed, text) {
+        Some(found) => found,
+        None => return Ok(text == listed.text),
+    };
+    if unseen.statement != statement {
+        unseen.behind = behind_unseen(alloc, answering, script, listed, statement)?;
+        unseen.statement = statement;
+    }
+    let reply = listed.reply(statement);
+    let takes_memory = reply != COMMITTED && reply != ROLLED_BACK;
+    Ok(takes_memory && left.strip_prefix(NO_MEMORY) == Some(unseen.behind.as_slice()))
+}
+
+/// Runs a script that is refused one growth, behind so many others, and granted all later ones.
+fn run_without(
+    alloc: Global,
+    answering: Answering,
+    script: &[u8],
+    listed: &Listed<'_>,
+    before: u64,
+    unseen: &mut Unseen,
+) -> io::Result<Sweep> {
+    let outcome = answer(
+        alloc,
+        answering,
+        script,
+        usize::MAX,
+        Granted::AllBut(before),
+    )?;
+    let nothing_ran = outcome.end == Err(Fault::Memory) && outcome.text.is_empty();
+    let is_well = nothing_ran
+        || outcome.ended_well()
+            && is_without_one(alloc, answering, script, listed, &outcome.text, unseen)?;
+    let is_whole = is_well && outcome.text.as_slice() == listed.text;
+    match outcome.left > before {
+        true if is_well => Ok(Sweep::UsedUp),
+        false if is_whole => Ok(Sweep::Ended),
+        _ => Ok(Sweep::Differs),
+    }
+}
+
+/// Whether a script is answered as it is listed that is refused a growth, and granted more only once the statement that
+/// met it is tried again. A check keeps no state, and needs no such test.
 fn is_retried_well(
     alloc: Global,
     answering: Answering,
@@ -158,9 +279,15 @@ pub fn growth_fault(
 ) -> io::Result<Option<String>> {
     let ends = reply_ends(alloc, answering, script, text)?;
     let listed = Listed { text, ends };
+    let mut unseen = Unseen {
+        statement: usize::MAX,
+        behind: Vec::new(alloc),
+    };
     for granted in 0..MOST_GROWTHS {
         let sweep = run_in(alloc, answering, script, &listed, granted)?;
-        let is_well = is_retried_well(alloc, answering, script, text, granted)?;
+        let alone = run_without(alloc, answering, script, &listed, granted, &mut unseen)?;
+        let is_well = alone != Sweep::Differs
+            && is_retried_well(alloc, answering, script, text, granted)?;
         match sweep {
             Sweep::UsedUp if is_well => *refused = refused.saturating_add(1),
             Sweep::Ended if is_well && granted > 1 => return Ok(None),
@@ -181,10 +308,14 @@ pub fn turn_fault(
     text: &[u8],
     refused: &mut u64,
 ) -> io::Result<Option<String>> {
-    let replies = step_all(alloc, script, Manner::InTurn, 0)?;
-    *refused = refused.saturating_add(replies.refused);
-    match text_difference(alloc, text, &replies.text)? {
-        Some(fault) => Ok(Some(format!(in alloc; "with its growths refused in turn {fault}")?)),
-        None => Ok(None),
+    for manner in [Manner::InTurn, Manner::OneInTurn] {
+        let replies = step_all(alloc, script, manner, 0)?;
+        *refused = refused.saturating_add(replies.refused);
+        if let Some(fault) = text_difference(alloc, text, &replies.text)? {
+            return Ok(Some(format!(in alloc;
+                "with its growths refused in turn, {manner:?}, {fault}"
+            )?));
+        }
     }
+    Ok(None)
 }

@@ -1,5 +1,5 @@
 //! Statements and what stands one token off: each token left out, doubled, and put behind the next one.
-use crate::runs::check_only;
+use crate::runs::{Granted, check_only};
 use std::alloc::{AllocError, Global};
 use std::io;
 
@@ -64,7 +64,7 @@ fn mark(reply: &str) -> char {
 
 /// Puts a mark for each statement of a script behind some marks; `-` where it has none.
 fn push_marks(alloc: Global, marks: &mut String, script: &str) -> io::Result<()> {
-    let text = check_only(alloc, script.as_bytes(), usize::MAX, u64::MAX)?.text;
+    let text = check_only(alloc, script.as_bytes(), usize::MAX, Granted::All)?.text;
     if text.is_empty() {
         marks.push('-')?;
     }

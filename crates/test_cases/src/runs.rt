@@ -9,7 +9,32 @@ use tql_run::runner::{Fault, Summary};
 use tql_run::silence::Silence;
 use tql_run::slice_source::SliceSource;
 
-/// How a run ended, what it wrote, and how many of the blocks of memory that it was granted it never asked for.
+/// Which growths of a run are granted.
+#[derive(Clone, Copy, PartialEq, Eq, Debug)]
+pub enum Granted {
+    All,
+    /// So many, and no later one.
+    First(u64),
+    /// All but the one behind so many.
+    AllBut(u64),
+}
+
+impl Granted {
+    /// Memory that grants these.
+    pub fn memory(self, alloc: Global) -> Result<Memory, AllocError> {
+        match self {
+            Granted::All => memory(alloc, u64::MAX),
+            Granted::First(granted) => memory(alloc, granted),
+            Granted::AllBut(before) => {
+                let memory = memory(alloc, before)?;
+                memory.refuse_one_behind(before);
+                Ok(memory)
+            }
+        }
+    }
+}
+
+/// How a run ended, what it wrote, and how many blocks of memory would be granted to it before one is refused.
 #[derive(Drop)]
 pub struct Outcome {
     pub end: Result<Summary, Fault>,
@@ -45,26 +70,26 @@ pub enum Answering {
     Check,
 }
 
-/// Runs a script on a new engine, whole and in so many blocks of memory.
-fn run_whole(alloc: Global, script: &[u8], granted: u64) -> Result<Outcome, AllocError> {
+/// Runs a script on a new engine, whole, with these growths granted.
+fn run_whole(alloc: Global, script: &[u8], granted: Granted) -> Result<Outcome, AllocError> {
     let mut text = Vec::new(memory(alloc, u64::MAX)?);
-    let memory = memory(alloc, granted)?;
+    let memory = granted.memory(alloc)?;
     let mut engine = Engine::new(memory);
     let end = run_bytes(&mut engine, script, &mut text);
     let left = memory.left();
     Ok(Outcome { end, text, left })
 }
 
-/// Runs a script on a new engine, in pieces of so many bytes and in so many blocks of memory.
+/// Runs a script on a new engine, in pieces of so many bytes, with these growths granted.
 fn run_pieces(
     alloc: Global,
     script: &[u8],
     size: usize,
-    granted: u64,
+    granted: Granted,
 ) -> Result<Outcome, AllocError> {
     let mut source = SliceSource::in_pieces(script, size);
     let mut sink = VecSink::new(Vec::new(memory(alloc, u64::MAX)?));
-    let memory = memory(alloc, granted)?;
+    let memory = granted.memory(alloc)?;
     let mut engine = Engine::new(memory);
     let end = run(&mut engine, &mut source, &mut sink, &mut Silence);
     Ok(Outcome {
@@ -74,16 +99,16 @@ fn run_pieces(
     })
 }
 
-/// Checks the statements of a script, in pieces of so many bytes and in so many blocks of memory.
+/// Checks the statements of a script, in pieces of so many bytes, with these growths granted.
 pub fn check_only(
     alloc: Global,
     script: &[u8],
     size: usize,
-    granted: u64,
+    granted: Granted,
 ) -> Result<Outcome, AllocError> {
     let mut source = SliceSource::in_pieces(script, size);
     let mut sink = VecSink::new(Vec::new(memory(alloc, u64::MAX)?));
-    let memory = memory(alloc, granted)?;
+    let memory = granted.memory(alloc)?;
     let end = check_script(memory, &mut source, &mut sink, &mut Silence);
     Ok(Outcome {
         end,
@@ -98,7 +123,7 @@ pub fn answer(
     answering: Answering,
     script: &[u8],
     size: usize,
-    granted: u64,
+    granted: Granted,
 ) -> Result<Outcome, AllocError> {
     match answering {
         Answering::Run if size == usize::MAX => run_whole(alloc, script, granted),

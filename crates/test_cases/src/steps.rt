@@ -34,6 +34,11 @@ pub enum Manner {
     Retried,
     /// With no growth granted, with one, with two, and so on, until it finds memory.
     InTurn,
+    /// With its first growth refused and all others granted, with its second, and so on, until it asks for none that is
+    /// refused.
+    OneInTurn,
+    /// Once, but for the one that stands behind so many others: that is left out.
+    Without(usize),
 }
 
 /// The text of the reply to a statement.
@@ -78,6 +83,13 @@ pub struct Replies {
     pub refused: u64,
 }
 
+impl Replies {
+    /// How many pieces have been answered, or left out.
+    fn count(&self) -> usize {
+        self.ends.len().saturating_sub(1)
+    }
+}
+
 /// What a piece is answered once it is granted enough growths: it is granted none, then one, and so on. One that finds
 /// no memory however many it is granted is answered so.
 fn found_in_turn(
@@ -98,6 +110,27 @@ fn found_in_turn(
     Ok(Vec::from_slice(alloc, NO_MEMORY)?)
 }
 
+/// What a piece is answered once no growth of it is refused: its first is refused alone, then its second, and so on.
+/// One that is answered otherwise than that there is no memory has been answered, and is not tried again.
+fn found_with_one_refused(
+    alloc: Global,
+    memory: Memory,
+    engine: &mut Engine,
+    piece: Piece<'_>,
+    refused: &mut u64,
+) -> io::Result<Vec<u8>> {
+    for before in 0..MOST_TRIALS {
+        memory.refuse_one_behind(before);
+        let reply = reply_text(alloc, engine, piece)?;
+        if reply.as_slice() != NO_MEMORY {
+            *refused = refused.saturating_add(u64::from(memory.left() > before));
+            return Ok(reply);
+        }
+        *refused = refused.saturating_add(1);
+    }
+    Ok(Vec::from_slice(alloc, NO_MEMORY)?)
+}
+
 /// What a piece is answered in a manner.
 fn settled(
     alloc: Global,
@@ -107,11 +140,13 @@ fn settled(
     manner: Manner,
     refused: &mut u64,
 ) -> io::Result<Vec<u8>> {
-    if manner == Manner::InTurn {
-        return found_in_turn(alloc, memory, engine, piece, refused);
+    match manner {
+        Manner::InTurn => return found_in_turn(alloc, memory, engine, piece, refused),
+        Manner::OneInTurn => return found_with_one_refused(alloc, memory, engine, piece, refused),
+        Manner::Once | Manner::Retried | Manner::Without(_) => {}
     }
     let reply = reply_text(alloc, engine, piece)?;
-    if manner == Manner::Once || reply.as_slice() != NO_MEMORY {
+    if manner != Manner::Retried || reply.as_slice() != NO_MEMORY {
         return Ok(reply);
     }
     *refused = refused.saturating_add(1);
@@ -133,7 +168,11 @@ fn step_fed(
 {
     while let Some(piece) = splitter.next_statement() {
         let before = memory.left();
-        let reply = settled(alloc, memory, engine, piece, manner, &mut replies.refused)?;
+        let reply = if manner == Manner::Without(replies.count()) {
+            Vec::new(alloc)
+        } else {
+            settled(alloc, memory, engine, piece, manner, &mut replies.refused)?
+        };
         replies.last_growths = before.saturating_sub(memory.left());
         replies.text.extend_from_slice(&reply)?;
         replies.ends.push(replies.text.len())?;

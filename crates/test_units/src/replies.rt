@@ -1,4 +1,7 @@
 //! The printed texts of replies and answers.
+ghost use Rattle.std.specs.Prelude.{IsTrue};
+ghost use Rattle.tql_result.specs.Replies.{answer_of, IsPrintableAnswer};
+
 use crate::line::Line;
 use crate::parts::{count, rows, sides, two};
 use crate::stop::Stop;
@@ -7,7 +10,10 @@ use tql_memory::Memory;
 use tql_result::answer::{Answer, write_answer};
 use tql_result::print::{is_printable_reply, write_reply};
 use tql_result::reply::{Reply, Verb};
+use tql_result::table::is_printable_table;
 use tql_result::vec_sink::VecSink;
+use tql_result_forms::csv::write_csv_table;
+use tql_result_forms::json::write_json_answer;
 use tql_value::refusal::Refusal;
 use tql_value::value::ResultTable;
 
@@ -83,6 +89,57 @@ fn write_accepted(out: &mut String, memory: Memory) -> Result<(), Stop> {
     write_held(out, sink)
 }
 
+/// The number and the line of each statement whose answer is printed as JSON.
+const STATEMENT: u64 = 3;
+
+const LINE: u64 = 7;
+
+/// Whether an answer has a text.
+fn is_printable_answer(answer: &Answer) -> bool
+    ensures { IsTrue result → IsPrintableAnswer (answer_of answer.now) }
+{
+    match answer {
+        Answer::Replied(reply) => is_printable_reply(reply),
+        Answer::Accepted => true,
+    }
+}
+
+/// Writes a table as comma-separated values.
+fn write_csv(out: &mut String, memory: Memory, reply: &Reply) -> Result<(), Stop> {
+    match reply {
+        Reply::Table(table) if is_printable_table(table) => {
+            let mut sink = VecSink::new(Vec::new(memory));
+            write_csv_table(&mut sink, table).ok().ok_or(NO_MEMORY)?;
+            write_held(out, sink)
+        }
+        _ => Err(Stop::Form),
+    }
+}
+
+/// Writes an answer as a line of JSON.
+fn write_json(out: &mut String, memory: Memory, answer: &Answer) -> Result<(), Stop> {
+    if !is_printable_answer(answer) {
+        return Err(Stop::Form);
+    }
+    let mut sink = VecSink::new(Vec::new(memory));
+    write_json_answer(&mut sink, STATEMENT, LINE, answer)
+        .ok()
+        .ok_or(NO_MEMORY)?;
+    write_held(out, sink)
+}
+
+/// Answers a line about an answer as JSON.
+fn answer_json(memory: Memory, line: &Line<'_>, out: &mut String) -> Result<(), Stop> {
+    let reply = match line.command {
+        "json_done" => done(line.input)?,
+        "json_refused" => Reply::Refused(refusal(line.input)?),
+        "json_rows" => table(memory, line.input)?,
+        "json_accepted" => return write_json(out, memory, &Answer::Accepted),
+        _ => return Err(Stop::Form),
+    };
+    write_json(out, memory, &Answer::Replied(reply))
+}
+
 /// Answers a line about a reply.
 pub fn answer(memory: Memory, line: &Line<'_>, out: &mut String) -> Result<(), Stop> {
     match line.command {
@@ -90,6 +147,7 @@ pub fn answer(memory: Memory, line: &Line<'_>, out: &mut String) -> Result<(), S
         "refused" => write_printed(out, memory, &Reply::Refused(refusal(line.input)?)),
         "rows" => write_printed(out, memory, &table(memory, line.input)?),
         "accepted" => write_accepted(out, memory),
-        _ => Err(Stop::Form),
+        "csv" => write_csv(out, memory, &table(memory, line.input)?),
+        _ => answer_json(memory, line, out),
     }
 }

@@ -3,7 +3,8 @@
 //! Make the memory that everything is kept in, and an engine in it; give it a script, or one statement after another,
 //! and read the replies. A run tells a listener which statements were refused, and on which lines. A script may come
 //! part by part: a `Session` is fed bytes as they come, and gives the answers as soon as their statements are whole.
-//! Nothing is kept when the engine is let go.
+//! Nothing is kept when the engine is let go. A table is written as comma-separated values by `write_csv_table`, and an
+//! answer as JSON by `write_json_answer`.
 //!
 //! ```text
 //! let memory = memory(rt.alloc(), u64::MAX)?;
@@ -29,6 +30,8 @@ pub use tql_result::reply::{Reply, Verb};
 pub use tql_result::sink::Sink;
 pub use tql_result::std_sink::StdSink;
 pub use tql_result::vec_sink::VecSink;
+pub use tql_result_forms::csv::write_csv_table;
+pub use tql_result_forms::json::write_json_answer;
 pub use tql_run::device::{Input, Source};
 pub use tql_run::listener::Listener;
 pub use tql_run::note::Note;

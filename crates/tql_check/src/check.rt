@@ -37,8 +37,15 @@ pub fn check(memory: Memory, text: &[u8]) -> Answer
 
 /// What checks the statements of a script. It stands for any state, since no answer depends on one.
 #[derive(Drop)]
-struct Checker {
+pub struct Checker {
     memory: Memory,
+}
+
+impl Checker {
+    /// What checks statements, each in this memory.
+    pub fn new(memory: Memory) -> Checker {
+        Checker { memory }
+    }
 }
 
 impl Responder for Checker {
@@ -72,6 +79,6 @@ pub fn check_script<I: Source<O>, O: Sink, L: Listener>(
         (sink_change O.written O.failures O.flushed O.flushes_fail sink.old sink.new)
         (hearing_change L.heard listener.old listener.new) result }
 {
-    let mut checker = Checker { memory };
+    let mut checker = Checker::new(memory);
     run(&mut checker, source, sink, listener)
 }

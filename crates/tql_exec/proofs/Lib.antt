@@ -1,4 +1,5 @@
 pub mod OverBags
 pub mod Printed
+pub mod Begun
 pub mod Early
 pub mod Looked

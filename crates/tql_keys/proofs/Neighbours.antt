@@ -1,4 +1,4 @@
--- Of rows that are sorted by their places some clash exactly where two neighbours do.
+-- Of rows that are sorted by their ranks some clash exactly where two neighbours do.
 use Rattle.std.proofs.Common.{◌≡◌, refl, sym, ap, subst, ◌∙◌, ℕ, ◌+◌, ◌<◌, Bool, true, false, cond, List, [], ◌∷◌}
 use Rattle.std.proofs.Common.{◌++◌, map, filter, length, arith}
 use Rattle.std.specs.Prelude.{◌&&◌, ◌||◌, not, ℤ, ◌≤ℤ◌}
@@ -20,7 +20,7 @@ use Rattle.tql_spec.specs.Words.{all_pairs}
 use Rattle.tql_spec.proofs.Constraints.{and_true}
 use Rattle.tql_spec.proofs.Members.{both, by_bool}
 use Rattle.tql_spec.proofs.Orders.{Ascends, by_columns-total, by_columns-ties}
-use Rattle.tql_keys.specs.Places.{can_clash, starts_at, place, all_neighbours}
+use Rattle.tql_keys.specs.Ranks.{can_clash, starts_at, rank, all_neighbours}
 use Rattle.tql_keys.specs.Touched.{tuple, has_tuple, collide}
 use Rattle.tql_keys.proofs.Bools.{all_same, same_bool}
 use Rattle.tql_keys.proofs.Sharing.{falling_first, falling_second}
@@ -61,25 +61,25 @@ pub one_tuple : (a b : Row) → is_gt (by_columns a b) ≡ false → is_gt (by_c
 one_tuple a b g h =
     by_columns-ties a b (level (by_columns a b) g (sym (ap is_gt (by_columns-total.antisymm b a)) ∙ h))
 
--- ---- places
+-- ---- ranks
 
 -- by the tuples, and then by what stands behind them
-pub place_by : (cs : List ℕ) (r s : Row) (m n : ℤ)
+pub rank_by : (cs : List ℕ) (r s : Row) (m n : ℤ)
     → by_columns (tuple cs r ++ Int m ∷ []) (tuple cs s ++ Int n ∷ [])
     ≡ ordering_then (by_columns (tuple cs r) (tuple cs s)) (int_cmp m n)
-place_by [] r s m n = then_same (int_cmp m n)
-place_by (c ∷ cs) r s m n =
-    ap (ordering_then (order (cell r c) (cell s c))) (place_by cs r s m n)
+rank_by [] r s m n = then_same (int_cmp m n)
+rank_by (c ∷ cs) r s m n =
+    ap (ordering_then (order (cell r c) (cell s c))) (rank_by cs r s m n)
     ∙ then_then (order (cell r c) (cell s c)) (by_columns (tuple cs r) (tuple cs s)) (int_cmp m n)
 
 module _ (d : TableDef) (cs : List ℕ) where
   -- a row does not stand behind another
   abbrev pub Upto : Row → Row → Type 0
-  Upto r s = is_gt (by_columns (place d cs r) (place d cs s)) ≡ false
+  Upto r s = is_gt (by_columns (rank d cs r) (rank d cs s)) ≡ false
 
   tuples_upto : (r s : Row) → Upto r s → is_gt (by_columns (tuple cs r) (tuple cs s)) ≡ false
   tuples_upto r s h = first_upto (by_columns (tuple cs r) (tuple cs s)) (int_cmp (starts_at d r) (starts_at d s))
-      (sym (ap is_gt (place_by cs r s (starts_at d r) (starts_at d s))) ∙ h)
+      (sym (ap is_gt (rank_by cs r s (starts_at d r) (starts_at d s))) ∙ h)
 
   starts_upto : (r s : Row) → tuple cs r ≡ tuple cs s → Upto r s → starts_at d r ≤ℤ starts_at d s
   starts_upto r s e h =
@@ -87,7 +87,7 @@ module _ (d : TableDef) (cs : List ℕ) where
       ap (by_columns (tuple cs r)) (sym e) ∙ tied_itself by_columns-total (tuple cs r) in
       not_above (starts_at d r) (starts_at d s)
       (sym (ap (λ p. is_gt (ordering_then p (int_cmp (starts_at d r) (starts_at d s)))) o)
-      ∙ sym (ap is_gt (place_by cs r s (starts_at d r) (starts_at d s))) ∙ h)
+      ∙ sym (ap is_gt (rank_by cs r s (starts_at d r) (starts_at d s))) ∙ h)
 
   -- what stands between two of one tuple has it
   tuple_between : (x y z : Row) → Upto x y → Upto y z → tuple cs x ≡ tuple cs z → tuple cs x ≡ tuple cs y
@@ -126,18 +126,18 @@ module _ (d : TableDef) (k : Key) where
       (starts_upto d cs x y xy h) (starts_upto d cs y z yz i) b.1)
 
   rest_apart : (x y : Row) (ys : List Row) → Upto d k.columns x y
-      → Ascends by_columns (map (place d k.columns) (y ∷ ys))
+      → Ascends by_columns (map (rank d k.columns) (y ∷ ys))
       → list_all (can_clash d k) (y ∷ ys) ≡ true → apart x y ≡ true → list_all (apart x) ys ≡ true
   rest_apart x y [] h a c n = refl
   rest_apart x y (z ∷ zs) h a c n =
       let b = both (can_clash d k y) (list_all (can_clash d k) (z ∷ zs)) c in
       let m : apart x z ≡ true = contrary (clash d k x y) (clash d k x z) (next_clashes x y z b.0 h a.0) n in
-      let i : Upto d k.columns x z = upto by_columns-total (place d k.columns x) (place d k.columns y)
-      (place d k.columns z) h a.0 in
+      let i : Upto d k.columns x z = upto by_columns-total (rank d k.columns x) (rank d k.columns y)
+      (rank d k.columns z) h a.0 in
       and_true (apart x z) (list_all (apart x) zs) m (rest_apart x z zs i a.1 b.1 m)
 
   -- neighbours decide
-  pub neighbours_decide : (rows : List Row) → Ascends by_columns (map (place d k.columns) rows)
+  pub neighbours_decide : (rows : List Row) → Ascends by_columns (map (rank d k.columns) rows)
       → list_all (can_clash d k) rows ≡ true → all_neighbours apart rows ≡ key_holds d rows k
   neighbours_decide [] a c = refl
   neighbours_decide (x ∷ []) a c = refl

@@ -13,7 +13,7 @@ use Rattle.tql_spec.proofs.Members.{by_bool}
 use Rattle.tql_spec.proofs.Orders.{by_columns-total, sorted_ascends}
 use Rattle.tql_period.specs.Points.{points_of}
 use Rattle.tql_period.specs.declared.period.Period as code
-use Rattle.tql_keys.specs.Places.{can_clash, place, all_neighbours}
+use Rattle.tql_keys.specs.Ranks.{can_clash, rank, all_neighbours}
 use Rattle.tql_keys.proofs.Neighbours.{neighbours_decide, rivals_decide, all_filtered}
 use Rattle.tql_keys.proofs.Sameness.{key_by_bag}
 use Rattle.tql_keys.proofs.Sharing.{not_risen}
@@ -42,9 +42,9 @@ map_where s q (x ∷ xs) = kept (q (s x)) x (filter (λ y. q (s y)) xs)
 
 -- of all rows those that can clash, sorted, tell by their neighbours
 pub sorted_decide : (d : TableDef) (k : Key) (all rivals sorted : List Row)
-    → IsSorted by_columns (map (place d k.columns) sorted) → SameBag sorted rivals → rivals ≡ filter (can_clash d k) all
+    → IsSorted by_columns (map (rank d k.columns) sorted) → SameBag sorted rivals → rivals ≡ filter (can_clash d k) all
     → all_neighbours (λ r s. not (clash d k r s)) sorted ≡ key_holds d all k
 sorted_decide d k all rivals sorted s b e =
-    neighbours_decide d k sorted (sorted_ascends by_columns by_columns-total (map (place d k.columns) sorted) s)
+    neighbours_decide d k sorted (sorted_ascends by_columns by_columns-total (map (rank d k.columns) sorted) s)
     (all_bag (can_clash d k) b ∙ ap (list_all (can_clash d k)) e ∙ all_filtered (can_clash d k) all)
     ∙ key_by_bag d b k ∙ ap (λ rs. key_holds d rs k) e ∙ rivals_decide d k all

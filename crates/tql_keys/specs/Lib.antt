@@ -4,6 +4,6 @@ pub mod Coming
 pub mod Laws
 pub mod Named
 pub mod Parents
-pub mod Places
+pub mod Ranks
 pub mod Rising
 pub mod Touched

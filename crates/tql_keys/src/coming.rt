@@ -11,7 +11,7 @@ ghost use Rattle.tql_keys.specs.Parents.{any_with};
 ghost use Rattle.tql_keys.specs.Touched.{tuple as tuple_in};
 
 use crate::change::Change;
-use crate::places::compare_tuples;
+use crate::ranks::compare_tuples;
 use crate::reading::current_rows;
 use std::alloc::AllocError;
 use std::cmp::Ordering;

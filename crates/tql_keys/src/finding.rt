@@ -16,7 +16,7 @@ use tql_store_rows::version::Version;
 use tql_value::value::View;
 
 /// Columns of a table, none generated, in which its rows are sought.
-pub(crate) struct Chain<'a> {
+pub(crate) struct SoughtColumns<'a> {
     pub(crate) table: &'a Table,
     pub(crate) columns: &'a [usize],
     /// Their numbers among the columns that are stored.
@@ -24,9 +24,9 @@ pub(crate) struct Chain<'a> {
     ghost right: { AreStoredAt table.now.definition columns.now stored.items },
 }
 
-impl Drop for Chain<'_> {
+impl Drop for SoughtColumns<'_> {
     fn drop(self) {
-        let Chain {
+        let SoughtColumns {
             table: _,
             columns: _,
             stored,
@@ -35,19 +35,19 @@ impl Drop for Chain<'_> {
     }
 }
 
-impl<'a> Chain<'a> {
+impl<'a> SoughtColumns<'a> {
     /// These columns of a table.
     pub(crate) fn of(
         memory: Memory,
         table: &'a Table,
         columns: &'a [usize],
-    ) -> Result<Chain<'a>, AllocError>
+    ) -> Result<SoughtColumns<'a>, AllocError>
         requires { IsTrue (are_assignable table.now.definition columns.now) }
-        ensures table { IfOk result (λ chain. chain.table.now ≡ table.now) }
-        ensures columns { IfOk result (λ chain. chain.columns.now ≡ columns.now) }
+        ensures table { IfOk result (λ sought. sought.table.now ≡ table.now) }
+        ensures columns { IfOk result (λ sought. sought.columns.now ≡ columns.now) }
     {
         let stored = table.definition.stored_numbers(memory, columns)?;
-        Ok(Chain {
+        Ok(SoughtColumns {
             table,
             columns,
             stored,

@@ -12,7 +12,7 @@ ghost use Rattle.tql_keys.specs.Asked.{AreRowsOf, IsJudged, row_named, staying, 
 ghost use Rattle.tql_keys.specs.Touched.{is_free as free_in};
 
 use crate::change::Change;
-use crate::finding::Chain;
+use crate::finding::SoughtColumns;
 use crate::reading::{collides, current_row, tuple_of};
 use crate::rivals::are_apart;
 use std::alloc::AllocError;
@@ -27,22 +27,22 @@ use tql_store::store::Store;
 fn is_free<I: IntervalIndex>(
     memory: Memory,
     store: &Store<I>,
-    chain: &Chain<'_>,
+    sought: &SoughtColumns<'_>,
     key: &Key,
     change: &Change<'_>,
     row: &StoredRow<'_>,
 ) -> Result<bool, AllocError>
-    requires there { IsTrue (has_table store.now chain.now.table.now.id) }
-    requires columns { chain.now.columns.now ≡ (key_of key.now).columns }
+    requires there { IsTrue (has_table store.now sought.now.table.now.id) }
+    requires columns { sought.now.columns.now ≡ (key_of key.now).columns }
     ensures { IfOk result (λ free. (rows : List Stamped) (gone : Stamped → Bool)
-        → AreRowsOf store.now chain.now.table.now rows
-        → IsJudged (row_named store.now chain.now.table.now.id) gone change.now.removed.now
-        → free ≡ free_in chain.now.table.now.definition (key_of key.now)
-        (shown_rows chain.now.table.now.definition (staying gone rows)) (shown_by row.now)) }
+        → AreRowsOf store.now sought.now.table.now rows
+        → IsJudged (row_named store.now sought.now.table.now.id) gone change.now.removed.now
+        → free ≡ free_in sought.now.table.now.definition (key_of key.now)
+        (shown_rows sought.now.table.now.definition (staying gone rows)) (shown_by row.now)) }
 {
-    let definition = &chain.table.definition;
-    let tuple = tuple_of(memory, row, chain.columns)?;
-    let found = chain.find(store, &tuple)?;
+    let definition = &sought.table.definition;
+    let tuple = tuple_of(memory, row, sought.columns)?;
+    let found = sought.find(store, &tuple)?;
     Ok(
         found.iter().all(|other| {
             change.removes(other.id)
@@ -80,10 +80,10 @@ fn holds_after<I: IntervalIndex>(
     if !apart {
         return Ok(false);
     }
-    let chain = Chain::of(memory, table, &key.columns)?;
+    let sought = SoughtColumns::of(memory, table, &key.columns)?;
     for row in change.added {
         let new = current_row(definition, row, change.moment);
-        if !is_free(memory, store, &chain, key, change, &new)? {
+        if !is_free(memory, store, &sought, key, change, &new)? {
             return Ok(false);
         }
     }

@@ -7,7 +7,7 @@ mod coming;
 mod finding;
 mod keys;
 pub mod laws;
-mod places;
+mod ranks;
 mod reading;
 mod references;
 mod rivals;

@@ -23,7 +23,7 @@ ghost use Rattle.tql_keys.specs.Touched.{has_tuple as tuple_in, is_spared as spa
 
 use crate::change::Change;
 use crate::coming::{sorted_coming, with_tuple};
-use crate::finding::Chain;
+use crate::finding::SoughtColumns;
 use crate::reading::{current_row, has_tuple, period, tuple_of};
 use std::alloc::AllocError;
 use tql_catalog::catalog::Table;
@@ -205,7 +205,7 @@ fn meets(
     child: &TableDef,
     row: &StoredRow<'_>,
     by_period: bool,
-    parents: &Chain<'_>,
+    parents: &SoughtColumns<'_>,
     tuple: &[View<'_>],
     found: &[Version<'_>],
     change: &Change<'_>,
@@ -237,7 +237,7 @@ fn is_met<I: IntervalIndex>(
     child: &TableDef,
     row: &StoredRow<'_>,
     reference: &Reference,
-    parents: &Chain<'_>,
+    parents: &SoughtColumns<'_>,
     change: &Change<'_>,
     coming: &[StoredRow<'_>],
 ) -> Result<bool, AllocError>
@@ -279,7 +279,7 @@ fn is_met_now<I: IntervalIndex>(
     child: &TableDef,
     row: &StoredRow<'_>,
     reference: &Reference,
-    parents: &Chain<'_>,
+    parents: &SoughtColumns<'_>,
 ) -> Result<bool, AllocError>
     requires there { IsTrue (has_table store.now parents.now.table.now.id) }
     requires columns { parents.now.columns.now ≡ (reference_of reference.now).parent_columns }
@@ -317,7 +317,7 @@ pub(crate) fn child_holds_after<I: IntervalIndex>(
         (shown_rows parent.now.definition parents)
         (shown_rows child.now (rows_after change.now.moment gone (rows_of change.now.added.now) rows))) }
 {
-    let parents = Chain::of(memory, parent, &reference.parent_columns)?;
+    let parents = SoughtColumns::of(memory, parent, &reference.parent_columns)?;
     for row in change.added {
         let new = current_row(child, row, change.moment);
         if !is_met_now(memory, store, child, &new, reference, &parents)? {
@@ -332,8 +332,8 @@ fn is_spared<I: IntervalIndex>(
     memory: Memory,
     store: &Store<I>,
     reference: &Reference,
-    children: &Chain<'_>,
-    parents: &Chain<'_>,
+    children: &SoughtColumns<'_>,
+    parents: &SoughtColumns<'_>,
     row: &StoredRow<'_>,
     change: &Change<'_>,
     coming: &[StoredRow<'_>],
@@ -377,8 +377,8 @@ fn is_spared_by<I: IntervalIndex>(
     memory: Memory,
     store: &Store<I>,
     reference: &Reference,
-    children: &Chain<'_>,
-    parents: &Chain<'_>,
+    children: &SoughtColumns<'_>,
+    parents: &SoughtColumns<'_>,
     id: usize,
     change: &Change<'_>,
     coming: &[StoredRow<'_>],
@@ -435,8 +435,8 @@ pub(crate) fn parent_holds_after<I: IntervalIndex>(
         (shown_rows child.now.definition children)) }
 {
     references_at_each_point();
-    let children = Chain::of(memory, child, &reference.columns)?;
-    let parents = Chain::of(memory, parent, &reference.parent_columns)?;
+    let children = SoughtColumns::of(memory, child, &reference.columns)?;
+    let parents = SoughtColumns::of(memory, parent, &reference.parent_columns)?;
     let coming = sorted_coming(memory, &parents.table.definition, parents.columns, change)?;
     for id in change.removed {
         let spared = is_spared_by(

@@ -1,4 +1,4 @@
-//! Whether rows that come clash with one another. Those that can are sorted by their places, and then neighbours alone
+//! Whether rows that come clash with one another. Those that can are sorted by their ranks, and then neighbours alone
 //! are compared.
 ghost use Rattle.std.specs.Prelude.{◌≡◌, not, map, filter, IfOk};
 ghost use Rattle.tql_spec.specs.Constraint.{clash as clash_in, key_holds};
@@ -6,9 +6,9 @@ ghost use Rattle.tql_catalog.specs.Definitions.{key_of};
 ghost use Rattle.tql_expr.specs.Shown.{shown_by};
 ghost use Rattle.tql_value.specs.Views.{rows_of};
 ghost use Rattle.tql_keys.specs.Asked.{new_rows};
-ghost use Rattle.tql_keys.specs.Places.{can_clash as can_clash_in, with_first, all_neighbours};
+ghost use Rattle.tql_keys.specs.Ranks.{can_clash as can_clash_in, with_first, all_neighbours};
 
-use crate::places::sort_by_places;
+use crate::ranks::sort_by_ranks;
 use crate::reading::{clash, current_rows, period};
 use std::alloc::AllocError;
 use tql_catalog::constraint::Key;
@@ -79,6 +79,6 @@ pub(crate) fn are_apart(
 {
     let mut rivals = current_rows(memory, definition, rows, moment)?;
     keep_rivals(definition, key, &mut rivals);
-    sort_by_places(definition, &key.columns, &mut rivals);
+    sort_by_ranks(definition, &key.columns, &mut rivals);
     Ok(are_neighbours_apart(definition, key, &rivals))
 }

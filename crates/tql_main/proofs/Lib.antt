@@ -1,1 +1,3 @@
-pub mod WordLemmas
+mod LineLemmas
+mod SizeLemmas
+mod WordLemmas

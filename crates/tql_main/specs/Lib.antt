@@ -1,2 +1,4 @@
 pub mod CommandLine
+pub mod Prompting
+pub mod Sizes
 pub mod Status

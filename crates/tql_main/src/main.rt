@@ -9,11 +9,16 @@
 #![tactic(auto)]
 
 mod complaints;
+mod formats;
 mod options;
+mod prompts;
+mod sizes;
 mod status;
 
 use crate::complaints::Complaints;
-use crate::options::CommandLine;
+use crate::formats::{Form, check_formatted, run_formatted};
+use crate::options::{CommandLine, Format};
+use crate::prompts::Prompted;
 use crate::status::{exit_status, line_status};
 use clap::Error;
 use std::io::{self, BufWriter, ErrorKind, IsTerminal, Read};
@@ -22,7 +27,7 @@ use std::{env, fs};
 use tql_check::check::check_script;
 use tql_engine::engine::Engine;
 use tql_engine::runner::run;
-use tql_memory::memory;
+use tql_memory::memory_within;
 use tql_result::std_sink::StdSink;
 use tql_run::runner::{Fault, Summary};
 use tql_run::std_source::StdSource;
@@ -39,13 +44,14 @@ fn complain(rt: &impl Eprint, script: &str, fault: Fault) {
     };
 }
 
-/// Runs a script on a new engine, and prints the replies.
+/// Runs a script on a new engine, within so many bytes of memory, and prints the replies.
 fn run_script<R: Read + Drop>(
     rt: &(impl Print + Eprint + AllocGlobal),
     quiet: bool,
+    most: usize,
     reader: R,
 ) -> Result<Summary, Fault> {
-    let memory = memory(rt.alloc(), u64::MAX).map_err(|_| Fault::Memory)?;
+    let memory = memory_within(rt.alloc(), most).map_err(|_| Fault::Memory)?;
     let writer = BufWriter::new(rt.alloc(), io::writer(rt)).map_err(|_| Fault::Memory)?;
     let mut engine = Engine::new(memory);
     let mut source = StdSource::new(reader);
@@ -58,13 +64,14 @@ fn run_script<R: Read + Drop>(
     )
 }
 
-/// Checks a script, and prints what each of its statements is answered.
+/// Checks a script, within so many bytes of memory, and prints what each of its statements is answered.
 fn check_only<R: Read + Drop>(
     rt: &(impl Print + Eprint + AllocGlobal),
     quiet: bool,
+    most: usize,
     reader: R,
 ) -> Result<Summary, Fault> {
-    let memory = memory(rt.alloc(), u64::MAX).map_err(|_| Fault::Memory)?;
+    let memory = memory_within(rt.alloc(), most).map_err(|_| Fault::Memory)?;
     let writer = BufWriter::new(rt.alloc(), io::writer(rt)).map_err(|_| Fault::Memory)?;
     let mut source = StdSource::new(reader);
     let mut sink = StdSink::new(writer);
@@ -76,16 +83,47 @@ fn check_only<R: Read + Drop>(
     )
 }
 
-/// Runs a script, or checks it, as the options say.
-fn answer_script<R: Read + Drop>(
+/// Runs a script, or checks it, as the options say, within so many bytes of memory, and writes tables.
+fn answer_in_tables<R: Read + Drop>(
     rt: &(impl Print + Eprint + AllocGlobal),
     options: &CommandLine<'_>,
+    most: usize,
     reader: R,
 ) -> Result<Summary, Fault> {
     if options.check {
-        check_only(rt, options.quiet, reader)
+        check_only(rt, options.quiet, most, reader)
     } else {
-        run_script(rt, options.quiet, reader)
+        run_script(rt, options.quiet, most, reader)
+    }
+}
+
+/// Runs a script, or checks it, as the options say, within so many bytes of memory, and writes its replies in a form.
+fn answer_in_form<R: Read + Drop>(
+    rt: &(impl Print + Eprint + AllocGlobal),
+    options: &CommandLine<'_>,
+    most: usize,
+    form: Form,
+    reader: R,
+) -> Result<Summary, Fault> {
+    if options.check {
+        check_formatted(rt, form, options.quiet, most, reader)
+    } else {
+        run_formatted(rt, form, options.quiet, most, reader)
+    }
+}
+
+/// Runs a script, or checks it, as the options say, within so many bytes of memory, and writes its replies in a format.
+fn answer_script<R: Read + Drop>(
+    rt: &(impl Print + Eprint + AllocGlobal),
+    options: &CommandLine<'_>,
+    most: usize,
+    format: Format,
+    reader: R,
+) -> Result<Summary, Fault> {
+    match format {
+        Format::Table => answer_in_tables(rt, options, most, reader),
+        Format::Csv => answer_in_form(rt, options, most, Form::Csv, reader),
+        Format::Json => answer_in_form(rt, options, most, Form::Json, reader),
     }
 }
 
@@ -123,20 +161,51 @@ fn invite(rt: &impl Eprint, input: &impl IsTerminal) {
 }
 
 /// Runs or checks the script on the standard input, and answers the exit status.
-fn run_input(rt: &HostRuntime, options: &CommandLine<'_>) -> u8 {
+fn run_input(rt: &HostRuntime, options: &CommandLine<'_>, most: usize, format: Format) -> u8 {
     let input = rt.reader();
     invite(rt, &input);
-    end_run(rt, STANDARD_INPUT, &answer_script(rt, options, input))
+    let outcome = if input.is_terminal() && rt.stdout().is_terminal() {
+        answer_script(rt, options, most, format, Prompted::new(rt, input))
+    } else {
+        answer_script(rt, options, most, format, input)
+    };
+    end_run(rt, STANDARD_INPUT, &outcome)
+}
+
+/// Runs or checks the script that the options name, within so many bytes of memory and with replies in a format, and
+/// answers the exit status.
+fn run_within(rt: &HostRuntime, options: &CommandLine<'_>, most: usize, format: Format) -> u8 {
+    match options.script {
+        Some(path) => match fs::open(rt, path) {
+            Ok(file) => end_run(rt, path, &answer_script(rt, options, most, format, file)),
+            Err(error) => end_opening(rt, path, &error),
+        },
+        None => run_input(rt, options, most, format),
+    }
+}
+
+/// Ends a program whose word SIZE tells no number of bytes.
+fn end_size(rt: &impl Eprint, word: &str) -> u8 {
+    let _ = eprintln!(rt;
+        "error: '{word}' is no size for '--memory <SIZE>': digits, and behind them nothing or one of K, M and G"
+    );
+    2
+}
+
+/// Ends a program whose word FORMAT names none.
+fn end_format(rt: &impl Eprint, word: &str) -> u8 {
+    let _ = eprintln!(rt;
+        "error: '{word}' is no format for '--format <FORMAT>': table, csv or json"
+    );
+    2
 }
 
 /// Runs or checks the script that the options name, and answers the exit status.
 fn run_options(rt: &HostRuntime, options: &CommandLine<'_>) -> u8 {
-    match options.script {
-        Some(path) => match fs::open(rt, path) {
-            Ok(file) => end_run(rt, path, &answer_script(rt, options, file)),
-            Err(error) => end_opening(rt, path, &error),
-        },
-        None => run_input(rt, options),
+    match (options.most_bytes(), options.reply_format()) {
+        (Some(most), Some(format)) => run_within(rt, options, most, format),
+        (None, _) => end_size(rt, options.memory.unwrap_or("")),
+        (Some(_), None) => end_format(rt, options.format.unwrap_or("")),
     }
 }
 

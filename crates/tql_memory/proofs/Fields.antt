@@ -8,15 +8,16 @@ use prog.Memory.{size, align, up}
 use types.Logic.{Logic, sem}
 use types.Kit.{‵, ◌$◌, ◌∵◌, !, qed, move, keep, use1, fsplit, done}
 use denote.RattleType.{RattleType}
-use denote.Builtin.{u64, RefOf}
+use denote.Builtin.{RefOf}
 use denote.Memory.{hidden_shr}
-use denote.Opens.{unhide}
+use denote.Opens.{shr_dup, unhide}
 use denote.Param.{bounded, param}
 use denote.Ref.{Bor}
 use denote.Signature.{Slot, plain}
-use Rattle.std.specs.contracts.cell.Cell as cell
 use Rattle.std.proofs.alloc.Calls.{Al, α, seen}
 use Rattle.tql_memory.specs.contracts.Counting as counting
+use Rattle.tql_memory.specs.contracts.Grants as grants
+use Rattle.tql_memory.proofs.Grants.TheLaws as laws
 
 module _ (Z : Al) where
   -- the type arguments and the methods at which both walks run
@@ -40,17 +41,29 @@ module _ (Z : Al) where
   abbrev pub inner_place : ℕ × ℕ → ℕ × ℕ
   inner_place p = (p.0, p.1 + up (align (α Z)) 0)
 
-  abbrev pub left_place : ℕ × ℕ → ℕ × ℕ
-  left_place p = (p.0, p.1 + up 8 (up (align (α Z)) 0 + size (α Z)))
+  abbrev pub grants_place : ℕ × ℕ → ℕ × ℕ
+  grants_place p = (p.0, p.1 + up 8 (up (align (α Z)) 0 + size (α Z)))
 
--- what a `&` to the cell of the grants shows
-abbrev pub grants_seen : Lft → ℕ × ℕ → Fml
-grants_seen κ p = hidden_shr (cell.the_row u64) κ (record { value = tt }) p.0 p.1
+abbrev pub Granted : Type 0
+Granted = grants.the_row.Denot
+
+-- what a `&` to the grants shows
+abbrev pub grants_seen : Lft → ℕ × ℕ → Granted → Fml
+grants_seen κ p g = hidden_shr grants.the_row κ g p.0 p.1
+
+-- it can be had twice
+pub seen_twice : {M : Type 1} {𝓤 : Ura M} (𝓛 : Logic 𝓤) (κ : Lft) (p : ℕ × ℕ) (g : Granted)
+    → ent 𝓤 (sem 𝓛 (grants_seen κ p g)) (sep 𝓤 (sem 𝓛 (grants_seen κ p g)) (sem 𝓛 (grants_seen κ p g)))
+seen_twice 𝓛 κ p g =
+    qed 𝓛 (‵ (grants_seen κ p g) ∷ []) ∵ shr_dup ! grants.the_row laws.the_row_laws.shr_laws g p.0 p.1 κ $ done !
 
 -- a `&` to the allocator is a `&` to each of its fields
 pub fields_seen : (Z : Al) {M : Type 1} {𝓤 : Ura M} (𝓛 : Logic 𝓤) (κ : Lft) (r : Bor (Self Z).Denot)
     → ent 𝓤 (sem 𝓛 (hidden_shr (Self Z) κ r.now r.ref_ptr.0 r.ref_ptr.1))
-    (sep 𝓤 (sem 𝓛 (seen Z κ (inner_place Z r.ref_ptr) r.now.inner)) (sem 𝓛 (grants_seen κ (left_place Z r.ref_ptr))))
+    (
+    sep 𝓤 (sem 𝓛 (seen Z κ (inner_place Z r.ref_ptr) r.now.inner))
+    (sem 𝓛 (grants_seen κ (grants_place Z r.ref_ptr) r.now.grants))
+    )
 fields_seen Z {𝓤 = 𝓤} 𝓛 κ r =
     qed 𝓛 (‵ (hidden_shr (Self Z) κ r.now r.ref_ptr.0 r.ref_ptr.1) ∷ []) ∵ unhide ! $ fsplit ! $ fsplit ! $ move !
     (1 ∷ []) $ fsplit ! $ keep ! (2 ∷ 0 ∷ []) $

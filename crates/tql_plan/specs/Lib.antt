@@ -3,4 +3,5 @@ pub mod Meaning
 pub mod Planned
 pub mod Maps
 pub mod Asked
+pub mod Begun
 pub mod Served

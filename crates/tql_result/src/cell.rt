@@ -40,6 +40,6 @@ pub fn write_cell<S: Sink>(sink: &mut S, cell: View<'_>) -> Result<(), DeviceFau
         View::Int(number) => push_int(sink, number),
         View::Text(text) => push_quoted(sink, b'\'', text.as_bytes()),
         View::Day(day) => push_day(sink, day),
-        View::Moment(moment) => push_moment(sink, moment),
+        View::Moment(moment) => push_moment(sink, b' ', moment),
     }
 }

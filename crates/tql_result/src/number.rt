@@ -41,19 +41,19 @@ pub fn date_bytes(year: u16, month: u8, day: u8) -> [u8; 10]
     ]
 }
 
-/// A blank and the time of day as it is printed without its fraction, each number of two digits.
+/// A byte and the time of day as it is printed without its fraction, each number of two digits.
 #[tactic(auto, using(crate::proofs::Digits::padded_two))]
-pub fn clock_bytes(hour: u8, minute: u8, second: u8) -> [u8; 9]
+pub fn clock_bytes(front: u8, hour: u8, minute: u8, second: u8) -> [u8; 9]
     requires hours { hour < 100 }
     requires minutes { minute < 100 }
     requires seconds { second < 100 }
-    ensures { result ≡ 32 ∷ padded 2 hour ++ 58 ∷ padded 2 minute ++ 58 ∷ padded 2 second }
+    ensures { result ≡ front ∷ padded 2 hour ++ 58 ∷ padded 2 minute ++ 58 ∷ padded 2 second }
 {
     let hour = u32::from(hour);
     let minute = u32::from(minute);
     let second = u32::from(second);
     [
-        b' ',
+        front,
         digit(hour / 10),
         digit(hour),
         b':',

@@ -1,7 +1,8 @@
 //! The text of days and moments.
-ghost use Rattle.std.specs.Prelude.{◌<◌};
-ghost use Rattle.tql_spec.specs.Datum.{Day, Moment};
-ghost use Rattle.tql_spec.specs.Text.{cell_text, fraction_text};
+ghost use Rattle.std.specs.Prelude.{◌<◌, ◌∷◌, ◌++◌};
+ghost use Rattle.tql_spec.specs.Calendar.{moment_day, moment_micros};
+ghost use Rattle.tql_spec.specs.Datum.{Day};
+ghost use Rattle.tql_spec.specs.Text.{cell_text, date_text, time_text, fraction_text};
 ghost use Rattle.tql_value.specs.Points.{IsDay, IsMoment};
 ghost use Rattle.tql_result.specs.Devices.{Pushes};
 
@@ -34,15 +35,18 @@ fn push_fraction<S: Sink>(sink: &mut S, micros: u32) -> Result<(), DeviceFault>
     }
 }
 
-/// Pushes a moment, given in microseconds since 1970-01-01 00:00:00, as `YYYY-MM-DD HH:MM:SS` with
+/// Pushes a moment, given in microseconds since 1970-01-01 00:00:00, as `YYYY-MM-DD`, such a byte, and `HH:MM:SS` with
 /// its fraction, if it has one.
-pub fn push_moment<S: Sink>(sink: &mut S, moment: i64) -> Result<(), DeviceFault>
+pub fn push_moment<S: Sink>(sink: &mut S, parter: u8, moment: i64) -> Result<(), DeviceFault>
     requires { IsMoment moment }
-    ensures { Pushes (cell_text (Moment moment)) result
+    ensures { Pushes (date_text (moment_day moment) ++ parter ∷ time_text (moment_micros moment)) result
         (S.written sink.old) (S.written sink.new) (S.failures sink.old) (S.failures sink.new) }
 {
     let parts = moment_parts(moment);
     push_all(sink, &date_bytes(parts.year, parts.month, parts.day))?;
-    push_all(sink, &clock_bytes(parts.hour, parts.minute, parts.second))?;
+    push_all(
+        sink,
+        &clock_bytes(parter, parts.hour, parts.minute, parts.second),
+    )?;
     push_fraction(sink, parts.microsecond)
 }

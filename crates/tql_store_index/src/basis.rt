@@ -1,6 +1,5 @@
 //! By what rows are found, and what is sought: the rows with given values, or those of a point or a period.
-ghost use Rattle.std.specs.Prelude.{◌≡◌, option_map, map};
-ghost use Rattle.std.specs.Bool.{OnTrue};
+ghost use Rattle.std.specs.Prelude.{◌≡◌, ◌↔◌, IsTrue, option_map, map};
 ghost use Rattle.tql_spec.specs.Definition.{period_between, point_of as point_for};
 ghost use Rattle.tql_spec.specs.Period.{where_rising};
 ghost use Rattle.tql_period.specs.Points.{points_of};
@@ -63,7 +62,7 @@ impl Basis {
 
     /// Whether the rows that are sought are found by it.
     pub(crate) fn serves(&self, sought: Sought<'_>) -> bool
-        ensures { OnTrue result (basis_of self.now ≡ basis_for (sought_of sought.entry)) }
+        ensures { IsTrue result ↔ (basis_of self.now ≡ basis_for (sought_of sought.entry)) }
     {
         match (self, sought) {
             (Basis::Values(columns), Sought::With(wanted, _)) => columns.as_slice() == wanted,

@@ -1,9 +1,8 @@
 //! Where rows stand by each of several bases: their values in lists of columns, their application period.
-ghost use Rattle.std.specs.Prelude.{◌≡◌, ◌<◌, ◌≤◌, ◌+◌, ◌==◌, [], All, OnOk, OnErr, IfOk, IfSome, length, map};
-ghost use Rattle.std.specs.Prelude.{slice_set};
-ghost use Rattle.std.specs.Prelude.{None};
+ghost use Rattle.std.specs.Prelude.{◌≡◌, ◌≢◌, ◌<◌, ◌≤◌, ◌+◌, ◌==◌, ◌++◌, [], ◌∷◌, OnOk, OnErr, IfOk, IfSome, length};
+ghost use Rattle.std.specs.Prelude.{None, map, slice_set};
 ghost use Rattle.tql_spec.specs.Bag.{SameBag};
-ghost use Rattle.tql_store_index.specs.Basis.{basis_for, meets, sought_of, stands_by};
+ghost use Rattle.tql_store_index.specs.Basis.{basis_for, basis_of, meets, sought_of, stands_by};
 ghost use Rattle.tql_store_index.specs.Seating.{seat_at};
 ghost use Rattle.tql_store_index.specs.Standing.{passes, seats_if, stands};
 ghost use Rattle.tql_store_index.specs.ValueIndexes.{Each, IsGrown, IsTurned, IsLinked, DiffersIn, AreLoose, index_at};
@@ -193,9 +192,12 @@ impl<I: IntervalIndex> ValueIndexes<I> {
         self.indexes.is_empty()
     }
 
-    /// One basis more, by which no row stands yet.
+    /// One basis more, behind the others, by which no row stands yet. Refused where memory is, and then nothing is
+    /// changed.
     pub fn add(&mut self, memory: Memory, basis: Basis) -> Result<(), AllocError>
-        ensures { All (λ k. k.standing ≡ []) self.old → All (λ k. k.standing ≡ []) self.new }
+        ensures ok { OnOk result
+            (self.new ≡ self.old ++ record { basis = basis_of basis; standing = [] } ∷ []) }
+        ensures err { OnErr result (self.new ≡ self.old) }
     {
         self.indexes.push(ValueIndex {
             basis,
@@ -236,17 +238,19 @@ impl<I: IntervalIndex> ValueIndexes<I> {
         leave_each(&mut self.indexes, seats, from, to);
     }
 
-    /// The places of the rows that may be sought: all that are, and seldom others. None where no rows stand by the
-    /// basis for it.
+    /// The places of the rows that may be sought: all that are, and seldom others. None only where no rows stand by the
+    /// basis for it. Refused where memory is.
     pub fn find(
         &self,
         seats: &Seats,
         sought: Sought<'_>,
     ) -> Result<Option<Vec<usize, Memory>>, AllocError>
-        ensures { IfOk result (λ r. IfSome r (λ places. (what : _)
+        ensures places { IfOk result (λ r. IfSome r (λ places. (what : _)
             → ((i : _) → i < length self.now → (index_at self.now i).basis ≡ basis_for (sought_of sought.entry)
             → IsLinked what seats.now (index_at self.now i).standing)
             → SameBag places.items (seats_if (passes (meets (sought_of sought.entry))) 0 what))) }
+        ensures none { IfOk result (λ r. r ≡ None → (i : _) → i < length self.now
+            → (index_at self.now i).basis ≢ basis_for (sought_of sought.entry)) }
     {
         for index in &self.indexes {
             if index.basis.serves(sought) {

@@ -1,11 +1,11 @@
-//! tql_memory: how many blocks are granted.
+//! tql_memory: how many blocks are granted, and how many bytes.
 use indexmap::IndexMap;
 use smallvec::SmallVec;
 use std::alloc::AllocError;
 use std::collections::BTreeMap;
 use std::hash::{BuildHasherDefault, FoldHasher};
 use std::test::Fail;
-use tql_memory::{Memory, memory};
+use tql_memory::{Memory, memory, memory_within};
 
 type Names = IndexMap<String<Memory>, u64, BuildHasherDefault<FoldHasher>, Memory>;
 
@@ -130,5 +130,90 @@ fn a_failed_growth_leaves_the_list_as_it_was(rt: HostRuntime) -> Result<(), Fail
     memory.grant(1);
     list.push(4)?;
     assert!(rt; kept && list.as_slice() == [0, 1, 2, 3, 4].as_slice());
+    Ok(())
+}
+
+/// Exactly one block is refused, and all behind it are granted.
+#[test]
+fn one_block_is_refused_alone(rt: HostRuntime) -> Result<(), Fail> {
+    let memory = memory(rt.alloc(), u64::MAX)?;
+    for before in 0..3u64 {
+        memory.refuse_one_behind(before);
+        for number in 0..10u64 {
+            let is_right = one_box(memory).is_err() == (number == before);
+            assert!(rt;
+                is_right,
+                "block {number}, of which {before} were to be granted"
+            );
+        }
+    }
+    memory.refuse_one_behind(0);
+    memory.grant(0);
+    assert_eq!(rt; boxes(memory), 0);
+    Ok(())
+}
+
+/// How many bytes are in use once a list of five numbers has grown, and once it has shrunk to them.
+fn bytes_of_list(memory: Memory) -> Result<(usize, usize), AllocError> {
+    let mut list = Vec::new(memory);
+    for number in 0..5u64 {
+        list.push(number)?;
+    }
+    let grown = memory.in_use();
+    list.shrink_to_fit();
+    Ok((grown, memory.in_use()))
+}
+
+/// The bytes of a text and of a list are in use as long as these are there: of a list that grows or shrinks, those of
+/// its new size.
+#[test]
+fn bytes_are_counted(rt: HostRuntime) -> Result<(), Fail> {
+    let memory = memory(rt.alloc(), u64::MAX)?;
+    let text = String::from_str(memory, "abc")?;
+    let before = memory.in_use();
+    let (grown, shrunk) = bytes_of_list(memory)?;
+    assert_eq!(rt;
+        (before, grown, shrunk, memory.in_use()),
+        (3, 3 + 64, 3 + 40, 3)
+    );
+    assert_eq!(rt; text.as_str(), "abc");
+    one_text(memory)?;
+    assert_eq!(rt; memory.in_use(), 3);
+    Ok(())
+}
+
+/// What goes beyond the bound is refused, and no byte more is in use; what is given back can be had again.
+#[test]
+fn bytes_beyond_the_bound_are_refused(rt: HostRuntime) -> Result<(), Fail> {
+    for (most, is_enough) in [
+        (0usize, false),
+        (31, false),
+        (63, false),
+        (64, true),
+        (65, true),
+    ] {
+        let memory = memory_within(rt.alloc(), most)?;
+        for _ in 0..3 {
+            let filled = list_of(memory, 5).is_ok();
+            assert_eq!(rt; (filled, memory.in_use()), (is_enough, 0));
+        }
+    }
+    Ok(())
+}
+
+/// A list that may not grow is as it was, and takes what it took.
+#[test]
+fn a_list_at_the_bound_is_as_it_was(rt: HostRuntime) -> Result<(), Fail> {
+    let memory = memory_within(rt.alloc(), 63)?;
+    let mut list = Vec::new(memory);
+    for number in 0..4u64 {
+        list.push(number)?;
+    }
+    let grows = list.push(4).is_ok();
+    assert_eq!(rt;
+        (grows, memory.in_use(), memory.left()),
+        (false, 32, u64::MAX - 1)
+    );
+    assert!(rt; list.as_slice() == [0, 1, 2, 3].as_slice());
     Ok(())
 }

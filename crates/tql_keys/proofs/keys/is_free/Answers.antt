@@ -16,17 +16,17 @@ use Rattle.tql_keys.proofs.keys.is_free.Goals as goal
 
 pub returns : goal.returns
 returns g c rows gone of judged =
-    let d = c.args.chain.now.table.now.definition in
+    let d = c.args.sought.now.table.now.definition in
     let k = key_of c.args.key.now in
     let a = shown_by c.args.row.now in
     let found = c.in_ok-found.found.items in
     let removed = c.args.change.now.removed.now in
     let values : map datum_of_view c.deref.result.now ≡ tuple k.columns a =
     cc (c.in_ok-tuple.ensures, c.requires.columns) in
-    let bag = found_as d c.args.chain.now.columns.now k.columns (map datum_of_view c.deref.result.now)
+    let bag = found_as d c.args.sought.now.columns.now k.columns (map datum_of_view c.deref.result.now)
     (tuple k.columns a) rows found c.requires.columns values (c.in_ok-found.ensures.rows rows of) in
     all_from_yields_List
     (λ (f : Version). is_among f.id removed || not (collide d k.by_period (shown d (row_found f)) a))
     c.all.new.self _ c.all.result c.all.ensures.ran (YieldsList-from_slice found cc) (λ x b q k'. search (rules, tests))
-    ∙ found_free d k a rows (row_named c.args.store.now c.args.chain.now.table.now.id) gone removed found bag
+    ∙ found_free d k a rows (row_named c.args.store.now c.args.sought.now.table.now.id) gone removed found bag
     c.in_ok-found.ensures.ids judged

@@ -5,7 +5,7 @@ use Rattle.tql_catalog.specs.Definitions.{key_of}
 use Rattle.tql_expr.specs.Shown.{shown_by}
 use Rattle.tql_value.specs.Views.{rows_of}
 use Rattle.tql_keys.specs.Asked.{new_rows}
-use Rattle.tql_keys.specs.Places.{can_clash, place}
+use Rattle.tql_keys.specs.Ranks.{can_clash, rank}
 use Rattle.tql_keys.proofs.SortedRivals.{sorted_decide}
 use Rattle.tql_keys.proofs.rivals.are_apart.Goals as goal
 
@@ -15,12 +15,12 @@ returns c =
     let k = key_of c.args.key.now in
     let all = new_rows d c.args.moment (rows_of c.args.rows.now) in
     let rivals = map shown_by c.keep_rivals.new.rows.items in
-    let sorted = map shown_by c.sort_by_places.new.rows.items in
+    let sorted = map shown_by c.sort_by_ranks.new.rows.items in
     let come : map shown_by c.in_ok-rivals.rivals.items ≡ all = search (rules, tests) in
     let kept : rivals ≡ filter (can_clash d k) all =
     c.keep_rivals.ensures ∙ ap (filter (can_clash d k)) come in
-    let rise : IsSorted by_columns (map (place d k.columns) sorted) =
-    subst (λ (cs : List ℕ). IsSorted by_columns (map (place d cs) sorted)) c.deref.ensures.value
-    c.sort_by_places.ensures.sorted in
-    let told = sorted_decide d k all rivals sorted rise c.sort_by_places.ensures.same kept in
+    let rise : IsSorted by_columns (map (rank d k.columns) sorted) =
+    subst (λ (cs : List ℕ). IsSorted by_columns (map (rank d cs) sorted)) c.deref.ensures.value
+    c.sort_by_ranks.ensures.sorted in
+    let told = sorted_decide d k all rivals sorted rise c.sort_by_ranks.ensures.same kept in
     search (rules, tests, told)

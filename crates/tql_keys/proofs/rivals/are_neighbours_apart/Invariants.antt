@@ -3,7 +3,7 @@ use Rattle.std.specs.Prelude.{not}
 use Rattle.tql_spec.specs.Constraint.{clash}
 use Rattle.tql_catalog.specs.Definitions.{key_of}
 use Rattle.tql_expr.specs.Shown.{shown_by}
-use Rattle.tql_keys.specs.Places.{all_neighbours}
+use Rattle.tql_keys.specs.Ranks.{all_neighbours}
 use Rattle.tql_keys.proofs.rivals.are_neighbours_apart.Given as goal
 
 -- the rows that are left decide

@@ -3,7 +3,7 @@ use Rattle.std.proofs.lemmas.Fn.{filter_same}
 use Rattle.tql_catalog.specs.Definitions.{key_of}
 use Rattle.tql_expr.specs.Shown.{shown_by}
 use Rattle.tql_expr.specs.declared.stored.StoredRow.{StoredRow}
-use Rattle.tql_keys.specs.Places.{can_clash}
+use Rattle.tql_keys.specs.Ranks.{can_clash}
 use Rattle.tql_keys.proofs.SortedRivals.{map_where}
 use Rattle.tql_keys.proofs.rivals.keep_rivals.Goals as goal
 

@@ -37,10 +37,26 @@ returns-clause-quiet c =
     c.in_ok-command.ensures in
     record { set = λ e. c.get_flag-2.ensures.value (told ∙ e); clear = λ e. c.get_flag-2.ensures.other (told ∙ e) }
 
+pub returns-clause-memory : goal.returns-clause-memory
+returns-clause-memory c =
+    let has = c.in_ok-matches.ensures.matches (ap is_simple c.in_ok-command.ensures ∙ is_plain) in
+    c.get_str.ensures ∙ first_value-rows (found_of c.in_ok-matches.matches) (codes "memory")
+    ∙ ap (first_of (codes "memory")) has.0
+    ∙ ap (λ a. first_of (codes "memory") (matches_of a (map (λ s. string_bytes s) c.args.words.now)))
+    c.in_ok-command.ensures
+
+pub returns-clause-format : goal.returns-clause-format
+returns-clause-format c =
+    let has = c.in_ok-matches.ensures.matches (ap is_simple c.in_ok-command.ensures ∙ is_plain) in
+    c.get_str-2.ensures ∙ first_value-rows (found_of c.in_ok-matches.matches) (codes "format")
+    ∙ ap (first_of (codes "format")) has.0
+    ∙ ap (λ a. first_of (codes "format") (matches_of a (map (λ s. string_bytes s) c.args.words.now)))
+    c.in_ok-command.ensures
+
 pub returns-clause-word : goal.returns-clause-word
 returns-clause-word c =
     let has = c.in_ok-matches.ensures.matches (ap is_simple c.in_ok-command.ensures ∙ is_plain) in
-    c.get_str.ensures ∙ first_value-rows (found_of c.in_ok-matches.matches) (codes "SCRIPT")
+    c.get_str-3.ensures ∙ first_value-rows (found_of c.in_ok-matches.matches) (codes "SCRIPT")
     ∙ ap (first_of (codes "SCRIPT")) has.0
     ∙ ap (λ a. first_of (codes "SCRIPT") (matches_of a (map (λ s. string_bytes s) c.args.words.now)))
     c.in_ok-command.ensures

@@ -1,6 +1,7 @@
--- `deallocate` gives the block to the inner allocator, and leaves the grants alone.
+-- `deallocate` gives the block to the inner allocator, and counts it no more.
 use Rattle.std.proofs.Common.{◌≡◌, ℕ, List, [], ◌∷◌, refl, w64}
 use Rattle.std.proofs.raw_atomic.Walks.{proved}
+use lib.Dec.{lit<}
 use base.Logic.{fst∗, never}
 use base.Fml.{ftrue, fsep, flft}
 use mir.MapTy.{inst_fn}
@@ -23,12 +24,15 @@ use denote.Triple.Call.{calls_at}
 use denote.Triple.Clauses.{Ended}
 use denote.Triple.Table.{framed}
 use denote.Triple.Walked.{Stays, stay_dropped, walk_of, ends_at, Goes-dropped}
-use types.Kit.{‵, raw, ◌⊛◌, later, given, prop, group, ◌$◌, ◌∵◌, !, qed, done, move, keep, use1, split, split3, learn}
+use types.Kit.{‵, raw, ◌⊛◌, later, given, prop, group, ◌$◌, ◌∵◌, !, qed, done, move, keep, use1, use2, split, split3}
+use types.Kit.{learn}
 use types.Kit.{fsplit, fjoin, feq_i, await, regoal, suffices}
-use types.Run.{enter, addr, stop, fld, no_more, and_then, of_opd, unit_lit, returns}
+use types.Run.{enter, addr, stop, fld, lit, no_more, and_then, of_opd, unit_lit, returns}
 use types.ByLocal.{alloc_all, pass_all, free_all, look_at, get, through, sets, lands_as}
 use Rattle.std.proofs.alloc.Calls.{Al, seen, token, Gives, at_gives, Gives-goes, Gives-Gives}
-use Rattle.tql_memory.proofs.Fields.{at_inner, self, inner_place, left_place, grants_seen, fields_seen}
+use Rattle.tql_memory.proofs.Fields.{at_inner, self, inner_place, grants_place, Granted, grants_seen, fields_seen}
+use Rattle.tql_memory.proofs.Counted.{Counts, at_count, count_goes, count_gives}
+use Rattle.tql_memory.proofs.Grants.count.Met.{met as counts}
 use Rattle.tql_memory.specs.contracts.CountingAllocator.deallocate as f
 use Rattle.tql_memory.proofs.CountingAllocator.deallocate.Statement.{statement}
 use Rattle.tql_memory.proofs.CountingAllocator.deallocate.Code as code
@@ -61,6 +65,7 @@ deallocate_spec 𝓤 𝓛 𝓜 𝓡 wired Y L g d dd met _ =
     (λ κs qs bounds a τ are.
     let κ = κs.0 in let q = qs.0 in let r = a.0 in let n = a.1.1.0 in let al = a.1.1.1.0 in
     let h = r.now.inner in let p : ℕ × ℕ = inner_place Z r.ref_ptr in
+    let g' : Granted = r.now.grants in let p' : ℕ × ℕ = grants_place Z r.ref_ptr in
     let vs : Ptr → List Val = λ x. vptr r.ref_ptr.0 r.ref_ptr.1 ∷ ptr_val x ∷ vint w64 n ∷ vint w64 al ∷ [] in
     let y : Ptr → W.Ghost =
     λ x. (
@@ -83,9 +88,9 @@ deallocate_spec 𝓤 𝓛 𝓜 𝓡 wired Y L g d dd met _ =
     regoal ! (λ x. prop (WpFn 𝓤 𝓛.H 𝓣.C 𝓣.Λ here (vs x) (W.post (y x)))) e refl $
     let G = Gives Z 𝓛 𝓜.mem 𝓡.returns in let z : G.Ghost = at_gives Z 𝓛 𝓜.mem 𝓡.returns κ q p h b o n al τ in
     fsplit ! $ move ! (2 ∷ []) $ split ! $ split3 ! $ move ! (3 ∷ []) $ fsplit ! $ fsplit ! $ move ! (1 ∷ []) $
-    use1 𝓛 (‵ (seen Z κ p h) ⊛ ‵ (grants_seen κ (left_place Z r.ref_ptr))) (fields_seen Z 𝓛 κ r) $ split ! $ keep !
-    (7 ∷ 8 ∷ 0 ∷ 4 ∷ 5 ∷ []) $
-    -- [the block; the right to free it; the inner allocator; the tokens of the two lifetimes]
+    use1 𝓛 (‵ (seen Z κ p h) ⊛ ‵ (grants_seen κ p' g')) (fields_seen Z 𝓛 κ r) $ split ! $ keep !
+    (7 ∷ 8 ∷ 0 ∷ 4 ∷ 1 ∷ 5 ∷ []) $
+    -- [the block; the right to free it; the inner allocator; the token of its lifetime; the grants; the other token]
     enter ! _ _ _ _ _ $ alloc_all !
     (λ l. pass_all ! refl
     ((tt, tt), ((tt, tt), ((tt, record { fits = are.1.1.0.1 }), ((tt, record { fits = are.1.1.1.0.1 }), tt)))) $
@@ -98,10 +103,19 @@ deallocate_spec 𝓤 𝓛 𝓜 𝓡 wired Y L g d dd met _ =
     (and_then ! (get ! refl) (and_then ! (get ! refl) (and_then ! (get ! refl) (no_more !))))) (λ v.
     use1 𝓛 (later (given (v ≡ vunit) (‵ (flft κ q)))) (Gives-Gives Z 𝓛 𝓜.mem 𝓡.returns κ q p h b o n al τ v) $ await
     ! tt $ learn ! (λ is_unit.
-    lands_as ! is_unit refl (tt, tt) $ sets ! (of_opd ! (unit_lit !)) refl (tt, tt) $ returns ! (look_at ! 0 refl) $
+    lands_as ! is_unit refl (tt, tt) $ sets ! (addr ! (through ! refl (fld ! refl (stop !)))) refl (tt, tt) $ move !
+    (1 ∷ 0 ∷ []) $
+    let K = Counts 𝓛 𝓜.mem 𝓡.returns in let k : K.Ghost = at_count 𝓛 𝓜.mem 𝓡.returns κ q p' g' n 0 1 in
+    use2 𝓛 (raw (K.pre k)) (count_goes 𝓛 𝓜.mem 𝓡.returns κ q p' g' n 0 1 are.1.1.0.1 (lit< tt) (lit< tt)) $
+    calls_at ! (framed 𝓤 𝓛.H 𝓜 𝓣) K (counts 𝓤 𝓛 𝓜 𝓡 (code.calls-tql_memory::Grants::count 𝓡.env wired)) k
+    (and_then ! (get ! refl) (and_then ! (get ! refl) (and_then ! (lit ! tt) (and_then ! (lit ! tt) (no_more !)))))
+    (λ u.
+    use1 𝓛 (later (given (u ≡ vunit) (‵ (flft κ q)))) (count_gives 𝓛 𝓜.mem 𝓡.returns κ q p' g' n 0 1 u) $ await ! tt $
+    learn ! (λ is.
+    lands_as ! is refl (tt, tt) $ sets ! (of_opd ! (unit_lit !)) refl (tt, tt) $ returns ! (look_at ! 0 refl) $
     free_all ! refl $
     suffices ! _ (ends_at 𝓛 (ended Z) (stayed Z) c (y (block_ptr b o)) vunit tt (tt, (tt, (tt, (tt, tt))))
     (tt, (tt, (tt, (tt, tt))))) $
     nothing ! $ feq_i ! _ (vunit ∷ []) _ refl $ nothing ! $ nothing ! $ fjoin ! $ nothing ! $ fjoin ! $ nothing ! $
     fjoin ! $ nothing ! $ fjoin ! $
-    nothing ! $ move ! (4 ∷ 5 ∷ 0 ∷ []) $ group ! 3 $ group ! 3 $ done !)))))))
+    nothing ! $ move ! (4 ∷ 5 ∷ 0 ∷ []) $ group ! 3 $ group ! 3 $ done !)))))))))

@@ -10,5 +10,5 @@ returns-clause-linked c = λ basis standing shut h.
     c.swap_remove.ensures.items in
     linked_dropped basis standing c.args.seats.now c.swap.new.self c.args.versions.now.items
     c.swap_remove.new.self.items c.args.place (c.len-last.result - 1) c.swap_remove.result c.requires
-    (first_of (search rules, grind (arith, common_steps))) c.swap.ensures d.size
+    (first_of (search rules, grind (arith, common_steps))) c.swap.ensures.swapped d.size
     c.swap_remove.ensures.value d.there d.others shut h

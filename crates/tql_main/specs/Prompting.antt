@@ -1,0 +1,24 @@
+-- What was typed of a script.
+use Rattle.std.specs.Prelude.{ℕ, Bool, true, false, not, ◌||◌, ◌&&◌, ◌==◌, if◌then◌else◌}
+use Rattle.tql_spec.specs.Script.{ScanState, Outside, AfterDash, InText, InName, InComment, can_end, is_blank}
+use Rattle.tql_main.specs.declared.prompts.Place.{Place}
+use Rattle.tql_main.specs.declared.prompts.Place.TheVariants as place
+
+-- places of the code
+abbrev pub place_of : Place → ScanState
+place_of place.Outside = Outside
+place_of place.AfterDash = AfterDash
+place_of place.InText = InText
+place_of place.InName = InName
+place_of place.InComment = InComment
+
+-- whether a byte, with a `-` before it where it stands behind one, is of a statement's text
+abbrev pub counts : ScanState → ℕ → Bool
+counts Outside b = not (is_blank b || (b == 45))
+counts AfterDash b = not (b == 45)
+counts InComment b = false
+counts _ b = true
+
+-- whether a statement is begun behind a byte: a `;` that can end one does
+abbrev pub begun_by : ScanState → Bool → ℕ → Bool
+begun_by s is_begun b = if (b == 59) && can_end s then false else is_begun || counts s b

@@ -1,0 +1,264 @@
+//! Scripts whose answers are printed as comma-separated values, or as JSON.
+ghost use Rattle.std.specs.Prelude.{IsTrue, OnOk};
+ghost use Rattle.tql_value.specs.Points.{ArePrintable};
+ghost use Rattle.tql_result.specs.Replies.{table_rows, answer_of, IsPrintableAnswer};
+
+use std::io::{self, BufWriter, Read};
+use tql_check::check::Checker;
+use tql_engine::engine::Engine;
+use tql_memory::memory_within;
+use tql_result::answer::Answer;
+use tql_result::device::DeviceFault;
+use tql_result::pieces::push_all;
+use tql_result::reply::{Reply, Verb};
+use tql_result::sink::Sink;
+use tql_result::std_sink::StdSink;
+use tql_result_forms::csv::write_csv_table;
+use tql_result_forms::json::write_json_answer;
+use tql_run::device::Source;
+use tql_run::responder::Responder;
+use tql_run::runner::{Fault, MOST_PULLS, Summary};
+use tql_run::session::Session;
+use tql_run::std_source::StdSource;
+use tql_value::refusal::Refusal;
+use tql_value::value::ResultTable;
+
+/// How many bytes of a script are read at once.
+const PART: usize = 65_536;
+
+/// In which form answers are printed.
+#[derive(Clone, Copy, PartialEq, Eq, Debug)]
+pub(crate) enum Form {
+    /// The tables as comma-separated values, an empty line between each two. What is done goes to the standard error.
+    Csv,
+    /// Each answer as one JSON object on one line.
+    Json,
+}
+
+/// What prints the answers of a script in a form, and counts them.
+#[derive(Drop)]
+struct Printer<'a, E: Eprint> {
+    rt: &'a E,
+    form: Form,
+    quiet: bool,
+    has_table: bool,
+    summary: Summary,
+}
+
+impl<'a, E: Eprint> Printer<'a, E> {
+    /// A printer that has printed nothing.
+    fn new(rt: &'a E, form: Form, quiet: bool) -> Printer<'a, E> {
+        Printer {
+            rt,
+            form,
+            quiet,
+            has_table: false,
+            summary: Summary {
+                statements: 0,
+                refused: 0,
+            },
+        }
+    }
+
+    /// Tells the standard error what is done, unless it is to be quiet.
+    fn say_done(&self, verb: Verb, count: Option<u64>) {
+        if self.quiet {
+            return;
+        }
+        let words = verb.text();
+        let _ = match count {
+            None => eprintln!(self.rt; "{words}"),
+            Some(n) => eprintln!(self.rt; "{words} {n}"),
+        };
+    }
+
+    /// Tells the standard error that a statement is checked and has no fault, unless it is to be quiet.
+    fn say_accepted(&self) {
+        if !self.quiet {
+            let _ = eprintln!(self.rt; "OK");
+        }
+    }
+
+    /// Tells the standard error that a statement is refused, unless it is to be quiet.
+    fn complain(&self, line: u64, refusal: Refusal) {
+        if !self.quiet {
+            let statement = self.summary.statements;
+            let text = refusal.text();
+            let _ = eprintln!(self.rt; "tql: statement {statement}, line {line}: {text}");
+        }
+    }
+
+    /// Pushes a table as comma-separated values, behind an empty line if it is not the first.
+    fn print_table<S: Sink>(&mut self, sink: &mut S, table: &ResultTable) -> Result<(), DeviceFault>
+        requires { ArePrintable (table_rows table.now) }
+    {
+        if self.has_table {
+            push_all(sink, b"\r\n")?;
+        }
+        self.has_table = true;
+        write_csv_table(sink, table)
+    }
+
+    /// Pushes a table as comma-separated values; any other answer goes to the standard error.
+    fn print_csv<S: Sink>(
+        &mut self,
+        sink: &mut S,
+        line: u64,
+        answer: &Answer,
+    ) -> Result<(), DeviceFault>
+        requires { IsPrintableAnswer (answer_of answer.now) }
+    {
+        match answer {
+            Answer::Replied(Reply::Table(table)) => return self.print_table(sink, table),
+            Answer::Replied(Reply::Done(verb, count)) => self.say_done(*verb, *count),
+            Answer::Replied(Reply::Refused(refusal)) => self.complain(line, *refusal),
+            Answer::Accepted => self.say_accepted(),
+        }
+        Ok(())
+    }
+
+    /// Pushes an answer as a line of JSON; of a refusal the standard error is told too.
+    fn print_json<S: Sink>(
+        &mut self,
+        sink: &mut S,
+        line: u64,
+        answer: &Answer,
+    ) -> Result<(), DeviceFault>
+        requires { IsPrintableAnswer (answer_of answer.now) }
+    {
+        write_json_answer(sink, self.summary.statements, line, answer)?;
+        if let Answer::Replied(Reply::Refused(refusal)) = answer {
+            self.complain(line, *refusal);
+        }
+        Ok(())
+    }
+
+    /// Counts an answer, and prints it.
+    fn print<S: Sink>(
+        &mut self,
+        sink: &mut S,
+        line: u64,
+        answer: &Answer,
+    ) -> Result<(), DeviceFault>
+        requires { IsPrintableAnswer (answer_of answer.now) }
+    {
+        self.summary.statements = self.summary.statements.saturating_add(1);
+        if let Answer::Replied(Reply::Refused(_)) = answer {
+            self.summary.refused = self.summary.refused.saturating_add(1);
+        }
+        match self.form {
+            Form::Csv => self.print_csv(sink, line, answer),
+            Form::Json => self.print_json(sink, line, answer),
+        }
+    }
+}
+
+/// Answers the statements that are whole, prints their answers, and has the sink pass them on.
+fn answer_ready<E: Eprint, R: Responder, O: Sink>(
+    printer: &mut Printer<'_, E>,
+    session: &mut Session,
+    responder: &mut R,
+    sink: &mut O,
+) -> Result<(), DeviceFault>
+    ensures { OnOk result (IsTrue (O.flushed sink.new)) }
+{
+    while let Some(answer) = session.next_answer(responder) {
+        printer.print(sink, session.line(), &answer)?;
+    }
+    sink.flush()
+}
+
+/// Answers what is left of a script that was read to its end.
+fn answer_rest<E: Eprint, R: Responder, O: Sink>(
+    printer: &mut Printer<'_, E>,
+    session: &mut Session,
+    responder: &mut R,
+    sink: &mut O,
+) -> Result<Summary, Fault> {
+    session.finish();
+    match answer_ready(printer, session, responder, sink) {
+        Ok(()) => Ok(printer.summary),
+        Err(_) => Err(Fault::Write),
+    }
+}
+
+/// Reads a script from the source, and prints what each of its statements is answered as soon as it is whole.
+fn converse<E: Eprint, R: Responder, I: Source<O>, O: Sink>(
+    printer: &mut Printer<'_, E>,
+    session: &mut Session,
+    responder: &mut R,
+    source: &mut I,
+    sink: &mut O,
+    buffer: &mut [u8],
+) -> Result<Summary, Fault> {
+    for _pull in 0..MOST_PULLS {
+        match answer_ready(printer, session, responder, sink) {
+            Ok(()) => {}
+            Err(_) => return Err(Fault::Write),
+        }
+        match source.pull(sink, buffer) {
+            Err(_) => return Err(Fault::Read),
+            Ok(count) => {
+                if count == 0 {
+                    return answer_rest(printer, session, responder, sink);
+                }
+                session.feed(&buffer[..count]);
+            }
+        }
+    }
+    Err(Fault::Read)
+}
+
+/// Answers a script by a responder, and prints the answers in a form.
+fn answer_in<R: Responder, I: Read + Drop>(
+    rt: &(impl Print + Eprint + AllocGlobal),
+    responder: &mut R,
+    form: Form,
+    quiet: bool,
+    reader: I,
+) -> Result<Summary, Fault> {
+    let memory = responder.memory();
+    let mut session = Session::new(memory)?;
+    let mut buffer = vec![in memory; 0u8; PART]?;
+    let writer = BufWriter::new(rt.alloc(), io::writer(rt)).map_err(|_| Fault::Memory)?;
+    let mut sink = StdSink::new(writer);
+    let mut source = StdSource::new(reader);
+    let mut printer = Printer::new(rt, form, quiet);
+    converse(
+        &mut printer,
+        &mut session,
+        responder,
+        &mut source,
+        &mut sink,
+        &mut buffer,
+    )
+}
+
+/// Runs a script on a new engine, within so many bytes of memory, and prints the replies in a form: as comma-separated
+/// values, of which the standard output has the tables alone, an empty line between each two, or as JSON, each answer
+/// an object on a line. Of refusals, and in the first form of what is done, the standard error is told, but not where
+/// it is to be quiet. Each statement is answered as soon as it is whole, and its answer passed on before more is read.
+pub(crate) fn run_formatted<I: Read + Drop>(
+    rt: &(impl Print + Eprint + AllocGlobal),
+    form: Form,
+    quiet: bool,
+    most: usize,
+    reader: I,
+) -> Result<Summary, Fault> {
+    let memory = memory_within(rt.alloc(), most)?;
+    let mut engine = Engine::new(memory);
+    answer_in(rt, &mut engine, form, quiet, reader)
+}
+
+/// Checks a script, and prints in a form what each of its statements is answered, as `run_formatted` does.
+pub(crate) fn check_formatted<I: Read + Drop>(
+    rt: &(impl Print + Eprint + AllocGlobal),
+    form: Form,
+    quiet: bool,
+    most: usize,
+    reader: I,
+) -> Result<Summary, Fault> {
+    let memory = memory_within(rt.alloc(), most)?;
+    let mut checker = Checker::new(memory);
+    answer_in(rt, &mut checker, form, quiet, reader)
+}

@@ -1,0 +1,5 @@
+pub mod Escaping
+pub mod Lines
+pub mod Parting
+pub mod Placing
+pub mod Quoting

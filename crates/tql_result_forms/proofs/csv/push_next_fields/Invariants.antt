@@ -1,0 +1,13 @@
+use Rattle.std.proofs.Common.{◌∷◌, drop}
+use Rattle.std.specs.List.{flat_map}
+use Rattle.tql_spec.specs.Csv.{field}
+use Rattle.tql_value.specs.Views.{datum_of_value}
+use Rattle.tql_result.proofs.Pushing.{Sent}
+use Rattle.tql_result_forms.proofs.csv.push_next_fields.Given as goal
+
+abbrev pub invariant-loop-cell : goal.invariant-loop-cell
+invariant-loop-cell g l =
+    Sent (flat_map (λ v. 44 ∷ field (datum_of_value v)) l.cells)
+    (flat_map (λ v. 44 ∷ field (datum_of_value v)) (drop l.cell-index l.cells))
+    (g.S.Sink.written l.initial.sink) (g.S.Sink.written l.sink) (g.S.Sink.failures l.initial.sink)
+    (g.S.Sink.failures l.sink)

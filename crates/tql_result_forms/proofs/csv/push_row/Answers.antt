@@ -1,0 +1,8 @@
+use Rattle.tql_result.proofs.Pushing.{joined, ended}
+use Rattle.tql_result_forms.proofs.csv.push_row.Goals as goal
+
+pub returns-in_err-push_joined_fields : goal.returns-in_err-push_joined_fields
+returns-in_err-push_joined_fields g c = ended _ _ c.from_residual.ensures.0 c.in_err-push_joined_fields.ensures
+
+pub returns : goal.returns
+returns g c = joined c.in_ok-push_joined_fields.ensures c.push_all.ensures

@@ -1,0 +1,13 @@
+use Rattle.std.proofs.Common.{length}
+use Rattle.std.specs.List.{flat_map}
+use Rattle.tql_spec.specs.Json.{escaped}
+use Rattle.tql_result.proofs.Pushing.{Sent}
+use Rattle.tql_result_forms.proofs.escape.push_escapes.Given as goal
+
+abbrev pub decreases-loop-front : goal.decreases-loop-front
+decreases-loop-front g l = length l.rest
+
+abbrev pub invariant-loop-front : goal.invariant-loop-front
+invariant-loop-front g l =
+    Sent (flat_map escaped l.text) (flat_map escaped l.rest) (g.S.Sink.written l.initial.sink)
+    (g.S.Sink.written l.sink) (g.S.Sink.failures l.initial.sink) (g.S.Sink.failures l.sink)

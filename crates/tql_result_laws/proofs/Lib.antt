@@ -1,0 +1,9 @@
+pub mod Cells
+pub mod Cuts
+pub mod Dates
+pub mod Fields
+pub mod Objects
+pub mod Openings
+pub mod Strings
+pub mod Whole
+pub mod Words
