@@ -21,15 +21,20 @@ from copying.values import MOMENT
 
 FOLDER = Path(__file__).resolve().parent.parent / "crates" / "test_cases" / "data" / "cases" / "copies"
 HEAD = "-- Made at random (tools/copies.py). The text comes from a machine that copies its tables at every commit.\n"
-# How many scripts, how many statements each has besides its beginning and its end, and of how many scripts each growth is refused in turn.
-SCRIPTS, LENGTH, IN_TURN = 200, 40, 10
+# How many scripts, how many of them without PRUNE HISTORY, the first ones; how many statements each has besides its beginning and its end; and of
+# how many of either sort each growth is refused in turn.
+SCRIPTS, PLAIN, LENGTH, IN_TURN = 240, 200, 40, 10
 
 
 def script(seed: int) -> tuple[str, str]:
     """A script that begins with three definitions and some rows, and at its end asks what all tables hold and held; and what the machine
     prints."""
     machine = Machine()
-    maker, sql, text = Maker(seed, machine), ("-- cases: in-turn\n" if seed <= IN_TURN else "") + HEAD, ""
+    prunes = seed > PLAIN
+    maker, sql, text = Maker(seed, machine, prunes), "", ""
+    if seed - (PLAIN if prunes else 0) <= IN_TURN:
+        sql = "-- cases: in-turn\n"
+    sql += HEAD
 
     def add(statement) -> None:
         nonlocal sql, text
@@ -47,7 +52,7 @@ def script(seed: int) -> tuple[str, str]:
     for table in machine.tables.values():
         add(everything(table.name))
         if table.system:
-            add(everything(table.name, Span("between", [maker.written(MOMENT, BEGIN), maker.written(MOMENT, machine.next)])))
+            add(everything(table.name, Span("between", [maker.written(MOMENT, max(BEGIN, machine.horizon)), maker.written(MOMENT, machine.next)])))
     return sql, text
 
 

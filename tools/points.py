@@ -8,7 +8,7 @@ A question asks what holds on one day, or on each of the forty, now or as of a m
 to each machine as its day sees it: of an INSERT the tuples whose period holds the day, an UPDATE or a DELETE whole on the days of its portion
 and not at all on the others. Each machine has the CHECKs, plain keys in the place of those without overlaps, and plain references. Where one
 refuses a change, it is refused, with the first of their refusals, and no machine takes it. Only the counts, of which a day can say nothing,
-come from a list of rows, each with the set of its days. It reads no SQL, and shares nothing with the engine.
+come from a list of rows, each with the set of its days. PRUNE HISTORY is given to all. It reads no SQL, and shares nothing with the engine.
 """
 import sys
 from pathlib import Path
@@ -19,14 +19,14 @@ from days.machines import Database
 from days.makers import HEAD, Maker, calendar
 
 FOLDER = Path(__file__).resolve().parent.parent / "crates" / "test_cases" / "data" / "cases" / "points"
-# How many scripts, and how many statements each has before its last questions.
-SCRIPTS, LENGTH = 200, 34
+# How many scripts, how many of them without PRUNE HISTORY, the first ones; and how many statements each has before its last questions.
+SCRIPTS, PLAIN, LENGTH = 240, 200, 34
 
 
 def script(which: int) -> tuple:
     """A script and its text."""
     database = Database()
-    maker = Maker(which, database)
+    maker = Maker(which, database, which > PLAIN)
     lines, text = [], ""
     begin = [maker.beginning(), *maker.definitions()]
     while begin or len(lines) < LENGTH:

@@ -99,6 +99,8 @@ class Insert:
 class Change:
     """UPDATE and DELETE. A SET is (the column's name, a cell)."""
 
+    select = None
+
     def __init__(self, verb: str, table: str, portion: "Portion | None", sets: list, where) -> None:
         self.verb, self.table, self.portion, self.sets, self.where = verb, table, portion, sets, where
 

@@ -1,8 +1,9 @@
-"""A machine that copies all of its tables at every commit, and tests every key and every reference of every copy, point by point."""
+"""A machine that copies all of its tables at every commit, and tests every key and every reference of every copy, point by point. PRUNE HISTORY
+lets go of the copies before the horizon."""
 from copying.changes import completed
 from copying.queries import Select
 from copying.tables import Key, Reference, Table, define
-from copying.values import E20, E24, E30, E35, E36, E40, E41, HIGH, Refused, first
+from copying.values import E20, E24, E30, E35, E36, E40, E41, E45, HIGH, Refused, first
 
 
 def held(rows: list, places: tuple) -> list:
@@ -37,12 +38,13 @@ def is_met(table: Table, reference: Reference, rows: list, parents: list) -> boo
 
 class Machine:
     """The copies of all commits, the oldest first, with their moments; the tables; the moment of the next commit. An open transaction counts as
-    the last commit. A row of a copy is its values, of which the generated ones are empty, with the moment of its commit."""
+    the last commit. A row of a copy is its values, of which the generated ones are empty, with the moment of its commit. No question is asked
+    of what lies before the horizon."""
 
     def __init__(self) -> None:
         self.commits: list = []
         self.tables: dict = {}
-        self.is_open, self.next = False, 0
+        self.is_open, self.next, self.horizon = False, 0, 0
 
     # ---- what is there
 
@@ -82,8 +84,11 @@ class Machine:
         if faults:
             raise Refused(first(faults))
 
+    def horizon_faults(self, query: "Select | None") -> list:
+        return [E45] if query and query.asks_before(self.horizon) else []
+
     def select(self, query: Select) -> str:
-        self.stop(query.bind(self.tables))
+        self.stop(query.bind(self.tables) + self.horizon_faults(query))
         return query.printed(self.asked)
 
     def insert(self, change) -> str:
@@ -99,7 +104,7 @@ class Machine:
         """The rows of the table after a change, and how many it inserts or touches."""
         if not self.is_open and self.next == HIGH:
             raise Refused(E41)
-        self.stop(change.bind(self.tables))
+        self.stop(change.bind(self.tables) + self.horizon_faults(change.select))
         table = self.tables[change.table]
         stay, come, count, faults = change.rows(table, self.rows(change.table), self.asked)
         self.stop(faults + [it for row in come for it in table.row_faults(row)])
@@ -171,6 +176,17 @@ class Machine:
         self.next = at.moment.value
         return "AT\n"
 
+    def prune(self, prune) -> str:
+        self.rest()
+        moment = prune.moment.value
+        if moment is None:
+            raise Refused(E30)
+        if moment < self.horizon:
+            raise Refused(E45)
+        kept = max((at for at, (it, _) in enumerate(self.commits) if it <= moment), default=0)
+        self.commits, self.horizon = self.commits[kept:], moment
+        return "PRUNE HISTORY\n"
+
     def odd(self, odd) -> str:
         raise Refused(odd.why)
 
@@ -190,6 +206,11 @@ class Drop:
 class At:
     def __init__(self, moment) -> None:
         self.moment, self.text = moment, f"AT {moment.text}"
+
+
+class Prune:
+    def __init__(self, moment) -> None:
+        self.moment, self.text = moment, f"PRUNE HISTORY BEFORE {moment.text}"
 
 
 class Odd:

@@ -3,7 +3,7 @@ from copying.changes import Change, Insert, Portion
 from copying.conditions import Aggregate, All, Compare, Literal, Null
 from copying.counter import BEGIN, NONE, SOME, Counter, alone
 from copying.definitions import Definitions
-from copying.machine import At, Drop, Machine, Odd, Turn
+from copying.machine import At, Drop, Machine, Odd, Prune, Turn
 from copying.queries import From, Select, Span
 from copying.tables import SYSTEM, Definition, Table
 from copying.values import DAY, E10, E14, HIGH, MOMENT, NUMBER, SORTS, Refused, named
@@ -14,11 +14,11 @@ ODD = ("SELECT x FROM log WHERE", "INSERT INTO t", "CREATE TABLE t (x INTEGER PR
 
 
 class Maker(Counter):
-    """Statements."""
+    """Statements, and PRUNE HISTORY among them where that is wanted."""
 
-    def __init__(self, seed: int, machine: Machine) -> None:
+    def __init__(self, seed: int, machine: Machine, prunes: bool = False) -> None:
         super().__init__(seed)
-        self.machine, self.definitions = machine, Definitions(self, machine)
+        self.machine, self.definitions, self.prunes = machine, Definitions(self, machine), prunes
 
     def table(self, takes=None) -> Table:
         """A table that is there, mostly one of the wanted sort."""
@@ -278,6 +278,10 @@ class Maker(Counter):
         base = self.machine.commits[-1][0] if self.machine.commits else BEGIN
         return At(self.clock(self.moment() if which < 5 else base + (1 if which < 9 else step)))
 
+    def prune(self) -> Prune:
+        """A horizon at a commit or beside it, seldom at the highest moment."""
+        return Prune(self.clock(HIGH if self.one_in(24) else self.moment()))
+
     def drop(self) -> Drop:
         name = self.any_of([*self.machine.tables, "NOSUCH"])
         return Drop(name, f"DROP TABLE {named(name)}{self.any_of(('', ' RESTRICT'))}")
@@ -288,6 +292,8 @@ class Maker(Counter):
         return Odd(self.any_of(ODD), E10)
 
     def statement(self):
+        if self.prunes and self.one_in(12):
+            return self.prune()
         which = self.below(60)
         if which < 20:
             return self.insert()
@@ -317,6 +323,8 @@ class Maker(Counter):
         """Whether it is refused in an open transaction, touches no row, or answers none."""
         if isinstance(statement, (At, Drop, Definition)):
             return self.machine.is_open
+        if isinstance(statement, Prune):
+            return self.machine.is_open or (statement.moment.value or 0) < self.machine.horizon
         try:
             if isinstance(statement, (Insert, Change)):
                 return self.machine.changed(statement)[1] == 0

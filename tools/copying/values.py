@@ -8,7 +8,7 @@ E21, E22, E23 = "E21 name unknown, ambiguous or repeated", "E22 types do not fit
 E24, E30, E31 = "E24 table is referenced", "E30 value out of range", "E31 portion not rising"
 E32, E33, E34 = "E32 null not allowed", "E33 period not rising", "E34 check failed"
 E35, E36 = "E35 duplicate key", "E36 reference not met"
-E40, E41 = "E40 not in this transaction state", "E41 moment not allowed"
+E40, E41, E45 = "E40 not in this transaction state", "E41 moment not allowed", "E45 before the horizon"
 
 NUMBER, TEXT, DAY, MOMENT = "number", "text", "day", "moment"
 SORTS = (NUMBER, TEXT, DAY, MOMENT)
@@ -34,8 +34,9 @@ def number(value: int) -> int:
 
 
 def first(faults) -> "str | None":
-    """The first of these refusals in the order of report, which is that of their numbers: of those that stand beside each other here."""
-    return min(faults, default=None)
+    """The first of these refusals in the order of report: of those that stand beside each other here that is the order of their numbers, but
+    E45 stands before E30."""
+    return min(faults, default=None, key=lambda it: (it >= E30 and it != E45, it))
 
 
 def day_of(year: int, month: int, day: int) -> int:

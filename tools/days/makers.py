@@ -60,10 +60,10 @@ def calendar(points) -> tuple:
 
 
 class Maker:
-    """Numbers that look like chance, and are the same in every run; and what they make."""
+    """Numbers that look like chance, and are the same in every run; and what they make, PRUNE HISTORY too where that is wanted."""
 
-    def __init__(self, seed: int, database: Database) -> None:
-        self.state, self.database = seed, database
+    def __init__(self, seed: int, database: Database, prunes: bool = False) -> None:
+        self.state, self.database, self.prunes = seed, database, prunes
         for _ in range(3):
             self.below(2)
         self.kind = self.any_of(("DATE", "DATE", "TIMESTAMP"))
@@ -288,6 +288,11 @@ class Maker:
         moment = self.moment() if self.one_in(4) else self.database.next + self.below(2_000_000)
         return f"AT {clock(moment)}", ("at", moment)
 
+    def prune(self) -> tuple:
+        """A horizon at a commit or beside it."""
+        moment = self.moment()
+        return f"PRUNE HISTORY BEFORE {clock(moment)}", ("prune", moment)
+
     def drop(self) -> tuple:
         """Of a table that another one refers to."""
         parents = [parent for table in self.database.tables for _, parent, _ in table.references]
@@ -296,6 +301,8 @@ class Maker:
         return f"DROP TABLE {parents[0].name}", ("drop", parents[0])
 
     def statement(self) -> tuple:
+        if self.prunes and self.one_in(12):
+            return self.prune()
         which = self.below(40)
         if which < 15:
             return self.insert()
@@ -316,7 +323,7 @@ class Maker:
     def is_dull(self, statement: tuple) -> bool:
         """Whether it is refused, or touches no row."""
         if statement[0] != "change":
-            return statement[0] == "falling" or statement[0] in ("at", "drop") and self.database.saved is not None
+            return statement[0] == "falling" or statement[0] in ("at", "drop", "prune") and self.database.saved is not None
         try:
             self.database.afters(statement[2])
             return self.database.touched(statement[2]) == 0

@@ -1,6 +1,7 @@
 //! A case: a script `NAME.sql`, and what it prints: run in `NAME.out`, checked in `NAME.check.out`, checked with its
-//! neighbours in `NAME.marks`.
+//! neighbours in `NAME.marks`; and in `NAME.err` what is told of its refused statements.
 use crate::compare::text_difference;
+use crate::complaints::{complaints_fault, telling_fault};
 use crate::growths::{growth_fault, turn_fault};
 use crate::neighbours::marks;
 use crate::runs::{Answering, Granted, answer};
@@ -130,18 +131,30 @@ fn listed_fault(
     Ok(fault)
 }
 
+/// Where what is told of a script's refused statements is not what is listed, or changes what is answered.
+fn told_fault(alloc: Global, script: &Script, listed: &[u8]) -> io::Result<Option<String>> {
+    let mut fault = complaints_fault(alloc, &script.bytes, listed)?;
+    if fault.is_none() && script.directives.by_growths {
+        fault = telling_fault(alloc, &script.bytes)?;
+    }
+    Ok(fault)
+}
+
 /// What is compared with a listed text.
 #[derive(Clone, Copy, PartialEq, Eq, Debug)]
 enum Listing {
     /// What a run or a check prints.
     Text(Answering),
+    /// What is told of the refused statements of a run.
+    Complaints,
     /// Which neighbours of its statements are statements.
     Marks,
 }
 
 /// What can be listed, and how the names of the files that list it end.
-const LISTINGS: [(Listing, &str); 3] = [
+const LISTINGS: [(Listing, &str); 4] = [
     (Listing::Text(Answering::Run), ".out"),
+    (Listing::Complaints, ".err"),
     (Listing::Text(Answering::Check), ".check.out"),
     (Listing::Marks, ".marks"),
 ];
@@ -190,6 +203,7 @@ fn fault_in(
                 refused,
             )
         }
+        Listing::Complaints => told_fault(alloc, script, listed),
         Listing::Marks => {
             let marks = marks(alloc, str::from_utf8(&script.bytes).unwrap_or("?"))?;
             Ok(text_difference(alloc, listed, marks.as_bytes())?)

@@ -16,7 +16,7 @@ pub fn names_in(rt: &HostRuntime, folder: &str) -> io::Result<Vec<String>> {
 /// The case that a file belongs to: its name without the ending of a script or of what is listed. A file with another
 /// ending is a case of its own, for which there is no script.
 fn case_of(file: &str) -> &str {
-    for ending in [".sql", ".check.out", ".out", ".marks"] {
+    for ending in [".sql", ".check.out", ".out", ".err", ".marks"] {
         if let Some(case) = file.strip_suffix(ending) {
             return case;
         }

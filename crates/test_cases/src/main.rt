@@ -6,6 +6,7 @@
 
 mod case;
 mod compare;
+mod complaints;
 mod folder;
 mod growths;
 mod neighbours;

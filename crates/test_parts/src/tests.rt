@@ -4,6 +4,7 @@ mod histories;
 mod indexes;
 mod memories;
 mod notes;
+mod prunings;
 mod runs;
 mod sessions;
 mod sinks;

@@ -28,6 +28,7 @@ fn verb(word: &str) -> Result<Verb, Stop> {
         "Committed" => Ok(Verb::Committed),
         "RolledBack" => Ok(Verb::RolledBack),
         "ClockSet" => Ok(Verb::ClockSet),
+        "Pruned" => Ok(Verb::Pruned),
         _ => Err(Stop::Form),
     }
 }

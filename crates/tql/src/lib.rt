@@ -1,10 +1,10 @@
 //! The engine for programs of your own: an in-memory bitemporal table engine, each of its answers proved.
 //!
 //! Make the memory that everything is kept in, and an engine in it; give it a script, or one statement after another,
-//! and read the replies. A run tells a listener which statements were refused, and on which lines. A script may come
-//! part by part: a `Session` is fed bytes as they come, and gives the answers as soon as their statements are whole.
-//! Nothing is kept when the engine is let go. A table is written as comma-separated values by `write_csv_table`, and an
-//! answer as JSON by `write_json_answer`.
+//! and read the replies. A run tells a listener which statements were refused, on which lines, and which word or name
+//! is meant, where that is known. A script may come part by part: a `Session` is fed bytes as they come, and gives the
+//! answers as soon as their statements are whole. Nothing is kept when the engine is let go. A table is written as
+//! comma-separated values by `write_csv_table`, and an answer as JSON by `write_json_answer`.
 //!
 //! ```text
 //! let memory = memory(rt.alloc(), u64::MAX)?;
@@ -21,6 +21,8 @@
 //! stands in its contract.
 #![tactic(auto)]
 
+pub use tql_detail::detail::Detail;
+pub use tql_detail::place::Place;
 pub use tql_engine::engine::Engine;
 pub use tql_engine::runner::{run, run_bytes};
 pub use tql_memory::{Memory, memory};
@@ -32,9 +34,10 @@ pub use tql_result::std_sink::StdSink;
 pub use tql_result::vec_sink::VecSink;
 pub use tql_result_forms::csv::write_csv_table;
 pub use tql_result_forms::json::write_json_answer;
+pub use tql_run::complaint::Complaint;
 pub use tql_run::device::{Input, Source};
 pub use tql_run::listener::Listener;
-pub use tql_run::note::Note;
+pub use tql_run::note::{Note, Told};
 pub use tql_run::notes::Notes;
 pub use tql_run::pushed::Pushed;
 pub use tql_run::runner::{Fault, Summary};

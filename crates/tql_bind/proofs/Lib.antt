@@ -1,4 +1,5 @@
 pub mod Gathered
+pub mod Limited
 pub mod Placed
 pub mod PlacedQueries
 pub mod Room

@@ -4,11 +4,11 @@ use Rattle.std.specs.Prelude.{IsTrue, not}
 use Rattle.tql_spec.specs.Binding.{bind, insert_columns, select, table_number}
 use Rattle.tql_spec.specs.Definition.{TableDef, table_at}
 use Rattle.tql_spec.specs.Machine.{ChangeRows, AnswerQuery, Bound, Change, CreateTable, DropTable, InsertQuery}
-use Rattle.tql_spec.specs.Machine.{SetClock, Start}
+use Rattle.tql_spec.specs.Machine.{SetClock, Prune, Start}
 use Rattle.tql_spec.specs.Machine.{Commit, Rollback, changed_table}
 use Rattle.tql_spec.specs.Refusal.{first}
 use Rattle.tql_spec.specs.Syntax.{AtTree, CommitTree, CreateTree, DeleteTree, DropTree, InsertSelect, InsertValues}
-use Rattle.tql_spec.specs.Syntax.{QueryTree, RollbackTree, StartTree, Statement, UpdateTree}
+use Rattle.tql_spec.specs.Syntax.{QueryTree, RollbackTree, StartTree, Statement, UpdateTree, PruneTree}
 use Rattle.tql_bind.specs.Creations.{is_creation}
 use Rattle.tql_bound.specs.Bounds.{HasMoment, IsSound, bound_of}
 use Rattle.tql_bound.specs.Placed.{IsPlacedQuery}
@@ -30,6 +30,7 @@ IsPlaced defs (DropTable t) = t < length defs
 IsPlaced defs (ChangeRows c) = (changed_table c < length defs) × AreSourcesPlaced defs c
 IsPlaced defs (AnswerQuery q) = IsPlacedQuery defs q
 IsPlaced defs (SetClock m) = Unit {0}
+IsPlaced defs (Prune m) = Unit {0}
 IsPlaced defs Start = Unit {0}
 IsPlaced defs Commit = Unit {0}
 IsPlaced defs Rollback = Unit {0}
@@ -52,6 +53,7 @@ placed defs StartTree e = tt
 placed defs CommitTree e = tt
 placed defs RollbackTree e = tt
 placed defs (AtTree t) e = tt
+placed defs (PruneTree t) e = tt
 
 -- ---- the code's
 
@@ -68,6 +70,7 @@ creates_none defs StartTree d other is = cc
 creates_none defs CommitTree d other is = cc
 creates_none defs RollbackTree d other is = cc
 creates_none defs (AtTree t) d other is = cc
+creates_none defs (PruneTree t) d other is = cc
 
 sound_by : (defs : List TableDef) (s : Statement) (b : bound.Bound) → IsTrue (not (is_creation s))
     → (bind defs s).value ≡ bound_of b → HasMoment b → IsPlaced defs (bound_of b) → IsSound defs b
@@ -78,6 +81,7 @@ sound_by defs s (statement.InsertFrom x) other is timed there = there
 sound_by defs s (statement.Modify x) other is timed there = there.0
 sound_by defs s (statement.AnswerQuery x) other is timed there = there
 sound_by defs s (statement.SetClock m) other is timed there = timed
+sound_by defs s (statement.Prune m) other is timed there = timed
 sound_by defs s statement.Start other is timed there = tt
 sound_by defs s statement.Commit other is timed there = tt
 sound_by defs s statement.Rollback other is timed there = tt

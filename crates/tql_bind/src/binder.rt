@@ -1,6 +1,7 @@
 //! The names of a statement, bound.
 ghost use Rattle.std.specs.Prelude.{◌≤◌, All, IsFalse, IsTrue, IfOk, length, not};
 ghost use Rattle.tql_spec.specs.Binding.{bind};
+ghost use Rattle.tql_bind.specs.Limited.{bind_under, limits_of};
 ghost use Rattle.tql_spec.specs.Syntax.{is_too_wide};
 ghost use Rattle.tql_catalog.specs.Tables.{definitions_of};
 ghost use Rattle.tql_syntax_tree.specs.Statements.{create_of, statement_of};
@@ -11,6 +12,7 @@ ghost use Rattle.tql_bound.specs.Bounds.{HasMoment, IsSound, bound_of};
 
 use crate::drop_table::bind_drop;
 use crate::insertions::insert;
+use crate::limits::{Limits, is_before_horizon};
 use crate::queries::bind_query;
 use std::alloc::AllocError;
 use tql_bind_change::delete::delete_rows;
@@ -78,19 +80,30 @@ fn bound(
             let moment = moment(memory, quoted, faults)?;
             Ok(Bound::SetClock(moment))
         }
+        Statement::Prune(quoted) => {
+            let moment = moment(memory, quoted, faults)?;
+            Ok(Bound::Prune(moment))
+        }
     }
 }
 
-/// A statement other than CREATE TABLE, bound without a fault, or the first of its faults.
-fn faultless(memory: Memory, tables: &Catalog, statement: &Statement<'_>) -> Result<Bound, Refusal>
+/// A statement other than CREATE TABLE, bound without a fault, or the first of its faults, those by the limits too.
+fn faultless(
+    memory: Memory,
+    tables: &Catalog,
+    statement: &Statement<'_>,
+    limits: &Limits,
+) -> Result<Bound, Refusal>
     requires other { IsTrue (not (is_creation (statement_of statement.now))) }
     requires narrow { IsFalse (is_too_wide (statement_of statement.now)) }
     requires tables { All (λ d. length d.columns ≤ 64) (definitions_of tables.now) }
-    ensures binds { Binds bound_of (bind (definitions_of tables.now) (statement_of statement.now)) result }
+    ensures binds { Binds bound_of (bind_under (limits_of limits.now) (definitions_of tables.now)
+        (statement_of statement.now)) result }
     ensures sound { IfOk result (IsSound (definitions_of tables.now)) }
 {
     let mut faults = Faults::none();
     let bound = bound(memory, tables, statement, &mut faults)?;
+    faults.refuse_if(is_before_horizon(&bound, limits), Refusal::BeforeTheHorizon);
     match faults.least() {
         Some(refusal) => Err(refusal),
         None => Ok(bound),
@@ -99,15 +112,22 @@ fn faultless(memory: Memory, tables: &Catalog, statement: &Statement<'_>) -> Res
 
 /// The statement with its names bound: one of at most 64 columns or 8 table references, over tables of at most 64
 /// columns. CREATE TABLE is bound whole, with its keys, references and checks. Refused: the first of the faults of
-/// names, kinds, forms and literals that are present, in the order of report; or memory.
-pub fn bind(memory: Memory, tables: &Catalog, statement: &Statement<'_>) -> Result<Bound, Refusal>
+/// names, kinds, forms and literals, and of those by the limits (a query that asks for what lies before the horizon,
+/// also an INSERT's, and PRUNE HISTORY with a moment before it), in the order of report; or memory.
+pub fn bind(
+    memory: Memory,
+    tables: &Catalog,
+    statement: &Statement<'_>,
+    limits: &Limits,
+) -> Result<Bound, Refusal>
     requires narrow { IsFalse (is_too_wide (statement_of statement.now)) }
     requires tables { All (λ d. length d.columns ≤ 64) (definitions_of tables.now) }
-    ensures binds { Binds bound_of (bind (definitions_of tables.now) (statement_of statement.now)) result }
+    ensures binds { Binds bound_of (bind_under (limits_of limits.now) (definitions_of tables.now)
+        (statement_of statement.now)) result }
     ensures sound { IfOk result (IsSound (definitions_of tables.now)) }
 {
     match statement {
         Statement::Create(tree) => create(memory, tables, tree),
-        _ => faultless(memory, tables, statement),
+        _ => faultless(memory, tables, statement, limits),
     }
 }

@@ -4,4 +4,5 @@
 pub mod binder;
 mod drop_table;
 mod insertions;
+pub mod limits;
 mod queries;

@@ -8,7 +8,8 @@ use Rattle.tql_value.specs.Points.{IsMoment}
 use Rattle.tql_bound.specs.Placed.{IsPlacedQuery}
 use Rattle.tql_bound.specs.declared.bound.Bound.{Bound}
 use Rattle.tql_bound.specs.declared.bound.Bound.TheVariants.{CreateTable, DropTable, Insert as Inserts, InsertFrom}
-use Rattle.tql_bound.specs.declared.bound.Bound.TheVariants.{Modify, AnswerQuery, SetClock, Start, Commit, Rollback}
+use Rattle.tql_bound.specs.declared.bound.Bound.TheVariants.{Modify, AnswerQuery, SetClock, Prune, Start}
+use Rattle.tql_bound.specs.declared.bound.Bound.TheVariants.{Commit, Rollback}
 
 -- ---- what they stand for
 
@@ -21,6 +22,7 @@ bound_of (InsertFrom x) = machine.ChangeRows (query_insertion_of x)
 bound_of (Modify x) = machine.ChangeRows (modification_of x)
 bound_of (AnswerQuery x) = machine.AnswerQuery (bound_query_of x)
 bound_of (SetClock m) = machine.SetClock m
+bound_of (Prune m) = machine.Prune m
 bound_of Start = machine.Start
 bound_of Commit = machine.Commit
 bound_of Rollback = machine.Rollback
@@ -33,9 +35,10 @@ pub record IsSoundTable (defs : List TableDef) (d : TableDef) : Type 0 where
   pub room : length defs < 1000
   pub narrow : length d.columns ≤ 64
 
--- a moment that the clock is set to has a text
+-- a moment that the clock or the horizon is set to has a text
 abbrev pub HasMoment : Bound → Type 0
 HasMoment (SetClock m) = IsMoment m
+HasMoment (Prune m) = IsMoment m
 HasMoment _ = Unit {0}
 
 -- over these tables
@@ -47,6 +50,7 @@ IsSound defs (InsertFrom x) = (x.table < length defs) × IsPlacedQuery defs (bou
 IsSound defs (Modify x) = x.table < length defs
 IsSound defs (AnswerQuery x) = IsPlacedQuery defs (bound_query_of x)
 IsSound defs (SetClock m) = IsMoment m
+IsSound defs (Prune m) = IsMoment m
 IsSound defs Start = Unit {0}
 IsSound defs Commit = Unit {0}
 IsSound defs Rollback = Unit {0}

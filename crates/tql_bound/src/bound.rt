@@ -20,6 +20,8 @@ pub enum Bound {
     AnswerQuery(BoundQuery),
     /// AT, with the moment in microseconds since 1970-01-01.
     SetClock(i64),
+    /// PRUNE HISTORY, with the moment in microseconds since 1970-01-01.
+    Prune(i64),
     /// START TRANSACTION.
     Start,
     /// COMMIT.

@@ -7,6 +7,7 @@ ghost use Rattle.tql_run.specs.Hearing.{hearing_change};
 ghost use Rattle.tql_run.specs.Runs.{Runs, source_change, sink_change};
 ghost use Rattle.tql_run.proofs.Faults.{checks_refuse};
 
+use tql_detail::detail::Detail;
 use tql_memory::Memory;
 use tql_result::answer::Answer;
 use tql_result::reply::Reply;
@@ -16,6 +17,7 @@ use tql_run::listener::Listener;
 use tql_run::responder::Responder;
 use tql_run::runner::{Fault, Summary, run};
 use tql_syntax::text::read_text;
+use tql_syntax_fault::told::syntax_detail;
 use tql_syntax_tree::width::is_too_wide;
 use tql_value::refusal::Refusal;
 
@@ -59,6 +61,13 @@ impl Responder for Checker {
 
     fn answer(&mut self, text: &[u8]) -> Answer {
         check(self.memory, text)
+    }
+
+    fn detail(&self, text: &[u8], refusal: Refusal) -> Option<Detail> {
+        match refusal {
+            Refusal::NotAStatement => syntax_detail(self.memory, text),
+            _ => None,
+        }
     }
 
     ghost refuses = { checks_refuse };

@@ -21,7 +21,6 @@ use Rattle.tql_catalog.specs.Defined.{IsDefinition}
 use Rattle.tql_catalog.specs.Tables.{definitions_of}
 use Rattle.tql_catalog.specs.declared.catalog.Table.{Table}
 use Rattle.tql_catalog.specs.Rows.{IsRowOf}
-use Rattle.tql_dml.proofs.Rows.{shown_width}
 use Rattle.tql_expr.proofs.Inserted.{length_inserted}
 use Rattle.tql_expr.proofs.Printing.{generated_prints}
 use Rattle.tql_store.specs.Represents.{seen_by}
@@ -44,12 +43,12 @@ rows_fit (q ∷ ps) (suc t) p e (rows ∷ copy) f = rows_fit ps t p e copy f.1
 -- ---- versions that can be printed
 
 -- a version of a table: its cells are a row of it, and the two ends moments of the calendar
-record VersionFits (d : TableDef) (v : Version) : Type 0 where
-  cells : IsRowOf d v.row.cells
+pub record VersionFits (d : TableDef) (v : Version) : Type 0 where
+  pub cells : IsRowOf d v.row.cells
   start : IsMoment v.row.start
   end : IsMoment v.end
 
-abbrev VersionsFit : TableDef → List Version → Type 0
+abbrev pub VersionsFit : TableDef → List Version → Type 0
 VersionsFit d vs = AllByRecursion (VersionFits d) vs
 
 -- the ends that are known are moments of the calendar
@@ -169,10 +168,10 @@ entries_fit : (h : EngineModel) (s : State) → StandsFor h s → EntriesFit (de
 entries_fit h s f = entries_fit_by h s s.transaction f refl
 
 -- the versions that a query finds
-abbrev versions_found : State → ℕ → When → List Version
+abbrev pub versions_found : State → ℕ → When → List Version
 versions_found s t when = found when (table_history t (entries s))
 
-versions_fit : (h : EngineModel) (s : State) (t : ℕ) (p : Table) (when : When) → StandsFor h s
+pub versions_fit : (h : EngineModel) (s : State) (t : ℕ) (p : Table) (when : When) → StandsFor h s
     → slice_get h.tables t ≡ Some p → VersionsFit p.definition (versions_found s t when)
 versions_fit h s t p when f e =
     found_fit p.definition (definitions_of h.tables) t (rows_fit h.tables t p e) when (entries s) (entries_fit h s f)
@@ -182,7 +181,7 @@ abbrev pub rows_when : State → ℕ → When → List Row
 rows_when s t when = versions (table_at s.definitions t) t when (entries s)
 
 -- they are these versions
-rows_are : (h : EngineModel) (s : State) (t : ℕ) (p : Table) (when : When) → StandsFor h s
+pub rows_are : (h : EngineModel) (s : State) (t : ℕ) (p : Table) (when : When) → StandsFor h s
     → slice_get h.tables t ≡ Some p
     → rows_when s t when ≡ map (full p.definition) (versions_found s t when)
 rows_are h s t p when f e = ap (λ (d : TableDef). map (full d) (versions_found s t when)) (definition_law h s t p f e)
@@ -215,7 +214,7 @@ versions_print d (v ∷ vs) f = (version_prints d v f.0, versions_print d vs f.1
 -- ---- how wide they are
 
 -- a row is as wide whenever its version ends
-by_end : (s : Option System) (cells : Row) (m e f : ℤ)
+pub by_end : (s : Option System) (cells : Row) (m e f : ℤ)
     → length (with_generated s cells m e) ≡ length (with_generated s cells m f)
 by_end None cells m e f = refl
 by_end (Some s) cells m e f = either (nat_lt s.start s.end)
@@ -232,24 +231,6 @@ by_end (Some s) cells m e f = either (nat_lt s.start s.end)
         length_inserted (insert cells s.end (Moment e)) s.start (Moment m)
         ∙ ap (λ n. n + 1) (length_inserted cells s.end (Moment e) ∙ sym (length_inserted cells s.end (Moment f)))
         ∙ sym (length_inserted (insert cells s.end (Moment f)) s.start (Moment m))
-
-versions_wide : (d : TableDef) (vs : List Version) → IsDefinition d → VersionsFit d vs
-    → AllByRecursion (λ (row : Row). length row ≡ length d.columns) (map (full d) vs)
-versions_wide d [] right f = tt
-versions_wide d (v ∷ vs) right f = (
-  by_end d.system v.row.cells v.row.start v.end high ∙ shown_width d v.row right f.0.cells.width,
-  versions_wide d vs right f.1,
-)
-
--- the rows that a query finds have all columns of their table
-pub found_wide : (h : EngineModel) (s : State) (t : ℕ) (p : Table) (when : When) → StandsFor h s
-    → slice_get h.tables t ≡ Some p
-    → All (λ (row : Row). length row ≡ length p.definition.columns) (rows_when s t when)
-found_wide h s t p when f e =
-    let P = λ (row : Row). length row ≡ length p.definition.columns in
-    subst (All P) (sym (rows_are h s t p when f e))
-    (All-from_recursion P (map (full p.definition) (versions_found s t when))
-    (versions_wide p.definition (versions_found s t when) (defined_law h s t p f e) (versions_fit h s t p when f e)))
 
 -- ---- in the printed order
 

@@ -6,7 +6,7 @@ use Rattle.tql_spec.specs.Machine.{State, Reply}
 use Rattle.tql_spec.specs.Answer.{Answer, Replied, Accepted}
 use Rattle.tql_spec.specs.Script.{Piece, statements}
 use Rattle.tql_spec.specs.Text.{reply_text, replies_text, answers_text}
-use Rattle.tql_spec.specs.Run.{Run, RunBy, Replies}
+use Rattle.tql_spec.specs.Run.{Run, RunBy}
 use Rattle.tql_result.specs.Devices.{Appends, HasFailed}
 use Rattle.tql_run.specs.Hearing.{HearingChange}
 use Rattle.tql_run.specs.Responding.{Standing}
@@ -17,6 +17,7 @@ use Rattle.tql_run.specs.declared.runner.Summary.{Summary}
 use Rattle.tql_run.specs.declared.runner.Fault.{Fault}
 use Rattle.tql_run.specs.declared.runner.Fault.TheVariants.{Read, Write, Memory}
 use Rattle.tql_engine.specs.Bytes.{WritesWhole, StopsWriting, RunsBytes}
+use Rattle.tql_run.specs.Ending.{AllEndSurely, Responds}
 
 -- ---- replies
 
@@ -25,16 +26,18 @@ record Replying (old : State) (pieces : List Piece) (answers : List Answer) (new
   replies : List Reply
   all : answers ≡ map Replied replies
   ran : Run old pieces replies new
+  ends : AllEndSurely pieces replies
 
 replying : (old : State) (pieces : List Piece) (answers : List Answer) (new : State)
-    → RunBy Replies old pieces answers new → Replying old pieces answers new
-replying old [] [] new r = record { replies = []; all = refl; ran = r }
+    → RunBy Responds old pieces answers new → Replying old pieces answers new
+replying old [] [] new r = record { replies = []; all = refl; ran = r; ends = tt }
 replying old (p ∷ ps) (Replied x ∷ xs) new (mid, a, r) =
     let later = replying mid ps xs new r in
     record {
       replies = x ∷ later.replies;
       all = ap (λ (l : List Answer). Replied x ∷ l) later.all;
-      ran = (mid, a, later.ran);
+      ran = (mid, a.0, later.ran);
+      ends = (a.1, later.ends);
     }
 replying old (p ∷ ps) (Accepted ∷ xs) new (mid, a, r) = absurd a
 replying old [] (x ∷ xs) new r = absurd r
@@ -98,7 +101,7 @@ module _ (s : State) (after : Standing) (script old new : List ℕ) (source : So
     (hearing : HearingChange)
     (m : InMemory script source) (never : IsFalse sink.flushes_fail)
     (before : sink.held_old ≡ Some old) (now : sink.held_new ≡ Some new) where
-  whole : (summary : Summary) → RunsWhole Replies s after source sink hearing summary
+  whole : (summary : Summary) → RunsWhole Responds s after source sink hearing summary
       → WritesWhole s after script old new summary
   whole summary r =
       let is = whole_read script r.script source m r.given r.ended in
@@ -113,12 +116,13 @@ module _ (s : State) (after : Standing) (script old new : List ℕ) (source : So
           ap answers_text
               p.all ∙ texts_are p.replies,
         );
+        ends = subst (λ (x : List ℕ). AllEndSurely (statements x) p.replies) is p.ends;
         behind = grown old new (answers_text r.answers) sink before now r.written;
         counts = subst (λ (x : List Answer). Counts summary x) p.all r.counts;
       }
 
   -- what follows what was read
-  stopped : (r : run.StopsWriting Replies s after source sink hearing) → StopsWriting s after script old new
+  stopped : (r : run.StopsWriting Responds s after source sink hearing) → StopsWriting s after script old new
   stopped r =
       let told = r.given.told script m.had in
       let follows : IsTrue r.met → told.0 ≡ [] = λ e.
@@ -134,6 +138,7 @@ module _ (s : State) (after : Standing) (script old new : List ℕ) (source : So
         replies = p.replies;
         state = r.state;
         ran = p.ran;
+        ends = p.ends;
         stands = r.stands;
         pushed = r.text;
         cut = cut p.replies p.all r.reached;
@@ -147,7 +152,7 @@ module _ (s : State) (after : Standing) (script old new : List ℕ) (source : So
       cut replies all (inr (none, is, fails)) = absurd (no_flush_fails sink.flushes_fail never fails)
 
   -- what a run over memory leaves
-  pub runs_bytes : (result : Result Summary Fault) → Runs Replies s after source sink hearing result
+  pub runs_bytes : (result : Result Summary Fault) → Runs Responds s after source sink hearing result
       → RunsBytes s after script old new result
   runs_bytes (Ok summary) r = whole summary r
   runs_bytes (Err Write) r = stopped r

@@ -178,10 +178,10 @@ same_count old new n places e = ap (λ (xs : List TableSlot). store.table_count 
 -- ---- the laws
 
 -- in a transaction of its own
-module _ (h : EngineModel) (defs : List TableDef) (es : List Entry) (next : ℤ) where
+module _ (h : EngineModel) (base : State) (defs : List TableDef) (es : List Entry) (next : ℤ) where
   -- the machine, with no transaction open
   abbrev idle : State
-  idle = record { definitions = defs; history = es; next = next; transaction = None }
+  idle = record base { definitions = defs; history = es; next = next; transaction = None }
 
   own_changed : (t : ℕ) (p : Table) (gone : Stamped → Bool) (removed : List ℕ) (added : List Row) (r : store.StoreModel)
       → StandsFor h idle → slice_get h.tables t ≡ Some p → next <ℤ high
@@ -216,6 +216,7 @@ module _ (h : EngineModel) (defs : List TableDef) (es : List Entry) (next : ℤ)
           working = tt;
         };
         clock = refl;
+        horizon = c.horizon ∙ f.horizon;
         not_before = omega (arith, ints);
         not_after = omega (arith, ints);
         falls = (omega (arith, ints), f.falls);
@@ -238,6 +239,7 @@ module _ (h : EngineModel) (defs : List TableDef) (es : List Entry) (next : ℤ)
       record {
         fits = f.fits;
         clock = f.clock;
+        horizon = c.horizon ∙ f.horizon;
         not_before = f.not_before;
         not_after = f.not_after;
         falls = f.falls;
@@ -253,7 +255,7 @@ module _ (h : EngineModel) (defs : List TableDef) (es : List Entry) (next : ℤ)
 
   -- in the open transaction
   abbrev within : Entry → State
-  within e = record { definitions = defs; history = es; next = next; transaction = Some e }
+  within e = record base { definitions = defs; history = es; next = next; transaction = Some e }
 
   within_changed : (e : Entry) (t : ℕ) (p : Table) (gone : Stamped
       → Bool) (removed : List ℕ) (added : List Row) (r : store.StoreModel) → StandsFor h (within e)
@@ -280,6 +282,7 @@ module _ (h : EngineModel) (defs : List TableDef) (es : List Entry) (next : ℤ)
               f.fits.working;
         };
         clock = refl;
+        horizon = c.horizon ∙ f.horizon;
         not_before = from;
         not_after = f.not_after;
         falls = f.falls;
@@ -294,7 +297,7 @@ module _ (h : EngineModel) (defs : List TableDef) (es : List Entry) (next : ℤ)
 
   changed_by : (o : Option Entry) (t : ℕ) (p : Table) (gone : Stamped
       → Bool) (removed : List ℕ) (added : List Row) (r : store.StoreModel) (after : ℤ)
-      → (let s : State = record { definitions = defs; history = es; next = next; transaction = o } in
+      → (let s : State = record base { definitions = defs; history = es; next = next; transaction = o } in
       StandsFor h s → slice_get h.tables t ≡ Some p → (IsNone h.store.working → next <ℤ high)
       → AreRowsOf p.definition added → Judged h.store p.id gone removed
       → ChangesRows h.store.working next after p.id removed added h.store r
@@ -322,7 +325,7 @@ module _ (h : EngineModel) (defs : List TableDef) (es : List Entry) (next : ℤ)
       (within_changed e t p gone removed added r f there ok judged d.0)
 
   kept_by : (o : Option Entry) (r : store.StoreModel)
-      → (let s : State = record { definitions = defs; history = es; next = next; transaction = o } in StandsFor h s
+      → (let s : State = record base { definitions = defs; history = es; next = next; transaction = o } in StandsFor h s
       → KeepsRows h.store.working next h.store r → StandsFor (record h { store = r }) s)
   kept_by None r f c = own_undone r f (subst (λ w. KeepsRows w next h.store r) f.opened c)
   kept_by (Some e) r f c =
@@ -341,7 +344,7 @@ pub change_law : (h : EngineModel) (s : State) (t : ℕ) (p : Table) (gone : Sta
       next = after;
     }) (with_table_rows s t (rows_after (working_now s).moment gone added (working_rows s t)))
 change_law h s t p gone removed added r after f there below ok judged c =
-    changed_by h s.definitions s.history s.next s.transaction t p gone removed added r after f there
+    changed_by h s s.definitions s.history s.next s.transaction t p gone removed added r after f there
     (λ none. subst (λ m. m <ℤ high) f.clock (below none)) ok judged
     (subst (λ m. ChangesRows h.store.working m after p.id removed added h.store r) f.clock c)
 
@@ -349,7 +352,7 @@ change_law h s t p gone removed added r after f there below ok judged c =
 pub kept_law : (h : EngineModel) (s : State) (r : store.StoreModel) → StandsFor h s
     → KeepsRows h.store.working h.next h.store r
     → StandsFor (record h { store = r }) s
-kept_law h s r f c = kept_by h s.definitions s.history s.next s.transaction r f
+kept_law h s r f c = kept_by h s s.definitions s.history s.next s.transaction r f
     (subst (λ m. KeepsRows h.store.working m h.store r) f.clock c)
 
 -- ---- all rows, or none

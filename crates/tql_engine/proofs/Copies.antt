@@ -138,8 +138,10 @@ pub any_working : (h : StoreModel) (copies : Copies) (working others : Working) 
     → Represents h copies working → Represents h copies others
 any_working h copies working others idle r = record {
   dated = r.dated;
-  stands = λ t. subst (λ o. StandsWith (horizon_of h.tables h.last t) o (live h t) (copies t) (others t)) (sym idle)
-      (subst (λ o. StandsWith (horizon_of h.tables h.last t) o (live h t) (copies t) (working t)) idle (r.stands t));
+  stands = λ t. subst (λ o. StandsWith (horizon_of h.tables h.last h.horizon (copies t) t) o (live h t) (copies t)
+      (others t)) (sym idle)
+      (subst (λ o. StandsWith (horizon_of h.tables h.last h.horizon (copies t) t) o (live h t) (copies t) (working t))
+      idle (r.stands t));
 }
 
 -- ---- tables at their numbers

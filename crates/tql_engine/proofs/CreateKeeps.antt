@@ -154,6 +154,7 @@ create_law h s q r f closed right few a keeps =
         working = subst (λ (o : Option Entry). WorkingFits (definitions_of (h.tables ++ q ∷ [])) o) (sym none) tt;
       };
       clock = f.clock;
+      horizon = a.horizon ∙ f.horizon;
       not_before = f.not_before;
       not_after = f.not_after;
       falls = falls_more s.next s.history f.falls;

@@ -32,6 +32,7 @@ use Rattle.tql_spec.specs.Syntax.{QueryTree, StartTree, CommitTree, RollbackTree
 use Rattle.tql_spec.proofs.RunKeeps.{no_left}
 use Rattle.tql_bind_table.proofs.ParentLaws.{parents_there as keys_there}
 use Rattle.tql_catalog.specs.Tables.{can_have}
+use Rattle.tql_spec.specs.Syntax.{PruneTree}
 
 -- the tables that are there show no fault of a table that is bound
 few : (n : ℕ) → n < 1000 → nat_le 1000 n ≡ false
@@ -114,7 +115,8 @@ without_none ps id f es u = by_bool (nat_eq u id)
 -- the new table is dropped from the store
 module _ (old mid new : StoreModel) (q : Table) (a : AddsTable (is_some q.definition.system) q.id old mid)
     (places : Takes q.id Free mid.tables new.tables) (count : table_count new + 1 ≡ table_count mid)
-    (working_same : new.working ≡ mid.working) (copies : DropEmpties q.id mid new) where
+    (working_same : new.working ≡ mid.working) (horizon_same : new.horizon ≡ mid.horizon)
+    (copies : DropEmpties q.id mid new) where
   same_place : (p : Table) → IsTrue (has_table old p.id) → slot_at new.tables p.id ≡ slot_at old.tables p.id
   same_place p there =
       let other : nat_eq p.id q.id ≡ false = other_number old mid q a p there in
@@ -145,6 +147,7 @@ module _ (old mid new : StoreModel) (q : Table) (a : AddsTable (is_some q.defini
       record {
         fits = f.fits;
         clock = f.clock;
+        horizon = horizon_same ∙ a.horizon ∙ f.horizon;
         not_before = f.not_before;
         not_after = f.not_after;
         falls = f.falls;
@@ -180,3 +183,4 @@ parents_there defs StartTree d h k = absurd (cc)
 parents_there defs CommitTree d h k = absurd (cc)
 parents_there defs RollbackTree d h k = absurd (cc)
 parents_there defs (AtTree m) d h k = absurd (cc)
+parents_there defs (PruneTree m) d h k = absurd (cc)

@@ -1,7 +1,8 @@
 -- Each statement's step, from what the code has tested.
 use Rattle.std.proofs.Common.{◌≡◌, refl, sym, ap, subst, ◌∙◌, arith, ℕ, zero, suc, Bool, true, false, List, [], ◌∷◌}
 use Rattle.std.proofs.Common.{◌++◌, map, Some, None, Option}
-use Rattle.std.specs.Prelude.{ℤ, pos, ◌≤ℤ◌, ◌<ℤ◌, ◌+ℤ◌, ◌&&◌, int_le, is_some, is_none, IsNone, IsSome, slice_get}
+use Rattle.std.specs.Prelude.{ℤ, pos, ◌≤ℤ◌, ◌<ℤ◌, ◌+ℤ◌, ◌&&◌, int_le, int_lt, is_some, is_none, IsNone, IsSome}
+use Rattle.std.specs.Prelude.{slice_get}
 use Rattle.std.specs.Prelude.{if◌then◌else◌}
 use Rattle.std.specs.List.{AllByRecursion}
 use Rattle.std.proofs.lemmas.Int.{ints}
@@ -12,10 +13,12 @@ use Rattle.tql_spec.specs.History.{Entry, rows_in}
 use Rattle.tql_spec.specs.Query.{OrderKey, Query, answer, in_order}
 use Rattle.tql_spec.specs.Change.{Outcome, insert}
 use Rattle.tql_spec.specs.Refusal.{Refusal, NotInThisTransactionState, MomentNotAllowed, ValueOutOfRange, first}
+use Rattle.tql_spec.specs.Refusal.{BeforeTheHorizon, fault_if}
+use Rattle.tql_spec.specs.Horizon.{asks_before}
 use Rattle.tql_spec.specs.Machine.{State, Reply, Refused, Done, Table, CreatedTable, DroppedTable, ClockSet}
 use Rattle.tql_spec.specs.Machine.{Started, Committed, RolledBack, Change, CreateTable, DropTable, SetClock, Start}
 use Rattle.tql_spec.specs.Machine.{Commit, Rollback, ChangeRows, AnswerQuery, step, changed, outcome}
-use Rattle.tql_spec.specs.Machine.{is_not_later}
+use Rattle.tql_spec.specs.Machine.{is_not_later, Prune, Pruned, change_faults, query_faults}
 use Rattle.tql_spec.specs.Machine.{is_clock_at_end, with_table, without_table, with_commit, working, asked, bag_of}
 use Rattle.tql_exec.specs.Found.{ordered}
 use Rattle.tql_expr.specs.Evaluated.{Fails}
@@ -37,7 +40,8 @@ use Rattle.tql_store.specs.Represents.{BeginCopies, CommitAppends, RollbackResto
 use Rattle.tql_engine.specs.Stands.{EngineModel, StandsFor, open_moment}
 use Rattle.tql_engine.specs.Effects.{Does, Refuses, not_later_than}
 use Rattle.tql_engine.proofs.Faults.{refused, create_step, drop_step, clock_step, start_step, commit_step}
-use Rattle.tql_engine.proofs.Faults.{rollback_step, alter_step}
+use Rattle.tql_engine.proofs.Faults.{rollback_step, alter_step, query_step, pruned_to, prune_step}
+use Rattle.tql_engine.specs.Allowed.{AsksWithin}
 use Rattle.tql_engine.proofs.Standing.{closed_law, open_law, last_law, clock_law, definition_law}
 use Rattle.tql_engine.proofs.Copies.{chosen, passed}
 use Rattle.tql_engine.specs.Making.{Changes}
@@ -136,6 +140,22 @@ clock_set h s m st c e low up =
       stands = clock_law h s m st c later low up;
     })
 
+-- ---- PRUNE HISTORY
+
+-- the horizon set
+pub prune_does : (h : EngineModel) (s : State) (m : ℤ) (r : StoreModel) → StandsFor h s → IsNone h.store.working
+    → h.store.horizon ≤ℤ m → StandsFor (record h { store = r }) (pruned_to m s)
+    → Does (record h { store = r }) (Done Pruned None) (step s (Prune m))
+prune_does h s m r st closed later stands =
+    by_step (record h { store = r }) (Done Pruned None) (step s (Prune m)) (Done Pruned None, pruned_to m s)
+    (prune_step s m (not_back m s.horizon (subst (λ (n : ℤ). n ≤ℤ m) st.horizon later))
+    ∙ passed (is_some s.transaction) (refused NotInThisTransactionState s) (Done Pruned None, pruned_to m s)
+    (open_law h s st ∙ closed))
+    (record { replies = refl; stands = stands })
+  where
+    not_back : (n g : ℤ) → g ≤ℤ n → int_lt n g ≡ false
+    not_back n g l = grind (arith, ints)
+
 -- ---- SELECT
 
 -- rows in order are those of an answer
@@ -152,13 +172,19 @@ none_ordered : (keys : List OrderKey) (o : Option (List Row)) → ordered keys o
 none_ordered keys None e = refl
 none_ordered keys (Some bag) e = absurd (cc)
 
-module _ (h : EngineModel) (s : State) (q : Query) (st : StandsFor h s) where
+-- what asks for nothing before the store's horizon does not ask before the machine's
+pub within_law : (h : EngineModel) (s : State) (q : Query) → StandsFor h s → AsksWithin h q
+    → query_faults s.horizon q ≡ []
+within_law h s q st e =
+    ap (λ (b : Bool). fault_if b BeforeTheHorizon) (ap (λ (n : ℤ). asks_before n q) (sym st.horizon) ∙ e)
+
+module _ (h : EngineModel) (s : State) (q : Query) (st : StandsFor h s) (within : query_faults s.horizon q ≡ []) where
   -- the rows in order, under the headings
   pub asked_does : (headings : List Name) (rows : List Row) → ordered q.ordering (answer (bag_of s) q) ≡ Some rows
       → headings ≡ q.headings → Does h (Table headings rows) (step s (AnswerQuery q))
   asked_does headings rows is heads =
       by_step h (Table headings rows) (step s (AnswerQuery q)) (Table q.headings rows, s)
-      (asked_table s q (answer (bag_of s) q) rows is)
+      (query_step s q within ∙ asked_table s q (answer (bag_of s) q) rows is)
       (record { replies = λ i. Table (heads i) rows; stands = st })
 
   -- an evaluation is out of range, or there is no memory
@@ -167,7 +193,8 @@ module _ (h : EngineModel) (s : State) (q : Query) (st : StandsFor h s) where
   asked_errs variant.OutOfMemory f = st
   asked_errs variant.ValueOutOfRange f =
       by_step h (Refused ValueOutOfRange) (step s (AnswerQuery q)) (refused ValueOutOfRange s)
-      (ap (asked s q) (none_ordered q.ordering (answer (bag_of s) q) f)) (refuses h s ValueOutOfRange st)
+      (query_step s q within ∙ ap (asked s q) (none_ordered q.ordering (answer (bag_of s) q) f))
+      (refuses h s ValueOutOfRange st)
   asked_errs _ f = absurd f
 
 -- ---- changes
@@ -182,9 +209,10 @@ no_moment None n k = let below = k refl in grind (arith, ints, below)
 no_moment (Some m) n k = refl
 
 pub change_step : (h : EngineModel) (s : State) (c : Change) → StandsFor h s → (IsNone h.store.working → h.next <ℤ high)
-    → step s (ChangeRows c) ≡ changed s c
-change_step h s c st below =
-    alter_step s c ∙ passed (is_none s.transaction && is_clock_at_end s) (refused MomentNotAllowed s) (changed s c)
+    → change_faults s.horizon c ≡ [] → step s (ChangeRows c) ≡ changed s c
+change_step h s c st below within =
+    alter_step s c within
+    ∙ passed (is_none s.transaction && is_clock_at_end s) (refused MomentNotAllowed s) (changed s c)
     (lacks_law h s st ∙ no_moment h.store.working h.next below)
 
 -- ---- INSERT
@@ -211,7 +239,7 @@ insert_refused h s p x f st e below k =
     let m : ℤ = (working_now s).moment in
     let rows = working_rows s x.table in
     by_step h (Refused f) (step s (ChangeRows (insertion_of x))) (refused f s)
-    (change_step h s (insertion_of x) st below
+    (change_step h s (insertion_of x) st below refl
     ∙ altered_refused s (insertion_of x) (insert_outcome_of s p x) f (insert_made h s p x st e)
     (insert_early p.definition m rows x.columns.items (tuples_in x))
     (ap first (insert_faults p.definition m rows x.columns.items (tuples_in x)) ∙ k m))
@@ -240,6 +268,7 @@ insert_makes h s p x delta st e gives =
           ∙ sym (only_added m added rows));
       sound = none_first (insert_outcome_of s p x).faults
           (ap first (insert_faults p.definition m rows x.columns.items (tuples_in x)) ∙ gives.sound m);
+      within = refl;
       count = ap (λ (o : Outcome). o.count) sum ∙ sym (gives.count m);
       word = refl;
     }
@@ -266,15 +295,19 @@ not_over n below = grind (arith, ints)
 
 pub start_does : (h : EngineModel) (s : State) (r : StoreModel) → StandsFor h s → IsNone h.store.working
     → h.next <ℤ high
-    → BeginCopies h.store r → r.working ≡ Some h.next → r.tables ≡ h.store.tables
+    → BeginCopies h.store r → r.working ≡ Some h.next → r.tables ≡ h.store.tables → r.horizon ≡ h.store.horizon
     → Does (record h { store = r }) (Done Started None) (step s Start)
-start_does h s r st closed below begins is_open places =
+start_does h s r st closed below begins is_open places horizon =
     by_step (record h { store = r }) (Done Started None) (step s Start) (begun_so s)
     (start_step s ∙ passed (is_some s.transaction) (refused NotInThisTransactionState s) (start_left s)
     (open_law h s st ∙ closed)
     ∙ passed (is_clock_at_end s) (refused MomentNotAllowed s) (begun_so s) (ap (int_le high) (sym st.clock)
     ∙ not_over h.next below))
-    (record { replies = refl; stands = begun_law h s r st (closed_law h s st closed) below begins is_open places })
+    (record {
+      replies = refl;
+      stands =
+          begun_law h s r st (closed_law h s st closed) below begins is_open places horizon;
+    })
 
 -- no transaction is open
 closed_none : (h : EngineModel) (s : State) → StandsFor h s → is_some h.store.working ≡ false
@@ -295,9 +328,9 @@ commit_refused h s st e =
 
 -- committed
 pub commit_does : (h : EngineModel) (s : State) (r : StoreModel) → StandsFor h s → IsSome h.store.working
-    → CommitAppends h.store r → r.working ≡ None → r.tables ≡ h.store.tables
+    → CommitAppends h.store r → r.working ≡ None → r.tables ≡ h.store.tables → r.horizon ≡ h.store.horizon
     → Does (record { tables = h.tables; store = r; next = h.next +ℤ pos 1 }) (Done Committed None) (step s Commit)
-commit_does h s r st is_open commits is_idle places =
+commit_does h s r st is_open commits is_idle places horizon =
     let e = open_entry h s st is_open in
     by_step (record {
       tables = h.tables;
@@ -307,7 +340,7 @@ commit_does h s r st is_open commits is_idle places =
     (commit_step s ∙ passed (is_none s.transaction) (refused NotInThisTransactionState s)
     (Done Committed None, with_commit s s.transaction) (open_some h s st is_open)
     ∙ ap {B = Reply × State} (λ o. (Done Committed None, with_commit s o)) e.1)
-    (record { replies = refl; stands = ended_law h s e.0 r st e.1 commits is_idle places })
+    (record { replies = refl; stands = ended_law h s e.0 r st e.1 commits is_idle places horizon })
 
 pub rollback_refused : (h : EngineModel) (s : State) → StandsFor h s → is_some h.store.working ≡ false
     → Does h (Refused NotInThisTransactionState) (step s Rollback)
@@ -319,12 +352,12 @@ rollback_refused h s st e =
 
 -- undone
 pub rollback_does : (h : EngineModel) (s : State) (r : StoreModel) → StandsFor h s → IsSome h.store.working
-    → RollbackRestores h.store r → r.working ≡ None → r.tables ≡ h.store.tables
+    → RollbackRestores h.store r → r.working ≡ None → r.tables ≡ h.store.tables → r.horizon ≡ h.store.horizon
     → Does (record h { store = r }) (Done RolledBack None) (step s Rollback)
-rollback_does h s r st is_open restores is_idle places =
+rollback_does h s r st is_open restores is_idle places horizon =
     let e = open_entry h s st is_open in
     by_step (record h { store = r }) (Done RolledBack None) (step s Rollback)
     (Done RolledBack None, record s { transaction = None })
     (rollback_step s ∙ passed (is_none s.transaction) (refused NotInThisTransactionState s)
     (Done RolledBack None, record s { transaction = None }) (open_some h s st is_open))
-    (record { replies = refl; stands = undone_law h s e.0 r st e.1 restores is_idle places })
+    (record { replies = refl; stands = undone_law h s e.0 r st e.1 restores is_idle places horizon })

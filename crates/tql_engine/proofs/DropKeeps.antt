@@ -177,9 +177,9 @@ copies_less h ps t p a e es f id = by_bool (nat_eq id p.id)
 pub drop_law : (h : EngineModel) (s : State) (t : ℕ) (p : Table) (tables : List Table) (r : StoreModel) → StandsFor h s
     → IsNone h.store.working → slice_get h.tables t ≡ Some p
     → tables ≡ remove h.tables t → Takes p.id Free h.store.tables r.tables → table_count r + 1 ≡ table_count h.store
-    → r.working ≡ h.store.working → DropEmpties p.id h.store r
+    → r.working ≡ h.store.working → r.horizon ≡ h.store.horizon → DropEmpties p.id h.store r
     → StandsFor (record { tables = tables; store = r; next = h.next }) (without_table t s)
-drop_law h s t p tables r f closed there left places count same_working copies =
+drop_law h s t p tables r f closed there left places count same_working same_horizon copies =
     subst (λ (ts : List Table). StandsFor (record { tables = ts; store = r; next = h.next }) (without_table t s))
     (sym left)
     (record {
@@ -194,6 +194,7 @@ drop_law h s t p tables r f closed there left places count same_working copies =
         working = subst (λ (o : Option Entry). WorkingFits (definitions_of (remove h.tables t)) o) (sym none) tt;
       };
       clock = f.clock;
+      horizon = same_horizon ∙ f.horizon;
       not_before = f.not_before;
       not_after = f.not_after;
       falls = falls_less t s.next s.history f.falls;

@@ -13,7 +13,7 @@ use Rattle.tql_value.specs.Refusals.{refusal_of}
 use Rattle.tql_value.specs.declared.refusal.Refusal.{Refusal}
 use Rattle.tql_value.specs.declared.refusal.Refusal.TheVariants as r
 use Rattle.tql_engine.specs.Effects.{DoesStep, reply_by}
-use Rattle.tql_engine.specs.Ending.{EndsTransaction, IsEnded}
+use Rattle.tql_run.specs.Ending.{EndsTransaction, IsEnded}
 use Rattle.tql_engine.specs.Stands.{EngineModel}
 use Rattle.tql_engine.proofs.Stepping.{Answered, result_answered}
 

@@ -5,7 +5,7 @@ use Rattle.tql_spec.specs.Answer.{Answer, Replied, Accepted}
 use Rattle.tql_spec.specs.AtPoints.{HoldAtPoints}
 use Rattle.tql_spec.specs.History.{Entry}
 use Rattle.tql_spec.specs.Machine.{State, Reply, Commit, Rollback, new_state, step}
-use Rattle.tql_spec.specs.Run.{Answers, Replies, RunBy}
+use Rattle.tql_spec.specs.Run.{Answers, RunBy}
 use Rattle.tql_spec.specs.Script.{Piece, statements}
 use Rattle.tql_spec.proofs.AtPoints.{runs_keep_points}
 use Rattle.tql_run.specs.Hearing.{HearingChange}
@@ -15,6 +15,7 @@ use Rattle.tql_run.specs.declared.runner.Summary.{Summary}
 use Rattle.tql_run.specs.declared.runner.Fault.{Fault}
 use Rattle.tql_run.specs.declared.runner.Fault.TheVariants.{Read, Write, Memory}
 use Rattle.tql_engine.specs.Bytes.{RunsBytes}
+use Rattle.tql_run.specs.Ending.{Responds}
 use Rattle.tql_engine.specs.HoldPoints.{HoldsFor}
 use Rattle.tql_engine.specs.Stands.{EngineModel, StandsFor}
 
@@ -24,10 +25,10 @@ keeps_one old new p r h a = runs_keep_points old new (p ∷ []) (r ∷ []) h (ne
 
 -- replies one behind another
 keeps_all : (old new : State) (pieces : List Piece) (answers : List Answer) → HoldAtPoints old
-    → RunBy Replies old pieces answers new → HoldAtPoints new
+    → RunBy Responds old pieces answers new → HoldAtPoints new
 keeps_all old new [] [] h r = subst HoldAtPoints (sym r) h
 keeps_all old new (p ∷ ps) (Replied x ∷ xs) h (mid, a, rest) =
-    keeps_all mid new ps xs (keeps_one old mid p x h a) rest
+    keeps_all mid new ps xs (keeps_one old mid p x h a.0) rest
 keeps_all old new (p ∷ ps) (Accepted ∷ xs) h (mid, a, rest) = absurd a
 keeps_all old new [] (x ∷ xs) h r = absurd r
 keeps_all old new (p ∷ ps) [] h r = absurd r
@@ -44,8 +45,8 @@ step_holds old new s p r h a = record {
 -- a run
 pub run_holds : (new : EngineModel) (s : State) (source : SourceChange) (sink : SinkChange)
     (hearing : HearingChange) (result : Result Summary Fault) → HoldAtPoints s
-    → Runs Replies s (StandsFor new) source sink hearing result
-    → Runs Replies s (HoldsFor new) source sink hearing result
+    → Runs Responds s (StandsFor new) source sink hearing result
+    → Runs Responds s (HoldsFor new) source sink hearing result
 run_holds new s source sink hearing (Ok summary) h r = record {
   script = r.script;
   given = r.given;
@@ -113,6 +114,7 @@ bytes_hold new s script before after (Ok summary) h w = record {
   };
   pushed = w.pushed;
   writes = w.writes;
+  ends = w.ends;
   behind = w.behind;
   counts = w.counts;
 }
@@ -123,6 +125,7 @@ bytes_hold new s script before after (Err Write) h w = record {
   replies = w.replies;
   state = w.state;
   ran = w.ran;
+  ends = w.ends;
   stands = record { stands = w.stands; holds = runs_keep_points s w.state w.done w.replies h w.ran };
   pushed = w.pushed;
   cut = w.cut;

@@ -2,21 +2,30 @@
 -- does at it.
 use Rattle.std.proofs.Common.{◌≡◌, refl, sym, subst, ap, ◌∙◌, ◌<◌, arith, Bool, true, false, List, [], ◌∷◌, ◌++◌}
 use Rattle.std.proofs.Common.{Option, Some, None, Result, Err}
-use Rattle.std.specs.Prelude.{ℤ, nat_lt, is_some, is_none, ◌&&◌, if◌then◌else◌}
+use Rattle.std.specs.Prelude.{ℤ, nat_lt, int_lt, is_some, is_none, ◌&&◌, if◌then◌else◌}
 use Rattle.std.specs.List.{AllByRecursion}
 use Rattle.tql_spec.specs.Calendar.{read_timestamp}
 use Rattle.tql_spec.specs.Refusal as spec
 use Rattle.tql_spec.specs.Refusal.{NotInThisTransactionState, MomentNotAllowed, place, earlier, first, fault_if}
+use Rattle.tql_spec.specs.Refusal.{BeforeTheHorizon}
+use Rattle.tql_spec.specs.Horizon.{asks_before}
+use Rattle.tql_spec.specs.Names.{Checked}
 use Rattle.tql_spec.specs.Definition.{TableDef}
 use Rattle.tql_spec.specs.Machine as machine
 use Rattle.tql_spec.specs.Machine.{State, Refused, StatementClass, Defines, SetsClock, Starts, Ends, Changes, Queries}
-use Rattle.tql_spec.specs.Machine.{class_of}
+use Rattle.tql_spec.specs.Machine.{class_of, Prunes, Limits, bound_faults, limits_of, limit_faults}
 use Rattle.tql_spec.specs.Machine.{state_faults, is_not_later, is_clock_at_end, effect, step, unless_refused}
 use Rattle.tql_spec.specs.Syntax.{Statement, CreateTree, DropTree, InsertValues, InsertSelect, UpdateTree, DeleteTree}
-use Rattle.tql_spec.specs.Syntax.{QueryTree, StartTree, CommitTree, RollbackTree, AtTree}
+use Rattle.tql_spec.specs.Syntax.{QueryTree, StartTree, CommitTree, RollbackTree, AtTree, PruneTree}
 use Rattle.tql_spec.specs.Binding.{bind, statement_class, or_bad_moment}
 use Rattle.tql_spec.specs.Run.{respond, statement_faults}
-use Rattle.tql_spec.proofs.FirstFaults.{first_append, sooner, bound_steps, manner_kept}
+use Rattle.tql_spec.proofs.FirstFaults.{first_append, sooner, none_first, bound_steps, manner_kept}
+use Rattle.tql_spec.proofs.FaultBags.{first_by_bag}
+use Rattle.tql_spec.proofs.LateNames.{AreLate, none, ◌⊗◌}
+use Rattle.tql_spec.proofs.RunKeeps.{no_left}
+use Rattle.std.proofs.lemmas.List.Sums.{sum_by-append}
+use Rattle.tql_bind.specs.Limited.{bind_under}
+use Rattle.tql_bind.proofs.Limited.{names_clean}
 use Rattle.tql_spec.proofs.LateFaults.{bind_late, first_late, earlier_stays}
 use Rattle.tql_value.specs.Refusals.{refusal_of}
 use Rattle.tql_value.specs.declared.refusal.Refusal.{Refusal}
@@ -57,6 +66,7 @@ state_early s Starts =
 state_early s Ends = if_early (is_none s.transaction) NotInThisTransactionState (omega arith)
 state_early s Changes = if_early (is_none s.transaction && is_clock_at_end s) MomentNotAllowed (omega arith)
 state_early s Queries = tt
+state_early s (Prunes m) = if_early (is_some s.transaction) NotInThisTransactionState (omega arith)
 
 either_early : (t : Bool) (a b : spec.Refusal) → IsEarly a → IsEarly b → IsEarly (if t then b else a)
 either_early true a b h k = k
@@ -73,6 +83,57 @@ earlier_early a (Some b) h k = either_early (nat_lt (place b) (place a)) a b h k
 first_early : (fs : List spec.Refusal) → AllByRecursion IsEarly fs → MayBeEarly (first fs)
 first_early [] h = tt
 first_early (a ∷ fs) h = earlier_early a (first fs) h.0 (first_early fs h.1)
+
+-- the faults by the horizon stand behind
+if_late : (t : Bool) → AreLate (fault_if t BeforeTheHorizon)
+if_late true = record { each = (refl, tt) }
+if_late false = none
+
+limits_late : (l : Limits) (defs : List TableDef) (b : machine.Bound) → AreLate (bound_faults l defs b)
+limits_late l defs (machine.CreateTable d) = none
+limits_late l defs (machine.DropTable t) = none
+limits_late l defs (machine.SetClock m) = none
+limits_late l defs machine.Start = none
+limits_late l defs machine.Commit = none
+limits_late l defs machine.Rollback = none
+limits_late l defs (machine.ChangeRows (machine.InsertTuples t columns tuples)) = none
+limits_late l defs (machine.ChangeRows (machine.InsertQuery t columns q)) = if_late (asks_before l.horizon q)
+limits_late l defs (machine.ChangeRows (machine.Modify t portion work conds)) = none
+limits_late l defs (machine.AnswerQuery q) = if_late (asks_before l.horizon q)
+limits_late l defs (machine.Prune m) = if_late (int_lt m l.horizon)
+
+-- what a statement is bound to under the state's limits
+abbrev pub bound_here : State → Statement → Checked machine.Bound
+bound_here s t = bind_under (limits_of s) s.definitions t
+
+-- what was bound under the engine's tables and horizon
+pub under_here : (s : State) (t : Statement) (defs : List TableDef) (n : ℤ) (o : Option spec.Refusal)
+    → defs ≡ s.definitions → n ≡ s.horizon → first (bind_under (record { horizon = n }) defs t).faults ≡ o
+    → first (bound_here s t).faults ≡ o
+under_here s t defs n o d e k =
+    subst (λ (m : ℤ). first (bind_under (record { horizon = m }) s.definitions t).faults ≡ o) e
+    (subst (λ (ds : List TableDef). first (bind_under (record { horizon = n }) ds t).faults ≡ o) d k)
+
+here_late : (s : State) (t : Statement) → AreLate (bound_here s t).faults
+here_late s t =
+    limits_late (limits_of s) s.definitions (bind s.definitions t).value ⊗ bind_late s.definitions t
+
+-- the first of a statement's faults is that of the state's, and then of all others
+in_front : (s : State) (t : Statement)
+    → first (statement_faults s t) ≡ first (state_faults s (statement_class t) ++ (bound_here s t).faults)
+in_front s t =
+    let limits = limit_faults s (bind s.definitions t).value in
+    let own = state_faults s (statement_class t) in
+    let names = (bind s.definitions t).faults in
+    first_by_bag (limits ++ (own ++ names)) (own ++ (limits ++ names)) (record {
+      totals = λ w. omega (
+        arith,
+        sum_by-append w limits (own ++ names),
+        sum_by-append w own names,
+        sum_by-append w own (limits ++ names),
+        sum_by-append w limits names,
+      );
+    })
 
 -- AT asks for its moment later
 moment_later : (t u : Bool) (e : spec.Refusal) → first (fault_if t NotInThisTransactionState) ≡ Some e
@@ -104,11 +165,11 @@ state_fault_does h s t e st k =
     let found = found_first s (statement_class t) e k in
     let early : IsEarly e =
     subst MayBeEarly found (first_early (state_faults s (statement_class t)) (state_early s (statement_class t))) in
-    let others = (bind s.definitions t).faults in
+    let others = (bound_here s t).faults in
     refused_for h s t e st
-    (first_append (state_faults s (statement_class t)) others ∙ (λ i. sooner (found i) (first others))
+    (in_front s t ∙ first_append (state_faults s (statement_class t)) others ∙ (λ i. sooner (found i) (first others))
     ∙ ap {B = Option spec.Refusal} (λ x. Some x)
-    (earlier_stays e (first others) early (first_late others (bind_late s.definitions t))))
+    (earlier_stays e (first others) early (first_late others (here_late s t))))
 
 -- a refusal that the machine gives, or out of memory
 pub refuses : (h : EngineModel) (s : State) (e : Refusal) (step : machine.Reply × State) → StandsFor h s
@@ -124,21 +185,25 @@ state_does h s t fault st k = refuses h s fault (respond s t) st (state_fault_do
 
 -- ---- a statement that is bound
 
--- where there is no fault, the transaction and the clock allow it
+-- where there is no fault, the transaction, the clock and the horizon allow it
 pub bound_allowed : (h : EngineModel) (s : State) (t : Statement) (x : Bound) → StandsFor h s
     → None ≡ first (state_faults s (asked_first (statement_class t)))
-    → first (bind s.definitions t).faults ≡ None → (bind s.definitions t).value ≡ bound_of x → IsAllowed h x
+    → first (bound_here s t).faults ≡ None → (bind s.definitions t).value ≡ bound_of x → IsAllowed h x
 bound_allowed h s t x st k none is =
+    let clean = names_clean (limits_of s) s.definitions t none in
     allowed_law h s x st
-    (ap (λ m. first (state_faults s (asked_first m))) (sym (manner_kept s.definitions t none ∙ ap class_of is))
+    (ap (λ m. first (state_faults s (asked_first m))) (sym (manner_kept s.definitions t clean ∙ ap class_of is))
     ∙ sym k)
+    (ap (limit_faults s) (sym is)
+    ∙ no_left (limit_faults s (bind s.definitions t).value) (bind s.definitions t).faults
+    (none_first (bound_here s t).faults none))
 
 -- what is done at the bound statement is done at the statement
 pub bound_does : (new : EngineModel) (s : State) (t : Statement) (b : machine.Bound) (result : Result Reply Refusal)
-    → first (bind s.definitions t).faults ≡ None → (bind s.definitions t).value ≡ b
+    → first (bound_here s t).faults ≡ None → (bind s.definitions t).value ≡ b
     → DoesStep new s result (step s b) → DoesStep new s result (respond s t)
 bound_does new s t b result none is d = subst (DoesStep new s result) (ap (step s) (sym is)
-    ∙ sym (bound_steps s t none)) d
+    ∙ sym (bound_steps s t (names_clean (limits_of s) s.definitions t none))) d
 
 -- ---- a statement whose binding is refused
 
@@ -148,34 +213,36 @@ unread None e k = refl
 unread (Some m) e k = absurd (cc)
 
 -- all is asked before: the moment of AT is not valid, and COMMIT and ROLLBACK have no fault of their own
-all_asked : (defs : List TableDef) (t : Statement) (e : spec.Refusal) → first (bind defs t).faults ≡ Some e
-    → statement_class t ≡ asked_first (statement_class t)
-all_asked defs (CreateTree n x xs versioned) e k = refl
-all_asked defs (DropTree n) e k = refl
-all_asked defs (InsertValues n ns u us) e k = refl
-all_asked defs (InsertSelect n ns s) e k = refl
-all_asked defs (UpdateTree n p s ss c) e k = refl
-all_asked defs (DeleteTree n p c) e k = refl
-all_asked defs (QueryTree s keys) e k = refl
-all_asked defs StartTree e k = refl
-all_asked defs CommitTree e k = absurd (cc)
-all_asked defs RollbackTree e k = absurd (cc)
-all_asked defs (AtTree m) e k = unread (read_timestamp m) e k
+all_asked : (l : Limits) (defs : List TableDef) (t : Statement) (e : spec.Refusal)
+    → first (bind_under l defs t).faults ≡ Some e → statement_class t ≡ asked_first (statement_class t)
+all_asked l defs (CreateTree n x xs versioned) e k = refl
+all_asked l defs (DropTree n) e k = refl
+all_asked l defs (InsertValues n ns u us) e k = refl
+all_asked l defs (InsertSelect n ns s) e k = refl
+all_asked l defs (UpdateTree n p s ss c) e k = refl
+all_asked l defs (DeleteTree n p c) e k = refl
+all_asked l defs (QueryTree s keys) e k = refl
+all_asked l defs StartTree e k = refl
+all_asked l defs CommitTree e k = absurd (cc)
+all_asked l defs RollbackTree e k = absurd (cc)
+all_asked l defs (AtTree m) e k = unread (read_timestamp m) e k
+all_asked l defs (PruneTree m) e k = refl
 
 fault_does : (h : EngineModel) (s : State) (t : Statement) (e : spec.Refusal) → StandsFor h s
     → None ≡ first (state_faults s (asked_first (statement_class t)))
-    → first (bind s.definitions t).faults ≡ Some e → Does h (Refused e) (respond s t)
+    → first (bound_here s t).faults ≡ Some e → Does h (Refused e) (respond s t)
 fault_does h s t e st none k =
     let quiet : first (state_faults s (statement_class t)) ≡ None =
-    ap (λ m. first (state_faults s m)) (all_asked s.definitions t e k) ∙ sym none in
-    refused_for h s t e st (first_append (state_faults s (statement_class t)) (bind s.definitions t).faults
+    ap (λ m. first (state_faults s m)) (all_asked (limits_of s) s.definitions t e k) ∙ sym none in
+    refused_for h s t e st
+    (in_front s t ∙ first_append (state_faults s (statement_class t)) (bound_here s t).faults
     ∙ (λ i. sooner (quiet i) (k i)))
 
 -- its fault is what the machine answers, or memory ran out
 pub refusal_does : {A : Type 0} (view : A → machine.Bound) (h : EngineModel) (s : State) (t : Statement)
     (fault : Refusal)
     → StandsFor h s
-    → None ≡ first (state_faults s (asked_first (statement_class t))) → Binds view (bind s.definitions t) (Err fault)
+    → None ≡ first (state_faults s (asked_first (statement_class t))) → Binds view (bound_here s t) (Err fault)
     → Refuses h s fault (respond s t)
 refusal_does view h s t r.OutOfMemory st none binds = st
 refusal_does view h s t fault st none binds = fault_does h s t (refusal_of fault) st none binds

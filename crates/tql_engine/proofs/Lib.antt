@@ -17,6 +17,7 @@ pub mod Looking
 pub mod Modifying
 pub mod MomentFits
 pub mod Printing
+pub mod Pruning
 pub mod QueryInserting
 pub mod Standing
 pub mod Swapping
@@ -28,6 +29,9 @@ pub mod Joining
 pub mod StateFaults
 pub mod Bytes
 pub mod PointRuns
+pub mod Unseen
+pub mod SessionRuns
 pub mod HoldPoints
 pub mod Making
 pub mod Ending
+pub mod Shown

@@ -1,6 +1,6 @@
 -- The rows that a change sees, and those of them that it looks at: the others are not touched.
 use Rattle.std.proofs.Common.{◌≡◌, refl, ap, sym, subst, ◌∙◌, arith, ℕ, Bool, true, false, cond, List, [], ◌∷◌, ◌++◌}
-use Rattle.std.proofs.Common.{map, filter, length, Option, Some, None}
+use Rattle.std.proofs.Common.{map, filter, inl, inr, Option, Some, None}
 use Rattle.std.specs.Prelude.{ℤ, ◌≤ℤ◌, ◌<ℤ◌, ◌&&◌, IsNone, All, option_map, slice_get, if◌then◌else◌}
 use Rattle.std.specs.List.{AllByRecursion}
 use Rattle.std.proofs.lemmas.Int.{ints}
@@ -13,15 +13,13 @@ use Rattle.tql_spec.specs.History.{Entry, Now, current, still, completed, table_
 use Rattle.tql_spec.specs.Machine.{State, entries, newest_copy}
 use Rattle.tql_spec.proofs.Bags.{same-map, same-refl, same-sym}
 use Rattle.tql_bound.specs.declared.change.Modification.{Modification}
-use Rattle.tql_catalog.specs.Defined.{IsDefinition}
 use Rattle.tql_catalog.specs.Tables.{definitions_of}
 use Rattle.tql_catalog.specs.declared.catalog.Table.{Table}
 use Rattle.tql_dml.specs.Alters as dml
 use Rattle.tql_dml.specs.Alters.{IsVersionOf, conds_in, is_yes, portion_in}
 use Rattle.tql_dml.proofs.Modified.{touches}
-use Rattle.tql_dml.proofs.Rows.{shown_width}
 use Rattle.tql_keys.proofs.NamedRows.{store_names}
-use Rattle.tql_plan_access.specs.Access.{Serves}
+use Rattle.tql_plan_access.specs.Access.{IsShown, ServesTable}
 use Rattle.tql_plan_access.proofs.Untouched.{IsPassedOver, passed_over, seen_and_unseen, unseen_of, untouched}
 use Rattle.tql_store.proofs.StoreLaws.{answers-found}
 use Rattle.tql_store.specs.Represents.{Answers, AnswersBy}
@@ -32,6 +30,7 @@ use Rattle.tql_store_rows.specs.Readings.{version_shown as version_of, where_ope
 use Rattle.tql_store_rows.specs.declared.version.Version as code
 use Rattle.tql_value.specs.declared.when.When.TheVariants as when
 use Rattle.tql_engine.specs.Fitting.{RowsFit, CopyFits}
+use Rattle.tql_engine.specs.Modifying.{AreShown}
 use Rattle.tql_engine.specs.Stands.{EngineModel, StandsFor, copies_of, working_of}
 use Rattle.tql_engine.proofs.Asked.{rows_fit, seen_law}
 use Rattle.tql_engine.proofs.ChangeKeeps.{working_now, working_rows, last_fits, rows_left}
@@ -47,14 +46,14 @@ newest_now : (defs : List TableDef) (t : ℕ) (es : List Entry)
 newest_now defs t [] = ap (completed still) (sym (none_there defs t))
 newest_now defs t (e ∷ older) = refl
 
-now_by : (defs : List TableDef) (es : List Entry) (next : ℤ) (t : ℕ) (o : Option Entry)
-    → (let s : State = record { definitions = defs; history = es; next = next; transaction = o } in current
+now_by : (base : State) (defs : List TableDef) (es : List Entry) (next : ℤ) (t : ℕ) (o : Option Entry)
+    → (let s : State = record base { definitions = defs; history = es; next = next; transaction = o } in current
     (table_history t (entries s)) ≡ completed still (working_rows s t))
-now_by defs es next t None = newest_now defs t es
-now_by defs es next t (Some e) = refl
+now_by base defs es next t None = newest_now defs t es
+now_by base defs es next t (Some e) = refl
 
 pub now_is : (s : State) (t : ℕ) → current (table_history t (entries s)) ≡ completed still (working_rows s t)
-now_is s t = now_by s.definitions s.history s.next t s.transaction
+now_is s t = now_by s s.definitions s.history s.next t s.transaction
 
 pub rows_of_completed : (rows : List Stamped) → map (λ (v : Version). v.row) (completed still rows) ≡ rows
 rows_of_completed [] = refl
@@ -62,28 +61,28 @@ rows_of_completed (x ∷ xs) = ap {B = List Stamped} (λ ys. x ∷ ys) (rows_of_
 
 -- ---- the working copy fits
 
-copy_fits_by : (h : EngineModel) (defs : List TableDef) (es : List Entry) (next : ℤ) (o : Option Entry)
-    → (let s : State = record { definitions = defs; history = es; next = next; transaction = o } in StandsFor h s
+copy_fits_by : (h : EngineModel) (base : State) (defs : List TableDef) (es : List Entry) (next : ℤ) (o : Option Entry)
+    → (let s : State = record base { definitions = defs; history = es; next = next; transaction = o } in StandsFor h s
     → CopyFits (definitions_of h.tables) (working_now s).copy)
-copy_fits_by h defs es next None f = last_fits (definitions_of h.tables) defs es f.fits.definitions f.fits.rows
-copy_fits_by h defs es next (Some e) f = f.fits.working
+copy_fits_by h base defs es next None f = last_fits (definitions_of h.tables) defs es f.fits.definitions f.fits.rows
+copy_fits_by h base defs es next (Some e) f = f.fits.working
 
 pub copy_fits : (h : EngineModel) (s : State) → StandsFor h s → CopyFits (definitions_of h.tables) (working_now s).copy
-copy_fits h s f = copy_fits_by h s.definitions s.history s.next s.transaction f
+copy_fits h s f = copy_fits_by h s s.definitions s.history s.next s.transaction f
 
 -- the moment of a change is one of the calendar, below the highest
-dated_by : (h : EngineModel) (defs : List TableDef) (es : List Entry) (next : ℤ) (o : Option Entry)
-    → (let s : State = record { definitions = defs; history = es; next = next; transaction = o } in
+dated_by : (h : EngineModel) (base : State) (defs : List TableDef) (es : List Entry) (next : ℤ) (o : Option Entry)
+    → (let s : State = record base { definitions = defs; history = es; next = next; transaction = o } in
     StandsFor h s → (IsNone h.store.working → h.next <ℤ high)
     → (first_moment ≤ℤ (working_now s).moment) × ((working_now s).moment <ℤ high))
-dated_by h defs es next None f below =
+dated_by h base defs es next None f below =
     (f.not_before, subst (λ n. n <ℤ high) f.clock (below (subst IsNone (sym f.opened) refl)))
-dated_by h defs es next (Some e) f below =
+dated_by h base defs es next (Some e) f below =
     (subst (λ n. first_moment ≤ℤ n) (sym f.dated.0) f.not_before, subst (λ n. n <ℤ high) (sym f.dated.0) f.dated.1)
 
 pub moment_dated : (h : EngineModel) (s : State) → StandsFor h s → (IsNone h.store.working → h.next <ℤ high)
     → (first_moment ≤ℤ (working_now s).moment) × ((working_now s).moment <ℤ high)
-moment_dated h s f below = dated_by h s.definitions s.history s.next s.transaction f below
+moment_dated h s f below = dated_by h s s.definitions s.history s.next s.transaction f below
 
 -- ---- the store's current rows are those of the working copy
 
@@ -95,7 +94,7 @@ current_rows h s t p st e =
     answers-found h.store p.id when.Now found refl (same-refl found) in
     let same : SameBag found (completed still (working_rows s t)) =
     subst (SameBag found) (ap current (seen_law h s t p st e) ∙ now_is s t)
-    (answers (copies_of h.tables s.history) (working_of h.tables s.transaction) st.stands) in
+    (answers refl (copies_of h.tables s.history) (working_of h.tables s.transaction) st.stands) in
     same-sym (subst (SameBag (map (λ (v : Version). v.row) found)) (rows_of_completed (working_rows s t))
     (same-map (λ (v : Version). v.row) same))
 
@@ -136,7 +135,7 @@ seen_rows h s t p o seen st e answers =
     (filter (λ (v : Version). is_looked_at o v.row.cells) (completed still (working_rows s t))) =
     subst (λ vs. SameBag (map version_of seen) (filter (λ (v : Version). is_looked_at o v.row.cells) vs))
     (ap current (seen_law h s t p st e) ∙ now_is s t)
-    (answers (copies_of h.tables s.history) (working_of h.tables s.transaction) st.stands) in
+    (answers refl (copies_of h.tables s.history) (working_of h.tables s.transaction) st.stands) in
     subst (λ xs. SameBag xs (looked_at o (working_rows s t))) (sym (rows_read seen))
     (subst (SameBag (map (λ (v : Version). v.row) (map version_of seen))) (looked_completed o (working_rows s t))
     (same-map (λ (v : Version). v.row) same))
@@ -150,7 +149,7 @@ all_rows h s t p o seen st e answers =
 
 -- ---- they are rows of the table
 
-working_fit : (h : EngineModel) (s : State) (t : ℕ) (p : Table) → StandsFor h s → slice_get h.tables t ≡ Some p
+pub working_fit : (h : EngineModel) (s : State) (t : ℕ) (p : Table) → StandsFor h s → slice_get h.tables t ≡ Some p
     → RowsFit p.definition (working_rows s t)
 working_fit h s t p st e = rows_fit h.tables t p e (working_now s).copy (copy_fits h s st)
 
@@ -175,22 +174,23 @@ read_fit h s t p o seen st e answers =
 
 -- ---- the others
 
-rows_wide : (d : TableDef) → IsDefinition d → (rows : List Stamped) → RowsFit d rows
-    → AllByRecursion (λ (r : Stamped). length (shown d r) ≡ length d.columns) rows
-rows_wide d right [] f = tt
-rows_wide d right (r ∷ rows) f = (shown_width d r right f.0.cells.width, rows_wide d right rows f.1)
-
--- the rows that a change sees have all columns
-working_wide : (h : EngineModel) (s : State) (t : ℕ) (p : Table) → StandsFor h s → slice_get h.tables t ≡ Some p
-    → AllByRecursion (λ (r : Stamped). length (shown p.definition r) ≡ length p.definition.columns) (working_rows s t)
-working_wide h s t p st e =
-    rows_wide p.definition (defined_law h s t p st e) (working_rows s t) (working_fit h s t p st e)
+-- the rows that a change sees have all columns, and their periods rise
+working_shown : (h : EngineModel) (s : State) (t : ℕ) (p : Table) → StandsFor h s → slice_get h.tables t ≡ Some p
+    → AreShown h.store p → AllByRecursion (IsShown p.definition) (working_rows s t)
+working_shown h s t p st e shown =
+    each_shown (working_rows s t) (λ r m. shown r (member_of_same r (current_rows h s t p st e) m))
+  where
+    each_shown : (rows : List Stamped) → ((r : Stamped) → In r rows → IsShown p.definition r)
+        → AllByRecursion (IsShown p.definition) rows
+    each_shown [] k = tt
+    each_shown (r ∷ rows) k = (k r (inl refl), each_shown rows (λ q m. k q (inr m)))
 
 -- those that it does not look at are passed over
 pub rest_passed : (h : EngineModel) (s : State) (t : ℕ) (p : Table) (o : Option Sought) → StandsFor h s
-    → slice_get h.tables t ≡ Some p
+    → slice_get h.tables t ≡ Some p → AreShown h.store p
     → AllByRecursion (IsPassedOver p.definition o) (unseen_of o (working_rows s t))
-rest_passed h s t p o st e = passed_over p.definition o (working_rows s t) (working_wide h s t p st e)
+rest_passed h s t p o st e shown =
+    passed_over p.definition o (working_rows s t) (working_shown h s t p st e shown)
 
 -- a current version of the table is of a row that the change sees
 version_seen : (h : EngineModel) (s : State) (t : ℕ) (p : Table) (i : ℕ) (v : Version) → StandsFor h s
@@ -206,13 +206,12 @@ version_seen h s t p i v st e at now =
 
 -- a current version whose row is not looked at is not touched
 pub version_untouched : SafeConditionsAreJudged → (h : EngineModel) (s : State) (p : Table) (x : Modification)
-    (o : Option Sought)
-    → Serves p.definition.system (length p.definition.columns) (conds_in x) o → StandsFor h s
+    (o : Option Sought) → ServesTable p.definition (conds_in x) o → AreShown h.store p → StandsFor h s
     → slice_get h.tables x.table ≡ Some p → (i : ℕ) (v : Version) → named h.store p.id i ≡ Some v
     → (alive v && is_current v) ≡ true → is_looked_at o v.row.cells ≡ false
     → touches p.definition (portion_in x) (conds_in x) v.row ≡ false
-version_untouched law h s p x o serves st e i v at now unseen =
-    let wide = of_members (λ (r : Stamped). length (shown p.definition r) ≡ length p.definition.columns)
-    (working_rows s x.table) (working_wide h s x.table p st e) v.row (version_seen h s x.table p i v st e at now) in
+version_untouched law h s p x o serves shown st e i v at now unseen =
+    let row = of_members (IsShown p.definition) (working_rows s x.table) (working_shown h s x.table p st e shown) v.row
+    (version_seen h s x.table p i v st e at now) in
     ap is_yes (untouched law p.definition (conds_in x) o serves (portion_in x) v.row
-    (record { wide = wide; unseen = unseen }))
+    (record { row = row; unseen = unseen }))

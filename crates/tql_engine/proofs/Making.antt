@@ -76,17 +76,18 @@ no_faults : (defs : List TableDef) (copy : Copy) → CopyHolds defs copy → con
 no_faults defs copy k =
     λ i. fault_if (not (k.keys i)) DuplicateKey ++ fault_if (not (k.references i)) ReferenceNotMet
 
-held_by : (defs : List TableDef) (es : List Entry) (next : ℤ) (o : Option Entry)
-    → (let s : State = record { definitions = defs; history = es; next = next; transaction = o } in ConstraintsHold s
+held_by : (base : State) (defs : List TableDef) (es : List Entry) (next : ℤ) (o : Option Entry)
+    → (let s : State = record base { definitions = defs; history = es; next = next; transaction = o } in
+    ConstraintsHold s
     → CopyHolds defs (working_now s).copy)
-held_by defs es next None k = newest_holds defs es k
-held_by defs es next (Some e) k = k.0
+held_by base defs es next None k = newest_holds defs es k
+held_by base defs es next (Some e) k = k.0
 
 pub held_before : (h : EngineModel) (s : State) → StandsFor h s → ConstraintsHold s
     → constraint_faults (definitions_of h.tables) (working_now s).copy ≡ []
 held_before h s st k =
     ap (λ (ds : List TableDef). constraint_faults ds (working_now s).copy) (sym st.fits.definitions)
-    ∙ no_faults s.definitions (working_now s).copy (held_by s.definitions s.history s.next s.transaction k)
+    ∙ no_faults s.definitions (working_now s).copy (held_by s s.definitions s.history s.next s.transaction k)
 
 -- ---- whichever state the engine stands for
 
@@ -106,14 +107,14 @@ copies_agree h s other st to =
     each_same h.tables (working_now s).copy (working_now other).copy (long_copy h s st) (long_copy h other to)
     (λ t p e. same-trans (current_rows h s t p st e) (same-sym (current_rows h other t p to e)))
 
-moment_by : (h : EngineModel) (defs : List TableDef) (es : List Entry) (next : ℤ) (o : Option Entry)
-    → (let s : State = record { definitions = defs; history = es; next = next; transaction = o } in StandsFor h s
+moment_by : (h : EngineModel) (base : State) (defs : List TableDef) (es : List Entry) (next : ℤ) (o : Option Entry)
+    → (let s : State = record base { definitions = defs; history = es; next = next; transaction = o } in StandsFor h s
     → (working_now s).moment ≡ h.next)
-moment_by h defs es next None f = sym f.clock
-moment_by h defs es next (Some e) f = f.dated.0 ∙ sym f.clock
+moment_by h base defs es next None f = sym f.clock
+moment_by h base defs es next (Some e) f = f.dated.0 ∙ sym f.clock
 
 pub moment_is : (h : EngineModel) (s : State) → StandsFor h s → (working_now s).moment ≡ h.next
-moment_is h s st = moment_by h s.definitions s.history s.next s.transaction st
+moment_is h s st = moment_by h s s.definitions s.history s.next s.transaction st
 
 after_same : (m : ℤ) (gone : Stamped → Bool) (added : List Row) {xs ys : List Stamped} → SameBag xs ys
     → SameBag (rows_after m gone added xs) (rows_after m gone added ys)
@@ -164,7 +165,7 @@ module _ (h : EngineModel) (s : State) (t : ℕ) (p : Table) (delta : Delta) (ve
   step_is : step s (ChangeRows c) ≡ unless_refused (first (after_faults s t k.made.rows)) s
       (Done (plain_verb verb) (Some delta.count)) (with_table_rows s t k.made.rows)
   step_is =
-      change_step h s c st below ∙ altered_by s c k.made k.is
+      change_step h s c st below k.within ∙ altered_by s c k.made k.is
       ∙ (λ i. unless_refused (first (k.sound i ++ after_faults s (k.place i) k.made.rows)) s
       (Done (k.word i) (Some (k.count i))) (with_table_rows s (k.place i) k.made.rows))
 

@@ -23,7 +23,7 @@ use Rattle.tql_catalog.specs.declared.catalog.Table.{Table}
 use Rattle.tql_dml.specs.Alters.{Gives, gone, fates, coming, modified, portion_in, conds_in}
 use Rattle.tql_dml.specs.Alters as dml
 use Rattle.tql_dml.proofs.Modified.{touches, rows_made}
-use Rattle.tql_plan_access.specs.Access.{Serves}
+use Rattle.tql_plan_access.specs.Access.{ServesTable}
 use Rattle.tql_plan_access.proofs.Untouched.{SameNews, news_count, news_faults, same_news, unseen_of}
 use Rattle.tql_result.specs.Replies.{plain_verb}
 use Rattle.tql_result.specs.declared.reply.Verb.{Verb}
@@ -41,7 +41,7 @@ use Rattle.tql_value.specs.declared.refusal.Refusal.{Refusal}
 use Rattle.tql_value.specs.declared.refusal.Refusal.TheVariants as r
 use Rattle.tql_engine.specs.Making.{Changes}
 use Rattle.tql_engine.specs.Effects.{Does, Refuses}
-use Rattle.tql_engine.specs.Modifying.{Made, Makes}
+use Rattle.tql_engine.specs.Modifying.{AreShown, Made, Makes}
 use Rattle.tql_engine.specs.Stands.{EngineModel, StandsFor}
 use Rattle.tql_engine.proofs.ChangeKeeps.{working_now, working_rows}
 use Rattle.tql_engine.proofs.Added.{altered_refused}
@@ -82,7 +82,7 @@ module _ (law : SafeConditionsAreJudged) (no_order : ChangesKeepNoOrder) (by_par
       (definition_law h s x.table p st there)
 
   -- what it makes of the versions that were looked at
-  module _ (o : Option Sought) (serves : Serves p.definition.system (length p.definition.columns) (conds_in x) o)
+  module _ (o : Option Sought) (serves : ServesTable p.definition (conds_in x) o) (are_shown : AreShown h.store p)
       (seen : List code.Version) (answers : IsSeen h p o seen) where
     -- their rows, and those that were not
     abbrev all : List Stamped
@@ -96,7 +96,7 @@ module _ (law : SafeConditionsAreJudged) (no_order : ChangesKeepNoOrder) (by_par
 
     news : SameNews (fates_of (dml.rows_in seen)) (fates_of all)
     news = same_news law p.definition (conds_in x) o serves moment (portion_in x) work (dml.rows_in seen)
-        (unseen_of o rows) (rest_passed h s x.table p o st there)
+        (unseen_of o rows) (rest_passed h s x.table p o st there are_shown)
 
     same : SameOutcome whole outcome
     same = no_order p.definition moment all rows (portion_in x) work (conds_in x)
@@ -117,7 +117,7 @@ module _ (law : SafeConditionsAreJudged) (no_order : ChangesKeepNoOrder) (by_par
         → Does h (Refused f) (step s (ChangeRows (modification_of x)))
     modify_refused f k =
         by_step h (Refused f) (step s (ChangeRows (modification_of x))) (refused f s)
-        (change_step h s (modification_of x) st below
+        (change_step h s (modification_of x) st below refl
         ∙ altered_refused s (modification_of x) outcome f modify_made
         (modify_early p.definition moment rows (portion_in x) work (conds_in x)) (sym fault_is ∙ k moment))
         (refuses h s f st)
@@ -141,6 +141,7 @@ module _ (law : SafeConditionsAreJudged) (no_order : ChangesKeepNoOrder) (by_par
           (ap (map (λ (r : Stamped). r.cells)) (sym (same_coming (fates_of (dml.rows_in seen)) (fates_of all) news))
           ∙ gives.added moment));
       sound = none_first outcome.faults (sym fault_is ∙ gives.sound moment);
+      within = refl;
       count = sym count_is ∙ sym (gives.count moment);
       word = word;
     }
@@ -149,7 +150,7 @@ module _ (law : SafeConditionsAreJudged) (no_order : ChangesKeepNoOrder) (by_par
   modify_told : {result : Result Delta Refusal} (k : Made h.store p x result) (f : spec.Refusal)
       → ((m : ℤ) → first (modified p.definition k.seen x m).faults ≡ Some f)
       → Does h (Refused f) (step s (ChangeRows (modification_of x)))
-  modify_told k f e = modify_refused k.sought k.serves k.seen k.found.copies f e
+  modify_told k f e = modify_refused k.sought k.serves k.shown k.seen k.found.copies f e
 
   -- whatever it was refused for
   pub modify_errs : (e : Refusal) → Makes h.store p x (Err e) → Refuses h s e (step s (ChangeRows (modification_of x)))
@@ -213,7 +214,7 @@ gone_judged law h s p x delta st e k =
     (λ (v : Version). is_current v && is_looked_at k.sought v.row.cells) k.seen k.found.ids k.found.once
     (λ i v at. agree (alive v) (is_current v) (is_looked_at k.sought v.row.cells)
     (touches p.definition (portion_in x) (conds_in x) v.row)
-    (version_untouched law h s p x k.sought k.serves st e i v at)))
+    (version_untouched law h s p x k.sought k.serves k.shown st e i v at)))
   where
     agree : (a c l g : Bool) → ((a && c) ≡ true → l ≡ false → g ≡ false) → (a && ((c && l) && g)) ≡ (a && (c && g))
     agree true true true g h = refl

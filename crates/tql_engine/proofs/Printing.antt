@@ -34,6 +34,7 @@ use Rattle.tql_engine.specs.Effects.{DoesStep}
 use Rattle.tql_engine.proofs.Asked.{found_print, ordered_prints}
 use Rattle.tql_engine.proofs.Copies.{chosen}
 use Rattle.tql_engine.proofs.Finding.{answer_same, table_there}
+use Rattle.tql_spec.specs.Machine.{limit_faults}
 
 -- the reply of a step has a text
 abbrev Prints : machine.Reply × State → Type 0
@@ -45,7 +46,8 @@ unless_prints None s reply new k = k
 unless_prints (Some e) s reply new k = tt
 
 by_effect : (s : State) (x : machine.Bound) → Prints (effect s x) → Prints (step s x)
-by_effect s x k = unless_prints (first (state_faults s (class_of x))) s (effect s x).0 (effect s x).1 k
+by_effect s x k =
+    unless_prints (first (limit_faults s x ++ state_faults s (class_of x))) s (effect s x).0 (effect s x).1 k
 
 altered_prints : (s : State) (c : machine.Change) → Prints (changed s c)
 altered_prints s c =
@@ -120,6 +122,7 @@ step_prints h s st (b.AnswerQuery x) k =
     by_effect s (machine.AnswerQuery (bound_query_of x))
     (asked_prints s (bound_query_of x) (answer (bag_of s) (bound_query_of x)) (answer_prints h s x st k))
 step_prints h s st (b.SetClock m) k = by_effect s (bound_of (b.SetClock m)) tt
+step_prints h s st (b.Prune m) k = by_effect s (bound_of (b.Prune m)) tt
 step_prints h s st b.Start k = by_effect s machine.Start tt
 step_prints h s st b.Commit k = by_effect s machine.Commit tt
 step_prints h s st b.Rollback k = by_effect s machine.Rollback tt

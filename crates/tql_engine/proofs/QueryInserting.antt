@@ -41,6 +41,7 @@ use Rattle.tql_engine.proofs.Doing.{by_step, change_step, refuses}
 use Rattle.tql_engine.proofs.EarlyFaults.{insert_early}
 use Rattle.tql_engine.proofs.Faults.{refused}
 use Rattle.tql_engine.proofs.Standing.{definition_law}
+use Rattle.tql_spec.specs.Machine.{query_faults}
 
 -- ---- what is made of the rows
 
@@ -90,7 +91,8 @@ adds_of s p x rows result e alters fits =
 
 module _ (no_order : InsertsKeepNoOrder) (h : EngineModel) (s : State) (p : Table) (x : QueryInsertion)
     (st : StandsFor h s)
-    (there : slice_get h.tables x.table ≡ Some p) (below : IsNone h.store.working → h.next <ℤ high) where
+    (there : slice_get h.tables x.table ≡ Some p) (below : IsNone h.store.working → h.next <ℤ high)
+    (within : query_faults s.horizon (bound_query_of x.query) ≡ []) where
   -- the moment, the rows that are there, and the columns that are filled
   abbrev moment : ℤ
   moment = (working_now s).moment
@@ -120,7 +122,7 @@ module _ (no_order : InsertsKeepNoOrder) (h : EngineModel) (s : State) (p : Tabl
       → Does h (Refused f) (step s (ChangeRows (query_insertion_of x)))
   refused_as o e f k =
       by_step h (Refused f) (step s (ChangeRows (query_insertion_of x))) (refused f s)
-      (change_step h s (query_insertion_of x) st below
+      (change_step h s (query_insertion_of x) st below within
       ∙ altered_refused s (query_insertion_of x) (outcome_of o) f (insert_made o e)
       (insert_early p.definition moment rows columns o) k) (refuses h s f st)
 
@@ -161,6 +163,7 @@ module _ (no_order : InsertsKeepNoOrder) (h : EngineModel) (s : State) (p : Tabl
           sound = none_first (outcome_of (Some bag)).faults
               (sym same_made.fault ∙ ap first (insert_faults p.definition moment rows columns (Some got))
               ∙ gives.sound moment);
+          within = within;
           count = sym same_made.count ∙ sym (gives.count moment);
           word = refl;
         }

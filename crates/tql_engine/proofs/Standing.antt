@@ -22,10 +22,12 @@ use Rattle.tql_engine.specs.Stands.{EngineModel, StandsFor, ArePlaced, IsKept, I
 -- ---- a new engine
 
 pub new_law : (r : StoreModel) → Represents r (λ t. []) (λ t. []) → r.working ≡ None → table_count r ≡ 0
+    → r.horizon ≡ first_moment
     → StandsFor (record { tables = []; store = r; next = first_moment }) new_state
-new_law r stands idle count = record {
+new_law r stands idle count horizon = record {
   fits = record { definitions = refl; defined = tt; narrow = tt; rows = tt; working = tt };
   clock = refl;
+  horizon = horizon;
   not_before = omega (arith, ints);
   not_after = omega (arith, ints);
   falls = tt;
@@ -82,6 +84,7 @@ clock_law h s m f closed later from until = record {
     working = f.fits.working;
   };
   clock = refl;
+  horizon = f.horizon;
   not_before = from;
   not_after = until;
   falls = falls_below s.next m s.history f.falls later;

@@ -1,15 +1,19 @@
 -- The faults of the transaction and the clock, by what the engine holds.
 use Rattle.std.proofs.Common.{◌≡◌, refl, sym, ap, ◌∙◌, Bool, true, false, Option, Some, None, ◌++◌}
-use Rattle.std.proofs.Common.{arith}
-use Rattle.std.specs.Prelude.{ℤ, ◌&&◌, ◌<ℤ◌, not, int_le, is_some, is_none}
+use Rattle.std.proofs.Common.{arith, subst, []}
+use Rattle.std.specs.Prelude.{ℤ, ◌&&◌, ◌<ℤ◌, ◌≤ℤ◌, not, int_le, int_lt, is_some, is_none}
 use Rattle.std.proofs.lemmas.Int.{ints}
 use Rattle.tql_spec.specs.Calendar.{high}
 use Rattle.tql_spec.specs.Refusal.{Refusal, NotInThisTransactionState, MomentNotAllowed, first, fault_if}
-use Rattle.tql_spec.specs.Machine.{State, state_faults, class_of, is_clock_at_end}
+use Rattle.tql_spec.specs.Refusal.{BeforeTheHorizon}
+use Rattle.tql_spec.specs.Horizon.{asks_before}
+use Rattle.tql_spec.specs.Query.{Query}
+use Rattle.tql_spec.specs.Machine.{State, state_faults, class_of, is_clock_at_end, limit_faults, query_faults}
+use Rattle.tql_bound.specs.Queries.{bound_query_of}
 use Rattle.tql_bound.specs.Bounds.{bound_of}
 use Rattle.tql_bound.specs.declared.bound.Bound.{Bound}
 use Rattle.tql_bound.specs.declared.bound.Bound.TheVariants as b
-use Rattle.tql_engine.specs.Allowed.{IsIdle, HasTimeLeft, IsAllowed}
+use Rattle.tql_engine.specs.Allowed.{IsIdle, HasTimeLeft, AsksWithin, IsAllowed}
 use Rattle.tql_engine.specs.Effects.{asked_first}
 use Rattle.tql_engine.specs.Stands.{EngineModel, StandsFor}
 use Rattle.tql_engine.proofs.Standing.{open_law}
@@ -56,18 +60,35 @@ dated h s st k i =
     has_moment h s st (second (is_none s.transaction) (is_clock_at_end s)
     (no_fault (is_none s.transaction && is_clock_at_end s) MomentNotAllowed k) (closed_is h s st ∙ ap not i))
 
--- the transaction and the clock allow the bound statement
+-- no reference asks for what lies before the store's horizon
+asks_within : (h : EngineModel) (s : State) (q : Query) → StandsFor h s → query_faults s.horizon q ≡ []
+    → AsksWithin h q
+asks_within h s q st l =
+    ap (λ (n : ℤ). asks_before n q) st.horizon
+    ∙ no_fault (asks_before s.horizon q) BeforeTheHorizon (ap first l)
+
+-- the horizon does not go back
+not_back : (m n : ℤ) → int_lt m n ≡ false → n ≤ℤ m
+not_back m n e = grind (arith, ints, e)
+
+-- the transaction, the clock and the horizon allow the bound statement
 pub allowed_law : (h : EngineModel) (s : State) (x : Bound) → StandsFor h s
-    → first (state_faults s (asked_first (class_of (bound_of x)))) ≡ None → IsAllowed h x
-allowed_law h s (b.CreateTable d) st k = idle h s st (no_fault (is_some s.transaction) NotInThisTransactionState k)
-allowed_law h s (b.DropTable t) st k = idle h s st (no_fault (is_some s.transaction) NotInThisTransactionState k)
-allowed_law h s (b.Insert x) st k = dated h s st k
-allowed_law h s (b.InsertFrom x) st k = dated h s st k
-allowed_law h s (b.Modify x) st k = dated h s st k
-allowed_law h s (b.AnswerQuery q) st k = tt
-allowed_law h s (b.SetClock m) st k = idle h s st (no_fault (is_some s.transaction) NotInThisTransactionState k)
-allowed_law h s b.Start st k =
+    → first (state_faults s (asked_first (class_of (bound_of x)))) ≡ None → limit_faults s (bound_of x) ≡ []
+    → IsAllowed h x
+allowed_law h s (b.CreateTable d) st k l = idle h s st (no_fault (is_some s.transaction) NotInThisTransactionState k)
+allowed_law h s (b.DropTable t) st k l = idle h s st (no_fault (is_some s.transaction) NotInThisTransactionState k)
+allowed_law h s (b.Insert x) st k l = dated h s st k
+allowed_law h s (b.InsertFrom x) st k l = (dated h s st k, asks_within h s (bound_query_of x.query) st l)
+allowed_law h s (b.Modify x) st k l = dated h s st k
+allowed_law h s (b.AnswerQuery q) st k l = asks_within h s (bound_query_of q) st l
+allowed_law h s (b.SetClock m) st k l = idle h s st (no_fault (is_some s.transaction) NotInThisTransactionState k)
+allowed_law h s (b.Prune m) st k l = (
+  idle h s st (no_fault (is_some s.transaction) NotInThisTransactionState k),
+  subst (λ (n : ℤ). n ≤ℤ m) (sym st.horizon)
+      (not_back m s.horizon (no_fault (int_lt m s.horizon) BeforeTheHorizon (ap first l))),
+)
+allowed_law h s b.Start st k l =
     let both = no_faults (is_some s.transaction) (is_clock_at_end s) NotInThisTransactionState MomentNotAllowed k in
     (idle h s st both.0, has_moment h s st both.1)
-allowed_law h s b.Commit st k = tt
-allowed_law h s b.Rollback st k = tt
+allowed_law h s b.Commit st k l = tt
+allowed_law h s b.Rollback st k l = tt

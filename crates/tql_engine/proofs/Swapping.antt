@@ -14,6 +14,8 @@ use Rattle.tql_spec.specs.Machine.{State, newest_copy}
 use Rattle.tql_store.specs.StoreModel.{StoreModel, live}
 use Rattle.tql_store.specs.Stands.{Told, Fits, StandsFor as StandFor}
 use Rattle.tql_store.specs.Changes.{InTransaction}
+use Rattle.tql_store.specs.Kept.{kept_of}
+use Rattle.tql_store.specs.TableSlots.{slot_at, is_brief}
 use Rattle.tql_store.specs.Represents.{Copies, Working, Represents, StandsWith, horizon_of}
 use Rattle.tql_catalog.specs.Tables.{definitions_of}
 use Rattle.tql_catalog.specs.declared.catalog.Table.{Table}
@@ -80,6 +82,12 @@ stands_same horizon versions m xs ys older b f = record {
   told = told_same horizon f.rows f.ends high m xs ys older b f.told;
 }
 
+-- the horizon is told by the copies' moments alone
+kept_same : (k m : ℤ) (xs ys : List Stamped) (older : List TableEntry)
+    → kept_of k (record { moment = m; rows = xs } ∷ older) ≡ kept_of k (record { moment = m; rows = ys } ∷ older)
+kept_same k m xs ys [] = refl
+kept_same k m xs ys (e ∷ older) = refl
+
 -- in the newest copies, with no transaction open
 pub copies_same : (r : StoreModel) (m : ℤ) (xs ys : Working) (older : Copies) (working : Working) → r.working ≡ None
     → ((t : ℕ) → SameBag (xs t) (ys t))
@@ -87,36 +95,41 @@ pub copies_same : (r : StoreModel) (m : ℤ) (xs ys : Working) (older : Copies) 
     → Represents r (λ t. record { moment = m; rows = ys t } ∷ older t) working
 copies_same r m xs ys older working idle b f = record {
   dated = f.dated;
-  stands = λ t. subst (λ o. StandsWith (horizon_of r.tables r.last t) o (live r t) (record {
-    moment = m;
-    rows = ys t;
-  } ∷ older t) (working t)) (sym idle)
-      (stands_same (horizon_of r.tables r.last t) (live r t) m (xs t) (ys t) (older t) (b t)
-      (subst (λ o. StandsWith (horizon_of r.tables r.last t) o (live r t) (record {
-        moment = m;
-        rows = xs t;
-      } ∷ older t) (working t)) idle (f.stands t)));
+  stands = λ t. subst (λ o. StandsWith (horizon_of r.tables r.last r.horizon (new t) t) o (live r t) (new t)
+      (working t)) (sym idle)
+      (stands_same (horizon_of r.tables r.last r.horizon (new t) t) (live r t) m (xs t) (ys t) (older t) (b t)
+      (subst (λ (g : Option ℤ). StandFor (if is_brief (slot_at r.tables t) then r.last else g) (live r t) (old t))
+      (kept_same r.horizon m (xs t) (ys t) (older t))
+      (subst (λ o. StandsWith (horizon_of r.tables r.last r.horizon (old t) t) o (live r t) (old t) (working t)) idle
+      (f.stands t))));
 }
+  where
+    old : Copies
+    old t = record { moment = m; rows = xs t } ∷ older t
+
+    new : Copies
+    new t = record { moment = m; rows = ys t } ∷ older t
 
 -- in the working copy of an open transaction
 pub working_same : (r : StoreModel) (m : ℤ) (xs ys : Working) (copies : Copies) → r.working ≡ Some m
     → ((t : ℕ) → SameBag (xs t) (ys t)) → Represents r copies xs → Represents r copies ys
 working_same r m xs ys copies is_open b f = record {
   dated = f.dated;
-  stands = λ t. subst (λ o. StandsWith (horizon_of r.tables r.last t) o (live r t) (copies t) (ys t)) (sym is_open)
-      (within t (subst (λ o. StandsWith (horizon_of r.tables r.last t) o (live r t) (copies t) (xs t)) is_open
-      (f.stands t)));
+  stands = λ t. subst (λ o. StandsWith (horizon_of r.tables r.last r.horizon (copies t) t) o (live r t) (copies t)
+      (ys t)) (sym is_open)
+      (within t (subst (λ o. StandsWith (horizon_of r.tables r.last r.horizon (copies t) t) o (live r t) (copies t)
+      (xs t)) is_open (f.stands t)));
 }
   where
-    within : (t : ℕ) → InTransaction (horizon_of r.tables r.last t) (live r t) (record {
-      moment = m;
-      rows = xs t;
-    }) (copies t)
-        → InTransaction (horizon_of r.tables r.last t) (live r t) (record { moment = m; rows = ys t }) (copies t)
+    within : (t : ℕ) → InTransaction (horizon_of r.tables r.last r.horizon (copies t) t) (live r t)
+        (record { moment = m; rows = xs t }) (copies t)
+        → InTransaction (horizon_of r.tables r.last r.horizon (copies t) t) (live r t)
+        (record { moment = m; rows = ys t }) (copies t)
     within t k = record {
       since = k.since;
       below = k.below;
-      now = stands_same (horizon_of r.tables r.last t) (live r t) m (xs t) (ys t) (copies t) (b t) k.now;
+      now = stands_same (horizon_of r.tables r.last r.horizon (copies t) t) (live r t) m (xs t) (ys t) (copies t) (b t)
+          k.now;
       before = k.before;
     }
 
@@ -140,11 +153,11 @@ rows_same h ps t p a there copy fits xs ys b id =
 
 module _ (h : EngineModel) (t : ℕ) (p : Table) (there : slice_get h.tables t ≡ Some p) (xs ys : List Stamped)
     (b : SameBag xs ys) (ok : RowsFit p.definition ys) where
-  swapped_by : (defs : _) (es : List Entry) (next : ℤ) (o : Option Entry)
-      → (let s : State = record { definitions = defs; history = es; next = next; transaction = o } in
+  swapped_by : (base : State) (defs : _) (es : List Entry) (next : ℤ) (o : Option Entry)
+      → (let s : State = record base { definitions = defs; history = es; next = next; transaction = o } in
       CopyFits (definitions_of h.tables) (working_now s).copy → StandsFor h (with_table_rows s t xs)
       → StandsFor h (with_table_rows s t ys))
-  swapped_by defs es next None fits f =
+  swapped_by base defs es next None fits f =
       let copy : Copy = newest_copy defs es in
       record {
         fits = record {
@@ -155,6 +168,7 @@ module _ (h : EngineModel) (t : ℕ) (p : Table) (there : slice_get h.tables t �
           working = f.fits.working;
         };
         clock = f.clock;
+        horizon = f.horizon;
         not_before = f.not_before;
         not_after = f.not_after;
         falls = f.falls;
@@ -167,7 +181,7 @@ module _ (h : EngineModel) (t : ℕ) (p : Table) (there : slice_get h.tables t �
         placed = f.placed;
         count = f.count;
       }
-  swapped_by defs es next (Some e) fits f = record {
+  swapped_by base defs es next (Some e) fits f = record {
     fits = record {
       definitions = f.fits.definitions;
       defined = f.fits.defined;
@@ -176,6 +190,7 @@ module _ (h : EngineModel) (t : ℕ) (p : Table) (there : slice_get h.tables t �
       working = set_fits h.tables t p there e.copy fits ys ok;
     };
     clock = f.clock;
+    horizon = f.horizon;
     not_before = f.not_before;
     not_after = f.not_after;
     falls = f.falls;
@@ -192,4 +207,4 @@ module _ (h : EngineModel) (t : ℕ) (p : Table) (there : slice_get h.tables t �
   -- the law
   pub swapped : (s : State) → CopyFits (definitions_of h.tables) (working_now s).copy
       → StandsFor h (with_table_rows s t xs) → StandsFor h (with_table_rows s t ys)
-  swapped s = swapped_by s.definitions s.history s.next s.transaction
+  swapped s = swapped_by s s.definitions s.history s.next s.transaction

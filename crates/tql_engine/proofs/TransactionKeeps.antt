@@ -13,15 +13,15 @@ use Rattle.tql_engine.specs.Stands.{EngineModel, StandsFor, copies_of, working_o
 use Rattle.tql_engine.proofs.Copies.{any_working, same_places}
 use Rattle.tql_engine.proofs.ChangeKeeps.{last_fits, begun_stands, same_count}
 
-module _ (h : EngineModel) (defs : List TableDef) (es : List Entry) (next : ℤ) (r : StoreModel)
-    (places : r.tables ≡ h.store.tables) where
+module _ (h : EngineModel) (base : State) (defs : List TableDef) (es : List Entry) (next : ℤ) (r : StoreModel)
+    (places : r.tables ≡ h.store.tables) (horizon : r.horizon ≡ h.store.horizon) where
   -- the machine, with no transaction open
   abbrev idle : State
-  idle = record { definitions = defs; history = es; next = next; transaction = None }
+  idle = record base { definitions = defs; history = es; next = next; transaction = None }
 
   -- and in one
   abbrev within : Entry → State
-  within e = record { definitions = defs; history = es; next = next; transaction = Some e }
+  within e = record base { definitions = defs; history = es; next = next; transaction = Some e }
 
   -- begun
   begun : StandsFor h idle → next <ℤ high → BeginCopies h.store r → r.working ≡ Some next
@@ -35,6 +35,7 @@ module _ (h : EngineModel) (defs : List TableDef) (es : List Entry) (next : ℤ)
       working = last_fits (definitions_of h.tables) defs es f.fits.definitions f.fits.rows;
     };
     clock = f.clock;
+    horizon = horizon ∙ f.horizon;
     not_before = f.not_before;
     not_after = f.not_after;
     falls = f.falls;
@@ -62,6 +63,7 @@ module _ (h : EngineModel) (defs : List TableDef) (es : List Entry) (next : ℤ)
           working = tt;
         };
         clock = ap (λ m. m +ℤ pos 1) (sym same);
+        horizon = horizon ∙ f.horizon;
         not_before = omega (arith, ints);
         not_after = omega (arith, ints);
         falls = (omega (arith, ints), subst (λ m. FallingFrom m es) (sym same) f.falls);
@@ -86,6 +88,7 @@ module _ (h : EngineModel) (defs : List TableDef) (es : List Entry) (next : ℤ)
       working = tt;
     };
     clock = f.clock;
+    horizon = horizon ∙ f.horizon;
     not_before = f.not_before;
     not_after = f.not_after;
     falls = f.falls;
@@ -104,26 +107,26 @@ in_state : (h : EngineModel) (s : State) (o : Option Entry) → s.transaction �
 in_state h s o e f = subst (λ x. StandsFor h (record s { transaction = x })) e f
 
 pub begun_law : (h : EngineModel) (s : State) (r : StoreModel) → StandsFor h s → s.transaction ≡ None → h.next <ℤ high
-    → BeginCopies h.store r → r.working ≡ Some h.next → r.tables ≡ h.store.tables
+    → BeginCopies h.store r → r.working ≡ Some h.next → r.tables ≡ h.store.tables → r.horizon ≡ h.store.horizon
     → StandsFor (record h { store = r }) (record s { transaction = Some (working s None) })
-begun_law h s r f closed below begins is_open places =
+begun_law h s r f closed below begins is_open places horizon =
     subst (λ (x : Option Entry). StandsFor (record h { store = r })
     (record s { transaction = Some (working (record s { transaction = x }) None) })) (sym closed)
-    (begun h s.definitions s.history s.next r places (in_state h s None closed f)
+    (begun h s s.definitions s.history s.next r places horizon (in_state h s None closed f)
     (subst (λ m. m <ℤ high) f.clock below) begins (is_open ∙ ap Some f.clock))
 
 pub ended_law : (h : EngineModel) (s : State) (e : Entry) (r : StoreModel) → StandsFor h s → s.transaction ≡ Some e
-    → CommitAppends h.store r → r.working ≡ None → r.tables ≡ h.store.tables
+    → CommitAppends h.store r → r.working ≡ None → r.tables ≡ h.store.tables → r.horizon ≡ h.store.horizon
     → StandsFor (record { tables = h.tables; store = r; next = h.next +ℤ pos 1 }) (committed s e)
-ended_law h s e r f is commits is_idle places =
+ended_law h s e r f is commits is_idle places horizon =
     subst (λ n. StandsFor (record { tables = h.tables; store = r; next = n +ℤ pos 1 }) (committed s e)) (sym f.clock)
-    (ended h s.definitions s.history s.next r places e (in_state h s (Some e) is f) commits is_idle)
+    (ended h s s.definitions s.history s.next r places horizon e (in_state h s (Some e) is f) commits is_idle)
 
 pub undone_law : (h : EngineModel) (s : State) (e : Entry) (r : StoreModel) → StandsFor h s → s.transaction ≡ Some e
-    → RollbackRestores h.store r → r.working ≡ None → r.tables ≡ h.store.tables
+    → RollbackRestores h.store r → r.working ≡ None → r.tables ≡ h.store.tables → r.horizon ≡ h.store.horizon
     → StandsFor (record h { store = r }) (record s { transaction = None })
-undone_law h s e r f is restores is_idle places =
-    undone h s.definitions s.history s.next r places e (in_state h s (Some e) is f) restores is_idle
+undone_law h s e r f is restores is_idle places horizon =
+    undone h s s.definitions s.history s.next r places horizon e (in_state h s (Some e) is f) restores is_idle
 
 -- an open transaction has its moment before the end
 pub dated_below : (h : EngineModel) (s : State) (e : Entry) → StandsFor h s → s.transaction ≡ Some e → h.next <ℤ high

@@ -52,12 +52,12 @@ sound_after old new sound b reply bound dropped does =
 -- ---- what a change reads
 
 -- the rows of the working copy
-working_typed : (defs : List TableDef) (es : List Entry) (next : ℤ) (o : Option Entry)
-    → (let s : State = record { definitions = defs; history = es; next = next; transaction = o } in
+pub working_typed : (base : State) (defs : List TableDef) (es : List Entry) (next : ℤ) (o : Option Entry)
+    → (let s : State = record base { definitions = defs; history = es; next = next; transaction = o } in
     IsTypedState s → (t : ℕ) (r : Stamped) → In r (working_rows s t) → IsTyped (table_at defs t) r)
-working_typed defs es next (Some e) typed t r m = typed.rows e (inl refl) t r m
-working_typed defs [] next None typed t r m = absurd (subst (In r) (none_there defs t) m)
-working_typed defs (e ∷ older) next None typed t r m = typed.rows e (inl refl) t r m
+working_typed base defs es next (Some e) typed t r m = typed.rows e (inl refl) t r m
+working_typed base defs [] next None typed t r m = absurd (subst (In r) (none_there defs t) m)
+working_typed base defs (e ∷ older) next None typed t r m = typed.rows e (inl refl) t r m
 
 -- those of the versions that were read
 each_typed : (d : TableDef) (found : List code.Version) → ((r : Stamped) → In r (dml.rows_in found) → IsTyped d r)
@@ -79,7 +79,7 @@ read_typed h s p x o seen st typed bound there answers portion =
     ap (λ (ds : List TableDef). table_at ds x.table) (sym st.fits.definitions) ∙ here in
     let rows : (r : Stamped) → In r (dml.rows_in seen) → IsTyped p.definition r = λ r m.
     subst (λ (d : TableDef). IsTyped d r) here
-    (working_typed s.definitions s.history s.next s.transaction typed x.table r
+    (working_typed s s.definitions s.history s.next s.transaction typed x.table r
     (in_kept (λ (y : Stamped). is_looked_at o y.cells) r (working_rows s x.table)
     (member_of_same r (seen_rows h s x.table p o seen st there answers) m)).0) in
     record {

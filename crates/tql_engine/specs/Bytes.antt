@@ -9,6 +9,7 @@ use Rattle.tql_run.specs.Runs.{Counts, CutsLast, most_pulls}
 use Rattle.tql_run.specs.declared.runner.Summary.{Summary}
 use Rattle.tql_run.specs.declared.runner.Fault.{Fault}
 use Rattle.tql_run.specs.declared.runner.Fault.TheVariants.{Read, Write, Memory}
+use Rattle.tql_run.specs.Ending.{AllEndSurely}
 
 -- the whole script ran: the output is what it was, and behind it what the script writes
 pub record WritesWhole (s : State) (after : Standing) (script old new : List ℕ) (summary : Summary) : Type 0 where
@@ -16,6 +17,7 @@ pub record WritesWhole (s : State) (after : Standing) (script old new : List ℕ
   pub stands : after state
   pub pushed : List ℕ
   pub writes : Writes s script pushed state
+  pub ends : AllEndSurely (statements script) writes.0
   pub behind : new ≡ old ++ pushed
   pub counts : Counts summary (map Replied writes.0)
 
@@ -28,6 +30,7 @@ pub record StopsWriting (s : State) (after : Standing) (script old new : List �
   pub replies : List Reply
   pub state : State
   pub ran : Run s done replies state
+  pub ends : AllEndSurely done replies
   pub stands : after state
   pub pushed : List ℕ
   pub cut : CutsLast (map Replied replies) pushed

@@ -16,6 +16,7 @@ pub record CommitsRows (m : ℤ) (t : ℕ) (removed : List ℕ) (rows : List Row
   pub commits : CommitAppends changed new
   pub idle : new.working ≡ None
   pub places : new.tables ≡ old.tables
+  pub horizon : new.horizon ≡ old.horizon
 
 -- begun at the moment, and undone
 pub record Undoes (m : ℤ) (old new : StoreModel) : Type 0 where
@@ -25,12 +26,14 @@ pub record Undoes (m : ℤ) (old new : StoreModel) : Type 0 where
   pub restores : RollbackRestores opened new
   pub idle : new.working ≡ None
   pub places : new.tables ≡ old.tables
+  pub horizon : new.horizon ≡ old.horizon
 
 -- changed in the open transaction of the moment
 pub record ReplacesRows (m : ℤ) (t : ℕ) (removed : List ℕ) (rows : List Row) (old new : StoreModel) : Type 0 where
   pub changes : ChangeReplaces t removed rows old new
   pub still_open : new.working ≡ Some m
   pub places : new.tables ≡ old.tables
+  pub horizon : new.horizon ≡ old.horizon
 
 -- by the transaction that is open: the change, and the clock's moment after it
 abbrev pub ChangesRows : Option ℤ → ℤ → ℤ → ℕ → List ℕ → List Row → StoreModel → StoreModel → Type 0

@@ -8,7 +8,8 @@ pub mod Sense
 pub mod Bytes
 pub mod Modifying
 pub mod PointRuns
+pub mod Unseen
+pub mod Sessions
 pub mod HoldPoints
 pub mod Making
 pub mod Dropping
-pub mod Ending

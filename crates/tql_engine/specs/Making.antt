@@ -4,7 +4,7 @@ use Rattle.tql_spec.specs.Bag.{SameBag}
 use Rattle.tql_spec.specs.Change.{Outcome}
 use Rattle.tql_spec.specs.Definition.{Stamped}
 use Rattle.tql_spec.specs.History.{Entry, rows_in}
-use Rattle.tql_spec.specs.Machine.{State, Change, changed_table, outcome, verb_of, working}
+use Rattle.tql_spec.specs.Machine.{State, Change, changed_table, change_faults, outcome, verb_of, working}
 use Rattle.tql_spec.specs.Typing.{IsTypedState}
 use Rattle.tql_spec.specs.TypingLaws.{IsTypedChange}
 use Rattle.tql_catalog.specs.Rows.{IsRowOf}
@@ -33,6 +33,7 @@ pub record Changes (h : EngineModel) (t : ℕ) (delta : Delta) (verb : Verb) (c 
   pub rows : SameBag made.rows
       (rows_after (working_now s).moment gone (rows_of delta.added.items) (rows_in (working_now s).copy t))
   pub sound : made.faults ≡ []
+  pub within : change_faults s.horizon c ≡ []
   pub count : made.count ≡ delta.count
   pub word : verb_of c ≡ plain_verb verb
 

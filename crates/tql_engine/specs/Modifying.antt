@@ -1,12 +1,16 @@
 -- What a modification gives, from those versions of its table that were looked at.
-use Rattle.std.specs.Prelude.{List, length, All, Option, Result, Ok, Err, IfOk, ⊤}
+use Rattle.std.specs.Prelude.{List, map, filter, All, Option, Result, Ok, Err, IfOk, ⊤}
+use Rattle.tql_spec.specs.Bag.{In}
+use Rattle.tql_spec.specs.Definition.{Stamped}
+use Rattle.tql_spec.specs.Definition as kept
 use Rattle.tql_bound.specs.declared.change.Modification.{Modification}
 use Rattle.tql_catalog.specs.Rows.{IsRowOf}
 use Rattle.tql_catalog.specs.declared.catalog.Table.{Table}
 use Rattle.tql_dml.specs.Alters.{Alters, gone, fates, coming, conds_in, modified, IsVersionOf, AreTyped}
-use Rattle.tql_plan_access.specs.Access.{Serves}
+use Rattle.tql_plan_access.specs.Access.{IsShown, ServesTable}
 use Rattle.tql_value.specs.Views.{rows_of}
-use Rattle.tql_store.specs.StoreModel.{StoreModel}
+use Rattle.tql_store.specs.StoreModel.{StoreModel, live}
+use Rattle.tql_store_rows.specs.Changes.{is_current}
 use Rattle.tql_store.specs.Views.{IsFound}
 use Rattle.tql_store.specs.declared.store.Delta.{Delta}
 use Rattle.tql_store_index.specs.Basis.{Sought, is_looked_at}
@@ -15,11 +19,17 @@ use Rattle.tql_value.specs.declared.refusal.Refusal.{Refusal}
 use Rattle.tql_value.specs.declared.refusal.Refusal.TheVariants.{OutOfMemory}
 use Rattle.tql_value.specs.declared.when.When.TheVariants.{Now}
 
+-- each current row of the table has its columns, and an application period that rises between points of one kind
+abbrev pub AreShown : StoreModel → Table → Type 0
+AreShown h p =
+    (r : Stamped) → In r (map (λ (v : kept.Version). v.row) (filter is_current (live h p.id))) → IsShown p.definition r
+
 -- the change, or its fault, by the versions that were looked at: of the table's current ones those that are sought,
 -- which are all that WHERE can be true of
 pub record Made (h : StoreModel) (p : Table) (x : Modification) (result : Result Delta Refusal) : Type 0 where
   pub sought : Option Sought
-  pub serves : Serves p.definition.system (length p.definition.columns) (conds_in x) sought
+  pub serves : ServesTable p.definition (conds_in x) sought
+  pub shown : AreShown h p
   pub seen : List Version
   pub found : IsFound h p.id Now (is_looked_at sought) seen
   pub alters : Alters p.id (gone p.definition x seen) (λ m. coming (fates p.definition seen x m))

@@ -79,6 +79,7 @@ IsDated next (Some e) = (e.moment ≡ next) × (next <ℤ high)
 pub record StandsFor (h : EngineModel) (s : State) : Type 0 where
   pub fits : StateFits (definitions_of h.tables) s
   pub clock : h.next ≡ s.next
+  pub horizon : h.store.horizon ≡ s.horizon
   pub not_before : first_moment ≤ℤ s.next
   pub not_after : s.next ≤ℤ high
   pub falls : FallingFrom s.next s.history

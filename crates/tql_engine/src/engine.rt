@@ -6,6 +6,7 @@ mod clock;
 mod creation;
 mod dropping;
 mod faults;
+mod horizon;
 mod queries;
 mod transactions;
 
@@ -13,13 +14,18 @@ use crate::sense::read_statement;
 use crate::store::Store;
 use std::marker::Model;
 use tql_bind::binder::bind;
+use tql_bind::limits::Limits;
+use tql_bind_fault::told::bind_detail;
 use tql_bound::bound::Bound;
 use tql_catalog::catalog::{Catalog, Table};
+use tql_detail::detail::Detail;
 use tql_memory::Memory;
 use tql_result::answer::Answer;
 use tql_result::reply::Reply;
 use tql_run::responder::Responder;
 use tql_syntax::ending::{TransactionEnd, transaction_end};
+use tql_syntax::text::read_text;
+use tql_syntax_fault::told::syntax_detail;
 use tql_syntax_tree::statement::Statement;
 use tql_value::calendar::FIRST_MOMENT;
 use tql_value::refusal::Refusal;
@@ -78,7 +84,7 @@ impl Engine {
     ghost use Rattle.tql_engine.specs.Stands.{StandsFor};
     ghost use Rattle.tql_engine.specs.Allowed.{IsAllowed};
     ghost use Rattle.tql_engine.specs.Dropping.{IsDropped};
-    ghost use Rattle.tql_engine.specs.Ending.{EndsTransaction, IsEnded};
+    ghost use Rattle.tql_run.specs.Ending.{EndsTransaction, IsEnded};
     ghost use Rattle.tql_engine.specs.Effects.{DoesStep, reply_by};
 
     /// An engine without tables, whose clock stands at the first moment.
@@ -103,8 +109,8 @@ impl Engine {
         self.tables.table(place)
     }
 
-    /// Runs a statement whose names are bound, where the transaction and the clock allow it. A refused statement
-    /// changes nothing.
+    /// Runs a statement whose names are bound, where the transaction, the clock and the horizon allow it. A refused
+    /// statement changes nothing.
     pub(crate) fn perform(&mut self, bound: Bound) -> Result<Reply, Refusal>
         requires sound { IsSound (definitions_of self.old.tables) bound }
         requires allowed { IsAllowed self.old bound }
@@ -122,6 +128,7 @@ impl Engine {
             Bound::Modify(modification) => self.modify(&modification),
             Bound::AnswerQuery(query) => self.answer_query(&query),
             Bound::SetClock(moment) => self.at(moment),
+            Bound::Prune(moment) => self.prune(moment),
             Bound::Start => Ok(self.start()),
             Bound::Commit => self.commit(),
             Bound::Rollback => self.rollback(),
@@ -138,7 +145,10 @@ impl Engine {
         if let Some(fault) = self.state_fault(statement) {
             return Err(fault);
         }
-        match bind(self.memory, &self.tables, statement) {
+        let limits = Limits {
+            horizon: self.store.horizon(),
+        };
+        match bind(self.memory, &self.tables, statement, &limits) {
             Ok(bound) => self.perform(bound),
             Err(fault) => Err(fault),
         }
@@ -191,13 +201,13 @@ impl Engine {
 }
 
 impl Responder for Engine {
-    ghost use Rattle.tql_spec.specs.Run.{Replies};
+    ghost use Rattle.tql_run.specs.Ending.{Responds};
     ghost use Rattle.tql_engine.specs.Stands.{StandsFor};
-    ghost use Rattle.tql_run.proofs.Faults.{replies_refuse};
+    ghost use Rattle.tql_run.proofs.Faults.{responds_refuse};
 
     ghost stands = { StandsFor };
 
-    ghost answering = { Replies };
+    ghost answering = { Responds };
 
     fn memory(&self) -> Memory {
         self.memory
@@ -207,5 +217,19 @@ impl Responder for Engine {
         Answer::Replied(self.step(text))
     }
 
-    ghost refuses = { replies_refuse };
+    fn detail(&self, text: &[u8], refusal: Refusal) -> Option<Detail> {
+        match refusal {
+            Refusal::NotAStatement => syntax_detail(self.memory, text),
+            Refusal::TableUnknownOrAlreadyThere
+            | Refusal::NameUnknownAmbiguousOrRepeated
+            | Refusal::TypesDoNotFit
+            | Refusal::FormNotAllowedHere => {
+                let tree = read_text(self.memory, text).ok()?;
+                bind_detail(self.memory, &self.tables, &tree.statement, refusal)
+            }
+            _ => None,
+        }
+    }
+
+    ghost refuses = { responds_refuse };
 }

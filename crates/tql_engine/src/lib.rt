@@ -6,4 +6,5 @@ pub mod engine;
 pub mod points;
 pub mod runner;
 mod sense;
+pub mod sessions;
 mod store;

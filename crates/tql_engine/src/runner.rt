@@ -1,12 +1,14 @@
 //! A whole run of a script on an engine.
 ghost use Rattle.tql_spec.specs.Machine.{State};
-ghost use Rattle.tql_spec.specs.Run.{Replies};
+ghost use Rattle.tql_spec.specs.Reached.{IsInOrder};
 ghost use Rattle.tql_run.specs.Hearing.{hearing_change};
 ghost use Rattle.tql_run.specs.Runs.{Runs, source_change, sink_change};
 ghost use Rattle.tql_engine.specs.Bytes.{RunsBytes};
+ghost use Rattle.tql_run.specs.Ending.{Responds};
 ghost use Rattle.tql_engine.specs.HoldPoints.{HoldsFor};
 ghost use Rattle.tql_engine.specs.PointRuns.{BytesAgreeAtPoints};
 ghost use Rattle.tql_engine.specs.Stands.{StandsFor};
+ghost use Rattle.tql_engine.specs.Unseen.{BytesPruneUnseen};
 
 use crate::engine::Engine;
 use std::mem;
@@ -19,6 +21,7 @@ use tql_run::responder::Responder;
 use tql_run::runner::{Fault, MOST_PULLS, Summary};
 use tql_run::silence::Silence;
 use tql_run::slice_source::SliceSource;
+use tql_spec::pruned_history;
 
 /// From so many bytes on a script in memory is not read, as a source of so many is not: `run` says `Read` of both.
 const TOO_MANY_BYTES: usize = MOST_PULLS as usize;
@@ -37,11 +40,11 @@ pub fn run<I: Source<O>, O: Sink, L: Listener>(
     sink: &mut O,
     listener: &mut L,
 ) -> Result<Summary, Fault>
-    ensures ran { (s : State) → StandsFor engine.old s → Runs Replies s (StandsFor engine.new)
+    ensures ran { (s : State) → StandsFor engine.old s → Runs Responds s (StandsFor engine.new)
         (source_change I.left I.failures I.ended source.old source.new)
         (sink_change O.written O.failures O.flushed O.flushes_fail sink.old sink.new)
         (hearing_change L.heard listener.old listener.new) result }
-    ensures holds { (s : State) → HoldsFor engine.old s → Runs Replies s (HoldsFor engine.new)
+    ensures holds { (s : State) → HoldsFor engine.old s → Runs Responds s (HoldsFor engine.new)
         (source_change I.left I.failures I.ended source.old source.new)
         (sink_change O.written O.failures O.flushed O.flushes_fail sink.old sink.new)
         (hearing_change L.heard listener.old listener.new) result }
@@ -55,8 +58,9 @@ pub fn run<I: Source<O>, O: Sink, L: Listener>(
 /// run says `Memory`. Where the script has 2^48 - 1 bytes or more, nothing runs, and the run says `Read`; it says that
 /// of no shorter script. A refused statement does not stop the run. What ran agrees with the machines of all points
 /// (clause `points`): where its first statements make tables in scope and those behind them are in scope, it is at each
-/// point what a plain machine without periods does. Where keys and references hold at every point of time in each copy
-/// before it, the working one too, they do behind it (clause `holds`).
+/// point what a plain machine without periods does. What it prunes is not seen (clause `unseen`): without the
+/// statements that pruned, or were refused for the horizon, all others are answered the same. Where keys and references
+/// hold at every point of time in each copy before it, the working one too, they do behind it (clause `holds`).
 pub fn run_bytes(
     engine: &mut Engine,
     script: &[u8],
@@ -66,9 +70,12 @@ pub fn run_bytes(
         → RunsBytes s (StandsFor engine.new) script.now output.old.items output.new.items result }
     ensures points { (s : State) → StandsFor engine.old s
         → BytesAgreeAtPoints s (StandsFor engine.new) script.now output.old.items output.new.items result }
+    ensures unseen { (s : State) → StandsFor engine.old s → IsInOrder s
+        → BytesPruneUnseen s (StandsFor engine.new) script.now output.old.items output.new.items result }
     ensures holds { (s : State) → HoldsFor engine.old s
         → RunsBytes s (HoldsFor engine.new) script.now output.old.items output.new.items result }
 {
+    pruned_history();
     if script.len() >= TOO_MANY_BYTES {
         return Err(Fault::Read);
     }

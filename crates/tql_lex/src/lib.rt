@@ -1,8 +1,10 @@
 //! The statements of a script, and the tokens of a statement.
 #![tactic(auto)]
 
+mod columns;
 mod extent;
 pub mod folding;
+pub mod front;
 mod pending;
 pub mod piece;
 mod ready;

@@ -3,6 +3,7 @@ ghost use Rattle.std.specs.Prelude.{◌≡◌, ◌≤◌, length, List, IsFalse,
 ghost use Rattle.tql_spec.specs.Words.{is_empty};
 ghost use Rattle.tql_lex.specs.Feeding.{Feeds, Finishes, LooksAt, Closes, TakesOn, Advances, forgotten};
 
+use crate::columns::Columns;
 use crate::pending::PendingText;
 use crate::piece::Piece;
 use crate::ready::Ready;
@@ -34,6 +35,8 @@ pub struct Splitter {
     begun: u64,
     /// The line of the statement that was given last.
     line: u64,
+    /// The columns of the texts.
+    columns: Columns,
 }
 
 impl Model for Splitter {
@@ -78,6 +81,7 @@ impl Splitter {
             feeds: 0,
             begun: 0,
             line: 1,
+            columns: Columns::new(),
         })
     }
 
@@ -121,6 +125,12 @@ impl Splitter {
         self.line
     }
 
+    /// The column of the statement that was given last, of its first byte that counts: how many characters of its line
+    /// stand before it. A byte counts as one that may begin a character of UTF-8.
+    pub fn column(&self) -> u64 {
+        self.columns.given()
+    }
+
     /// Lets go of a text that was given out.
     fn forget(&mut self)
         ensures { self.new ≡ forgotten self.old }
@@ -137,7 +147,9 @@ impl Splitter {
     {
         if !self.pending.is_begun() {
             self.begun = self.feeds;
+            self.columns.begin();
         }
+        self.columns.pass(byte);
         self.pending.look(byte, is_comment(self.place));
         self.place = state_after(self.place, byte);
         if byte == b'\n' {
@@ -154,7 +166,9 @@ impl Splitter {
         self.given = self.pending.is_begun();
         if self.given {
             self.line = self.begun.saturating_add(1);
+            self.columns.give();
         }
+        self.columns.pass(b';');
         self.given
     }
 

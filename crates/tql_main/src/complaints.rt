@@ -1,6 +1,8 @@
 //! What a run tells the standard error of refused statements.
 ghost use Rattle.std.specs.Prelude.{None};
 
+use tql_detail::detail::Detail;
+use tql_run::complaint::Complaint;
 use tql_run::listener::Listener;
 use tql_run::pushed::Pushed;
 use tql_value::refusal::Refusal;
@@ -23,10 +25,26 @@ impl<'a, E: Eprint> Complaints<'a, E> {
 impl<E: Eprint> Listener for Complaints<'_, E> {
     ghost heard = { λ _. None };
 
-    fn refused(&mut self, statement: u64, line: u64, refusal: Refusal, _pushed: &Pushed) {
+    fn wants_details(&self) -> bool {
+        !self.quiet
+    }
+
+    fn refused(
+        &mut self,
+        statement: u64,
+        line: u64,
+        refusal: Refusal,
+        detail: Option<&Detail>,
+        _pushed: &Pushed,
+    ) {
         if !self.quiet {
-            let text = refusal.text();
-            let _ = eprintln!(self.rt; "tql: statement {statement}, line {line}: {text}");
+            let complaint = Complaint {
+                statement,
+                line,
+                refusal,
+                detail,
+            };
+            let _ = eprintln!(self.rt; "tql: {complaint}");
         }
     }
 }

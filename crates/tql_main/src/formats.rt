@@ -1,10 +1,12 @@
 //! Scripts whose answers are printed as comma-separated values, or as JSON.
-ghost use Rattle.std.specs.Prelude.{IsTrue, OnOk};
+ghost use Rattle.std.specs.Prelude.{◌≡◌, ◌≤◌, ◌<◌, [], IsFalse, IsTrue, OnOk, length};
+ghost use Rattle.tql_lex.specs.Feeding.{Feeds};
 ghost use Rattle.tql_value.specs.Points.{ArePrintable};
 ghost use Rattle.tql_result.specs.Replies.{table_rows, answer_of, IsPrintableAnswer};
 
 use std::io::{self, BufWriter, Read};
 use tql_check::check::Checker;
+use tql_detail::detail::Detail;
 use tql_engine::engine::Engine;
 use tql_memory::memory_within;
 use tql_result::answer::Answer;
@@ -15,6 +17,7 @@ use tql_result::sink::Sink;
 use tql_result::std_sink::StdSink;
 use tql_result_forms::csv::write_csv_table;
 use tql_result_forms::json::write_json_answer;
+use tql_run::complaint::Complaint;
 use tql_run::device::Source;
 use tql_run::responder::Responder;
 use tql_run::runner::{Fault, MOST_PULLS, Summary};
@@ -80,11 +83,15 @@ impl<'a, E: Eprint> Printer<'a, E> {
     }
 
     /// Tells the standard error that a statement is refused, unless it is to be quiet.
-    fn complain(&self, line: u64, refusal: Refusal) {
+    fn complain(&self, line: u64, refusal: Refusal, detail: Option<&Detail>) {
         if !self.quiet {
-            let statement = self.summary.statements;
-            let text = refusal.text();
-            let _ = eprintln!(self.rt; "tql: statement {statement}, line {line}: {text}");
+            let complaint = Complaint {
+                statement: self.summary.statements,
+                line,
+                refusal,
+                detail,
+            };
+            let _ = eprintln!(self.rt; "tql: {complaint}");
         }
     }
 
@@ -105,13 +112,14 @@ impl<'a, E: Eprint> Printer<'a, E> {
         sink: &mut S,
         line: u64,
         answer: &Answer,
+        detail: Option<&Detail>,
     ) -> Result<(), DeviceFault>
         requires { IsPrintableAnswer (answer_of answer.now) }
     {
         match answer {
             Answer::Replied(Reply::Table(table)) => return self.print_table(sink, table),
             Answer::Replied(Reply::Done(verb, count)) => self.say_done(*verb, *count),
-            Answer::Replied(Reply::Refused(refusal)) => self.complain(line, *refusal),
+            Answer::Replied(Reply::Refused(refusal)) => self.complain(line, *refusal, detail),
             Answer::Accepted => self.say_accepted(),
         }
         Ok(())
@@ -123,12 +131,13 @@ impl<'a, E: Eprint> Printer<'a, E> {
         sink: &mut S,
         line: u64,
         answer: &Answer,
+        detail: Option<&Detail>,
     ) -> Result<(), DeviceFault>
         requires { IsPrintableAnswer (answer_of answer.now) }
     {
         write_json_answer(sink, self.summary.statements, line, answer)?;
         if let Answer::Replied(Reply::Refused(refusal)) = answer {
-            self.complain(line, *refusal);
+            self.complain(line, *refusal, detail);
         }
         Ok(())
     }
@@ -139,6 +148,7 @@ impl<'a, E: Eprint> Printer<'a, E> {
         sink: &mut S,
         line: u64,
         answer: &Answer,
+        detail: Option<&Detail>,
     ) -> Result<(), DeviceFault>
         requires { IsPrintableAnswer (answer_of answer.now) }
     {
@@ -147,10 +157,20 @@ impl<'a, E: Eprint> Printer<'a, E> {
             self.summary.refused = self.summary.refused.saturating_add(1);
         }
         match self.form {
-            Form::Csv => self.print_csv(sink, line, answer),
-            Form::Json => self.print_json(sink, line, answer),
+            Form::Csv => self.print_csv(sink, line, answer, detail),
+            Form::Json => self.print_json(sink, line, answer, detail),
         }
     }
+}
+
+/// Feeds a session of which all answers are taken, and which takes all of so few bytes.
+fn feed_all(session: &mut Session, bytes: &[u8])
+    requires ready { session.old.ready ≡ [] }
+    requires unended { IsFalse session.old.ended }
+    requires few { length bytes.now ≤ 65_536 }
+    ensures { Feeds session.old session.new bytes.now }
+{
+    session.feed(bytes);
 }
 
 /// Answers the statements that are whole, prints their answers, and has the sink pass them on.
@@ -160,10 +180,12 @@ fn answer_ready<E: Eprint, R: Responder, O: Sink>(
     responder: &mut R,
     sink: &mut O,
 ) -> Result<(), DeviceFault>
-    ensures { OnOk result (IsTrue (O.flushed sink.new)) }
+    ensures flushed { OnOk result (IsTrue (O.flushed sink.new)) }
+    ensures ready { OnOk result (session.new.ready ≡ []) }
+    ensures ended { OnOk result (session.new.ended ≡ session.old.ended) }
 {
     while let Some(answer) = session.next_answer(responder) {
-        printer.print(sink, session.line(), &answer)?;
+        printer.print(sink, session.line(), &answer, session.detail())?;
     }
     sink.flush()
 }
@@ -190,7 +212,10 @@ fn converse<E: Eprint, R: Responder, I: Source<O>, O: Sink>(
     source: &mut I,
     sink: &mut O,
     buffer: &mut [u8],
-) -> Result<Summary, Fault> {
+) -> Result<Summary, Fault>
+    requires unended { IsFalse session.old.ended }
+    requires few { length buffer.old ≤ 65_536 }
+{
     for _pull in 0..MOST_PULLS {
         match answer_ready(printer, session, responder, sink) {
             Ok(()) => {}
@@ -202,7 +227,7 @@ fn converse<E: Eprint, R: Responder, I: Source<O>, O: Sink>(
                 if count == 0 {
                     return answer_rest(printer, session, responder, sink);
                 }
-                session.feed(&buffer[..count]);
+                feed_all(session, &buffer[..count]);
             }
         }
     }

@@ -4,3 +4,4 @@ pub mod Demanded
 pub mod DemandedKeys
 pub mod Asked
 pub mod Served
+pub mod DemandedPeriods

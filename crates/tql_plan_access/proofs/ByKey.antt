@@ -16,7 +16,7 @@ use Rattle.tql_plan_laws.specs.Equalities.{agree}
 use Rattle.tql_plan_laws.specs.Constants.{value_in, tuple_in, ValuesAreMet}
 use Rattle.tql_store_index.specs.Basis.{With}
 use Rattle.tql_store_index.specs.Tuple.{is_at}
-use Rattle.tql_plan_access.specs.Access.{Serves, are_given, value_or_null}
+use Rattle.tql_plan_access.specs.Access.{ServesTable, are_given, value_or_null}
 
 -- ---- how wide a row is
 
@@ -78,11 +78,11 @@ found_at law conds row cells m (c ∷ cs) (k ∷ ks) g e =
 pub serves_key : ValuesAreMet → (d : TableDef) → IsDefinition d → (conds : List Cond) (columns stored : List ℕ)
     (tuple : List Datum) → AreSafe conds → are_given conds columns ≡ true → AreStoredAt d columns stored
     → tuple ≡ map (value_or_null conds) columns
-    → Serves d.system (length d.columns) conds (Some (With stored tuple))
+    → ServesTable d conds (Some (With stored tuple))
 serves_key law d r conds columns stored tuple safe given at is = record {
   safe = λ s e. safe;
-  all = λ cells start end wide m.
+  all = λ cells start end row m.
       subst (λ t. is_at stored t cells ≡ true) (sym is)
       (found_at law conds (with_generated d.system cells start end) cells m columns stored given
-      (at cells start end (stored_long d r cells start end wide)));
+      (at cells start end (stored_long d r cells start end row.wide)));
 }

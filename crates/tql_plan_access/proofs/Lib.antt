@@ -3,3 +3,4 @@ pub mod ByKey
 pub mod GivenLists
 pub mod Looked
 pub mod Untouched
+pub mod ByPeriod

@@ -1,7 +1,7 @@
 -- A change leaves the rows that it does not look at, so what it makes of those that it looks at is what it makes of
 -- all: the same new rows in the place of as many, and the same fault.
 use Rattle.std.proofs.Common.{◌≡◌, refl, ap, sym, subst, ◌∙◌, suc, Bool, true, false, cond, List, [], ◌∷◌, ◌++◌}
-use Rattle.std.proofs.Common.{length, filter, flat_map}
+use Rattle.std.proofs.Common.{filter, flat_map}
 use Rattle.std.specs.Prelude.{ℤ, not, Option, Some, None, if◌then◌else◌}
 use Rattle.std.specs.List.{AllByRecursion}
 use Rattle.std.proofs.lemmas.List.Filters.{sum_by-filter_both}
@@ -20,22 +20,22 @@ use Rattle.tql_spec.proofs.Members.{by_bool}
 use Rattle.tql_plan_laws.specs.Conjuncts.{AreSafe, meets}
 use Rattle.tql_plan_laws.proofs.Conjuncts.{passes_is}
 use Rattle.tql_store_index.specs.Basis.{Sought, is_looked_at}
-use Rattle.tql_plan_access.specs.Access.{Serves}
+use Rattle.tql_plan_access.specs.Access.{IsShown, ServesTable}
 
 -- ---- the rows that are not looked at
 
--- a row of the table's width that is not looked at
+-- a row of the table that is not looked at
 pub record IsPassedOver (d : TableDef) (o : Option Sought) (r : Stamped) : Type 0 where
-  pub wide : length (shown d r) ≡ length d.columns
+  pub row : IsShown d r
   pub unseen : is_looked_at o r.cells ≡ false
 
 -- of these rows those that are not looked at
 abbrev pub unseen_of : Option Sought → List Stamped → List Stamped
 unseen_of o rows = filter (λ r. not (is_looked_at o r.cells)) rows
 
--- of rows of the table's width these are passed over
+-- of rows of the table these are passed over
 pub passed_over : (d : TableDef) (o : Option Sought) (rows : List Stamped)
-    → AllByRecursion (λ (r : Stamped). length (shown d r) ≡ length d.columns) rows
+    → AllByRecursion (IsShown d) rows
     → AllByRecursion (IsPassedOver d o) (unseen_of o rows)
 passed_over d o [] wide = tt
 passed_over d o (r ∷ rows) wide = either (is_looked_at o r.cells) refl (passed_over d o rows wide.1)
@@ -43,7 +43,7 @@ passed_over d o (r ∷ rows) wide = either (is_looked_at o r.cells) refl (passed
     either : (b : Bool) → is_looked_at o r.cells ≡ b → AllByRecursion (IsPassedOver d o) (unseen_of o rows)
         → AllByRecursion (IsPassedOver d o) (cond (not b) (r ∷ unseen_of o rows) (unseen_of o rows))
     either true e a = a
-    either false e a = (record { wide = wide.0; unseen = e }, a)
+    either false e a = (record { row = wide.0; unseen = e }, a)
 
 -- those that are looked at, with the others, are all
 pub seen_and_unseen : (o : Option Sought) (seen rows : List Stamped)
@@ -72,11 +72,11 @@ SameNews (Some fs) (Some gs) = (new_rows fs ≡ new_rows gs) × (touched_count f
 SameNews _ _ = ⊥
 
 module _ (law : SafeConditionsAreJudged) (d : TableDef) (conds : List Cond) (o : Option Sought)
-    (serves : Serves d.system (length d.columns) conds o) where
+    (serves : ServesTable d conds o) where
   -- such a row does not meet WHERE
   unmet : (r : Stamped) → IsPassedOver d o r → meets conds (shown d r) ≡ false
   unmet r p = by_bool (meets conds (shown d r))
-      (λ e. absurd (let k : true ≡ false = sym (serves.all r.cells r.start high p.wide e) ∙ p.unseen in cc))
+      (λ e. absurd (let k : true ≡ false = sym (serves.all r.cells r.start high p.row e) ∙ p.unseen in cc))
       (λ e. e)
 
   -- which is evaluated on it all the same

@@ -1,15 +1,17 @@
 -- Which rows of a table are looked at, and that no other passes the conjuncts that are asked of each.
 use Rattle.std.specs.Prelude.{◌≡◌, ℕ, ℤ, Bool, true, false, ◌&&◌, List, length, IsTrue, Option, Some, None, is_some}
-use Rattle.std.specs.Prelude.{unwrap_or}
+use Rattle.std.specs.Prelude.{unwrap_or, option_map, not, ◌||◌}
 use Rattle.std.specs.List.{list_all, list_any}
 use Rattle.tql_spec.specs.Datum.{Datum, Null, Row}
-use Rattle.tql_spec.specs.Definition.{System, TableDef, with_generated}
+use Rattle.tql_spec.specs.Definition.{Application, Stamped, System, TableDef, period_between, shown, with_generated}
 use Rattle.tql_spec.specs.Expression.{Cond, is_safe}
+use Rattle.tql_spec.specs.Period.{Period, rises}
 use Rattle.tql_catalog.specs.Defined.{IsDefinition}
 use Rattle.tql_catalog.specs.Rows.{are_assignable}
 use Rattle.tql_catalog.specs.Sought.{sought_columns}
 use Rattle.tql_plan_laws.specs.Conjuncts.{AreSafe, meets}
-use Rattle.tql_plan_laws.specs.Constants.{value_in, tuple_in}
+use Rattle.tql_plan_laws.specs.Constants.{ArePoints, point_in, stretch_in, value_in, tuple_in}
+use Rattle.tql_period.specs.Points.{points_of}
 use Rattle.tql_store_index.specs.Basis.{Sought, With, Holding, Sharing, is_looked_at}
 use Rattle.tql_plan_access.specs.declared.access.Manner.{Manner}
 use Rattle.tql_plan_access.specs.declared.access.Manner.TheVariants as manner
@@ -18,6 +20,8 @@ use Rattle.tql_plan_access.specs.declared.access.Manner.TheVariants as manner
 abbrev pub sought_by : Manner → List ℕ → List Datum → Option Sought
 sought_by manner.Whole columns tuple = None
 sought_by manner.Key columns tuple = Some (With columns tuple)
+sought_by (manner.Point start end point) columns tuple = Some (Holding start end point)
+sought_by (manner.Stretch start end stretch) columns tuple = Some (Sharing start end (points_of stretch))
 
 -- whether rows are found by their values, whether by their period
 abbrev pub is_by_key : Option Sought → Bool
@@ -29,12 +33,35 @@ is_by_period (Some (Holding start end point)) = true
 is_by_period (Some (Sharing start end period)) = true
 is_by_period _ = false
 
--- each row of this width, its generated cells with it, that meets the conjuncts is looked at, whichever moments these
--- are; and where not all rows are, no conjunct can be out of range
-pub record Serves (system : Option System) (width : ℕ) (conds : List Cond) (o : Option Sought) : Type 0 where
+-- points of one kind, or null, stand in two columns of a row, and the period from the first to the second rises
+pub record Lasts (row : Row) (columns : ℕ × ℕ) : Type 0 where
+  pub points : ArePoints row columns.0 columns.1
+  pub rising : IsTrue (rises (period_between row columns.0 columns.1))
+
+-- a row of this width, whose application period, where its table has one, rises between points of one kind
+pub record IsRow (period : Option (ℕ × ℕ)) (width : ℕ) (row : Row) : Type 0 where
+  pub wide : length row ≡ width
+  pub lasts : (columns : ℕ × ℕ) → period ≡ Some columns → Lasts row columns
+
+-- the columns of a table's application period
+abbrev pub period_columns : TableDef → Option (ℕ × ℕ)
+period_columns d = option_map (λ a. (a.start, a.end)) d.application
+
+-- a row of a copy, as a change sees it, is such
+abbrev pub IsShown : TableDef → Stamped → Type 0
+IsShown d r = IsRow (period_columns d) (length d.columns) (shown d r)
+
+-- each row of a table of such rows, its generated cells with it, that meets the conjuncts is looked at, whichever
+-- moments these are; and where not all rows are, no conjunct can be out of range
+pub record Serves (system : Option System) (period : Option (ℕ × ℕ)) (width : ℕ) (conds : List Cond)
+    (o : Option Sought) : Type 0 where
   pub safe : (s : Sought) → o ≡ Some s → AreSafe conds
-  pub all : (cells : Row) (start end : ℤ) → length (with_generated system cells start end) ≡ width
+  pub all : (cells : Row) (start end : ℤ) → IsRow period width (with_generated system cells start end)
       → IsTrue (meets conds (with_generated system cells start end)) → IsTrue (is_looked_at o cells)
+
+-- that of the rows of a table
+abbrev pub ServesTable : TableDef → List Cond → Option Sought → Type 0
+ServesTable d conds o = Serves d.system (period_columns d) (length d.columns) conds o
 
 -- ---- a key
 
@@ -56,3 +83,20 @@ pub record IsGivenList (d : TableDef) (conds : List Cond) (lists : List (List �
   pub stored : IsTrue (are_assignable d columns)
   pub given : IsTrue (are_given conds columns)
   pub one : IsTrue (list_any (are_given conds) lists)
+
+-- ---- a period
+
+-- what is sought of the period between two stored columns, where conjuncts say something of it; a point before a period
+abbrev pub sought_between : ℕ × ℕ → Option ℤ → Option Period → Option Sought
+sought_between stored (Some point) stretch = Some (Holding stored.0 stored.1 point)
+sought_between stored None (Some stretch) = Some (Sharing stored.0 stored.1 stretch)
+sought_between stored None None = None
+
+-- whether conjuncts say of a period that it holds a point, or overlaps with a period, that is written out
+abbrev pub say_of : List Cond → Option Application → Bool
+say_of conds None = false
+say_of conds (Some a) = is_some (point_in a.start a.end conds) || is_some (stretch_in a.start a.end conds)
+
+-- whether no conjunct can be out of range, they name no key, and they say so of the table's application period
+abbrev pub names_period : TableDef → List Cond → Bool
+names_period d conds = list_all is_safe conds && (not (names_key d conds) && say_of conds d.application)

@@ -1,6 +1,6 @@
 -- Statements whose INSERTs give periods that rise leave good rows in every copy.
 use Rattle.std.proofs.Common.{◌≡◌, ◌<◌, refl, sym, ap, subst, ◌∙◌, ℕ, true, false, List, [], ◌∷◌, ◌++◌, length, arith}
-use Rattle.std.specs.Prelude.{◌==◌, nat_lt, ℤ, slice_set, Option, Some, None}
+use Rattle.std.specs.Prelude.{◌==◌, nat_lt, ℤ, slice_set, Option, Some, None, Bool, int_le, if◌then◌else◌}
 use Rattle.std.specs.List.{list_all}
 use Rattle.std.proofs.lemmas.Bool.Decides.{nat_tests}
 use Rattle.tql_spec.specs.Words.{listed, map_all}
@@ -10,10 +10,10 @@ use Rattle.tql_spec.specs.Refusal.{first}
 use Rattle.tql_spec.specs.Expression.{eval}
 use Rattle.tql_spec.specs.Definition.{TableDef, Stamped, table_at}
 use Rattle.tql_spec.specs.History.{Copy, Entry, rows_in}
+use Rattle.tql_spec.specs.Horizon.{pruned}
 use Rattle.tql_spec.specs.Change.{insert, modify}
 use Rattle.tql_spec.specs.Machine.{State, Reply, Bound, CreateTable, DropTable, SetClock, Start, Commit, Rollback}
-use Rattle.tql_spec.specs.Machine.{ChangeRows, AnswerQuery, Change, InsertTuples, InsertQuery, Modify, class_of}
-use Rattle.tql_spec.specs.Machine.{state_faults}
+use Rattle.tql_spec.specs.Machine.{ChangeRows, AnswerQuery, Change, InsertTuples, InsertQuery, Modify, Prune}
 use Rattle.tql_spec.specs.Machine.{effect, step, changed, outcome, changed_table, working, with_working, with_commit}
 use Rattle.tql_spec.specs.Machine.{newest_copy, entries}
 use Rattle.tql_spec.proofs.Members.{by_bool}
@@ -30,6 +30,7 @@ use Rattle.tql_points.proofs.Numbers.{equal, equal_test}
 use Rattle.tql_points.proofs.PointKeys.{constraints_then}
 use Rattle.tql_points.proofs.Related.{Related}
 use Rattle.tql_points.proofs.Steps.{ConstraintsThen, unrefused, done_then, refused_stays, working_same, own_table}
+use Rattle.tql_points.proofs.Steps.{step_faults}
 use Rattle.tql_points.proofs.Steps.{own_fits, got_same, got_other, none_in}
 use Rattle.tql_points.proofs.Views.{both_true}
 
@@ -58,6 +59,15 @@ module _ (defs : List TableDef) (all : ArePointTables defs) (p : ℤ) where
   newest_good : (ds : List TableDef) (es : List Entry) → GoodEntries defs es → GoodCopy defs (newest_copy ds es)
   newest_good ds [] g = λ t l r n. absurd (subst (λ xs. In r xs) (none_in ds t) n)
   newest_good ds (e ∷ es) g = g.0
+
+  -- what a horizon leaves
+  pruned_good : (h : ℤ) (es : List Entry) → GoodEntries defs es → GoodEntries defs (pruned h es)
+  pruned_good h [] g = tt
+  pruned_good h (e ∷ es) g = (g.0, either (int_le e.moment h) (pruned_good h es g.1))
+    where
+      either : (b : Bool) → GoodEntries defs (pruned h es) → GoodEntries defs (if b then [] else pruned h es)
+      either true k = tt
+      either false k = k
 
   entries_good : (s : State) → GoodState defs s → GoodEntries defs (entries s)
   entries_good s g = by_open s.transaction g.open_then
@@ -153,6 +163,8 @@ module _ (defs : List TableDef) (all : ArePointTables defs) (p : ℤ) where
   effect_good s other r g (DropTable t) k z = absurd (cc)
   effect_good s other r g (AnswerQuery q) k z = absurd (cc)
   effect_good s other r g (SetClock m) k z = record { history = g.history; open_then = g.open_then }
+  effect_good s other r g (Prune m) k z =
+      record { history = pruned_good m s.history g.history; open_then = g.open_then }
   effect_good s other r g Start k z = record { history = g.history; open_then = fresh_good s g }
   effect_good s other r g Commit k z = by_open s.transaction g.open_then
     where
@@ -173,7 +185,7 @@ module _ (defs : List TableDef) (all : ArePointTables defs) (p : ℤ) where
       → gives_periods defs b ≡ true → GoodState defs (step s b).1
   step_good s other r g b k z = by_bool (is_refused (step s b).0)
       (λ e. subst (GoodState defs) (sym (refused_stays s b e)) g)
-      (λ e. let none = unrefused (first (state_faults s (class_of b))) s (effect s b).0 (effect s b).1 e in
+      (λ e. let none = unrefused (first (step_faults s b)) s (effect s b).0 (effect s b).1 e in
       subst (GoodState defs) (sym (ap (λ (x : Reply × State). x.1)
-      (done_then (first (state_faults s (class_of b))) s (effect s b).0 (effect s b).1 none)))
+      (done_then (first (step_faults s b)) s (effect s b).0 (effect s b).1 none)))
       (effect_good s other r g b k z))

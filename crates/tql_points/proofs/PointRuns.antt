@@ -6,19 +6,21 @@ use Rattle.std.specs.Prelude.{not, ◌&&◌, nat_lt, ℤ, pos, IsTrue, Option, S
 use Rattle.std.specs.List.{list_all}
 use Rattle.std.proofs.lemmas.Bool.Decides.{nat_tests}
 use Rattle.tql_spec.specs.Words.{is_empty}
+use Rattle.tql_spec.specs.Calendar.{read_timestamp}
 use Rattle.tql_spec.specs.Datum.{Row}
 use Rattle.tql_spec.specs.Refusal.{Refusal, OutOfMemory, ValueOutOfRange, place, first}
 use Rattle.tql_spec.specs.Definition.{TableDef, table_at}
 use Rattle.tql_spec.specs.History.{Entry}
 use Rattle.tql_spec.specs.Query.{Query, answer, in_order}
+use Rattle.tql_spec.specs.Horizon.{pruned}
 use Rattle.tql_spec.specs.Machine.{State, Bound, CreateTable, DropTable, SetClock, Start, Commit, Rollback, ChangeRows}
-use Rattle.tql_spec.specs.Machine.{AnswerQuery, changed_table, Verb, Reply, Done, Table, Refused, class_of}
-use Rattle.tql_spec.specs.Machine.{state_faults, effect, step, unless_refused, asked, bag_of}
+use Rattle.tql_spec.specs.Machine.{AnswerQuery, Prune, changed_table, Verb, Reply, Done, Table, Refused}
+use Rattle.tql_spec.specs.Machine.{state_faults, limit_faults, effect, step, unless_refused, asked, bag_of}
 use Rattle.tql_spec.specs.Script.{Piece}
 use Rattle.tql_spec.specs.Syntax.{Statement, CreateTree, DropTree, InsertValues, InsertSelect, UpdateTree, DeleteTree}
-use Rattle.tql_spec.specs.Syntax.{QueryTree, StartTree, CommitTree, RollbackTree, AtTree}
+use Rattle.tql_spec.specs.Syntax.{QueryTree, StartTree, CommitTree, RollbackTree, AtTree, PruneTree}
 use Rattle.tql_spec.specs.Creation.{create, application_parts, constraints_of}
-use Rattle.tql_spec.specs.Binding.{bind, select, statement_class}
+use Rattle.tql_spec.specs.Binding.{bind, select, statement_class, or_bad_moment}
 use Rattle.tql_spec.specs.Run.{Sense, Says, Faulty, HasSense, Run, Answers, respond, respond_to, statement_faults}
 use Rattle.tql_spec.proofs.FirstFaults.{none_first, bound_steps}
 use Rattle.tql_spec.proofs.Members.{by_bool}
@@ -38,7 +40,7 @@ use Rattle.tql_points.proofs.GoodStates.{GoodState, GoodEntries, GoodOpen, step_
 use Rattle.tql_points.proofs.PointKeys.{constraints_then}
 use Rattle.tql_points.proofs.Refusals.{so_refused, same_refusal, to_points}
 use Rattle.tql_points.proofs.Related.{SameEntries, SameOpen, Related, now_agrees, as_of_agrees}
-use Rattle.tql_points.proofs.Steps.{faults_same, refusal_of, refused_stays, step_same}
+use Rattle.tql_points.proofs.Steps.{step_faults, step_faults_same, refusal_of, refused_stays, step_same}
 use Rattle.tql_points.proofs.Tables.{not_true}
 use Rattle.tql_points.proofs.Views.{both_true}
 use Rattle.tql_points.proofs.WholeRuns.{faulty}
@@ -67,6 +69,7 @@ creations_in_scope defs StartTree all k z = absurd (cc)
 creations_in_scope defs CommitTree all k z = absurd (cc)
 creations_in_scope defs RollbackTree all k z = absurd (cc)
 creations_in_scope defs (AtTree m) all k z = absurd (cc)
+creations_in_scope defs (PruneTree m) all k z = absurd (cc)
 
 pub statements_in_scope : StatementsAreInScope
 statements_in_scope defs t all k q e =
@@ -89,6 +92,7 @@ module _ (defs : List TableDef) (all : ArePointTables defs) where
   done_of s (DropTable t) k e = absurd (cc)
   done_of s (AnswerQuery q) k e = absurd (cc)
   done_of s (SetClock m) k e = (_, _, replied _ s _ _ e)
+  done_of s (Prune m) k e = (_, _, replied _ s _ _ e)
   done_of s Start k e = (_, _, replied _ s _ _ e)
   done_of s Commit k e = (_, _, replied _ s _ _ e)
   done_of s Rollback k e = (_, _, replied _ s _ _ e)
@@ -101,15 +105,16 @@ module _ (defs : List TableDef) (all : ArePointTables defs) where
     -- what the state refuses, each machine refuses
     by_state : (b : Bound) → ((p : ℤ) → statement_at defs p b ≡ b) → ((x : State) → is_refused (effect x b).0 ≡ false)
         → (e : Refusal) → (step s b).0 ≡ Refused e → IsFirstRefusal defs machines b e
-    by_state b same open_then e x = by_fault (first (state_faults s (class_of b))) refl x
+    by_state b same open_then e x = by_fault (first (step_faults s b)) refl x
       where
         here : (p : ℤ) → step (machines p) (statement_at defs p b) ≡ step (machines p) b
         here p = ap (step (machines p)) (same p)
 
-        there : (p : ℤ) → first (state_faults (machines p) (class_of b)) ≡ first (state_faults s (class_of b))
-        there p = ap first (faults_same defs all p (constraints_then defs all p) s (machines p) (r p) (class_of b))
+        there : (p : ℤ) → first (step_faults (machines p) b) ≡ first (step_faults s b)
+        there p = sym (ap (λ y. first (step_faults (machines p) y)) (same p))
+            ∙ ap first (step_faults_same defs all p (constraints_then defs all p) s (machines p) (r p) b)
 
-        by_fault : (o : Option Refusal) → first (state_faults s (class_of b)) ≡ o
+        by_fault : (o : Option Refusal) → first (step_faults s b) ≡ o
             → (unless_refused o s (effect s b).0 (effect s b).1).0 ≡ Refused e → IsFirstRefusal defs machines b e
         by_fault None q y =
             let never : true ≡ false = sym (ap is_refused y) ∙ open_then s in absurd (cc)
@@ -117,7 +122,7 @@ module _ (defs : List TableDef) (all : ArePointTables defs) where
             let is : f ≡ e = same_refusal f e y in
             let each : (p : ℤ) → (step (machines p) (statement_at defs p b)).0 ≡ Refused f = λ p.
             ap (λ (z : Reply × State). z.0) (here p)
-            ∙ so_refused (first (state_faults (machines p) (class_of b))) (machines p) (effect (machines p) b).0
+            ∙ so_refused (first (step_faults (machines p) b)) (machines p) (effect (machines p) b).0
             (effect (machines p) b).1 f (there p ∙ q) in
             record {
               point = pos 0;
@@ -133,6 +138,7 @@ module _ (defs : List TableDef) (all : ArePointTables defs) where
     first_refusal (DropTable t) k z e x = absurd (cc)
     first_refusal (AnswerQuery q) k z e x = absurd (cc)
     first_refusal (SetClock m) k z e x = by_state (SetClock m) (λ p. refl) (λ y. refl) e x
+    first_refusal (Prune m) k z e x = by_state (Prune m) (λ p. refl) (λ y. refl) e x
     first_refusal Start k z e x = by_state Start (λ p. refl) (λ y. refl) e x
     first_refusal Commit k z e x = by_state Commit (λ p. refl) (λ y. refl) e x
     first_refusal Rollback k z e x = by_state Rollback (λ p. refl) (λ y. refl) e x
@@ -186,12 +192,21 @@ module _ (defs : List TableDef) (all : ArePointTables defs) where
         (refl, inr (Says t, h, λ sound open_then. let never : true ≡ false = sym k ∙ open_then in absurd (cc)))
     asked_goes x t h k q (Some rows) = stays x (Table q.headings (in_order q.ordering rows)) s refl refl
 
+    -- refused, or answered
+    answered_goes : (x : Piece) (t : Statement) → HasSense x (Says t) → is_query t ≡ true → (q : Query)
+        → (o : Option Refusal)
+        → Goes x (unless_refused o s (asked s q (answer (bag_of s) q)).0 (asked s q (answer (bag_of s) q)).1).0
+        (unless_refused o s (asked s q (answer (bag_of s) q)).0 (asked s q (answer (bag_of s) q)).1).1
+    answered_goes x t h k q None = asked_goes x t h k q (answer (bag_of s) q)
+    answered_goes x t h k q (Some f) = stays x (Refused f) s refl
+        (refl, inr (Says t, h, λ sound open_then. let never : true ≡ false = sym k ∙ open_then in absurd (cc)))
+
     -- a statement without a fault
     sound_goes : (x : Piece) (t : Statement) → HasSense x (Says t) → is_statement_in_scope defs t ≡ true
         → (bind defs t).faults ≡ [] → Goes x (step s (bind defs t).value).0 (step s (bind defs t).value).1
     sound_goes x (QueryTree y keys) h k e =
-        asked_goes x (QueryTree y keys) h refl (select defs y keys).value.query
-        (answer (bag_of s) (select defs y keys).value.query)
+        let q : Query = (select defs y keys).value.query in
+        answered_goes x (QueryTree y keys) h refl q (first (limit_faults s (AnswerQuery q) ++ []))
     sound_goes x (CreateTree n y es versioned) h k e = absurd (cc)
     sound_goes x (DropTree n) h k e = absurd (cc)
     sound_goes x (InsertSelect n ns y) h k e = absurd (cc)
@@ -208,6 +223,7 @@ module _ (defs : List TableDef) (all : ArePointTables defs) where
     sound_goes x CommitTree h k e = bound_goes x CommitTree h refl refl
     sound_goes x RollbackTree h k e = bound_goes x RollbackTree h refl refl
     sound_goes x (AtTree m) h k e = bound_goes x (AtTree m) h refl refl
+    sound_goes x (PruneTree m) h k e = bound_goes x (PruneTree m) h refl refl
 
     -- a statement
     said_goes : (x : Piece) (t : Statement) → HasSense x (Says t) → is_statement_in_scope defs t ≡ true
@@ -288,6 +304,11 @@ prepared_stays s (CreateTree n e es versioned) k h z =
       idle = h.idle;
     }
 prepared_stays s (AtTree m) k h z = record { tables = h.tables; uncommitted = h.uncommitted; idle = h.idle }
+prepared_stays s (PruneTree m) k h z = record {
+  tables = h.tables;
+  uncommitted = ap (pruned (or_bad_moment (read_timestamp m)).value) h.uncommitted;
+  idle = h.idle;
+}
 prepared_stays s (DropTree n) k h z = absurd (cc)
 prepared_stays s (InsertValues n ns t ts) k h z = absurd (cc)
 prepared_stays s (InsertSelect n ns y) k h z = absurd (cc)
@@ -311,7 +332,9 @@ prepared_answer s x reply mid scope h (inl a) =
         (effect s (bind s.definitions t).value).0 (effect s (bind s.definitions t).value).1 h
         (λ q. prepared_stays s t (scope t y) h
         (no_right (state_faults s (statement_class t)) (bind s.definitions t).faults
-        (none_first (statement_faults s t) q)))
+        (no_right (limit_faults s (bind s.definitions t).value)
+        (state_faults s (statement_class t) ++ (bind s.definitions t).faults)
+        (none_first (statement_faults s t) q))))
 
 prepared_run : (xs : List Piece) (rs : List Reply) (s new : State) → IsAtStart s → ArePreparing xs → Run s xs rs new
     → IsAtStart new
@@ -323,7 +346,7 @@ prepared_run (x ∷ xs) (y ∷ rs) s new h scope run =
     (λ z n. scope z (inr n)) run.2
 
 -- a state without a commit and a transaction is the beginning of its tables
-begins : (s : State) → s.history ≡ [] → s.transaction ≡ None → s ≡ beginning s.definitions s.next
+begins : (s : State) → s.history ≡ [] → s.transaction ≡ None → s ≡ beginning s.definitions s.next s.horizon
 begins s e f =
     ap (λ h. record s { history = h }) e ∙ ap (λ o. record s { history = []; transaction = o }) f
 
@@ -374,6 +397,7 @@ runs_agree s pieces rs new run start made others e scope =
             definitions = refl;
             definitions_then = refl;
             clock = refl;
+            horizon = refl;
             history = subst (λ (es : List Entry). SameEntries defs p es []) (sym h.uncommitted) tt;
             open_then = subst (λ (o : Option Entry). SameOpen defs p o None) (sym h.idle) tt;
           })

@@ -20,7 +20,7 @@ use Rattle.tql_spec.specs.Change.{Outcome, Fate, fate, is_too_long, cell_faults,
 use Rattle.tql_spec.specs.Change.{row_faults, new_rows, insert, modify, outcome_of}
 use Rattle.tql_spec.specs.Query.{answer}
 use Rattle.tql_spec.specs.Machine.{bag_of, State, Reply, Done, Refused, Verb, Bound, ChangeRows, Change, InsertTuples}
-use Rattle.tql_spec.specs.Machine.{InsertQuery, Modify, Changes, state_faults, step, unless_refused, changed, outcome}
+use Rattle.tql_spec.specs.Machine.{InsertQuery, Modify, step, unless_refused, changed, outcome}
 use Rattle.tql_spec.specs.Machine.{changed_table, constraint_faults, verb_of, working, with_working}
 use Rattle.tql_spec.proofs.FaultBags.{IsFirst, first_is, one_place}
 use Rattle.tql_spec.proofs.FirstFaults.{none_first}
@@ -42,9 +42,9 @@ use Rattle.tql_points.proofs.PointKeys.{constraints_then, keys_then, references_
 use Rattle.tql_points.proofs.Numbers.{equal, equal_test}
 use Rattle.tql_points.proofs.Related.{SameCopy, Related}
 use Rattle.tql_points.proofs.Runs.{alike}
-use Rattle.tql_points.proofs.Steps.{ConstraintsThen, done_then, refusal_of, refused_stays, faults_same, working_same}
+use Rattle.tql_points.proofs.Steps.{ConstraintsThen, done_then, refusal_of, refused_stays, working_same}
 use Rattle.tql_points.proofs.Steps.{own_table, their_table, changed_copies, change_reduces, same_table, step_same}
-use Rattle.tql_points.proofs.Steps.{lists_same}
+use Rattle.tql_points.proofs.Steps.{lists_same, step_faults, step_faults_same}
 use Rattle.tql_points.proofs.Views.{both_true}
 
 -- ---- where the faults of rows stand in the order of report
@@ -422,36 +422,39 @@ module _ (defs : List TableDef) (all : ArePointTables defs) (s : State) (others 
     pub refused : Refuses point e
     pub least : (p : ℤ) (f : Refusal) → Refuses p f → place e ≤ place f
 
-  same_state : (p : ℤ) → state_faults (others p) Changes ≡ state_faults s Changes
-  same_state p = faults_same defs all p (then' p) s (others p) (r p) Changes
+  -- what a state refuses of a change before it is tried
+  abbrev before : State → Change → Option Refusal
+  before x y = first (step_faults x (ChangeRows y))
 
-  -- where the state refuses nothing, the step is the change
-  step_changed : (x : State) (y : Change) → first (state_faults x Changes) ≡ None → step x (ChangeRows y) ≡ changed x y
-  step_changed x y q = done_then (first (state_faults x Changes)) x (changed x y).0 (changed x y).1 q
+  same_state : (p : ℤ) → before (others p) (c' p) ≡ before s c
+  same_state p = ap first (step_faults_same defs all p (then' p) s (others p) (r p) (ChangeRows c))
 
-  refused_at : (p : ℤ) → first (state_faults s Changes) ≡ None → (f : Refusal) → Refuses p f → first (faults_at p)
-      ≡ Some f
+  -- where it refuses nothing, the step is the change
+  step_changed : (x : State) (y : Change) → before x y ≡ None → step x (ChangeRows y) ≡ changed x y
+  step_changed x y q = done_then (before x y) x (changed x y).0 (changed x y).1 q
+
+  refused_at : (p : ℤ) → before s c ≡ None → (f : Refusal) → Refuses p f → first (faults_at p) ≡ Some f
   refused_at p q f x =
       refused_so (first (faults_at p)) (others p) (verb_of (c' p)) (Some (reduced p).count)
       (with_working (others p) (others p).transaction
       (record { moment = (working (others p) (others p).transaction).moment; copy = copy' p })) f
-      (sym (ap (λ (y : Reply × State). y.0) (step_changed (others p) (c' p) (ap first (same_state p) ∙ q))) ∙ x)
+      (sym (ap (λ (y : Reply × State). y.0) (step_changed (others p) (c' p) (same_state p ∙ q))) ∙ x)
 
   pub to_points : (e : Refusal) → (step s (ChangeRows c)).0 ≡ Refused e → FirstRefusal e
-  to_points e x = by_state (first (state_faults s Changes)) refl
+  to_points e x = by_state (before s c) refl
     where
-      by_state : (o : Option Refusal) → first (state_faults s Changes) ≡ o → FirstRefusal e
+      by_state : (o : Option Refusal) → before s c ≡ o → FirstRefusal e
       by_state (Some f) q =
           let same : e ≡ f = same_refusal e f
-          (sym x ∙ so_refused (first (state_faults s Changes)) s (changed s c).0 (changed s c).1 f q) in
+          (sym x ∙ so_refused (before s c) s (changed s c).0 (changed s c).1 f q) in
           record {
             point = pos 0;
-            refused = so_refused (first (state_faults (others (pos 0)) Changes)) (others (pos 0))
+            refused = so_refused (before (others (pos 0)) (c' (pos 0))) (others (pos 0))
                 (changed (others (pos 0)) (c' (pos 0))).0 (changed (others (pos 0)) (c' (pos 0))).1 e
-                (ap first (same_state (pos 0)) ∙ q ∙ ap (λ (y : Refusal). Some y) (sym same));
+                (same_state (pos 0) ∙ q ∙ ap (λ (y : Refusal). Some y) (sym same));
             least = λ p g y. let z : g ≡ f =
-                same_refusal g f (sym y ∙ so_refused (first (state_faults (others p) Changes)) (others p)
-                (changed (others p) (c' p)).0 (changed (others p) (c' p)).1 f (ap first (same_state p) ∙ q)) in
+                same_refusal g f (sym y ∙ so_refused (before (others p) (c' p)) (others p)
+                (changed (others p) (c' p)).0 (changed (others p) (c' p)).1 f (same_state p ∙ q)) in
                 omega (arith, ap place same, ap place z);
           }
       by_state None q =
@@ -464,7 +467,7 @@ module _ (defs : List TableDef) (all : ArePointTables defs) (s : State) (others 
           record {
             point = y.0;
             refused = ap (λ (v : Reply × State). v.0)
-                (step_changed (others y.0) (c' y.0) (ap first (same_state y.0) ∙ q))
+                (step_changed (others y.0) (c' y.0) (same_state y.0 ∙ q))
                 ∙ so_refused (first (faults_at y.0)) (others y.0) (Done (verb_of (c' y.0)) (Some (reduced y.0).count))
                 (with_working (others y.0) (others y.0).transaction
                 (record { moment = (working (others y.0) (others y.0).transaction).moment; copy = copy' y.0 })) e
@@ -527,23 +530,24 @@ lists_good defs all p (b ∷ bs) s other r g k z =
     (step_same defs all p (constraints_then defs all p) s other r b x.0 e).1 good x.1 y.1)
 
 pub refusals_reduce : RefusalsReduce
-refusals_reduce defs next bs c e all k =
+refusals_reduce defs next horizon bs c e all k =
     let both = all_append (λ b. is_in_scope defs b && gives_periods defs b) bs (ChangeRows c ∷ []) k in
     let lists = all_both (is_in_scope defs) (gives_periods defs) bs both.0 in
     let last = both_true (is_in_scope defs (ChangeRows c)) (gives_periods defs (ChangeRows c))
     (both_true (is_in_scope defs (ChangeRows c) && gives_periods defs (ChangeRows c)) true both.1).0 in
     let scope = both_true (nat_lt (changed_table c) (length defs)) (is_change_of (table_at defs (changed_table c)) c)
     last.0 in
-    let s : State = after_all (beginning defs next) bs in
-    let r : (p : ℤ) → Related defs p s (state_at defs next bs p) =
-    λ p. (lists_same defs all p (constraints_then defs all p) bs (beginning defs next) (point_beginning defs next)
-    (alike defs next p) lists.0).1 in
-    let good = lists_good defs all (pos 0) bs (beginning defs next) (point_beginning defs next)
-    (alike defs next (pos 0))
+    let s : State = after_all (beginning defs next horizon) bs in
+    let r : (p : ℤ) → Related defs p s (state_at defs next horizon bs p) =
+    λ p. (lists_same defs all p (constraints_then defs all p) bs (beginning defs next horizon)
+    (point_beginning defs next horizon)
+    (alike defs next horizon p) lists.0).1 in
+    let good = lists_good defs all (pos 0) bs (beginning defs next horizon) (point_beginning defs next horizon)
+    (alike defs next horizon (pos 0))
     (record { history = tt; open_then = tt }) lists.0 lists.1 in (
-      λ x. let h = to_points defs all s (state_at defs next bs) r good c (below scope.0) scope.1 last.1 e x in
+      λ x. let h = to_points defs all s (state_at defs next horizon bs) r good c (below scope.0) scope.1 last.1 e x in
           record { point = h.point; refused = h.refused; first = h.least },
-      λ h. from_points defs all s (state_at defs next bs) r good c (below scope.0) scope.1 last.1 last.0 e
+      λ h. from_points defs all s (state_at defs next horizon bs) r good c (below scope.0) scope.1 last.1 last.0 e
           (record { point = h.point; refused = h.refused; least = h.first }),
     )
   where

@@ -2,7 +2,7 @@
 use Rattle.std.proofs.Common.{◌≡◌, ◌<◌, refl, sym, ap, subst, ◌∙◌, ℕ, zero, suc, true, false, cond, List, [], ◌∷◌, ◌++◌}
 use Rattle.std.proofs.Common.{map, get_or, length, arith}
 use Rattle.std.specs.Prelude.{not, ◌&&◌, ◌==◌, nat_lt, ℤ, pos, ◌+ℤ◌, int_le, slice_set, Option, Some, None, is_some}
-use Rattle.std.specs.Prelude.{is_none}
+use Rattle.std.specs.Prelude.{is_none, Bool, int_lt, if◌then◌else◌}
 use Rattle.std.specs.List.{list_all}
 use Rattle.std.proofs.lemmas.Bool.Decides.{nat_tests}
 use Rattle.std.proofs.lemmas.List.{length-map}
@@ -10,13 +10,15 @@ use Rattle.std.proofs.Math.ListN.{length-set}
 use Rattle.tql_spec.specs.Words.{map_all}
 use Rattle.tql_spec.specs.Calendar.{high}
 use Rattle.tql_spec.specs.Refusal.{Refusal, NotInThisTransactionState, MomentNotAllowed, fault_if, first}
+use Rattle.tql_spec.specs.Refusal.{BeforeTheHorizon}
 use Rattle.tql_spec.specs.Expression.{eval}
 use Rattle.tql_spec.specs.Definition.{TableDef, Stamped, table_at}
 use Rattle.tql_spec.specs.History.{Copy, Entry, rows_in}
+use Rattle.tql_spec.specs.Horizon.{pruned}
 use Rattle.tql_spec.specs.Change.{Outcome, insert, modify}
 use Rattle.tql_spec.specs.Machine.{State, Reply, Done, Refused, Table, Bound, CreateTable, DropTable, SetClock, Start}
 use Rattle.tql_spec.specs.Machine.{Commit, Rollback, ChangeRows, AnswerQuery, Change, InsertTuples, InsertQuery}
-use Rattle.tql_spec.specs.Machine.{Modify, StatementClass}
+use Rattle.tql_spec.specs.Machine.{Modify, Prune, Prunes, StatementClass, limit_faults, query_faults}
 use Rattle.tql_spec.specs.Machine.{Defines, SetsClock, Starts, Ends, Changes, Queries, class_of, state_faults}
 use Rattle.tql_spec.specs.Machine.{is_not_later, is_clock_at_end, effect, step, replies, unless_refused, changed}
 use Rattle.tql_spec.specs.Machine.{outcome, changed_table, constraint_faults, verb_of, working, with_working}
@@ -80,7 +82,8 @@ refusal_of (Table hs rows) e = absurd (cc)
 pub refused_stays : (s : State) (b : Bound) → is_refused (step s b).0 ≡ true → (step s b).1 ≡ s
 refused_stays s b e =
     let k = refusal_of (step s b).0 e in
-    unless_keeps (first (state_faults s (class_of b))) s (effect s b).0 (effect s b).1 (effect_keeps s b) k.0 k.1
+    unless_keeps (first (limit_faults s b ++ state_faults s (class_of b))) s (effect s b).0 (effect s b).1
+    (effect_keeps s b) k.0 k.1
 
 -- what was done at one state, and at that of the point
 abbrev Kept : List TableDef → ℤ → Reply × State → Reply × State → Type 0
@@ -96,6 +99,11 @@ class_same defs p Commit = refl
 class_same defs p Rollback = refl
 class_same defs p (ChangeRows c) = refl
 class_same defs p (AnswerQuery q) = refl
+class_same defs p (Prune m) = refl
+
+-- the faults of a step before its effect: by the horizon, the transaction and the clock
+abbrev pub step_faults : State → Bound → List Refusal
+step_faults s b = limit_faults s b ++ state_faults s (class_of b)
 
 -- that constraints which hold hold at the point
 abbrev pub ConstraintsThen : List TableDef → ℤ → Type 0
@@ -146,6 +154,31 @@ module _ (defs : List TableDef) (all : ArePointTables defs) (p : ℤ) (constrain
       (open_none s.transaction other.transaction r.open_then)
       ∙ ap (λ z. fault_if (is_none s.transaction && int_le high z) MomentNotAllowed) r.clock
   faults_same s other r Queries = refl
+  faults_same s other r (Prunes m) =
+      ap (λ b. fault_if b NotInThisTransactionState) (open_some s.transaction other.transaction r.open_then)
+
+  -- so do the faults by the horizon
+  limits_same : (s other : State) → Related defs p s other → (b : Bound)
+      → limit_faults other (statement_at defs p b) ≡ limit_faults s b
+  limits_same s other r (CreateTable d) = refl
+  limits_same s other r (DropTable t) = refl
+  limits_same s other r (SetClock m) = refl
+  limits_same s other r Start = refl
+  limits_same s other r Commit = refl
+  limits_same s other r Rollback = refl
+  limits_same s other r (ChangeRows (InsertTuples t columns tuples)) = refl
+  limits_same s other r (ChangeRows (InsertQuery t columns q)) = ap (λ h. query_faults h q) r.horizon
+  limits_same s other r (ChangeRows (Modify t portion work conds)) = refl
+  limits_same s other r (AnswerQuery q) = ap (λ h. query_faults h q) r.horizon
+  limits_same s other r (Prune m) = ap (λ h. fault_if (int_lt m h) BeforeTheHorizon) r.horizon
+
+  -- and both
+  pub step_faults_same : (s other : State) → Related defs p s other → (b : Bound)
+      → step_faults other (statement_at defs p b) ≡ step_faults s b
+  step_faults_same s other r b =
+      ap (λ fs. fs ++ state_faults other (class_of (statement_at defs p b))) (limits_same s other r b)
+      ∙ ap (λ fs. limit_faults s b ++ fs)
+      (ap (state_faults other) (class_same defs p b) ∙ faults_same s other r (class_of b))
 
   -- ---- copies
 
@@ -237,6 +270,7 @@ module _ (defs : List TableDef) (all : ArePointTables defs) (p : ℤ) (constrain
     definitions = r.definitions;
     definitions_then = r.definitions_then;
     clock = ap (λ z. z +ℤ pos 1) h.moment;
+    horizon = r.horizon;
     history = (h, r.history);
     open_then = tt;
   }
@@ -247,6 +281,7 @@ module _ (defs : List TableDef) (all : ArePointTables defs) (p : ℤ) (constrain
     definitions = r.definitions;
     definitions_then = r.definitions_then;
     clock = r.clock;
+    horizon = r.horizon;
     history = r.history;
     open_then = h;
   }
@@ -257,9 +292,27 @@ module _ (defs : List TableDef) (all : ArePointTables defs) (p : ℤ) (constrain
     definitions = r.definitions;
     definitions_then = r.definitions_then;
     clock = r.clock;
+    horizon = r.horizon;
     history = r.history;
     open_then = tt;
   }
+
+  -- what a horizon leaves
+  pruned_same : (h : ℤ) (es fs : List Entry) → SameEntries defs p es fs
+      → SameEntries defs p (pruned h es) (pruned h fs)
+  pruned_same h [] [] k = tt
+  pruned_same h (e ∷ es) (f ∷ fs) k = (
+    k.0,
+    subst (λ b. SameEntries defs p (if int_le e.moment h then [] else pruned h es) (if b then [] else pruned h fs))
+        (sym (ap (λ x. int_le x h) k.0.moment)) (either (int_le e.moment h) (pruned_same h es fs k.1)),
+  )
+    where
+      either : (b : Bool) → SameEntries defs p (pruned h es) (pruned h fs)
+          → SameEntries defs p (if b then [] else pruned h es) (if b then [] else pruned h fs)
+      either true same = tt
+      either false same = same
+  pruned_same h [] (f ∷ fs) k = absurd k
+  pruned_same h (e ∷ es) [] k = absurd k
 
   with_working_same : (s other : State) → Related defs p s other → (a b : Option Entry) → SameOpen defs p a b
       → (e f : Entry) → SameEntry defs p e f → Related defs p (with_working s a e) (with_working other b f)
@@ -438,7 +491,19 @@ module _ (defs : List TableDef) (all : ArePointTables defs) (p : ℤ) (constrain
       definitions = r.definitions;
       definitions_then = r.definitions_then;
       clock = refl;
+      horizon = r.horizon;
       history = r.history;
+      open_then = r.open_then;
+    },
+  )
+  effect_same s other r (Prune m) k e = (
+    refl,
+    record {
+      definitions = r.definitions;
+      definitions_then = r.definitions_then;
+      clock = r.clock;
+      horizon = refl;
+      history = pruned_same m s.history other.history r.history;
       open_then = r.open_then;
     },
   )
@@ -465,11 +530,10 @@ module _ (defs : List TableDef) (all : ArePointTables defs) (p : ℤ) (constrain
       let b' : Bound = statement_at defs p b in
       let x : Reply × State = effect s b in
       let y : Reply × State = effect other b' in
-      let none = unrefused (first (state_faults s (class_of b))) s x.0 x.1 e in
-      let none' : first (state_faults other (class_of b')) ≡ None =
-      ap first (ap (state_faults other) (class_same defs p b) ∙ faults_same s other r (class_of b)) ∙ none in
-      let done = done_then (first (state_faults s (class_of b))) s x.0 x.1 none in
-      let done' = done_then (first (state_faults other (class_of b'))) other y.0 y.1 none' in
+      let none = unrefused (first (step_faults s b)) s x.0 x.1 e in
+      let none' : first (step_faults other b') ≡ None = ap first (step_faults_same s other r b) ∙ none in
+      let done = done_then (first (step_faults s b)) s x.0 x.1 none in
+      let done' = done_then (first (step_faults other b')) other y.0 y.1 none' in
       subst (λ z. Kept defs p z (step other b')) (sym done)
       (subst (λ z. Kept defs p x z) (sym done')
       (effect_same s other r b k (sym (ap (λ (z : Reply × State). is_refused z.0) done) ∙ e)))

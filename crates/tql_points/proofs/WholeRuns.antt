@@ -1,5 +1,6 @@
 -- A run over pieces in scope, point by point.
 use Rattle.std.proofs.Common.{◌≡◌, ◌<◌, length, arith, refl, sym, ap, subst, ◌∙◌, ℕ, true, false, List, [], ◌∷◌, map}
+use Rattle.std.proofs.Common.{◌++◌}
 use Rattle.std.proofs.Common.{inl, inr}
 use Rattle.std.specs.Prelude.{not, ◌&&◌, nat_lt, ℤ, pos, Option, Some, None}
 use Rattle.std.specs.List.{list_all}
@@ -7,9 +8,10 @@ use Rattle.std.proofs.lemmas.Bool.Decides.{nat_tests}
 use Rattle.tql_spec.specs.Refusal.{Refusal, first}
 use Rattle.tql_spec.specs.Definition.{TableDef, table_at}
 use Rattle.tql_spec.specs.Machine.{State, Bound, ChangeRows, changed_table, Reply, effect, state_faults, step, replies}
-use Rattle.tql_spec.specs.Machine.{unless_refused}
+use Rattle.tql_spec.specs.Machine.{unless_refused, limit_faults}
 use Rattle.tql_spec.specs.Script.{Piece}
 use Rattle.tql_spec.specs.Syntax.{Statement}
+use Rattle.tql_spec.specs.Names.{Checked}
 use Rattle.tql_spec.specs.Binding.{bind, statement_class}
 use Rattle.tql_spec.specs.Run.{Sense, Says, Faulty, HasSense, Run, Answers, respond, respond_to, statement_faults}
 use Rattle.tql_spec.proofs.FirstFaults.{none_first, bound_steps}
@@ -48,8 +50,10 @@ module _ (defs : List TableDef) (all : ArePointTables defs) where
           × ((unless_refused o s (effect s (bind s.definitions t).value).0 (effect s (bind s.definitions t).value).1).1
           ≡ s)
       by_first None q =
-          let none = no_right (state_faults s (statement_class t)) (bind s.definitions t).faults
-          (none_first (statement_faults s t) q) in
+          let b : Checked Bound = bind s.definitions t in
+          let none = no_right (state_faults s (statement_class t)) b.faults
+          (no_right (limit_faults s b.value) (state_faults s (statement_class t) ++ b.faults)
+          (none_first (statement_faults s t) q)) in
           let never : None ≡ Some f = sym (ap first none) ∙ e in absurd (cc)
       by_first (Some g) q = (refl, refl)
 
@@ -149,30 +153,33 @@ module _ (defs : List TableDef) (all : ArePointTables defs) where
           (step_good defs all p s other r g b scoped (gives x (inl refl) t h sound)))
 
 pub runs_reduce : RunsReduce
-runs_reduce defs next pieces rs new all scope run =
-    let k = run_takes defs all pieces rs (beginning defs next) new (λ p. point_beginning defs next) (alike defs next)
+runs_reduce defs next horizon pieces rs new all scope run =
+    let k = run_takes defs all pieces rs (beginning defs next horizon) new (λ p. point_beginning defs next horizon)
+    (alike defs next horizon)
     scope run in (
       k.0,
       k.1,
       λ p. record {
         all = (k.2 p).0;
         slices = record {
-          now = λ t l. now_agrees defs p t l new (after_all (point_beginning defs next) (map (statement_at defs p) k.0))
+          now = λ t l. now_agrees defs p t l new
+              (after_all (point_beginning defs next horizon) (map (statement_at defs p) k.0))
               (k.2 p).1;
           as_of = λ m t l. as_of_agrees defs p t l m new
-              (after_all (point_beginning defs next) (map (statement_at defs p) k.0)) (k.2 p).1;
+              (after_all (point_beginning defs next horizon) (map (statement_at defs p) k.0)) (k.2 p).1;
         };
       },
     )
 
 pub run_refusals_reduce : RunRefusalsReduce
-run_refusals_reduce defs next pieces rs new all scope gives run =
-    let k = run_takes defs all pieces rs (beginning defs next) new (λ p. point_beginning defs next) (alike defs next)
+run_refusals_reduce defs next horizon pieces rs new all scope gives run =
+    let k = run_takes defs all pieces rs (beginning defs next horizon) new (λ p. point_beginning defs next horizon)
+    (alike defs next horizon)
     scope run in
-    let good = run_good defs all pieces rs (beginning defs next) new (point_beginning defs next) (pos 0)
-    (alike defs next (pos 0))
+    let good = run_good defs all pieces rs (beginning defs next horizon) new (point_beginning defs next horizon) (pos 0)
+    (alike defs next horizon (pos 0))
     (record { history = tt; open_then = tt }) scope gives run in
-    let others : ℤ → State = λ p. after_all (point_beginning defs next) (map (statement_at defs p) k.0) in (
+    let others : ℤ → State = λ p. after_all (point_beginning defs next horizon) (map (statement_at defs p) k.0) in (
       k.0,
       k.1,
       λ t c e sound is both.

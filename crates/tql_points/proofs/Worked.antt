@@ -9,7 +9,7 @@ use Rattle.tql_spec.specs.Expression.{Expr, Literal, Column, Compare}
 use Rattle.tql_spec.specs.Definition.{TableDef, Key}
 use Rattle.tql_spec.specs.History.{Now}
 use Rattle.tql_spec.specs.Change.{Work}
-use Rattle.tql_spec.specs.Machine.{Bound, ChangeRows, Change, InsertTuples, Modify, Start, Rollback, Reply, Done}
+use Rattle.tql_spec.specs.Machine.{Bound, ChangeRows, Change, InsertTuples, Modify, Start, Rollback, Prune, Reply, Done}
 use Rattle.tql_spec.specs.Machine.{Refused}
 use Rattle.tql_spec.specs.Machine.{Inserted, step}
 use Rattle.tql_spec.specs.Refusal.{DuplicateKey}
@@ -63,15 +63,16 @@ day n = Literal (Day (pos n))
 abbrev text : ℕ → Expr
 text b = Literal (Text (b ∷ []))
 
--- a row for the days 0 to 99; 'B' for the days 30 to 59; an overlap that is refused; a change that is undone; 'C' for
--- days that begin where the row ends; and the days 50 to 69 taken out
+-- a row for the days 0 to 99; 'B' for the days 30 to 59; an overlap that is refused; a change that is undone; history
+-- pruned, and what would go back before the horizon refused; 'C' for days that begin where the row ends; and the days
+-- 50 to 69 taken out
 abbrev script : List Bound
 script =
     ChangeRows (InsertTuples 0 (0 ∷ 1 ∷ 2 ∷ 4 ∷ []) ((num 7 ∷ day 0 ∷ day 100 ∷ text 65 ∷ []) ∷ []))
     ∷ ChangeRows (Modify 0 (Some (record { start = pos 30; end = pos 60 }))
     (Work.Set (record { column = 4; value = text 66 } ∷ [])) [])
     ∷ ChangeRows (InsertTuples 0 (0 ∷ 1 ∷ 2 ∷ 4 ∷ []) ((num 7 ∷ day 99 ∷ day 120 ∷ text 67 ∷ []) ∷ []))
-    ∷ Start ∷ ChangeRows (Modify 0 None Work.Remove []) ∷ Rollback
+    ∷ Start ∷ ChangeRows (Modify 0 None Work.Remove []) ∷ Rollback ∷ Prune (pos 6) ∷ Prune (pos 5)
     ∷ ChangeRows (InsertTuples 0 (0 ∷ 1 ∷ 2 ∷ 4 ∷ []) ((num 7 ∷ day 100 ∷ day 120 ∷ text 67 ∷ []) ∷ []))
     ∷ ChangeRows (Modify 0 (Some (record { start = pos 50; end = pos 70 })) Work.Remove
     (Compare Above (Column 0) (num 0) ∷ [])) ∷ []
@@ -82,12 +83,13 @@ script_in_scope = refl
 
 -- what is found now on whole tables, at a point
 abbrev sliced : ℤ → List Row
-sliced p = slice pay p (answer_of (after_all (beginning (pay ∷ []) (pos 5)) script) 0 Now)
+sliced p = slice pay p (answer_of (after_all (beginning (pay ∷ []) (pos 5) (pos 0)) script) 0 Now)
 
 -- what the machine of the point finds now
 abbrev plain : ℤ → List Row
 plain p = payloads (point_table (pay ∷ []) pay)
-    (answer_of (after_all (point_beginning (pay ∷ []) (pos 5)) (given_at (pay ∷ []) (pos 5) p script)) 0 Now)
+    (answer_of (after_all (point_beginning (pay ∷ []) (pos 5) (pos 0)) (given_at (pay ∷ []) (pos 5) (pos 0) p script)) 0
+    Now)
 
 -- a row that says the number and a letter
 abbrev says : ℕ → List Row
@@ -111,9 +113,9 @@ on_day_100 = (refl, refl)
 on_day_120 : (sliced (pos 120) ≡ []) × (plain (pos 120) ≡ [])
 on_day_120 = (refl, refl)
 
--- one of the eight statements is refused
-seven_taken : length (accepted (beginning (pay ∷ []) (pos 5)) script) ≡ 7
-seven_taken = refl
+-- two of the ten statements are refused
+eight_taken : length (accepted (beginning (pay ∷ []) (pos 5) (pos 0)) script) ≡ 8
+eight_taken = refl
 
 -- ---- a refusal
 
@@ -126,12 +128,13 @@ abbrev overlap : Change
 overlap = InsertTuples 0 (0 ∷ 1 ∷ 2 ∷ 4 ∷ []) ((num 7 ∷ day 99 ∷ day 120 ∷ text 67 ∷ []) ∷ [])
 
 -- what the whole tables answer to it after the first two statements, and the machines of two days
-overlap_refused : (step (after_all (beginning (pay ∷ []) (pos 5)) (take 2 script)) (ChangeRows overlap)).0
+overlap_refused : (step (after_all (beginning (pay ∷ []) (pos 5) (pos 0)) (take 2 script)) (ChangeRows overlap)).0
     ≡ Refused DuplicateKey
 overlap_refused = refl
 
 at_day : ℤ → Reply
-at_day p = (step (state_at (pay ∷ []) (pos 5) (take 2 script) p) (statement_at (pay ∷ []) p (ChangeRows overlap))).0
+at_day p = (step (state_at (pay ∷ []) (pos 5) (pos 0) (take 2 script) p)
+    (statement_at (pay ∷ []) p (ChangeRows overlap))).0
 
 refused_on_day_99 : at_day (pos 99) ≡ Refused DuplicateKey
 unfolding at_day

@@ -24,7 +24,7 @@ use Rattle.tql_spec.specs.Syntax.{NoFactor, TimesFactor, Unsigned, Positive, Neg
 use Rattle.tql_spec.specs.Syntax.{TextLiteral, DateLiteral, TimestampLiteral, ColumnNamed, Enclosed, CountStar, Over}
 use Rattle.tql_spec.specs.Syntax.{Condition, CellTree, NullCell, ValueCell, Tuple, SetTree, PortionTree, Statement}
 use Rattle.tql_spec.specs.Syntax.{CreateTree, DropTree, InsertValues, InsertSelect, UpdateTree, DeleteTree, QueryTree}
-use Rattle.tql_spec.specs.Syntax.{StartTree, CommitTree, RollbackTree, AtTree}
+use Rattle.tql_spec.specs.Syntax.{StartTree, CommitTree, RollbackTree, AtTree, PruneTree}
 use Rattle.tql_spec.specs.Names.{Checked, check_each, Known, Typed, expr, primary, literal}
 use Rattle.tql_spec.specs.Creation.{has_name, has_number, names_of, column_number, repeats}
 use Rattle.tql_spec.specs.Creation.{period_columns, application_name, uses_column}
@@ -475,3 +475,4 @@ module _ (defs : List TableDef) (all : ArePointTables defs) where
   bound_within CommitTree q k e = record { scope = refl; periods = refl }
   bound_within RollbackTree q k e = record { scope = refl; periods = refl }
   bound_within (AtTree m) q k e = record { scope = refl; periods = refl }
+  bound_within (PruneTree m) q k e = record { scope = refl; periods = refl }

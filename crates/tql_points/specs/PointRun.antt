@@ -19,9 +19,9 @@ use Rattle.tql_points.specs.StatementScope.{prepares, is_query, is_statement_in_
 abbrev pub PointMachines : Type 0
 PointMachines = ℤ → State
 
--- as they begin beside a state: with its clock, and its tables without their application periods
+-- as they begin beside a state: with its clock and its horizon, and its tables without their application periods
 abbrev pub machines_of : State → PointMachines
-machines_of s p = point_beginning s.definitions s.next
+machines_of s p = point_beginning s.definitions s.next s.horizon
 
 -- what the machine of a point replies to the statement as the point is given it
 abbrev pub reply_at : List TableDef → PointMachines → Bound → ℤ → Reply
@@ -76,7 +76,7 @@ pub record IsAtStart (s : State) : Type 0 where
   pub uncommitted : s.history ≡ []
   pub idle : s.transaction ≡ None
 
--- each piece that says a statement makes a table in scope, or sets the clock
+-- each piece that says a statement makes a table in scope, or sets the clock or the horizon
 abbrev pub ArePreparing : List Piece → Type 0
 ArePreparing pieces = (x : Piece) → In x pieces → (t : Statement) → HasSense x (Says t) → IsTrue (prepares t)
 
@@ -85,12 +85,12 @@ abbrev pub AreInScope : List TableDef → List Piece → Type 0
 AreInScope defs pieces =
     (x : Piece) → In x pieces → (t : Statement) → HasSense x (Says t) → IsTrue (is_statement_in_scope defs t)
 
--- the law: statements that make tables or set the clock keep this, and such a state is the beginning of its tables and
--- its clock
+-- the law: statements that make tables or set the clock or the horizon keep this, and such a state is the beginning of
+-- its tables, its clock and its horizon
 abbrev pub StartsAreKept : Type 0
 StartsAreKept =
     (s : State) (pieces : List Piece) (replies : List Reply) (new : State) → IsAtStart s → ArePreparing pieces
-    → Run s pieces replies new → IsAtStart new × (new ≡ beginning new.definitions new.next)
+    → Run s pieces replies new → IsAtStart new × (new ≡ beginning new.definitions new.next new.horizon)
 
 -- the first pieces make tables; where those behind them are in scope, they run beside the machines of all points
 pub record RunsAtPoints (s : State) (made others : List Piece) (replies : List Reply) (new : State) : Type 0 where

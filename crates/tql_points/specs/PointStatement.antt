@@ -68,7 +68,7 @@ change_at d p (InsertQuery t columns q) = InsertQuery t columns q
 change_at d p (Modify t portion work conds) =
     Modify t None (renumbered_work (moved d) work) (conds_at d p portion conds)
 
--- a statement; transactions and the clock stand as they are
+-- a statement; transactions, the clock and the horizon stand as they are
 abbrev pub statement_at : List TableDef → ℤ → Bound → Bound
 statement_at defs p (ChangeRows c) = ChangeRows (change_at (table_at defs (changed_table c)) p c)
 statement_at defs p b = b

@@ -48,22 +48,25 @@ gives_periods defs b = true
 -- ---- the law
 
 -- the state of the machine of a point, after what was accepted
-abbrev pub state_at : List TableDef → ℤ → List Bound → ℤ → State
-state_at defs next bs p = after_all (point_beginning defs next) (given_at defs next p bs)
+abbrev pub state_at : List TableDef → (next horizon : ℤ) → List Bound → ℤ → State
+state_at defs next horizon bs p = after_all (point_beginning defs next horizon) (given_at defs next horizon p bs)
 
 -- the machine of the point refuses the change so
-abbrev pub RefusesAt : List TableDef → ℤ → List Bound → Change → ℤ → Refusal → Type 0
-RefusesAt defs next bs c p e = (step (state_at defs next bs p) (statement_at defs p (ChangeRows c))).0 ≡ Refused e
+abbrev pub RefusesAt : List TableDef → (next horizon : ℤ) → List Bound → Change → ℤ → Refusal → Type 0
+RefusesAt defs next horizon bs c p e =
+    (step (state_at defs next horizon bs p) (statement_at defs p (ChangeRows c))).0 ≡ Refused e
 
 -- some machine does, and none with an earlier refusal
-pub record IsFirstOfPoints (defs : List TableDef) (next : ℤ) (bs : List Bound) (c : Change) (e : Refusal) : Type 0 where
+pub record IsFirstOfPoints (defs : List TableDef) (next horizon : ℤ) (bs : List Bound) (c : Change)
+    (e : Refusal) : Type 0 where
   pub point : ℤ
-  pub refused : RefusesAt defs next bs c point e
-  pub first : (p : ℤ) (f : Refusal) → RefusesAt defs next bs c p f → place e ≤ place f
+  pub refused : RefusesAt defs next horizon bs c point e
+  pub first : (p : ℤ) (f : Refusal) → RefusesAt defs next horizon bs c p f → place e ≤ place f
 
 -- the law: a change is refused exactly where the machine of some point refuses it, with the first of their refusals
 abbrev pub RefusalsReduce : Type 0
 RefusalsReduce =
-    (defs : List TableDef) (next : ℤ) (bs : List Bound) (c : Change) (e : Refusal) → ArePointTables defs
+    (defs : List TableDef) (next horizon : ℤ) (bs : List Bound) (c : Change) (e : Refusal) → ArePointTables defs
     → IsTrue (list_all (λ b. is_in_scope defs b && gives_periods defs b) (bs ++ ChangeRows c ∷ []))
-    → ((step (after_all (beginning defs next) bs) (ChangeRows c)).0 ≡ Refused e) ↔ IsFirstOfPoints defs next bs c e
+    → ((step (after_all (beginning defs next horizon) bs) (ChangeRows c)).0 ≡ Refused e)
+    ↔ IsFirstOfPoints defs next horizon bs c e

@@ -36,17 +36,17 @@ AreTaken defs (x ∷ xs) (r ∷ rs) bs = IsFront defs x (is_refused r) (AreTaken
 AreTaken defs _ _ bs = ⊥
 
 -- what the machine of the point takes, and how it answers then
-pub record TakesAt (defs : List TableDef) (next : ℤ) (taken : List Bound) (new : State) (p : ℤ) : Type 0 where
-  pub all : AllTaken (point_beginning defs next) (map (statement_at defs p) taken)
-  pub slices : SlicesAgree defs p new (after_all (point_beginning defs next) (map (statement_at defs p) taken))
+pub record TakesAt (defs : List TableDef) (next horizon : ℤ) (taken : List Bound) (new : State) (p : ℤ) : Type 0 where
+  pub all : AllTaken (point_beginning defs next horizon) (map (statement_at defs p) taken)
+  pub slices : SlicesAgree defs p new (after_all (point_beginning defs next horizon) (map (statement_at defs p) taken))
 
 -- the law: of a run over pieces in scope, out of memory or not, each point takes what was not refused, and answers the
 -- slices
 abbrev pub RunsReduce : Type 0
 RunsReduce =
-    (defs : List TableDef) (next : ℤ) (pieces : List Piece) (replies : List Reply) (new : State)
-    → ArePointTables defs → ArePiecesInScope defs pieces → Run (beginning defs next) pieces replies new
-    → (taken : List Bound) × AreTaken defs pieces replies taken × ((p : ℤ) → TakesAt defs next taken new p)
+    (defs : List TableDef) (next horizon : ℤ) (pieces : List Piece) (replies : List Reply) (new : State)
+    → ArePointTables defs → ArePiecesInScope defs pieces → Run (beginning defs next horizon) pieces replies new
+    → (taken : List Bound) × AreTaken defs pieces replies taken × ((p : ℤ) → TakesAt defs next horizon taken new p)
 
 -- ---- refusals
 
@@ -57,25 +57,26 @@ PiecesGivePeriods defs pieces =
     → IsTrue (gives_periods defs (bind defs t).value)
 
 -- the machine of the point, after what was taken, refuses the change so
-abbrev pub RefusesThen : List TableDef → ℤ → List Bound → Change → ℤ → Refusal → Type 0
-RefusesThen defs next taken c p e =
-    (step (after_all (point_beginning defs next) (map (statement_at defs p) taken))
+abbrev pub RefusesThen : List TableDef → (next horizon : ℤ) → List Bound → Change → ℤ → Refusal → Type 0
+RefusesThen defs next horizon taken c p e =
+    (step (after_all (point_beginning defs next horizon) (map (statement_at defs p) taken))
     (statement_at defs p (ChangeRows c))).0 ≡ Refused e
 
 -- some machine does, and none with an earlier refusal
-pub record IsFirstThen (defs : List TableDef) (next : ℤ) (taken : List Bound) (c : Change) (e : Refusal) : Type 0 where
+pub record IsFirstThen (defs : List TableDef) (next horizon : ℤ) (taken : List Bound) (c : Change)
+    (e : Refusal) : Type 0 where
   pub point : ℤ
-  pub refused : RefusesThen defs next taken c point e
-  pub first : (p : ℤ) (f : Refusal) → RefusesThen defs next taken c p f → place e ≤ place f
+  pub refused : RefusesThen defs next horizon taken c point e
+  pub first : (p : ℤ) (f : Refusal) → RefusesThen defs next horizon taken c p f → place e ≤ place f
 
 -- the law: after a run, a change in scope is refused exactly where the machine of some point refuses it, and with the
 -- first of their refusals
 abbrev pub RunRefusalsReduce : Type 0
 RunRefusalsReduce =
-    (defs : List TableDef) (next : ℤ) (pieces : List Piece) (replies : List Reply) (new : State)
+    (defs : List TableDef) (next horizon : ℤ) (pieces : List Piece) (replies : List Reply) (new : State)
     → ArePointTables defs → ArePiecesInScope defs pieces → PiecesGivePeriods defs pieces
-    → Run (beginning defs next) pieces replies new
+    → Run (beginning defs next horizon) pieces replies new
     → (taken : List Bound) × AreTaken defs pieces replies taken
     × ((t : Statement) (c : Change) (e : Refusal) → (bind defs t).faults ≡ [] → (bind defs t).value ≡ ChangeRows c
     → IsTrue (is_in_scope defs (ChangeRows c) && gives_periods defs (ChangeRows c))
-    → ((respond new t).0 ≡ Refused e) ↔ IsFirstThen defs next taken c e)
+    → ((respond new t).0 ≡ Refused e) ↔ IsFirstThen defs next horizon taken c e)

@@ -64,7 +64,7 @@ is_change_of d (InsertTuples t columns tuples) = are_filled d columns
 is_change_of d (InsertQuery t columns q) = false
 is_change_of d (Modify t portion work conds) = is_free_work d work && list_all (is_free_cond d) conds
 
--- whether a statement is a change so of a table that is there, or of a transaction, or of the clock
+-- whether a statement is a change so of a table that is there, or of a transaction, the clock or the horizon
 abbrev pub is_in_scope : List TableDef → Bound → Bool
 is_in_scope defs (CreateTable d) = false
 is_in_scope defs (DropTable t) = false

@@ -12,7 +12,7 @@ use Rattle.tql_spec.specs.Syntax.{Sum, Terms, NoTerm, Factors, NoFactor, Unsigne
 use Rattle.tql_spec.specs.Syntax.{TimestampLiteral, Enclosed, Condition, CellTree, NullCell, ValueCell, Tuple, SetTree}
 use Rattle.tql_spec.specs.Syntax.{Element, Constraint, KeyTree, ForeignTree, CheckTree, Statement, CreateTree, DropTree}
 use Rattle.tql_spec.specs.Syntax.{InsertValues, InsertSelect, UpdateTree, DeleteTree, QueryTree, StartTree, CommitTree}
-use Rattle.tql_spec.specs.Syntax.{RollbackTree, AtTree}
+use Rattle.tql_spec.specs.Syntax.{RollbackTree, AtTree, PruneTree}
 use Rattle.tql_points.specs.Slice.{own_columns}
 use Rattle.tql_points.specs.NamesAvoided.{sum_avoids, condition_avoids, filter_avoids}
 
@@ -35,9 +35,10 @@ makes_point_table (CreateTree n e es versioned) =
     && list_all (is_point_constraint (written_names (e ∷ es))) (constraints_of (e ∷ es))
 makes_point_table _ = false
 
--- whether a statement makes such a table, or sets the clock
+-- whether a statement makes such a table, or sets the clock or the horizon
 abbrev pub prepares : Statement → Bool
 prepares (AtTree m) = true
+prepares (PruneTree m) = true
 prepares t = makes_point_table t
 
 -- ---- the periods that INSERT gives
@@ -110,7 +111,7 @@ is_query (QueryTree s keys) = true
 is_query _ = false
 
 -- whether a statement is an INSERT of tuples, each with a period that rises, an UPDATE or a DELETE that names a period
--- as its portion alone, a statement of transactions or of the clock, or a query
+-- as its portion alone, a statement of transactions, of the clock or of the horizon, or a query
 abbrev pub is_statement_in_scope : List TableDef → Statement → Bool
 is_statement_in_scope defs (CreateTree n e es versioned) = false
 is_statement_in_scope defs (DropTree n) = false
@@ -123,3 +124,4 @@ is_statement_in_scope defs StartTree = true
 is_statement_in_scope defs CommitTree = true
 is_statement_in_scope defs RollbackTree = true
 is_statement_in_scope defs (AtTree m) = true
+is_statement_in_scope defs (PruneTree m) = true

@@ -26,6 +26,7 @@ plain_verb verb.Started = machine.Started
 plain_verb verb.Committed = machine.Committed
 plain_verb verb.RolledBack = machine.RolledBack
 plain_verb verb.ClockSet = machine.ClockSet
+plain_verb verb.Pruned = machine.Pruned
 
 -- the data of a table's rows
 abbrev pub table_rows : ResultTable → List Row

@@ -23,6 +23,8 @@ pub enum Verb {
     RolledBack,
     /// `AT`
     ClockSet,
+    /// `PRUNE HISTORY`
+    Pruned,
 }
 
 /// What a statement is answered.
@@ -63,6 +65,7 @@ impl Verb {
             Verb::Committed => "COMMIT",
             Verb::RolledBack => "ROLLBACK",
             Verb::ClockSet => "AT",
+            Verb::Pruned => "PRUNE HISTORY",
         }
     }
 }

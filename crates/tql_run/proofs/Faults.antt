@@ -1,12 +1,15 @@
--- The machine and the check both refuse a piece for the faults that are seen at once.
-use Rattle.std.proofs.Common.{◌≡◌, refl, sym, subst, inl, inr, ◌<◌, ◌≤◌, ℕ, List, length, IsTrue, IsFalse}
+-- The machine, the engine and the check refuse a piece for the faults that are seen at once.
+use Rattle.std.proofs.Common.{◌≡◌, refl, sym, subst, inl, inr, ◌<◌, ◌≤◌, ℕ, Bool, true, false, arith, List, length}
+use Rattle.std.proofs.Common.{IsTrue, IsFalse}
 use Rattle.tql_spec.specs.Refusal.{Refusal}
 use Rattle.tql_spec.specs.Machine.{State, Refused}
 use Rattle.tql_spec.specs.Answer.{Answer, Replied}
 use Rattle.tql_spec.specs.Script.{Piece}
-use Rattle.tql_spec.specs.Run.{Answering, Replies, Checks, Faulty, HasSense, finished}
+use Rattle.tql_spec.specs.Run.{Answering, Replies, Checks, Faulty, HasSense, IsWhole, finished}
+use Rattle.tql_lex.specs.Pending.{room}
 use Rattle.tql_value.specs.Refusals.{refusal_of}
 use Rattle.tql_value.specs.declared.refusal.Refusal.TheVariants.{StatementTooLong, OutOfMemory}
+use Rattle.tql_run.specs.Ending.{EndsTransaction, Responds}
 use Rattle.tql_run.specs.Pieces.{HasFault, IsCutFault, RefusesFaults}
 use Rattle.tql_run.specs.Responding.{Answered, Standing}
 
@@ -21,13 +24,37 @@ fault_sense p e (inr (short, cut, inr (is, utf8))) =
 pub replies_refuse : RefusesFaults Replies
 replies_refuse = record {
   at_once = λ s p e f. inl (Faulty e, fault_sense p e f, refl);
-  for_memory = λ s p. inr (refl, refl);
+  for_memory = λ s p long. inr (refl, refl);
 }
 
 pub checks_refuse : RefusesFaults Checks
 checks_refuse = record {
   at_once = λ s p e f. (inl (Faulty e, fault_sense p e f, refl), refl);
-  for_memory = λ s p. (inr refl, refl);
+  for_memory = λ s p long. (inr refl, refl);
+}
+
+-- ---- the ends of transactions
+
+-- its text is no fault of bytes
+ends_whole : (text : List ℕ) → EndsTransaction text → IsWhole (finished text)
+ends_whole text (inl c) = c.0
+ends_whole text (inr r) = r.0
+
+true_or_false : (b : Bool) → IsTrue b → IsFalse b → ⊥
+true_or_false true t f = cc
+true_or_false false t f = cc
+
+-- so no piece with a fault that is seen at once is one of these
+not_at_once : (p : Piece) (e : Refusal) → HasFault p e → IsTrue p.finished → EndsTransaction p.text → ⊥
+not_at_once p e (inl (is, long)) f ends = let w = (ends_whole p.text ends).short in omega (arith, long, w)
+not_at_once p e (inr (short, cut, why)) f ends = true_or_false p.finished f cut
+
+-- pieces are refused at once as the machine does it, and for want of memory where they have too many bytes to be sure
+pub responds_refuse : RefusesFaults Responds
+responds_refuse = record {
+  at_once = λ s p e f. (replies_refuse.at_once s p e f, λ whole short ends. absurd (not_at_once p e f whole ends));
+  for_memory = λ s p long.
+      (replies_refuse.for_memory s p long, λ whole short ends. absurd (omega (arith, long, short)));
 }
 
 -- ---- pieces
@@ -65,5 +92,6 @@ cut_answered A law s p text after e st is cut short fault = record {
 
 -- a piece for which memory was refused
 pub memory_answered : (A : Answering) → RefusesFaults A → (s : State) (p : Piece) (after : Standing) → after s
-    → Answered A s p (Replied (Refused (refusal_of OutOfMemory))) after
-memory_answered A law s p after st = record { state = s; answers = law.for_memory s p; stands = st }
+    → room < length p.text → Answered A s p (Replied (Refused (refusal_of OutOfMemory))) after
+memory_answered A law s p after st long =
+    record { state = s; answers = law.for_memory s p long; stands = st }

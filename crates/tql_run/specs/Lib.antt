@@ -1,5 +1,6 @@
 pub mod Responding
 pub mod Pieces
+pub mod Ending
 pub mod Hearing
 pub mod Runs
 pub mod Keeping

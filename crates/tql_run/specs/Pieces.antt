@@ -5,6 +5,7 @@ use Rattle.tql_spec.specs.Machine.{State, Refused}
 use Rattle.tql_spec.specs.Answer.{Replied}
 use Rattle.tql_spec.specs.Script.{Piece}
 use Rattle.tql_spec.specs.Run.{Answering}
+use Rattle.tql_lex.specs.Pending.{room}
 
 -- the first fault of a text that is not too long and that no `;` ends
 abbrev pub IsCutFault : List ℕ → Refusal → Type 0
@@ -16,8 +17,8 @@ HasFault p e =
     ((e ≡ StatementTooLong) × (1_048_576 < length p.text))
     ⊎ ((length p.text ≤ 1_048_576) × IsFalse p.finished × IsCutFault p.text e)
 
--- the law: a piece with such a fault is refused for it, and any piece may be refused for want of memory; the state
--- stays
+-- the law: a piece with such a fault is refused for it, and one of more than 65,536 bytes may be refused for want of
+-- memory; the state stays
 pub record RefusesFaults (A : Answering) : Type 0 where
   pub at_once : (s : State) (p : Piece) (e : Refusal) → HasFault p e → A s p (Replied (Refused e)) s
-  pub for_memory : (s : State) (p : Piece) → A s p (Replied (Refused OutOfMemory)) s
+  pub for_memory : (s : State) (p : Piece) → room < length p.text → A s p (Replied (Refused OutOfMemory)) s

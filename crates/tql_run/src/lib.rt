@@ -1,6 +1,7 @@
 //! Runs of scripts: statements in, answers out, whatever answers them.
 #![tactic(auto)]
 
+pub mod complaint;
 pub mod device;
 pub mod listener;
 pub mod note;

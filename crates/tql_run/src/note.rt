@@ -1,4 +1,5 @@
 //! A note of a refused statement.
+use tql_detail::detail::Detail;
 use tql_value::refusal::Refusal;
 
 /// A statement that was refused.
@@ -10,4 +11,13 @@ pub struct Note {
     pub line: u64,
     /// Why it was refused.
     pub refusal: Refusal,
+}
+
+/// What was told of a refused statement beside the refusal.
+#[derive(Drop)]
+pub struct Told {
+    /// The statement's number, as that of its note.
+    pub statement: u64,
+    /// What was told.
+    pub detail: Detail,
 }

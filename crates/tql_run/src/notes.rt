@@ -3,9 +3,10 @@ ghost use Rattle.std.specs.Prelude.{◌≡◌, Some, List, is_none};
 ghost use Rattle.tql_run.specs.Keeping.{Keeps};
 
 use crate::listener::Listener;
-use crate::note::Note;
+use crate::note::{Note, Told};
 use crate::pushed::Pushed;
 use std::alloc::AllocError;
+use tql_detail::detail::Detail;
 use tql_memory::Memory;
 use tql_value::refusal::Refusal;
 
@@ -17,6 +18,8 @@ pub struct Notes {
     pub kept: Vec<Note, Memory>,
     /// The allocator's error where a note was lost.
     pub lost: Option<AllocError>,
+    /// What was told beside the refusals, as far as there was memory for it, in the order of the statements.
+    pub told: Vec<Told, Memory>,
 }
 
 impl Notes {
@@ -27,6 +30,7 @@ impl Notes {
         Notes {
             kept: Vec::new(memory),
             lost: None,
+            told: Vec::new(memory),
         }
     }
 
@@ -44,6 +48,16 @@ impl Notes {
         self.kept.push(note)?;
         Ok(())
     }
+
+    /// Keeps what was told beside a refusal; without memory for it that is lost, and nothing else.
+    fn keep_detail(&mut self, statement: u64, detail: &Detail) -> Result<(), AllocError>
+        ensures kept { self.new.kept.items ≡ self.old.kept.items }
+        ensures lost { self.new.lost ≡ self.old.lost }
+    {
+        let detail = detail.copied(*self.kept.allocator())?;
+        self.told.push(Told { statement, detail })?;
+        Ok(())
+    }
 }
 
 impl Listener for Notes {
@@ -54,7 +68,18 @@ impl Listener for Notes {
 
     ghost heard = { λ n. heard_in (is_none n.lost) n.kept.items };
 
-    fn refused(&mut self, statement: u64, line: u64, refusal: Refusal, _pushed: &Pushed)
+    fn wants_details(&self) -> bool {
+        true
+    }
+
+    fn refused(
+        &mut self,
+        statement: u64,
+        line: u64,
+        refusal: Refusal,
+        detail: Option<&Detail>,
+        _pushed: &Pushed,
+    )
         ensures heard { Hears (heard_in (is_none self.old.lost) self.old.kept.items)
             (note statement line (refusal_of refusal) ∷ [])
             (heard_in (is_none self.new.lost) self.new.kept.items) }
@@ -68,6 +93,9 @@ impl Listener for Notes {
         };
         if let Err(error) = self.keep(note) {
             self.lost = Some(error);
+        }
+        if let Some(detail) = detail {
+            let _ = self.keep_detail(statement, detail);
         }
     }
 }

@@ -8,6 +8,7 @@ ghost use Rattle.tql_run.specs.Pieces.{IsCutFault};
 ghost use Rattle.tql_run.specs.Responding.{Answered};
 
 use crate::responder::Responder;
+use tql_detail::detail::Detail;
 use tql_lex::piece::Piece;
 use tql_result::answer::Answer;
 use tql_result::reply::Reply;
@@ -35,4 +36,29 @@ pub fn answer_piece<R: Responder>(responder: &mut R, piece: Piece<'_>) -> Answer
         Piece::NoMemory => Answer::Replied(Reply::Refused(Refusal::OutOfMemory)),
         Piece::Unfinished(text) => Answer::Replied(Reply::Refused(cut_fault(text))),
     }
+}
+
+/// What is told of the answer to a piece beside it, where that is wanted, and a refusal of a finished text. The blocks
+/// of memory that this asks for are counted as granted to no one: what comes later finds as many as if nothing had been
+/// told.
+pub fn detail_of<R: Responder>(
+    responder: &R,
+    piece: Piece<'_>,
+    answer: &Answer,
+    is_wanted: bool,
+) -> Option<Detail> {
+    let Piece::Text(text) = piece else {
+        return None;
+    };
+    if !is_wanted {
+        return None;
+    }
+    let Answer::Replied(Reply::Refused(refusal)) = answer else {
+        return None;
+    };
+    let memory = responder.memory();
+    let left = memory.left();
+    let detail = responder.detail(text, *refusal);
+    memory.uncount(left);
+    detail
 }

@@ -11,10 +11,11 @@ ghost use Rattle.tql_run.specs.Writing.{AnswersNext, AnswersReady, Tallies, Ends
 
 use crate::device::Source;
 use crate::listener::Listener;
-use crate::piece::answer_piece;
+use crate::piece::{answer_piece, detail_of};
 use crate::pushed::Pushed;
 use crate::responder::Responder;
 use std::alloc::AllocError;
+use tql_detail::detail::Detail;
 use tql_lex::splitter::{LONGEST_PART, Splitter};
 use tql_result::answer::Answer;
 use tql_result::device::DeviceFault;
@@ -72,23 +73,59 @@ fn counted(summary: Summary, answer: &Answer) -> Summary
     }
 }
 
-/// Takes the next statement and answers it; None where the bytes that were fed hold no whole one.
-pub fn answer_next<R: Responder>(responder: &mut R, splitter: &mut Splitter) -> Option<Answer>
+/// Takes the next statement and answers it, and keeps what is told beside the answer, at its place in the statement;
+/// None where the bytes that were fed hold no whole one.
+fn answer_whole<R: Responder>(
+    responder: &mut R,
+    splitter: &mut Splitter,
+    is_wanted: bool,
+    detail: &mut Option<Detail>,
+) -> Option<Answer>
     ensures { AnswersNext R.answering result splitter.old splitter.new
         (R.stands responder.old) (R.stands responder.new) }
 {
     match splitter.next_statement() {
-        Some(piece) => Some(answer_piece(responder, piece)),
+        Some(piece) => {
+            let answer = answer_piece(responder, piece);
+            *detail = detail_of(responder, piece, &answer, is_wanted);
+            Some(answer)
+        }
         None => None,
     }
 }
 
+/// Takes the next statement and answers it, and keeps what is told beside the answer, where that is wanted, at its
+/// place in the script; None where the bytes that were fed hold no whole one. What was told before is let go first.
+pub fn answer_next<R: Responder>(
+    responder: &mut R,
+    splitter: &mut Splitter,
+    is_wanted: bool,
+    detail: &mut Option<Detail>,
+) -> Option<Answer>
+    ensures { AnswersNext R.answering result splitter.old splitter.new
+        (R.stands responder.old) (R.stands responder.new) }
+{
+    *detail = None;
+    let answer = answer_whole(responder, splitter, is_wanted, detail);
+    if let Some(told) = detail {
+        told.stand_behind(splitter.line(), splitter.column());
+    }
+    answer
+}
+
 /// Tells the listener of the answer to a statement, where it is a refusal, behind its push.
-fn tell<L: Listener>(listener: &mut L, statement: u64, line: u64, answer: &Answer, pushed: &Pushed)
+fn tell<L: Listener>(
+    listener: &mut L,
+    statement: u64,
+    line: u64,
+    answer: &Answer,
+    detail: Option<&Detail>,
+    pushed: &Pushed,
+)
     ensures { Hears (L.heard listener.old) (note_of statement line (answer_of answer.now)) (L.heard listener.new) }
 {
     if let Answer::Replied(Reply::Refused(refusal)) = answer {
-        listener.refused(statement, line, *refusal, pushed);
+        listener.refused(statement, line, *refusal, detail, pushed);
     }
 }
 
@@ -109,13 +146,16 @@ fn answer_ready<R: Responder, O: Sink, L: Listener>(
     ensures tallies { Tallies splitter.old splitter.new summary.old summary.new }
     ensures ready { OnOk result (splitter.new.ready ≡ []) }
 {
-    while let Some(answer) = answer_next(responder, splitter) {
+    let is_wanted = listener.wants_details();
+    let mut detail = None;
+    while let Some(answer) = answer_next(responder, splitter, is_wanted, &mut detail) {
         let pushed = Pushed::push(sink, &answer);
         tell(
             listener,
             summary.statements + 1,
             splitter.line(),
             &answer,
+            detail.as_ref(),
             &pushed,
         );
         match pushed.outcome() {

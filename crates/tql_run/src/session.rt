@@ -1,5 +1,6 @@
 //! A script that comes part by part, from a host that has no source and no sink.
-ghost use Rattle.std.specs.Prelude.{◌≡◌, ◌≤◌, [], length, min, take, IsFalse, IfOk};
+ghost use Rattle.std.specs.Prelude.{◌≡◌, ◌≤◌, [], length, min, take, IsTrue, IsFalse, IfOk};
+ghost use Rattle.tql_spec.specs.Words.{is_empty};
 ghost use Rattle.tql_lex.specs.Feeding.{Feeds, Finishes};
 ghost use Rattle.tql_run.specs.Writing.{AnswersNext};
 
@@ -7,6 +8,7 @@ use crate::responder::Responder;
 use crate::runner::answer_next;
 use std::alloc::AllocError;
 use std::marker::Model;
+use tql_detail::detail::Detail;
 use tql_lex::splitter::{LONGEST_PART, Splitter};
 use tql_memory::Memory;
 use tql_result::answer::Answer;
@@ -16,6 +18,8 @@ use tql_result::answer::Answer;
 #[derive(Drop)]
 pub struct Session {
     splitter: Splitter,
+    /// What is told beside the last answer.
+    detail: Option<Detail>,
 }
 
 impl Model for Session {
@@ -37,7 +41,10 @@ impl Session {
         ensures unended { IfOk result (λ s. IsFalse s.ended) }
     {
         let splitter = Splitter::new(memory)?;
-        Ok(Session { splitter })
+        Ok(Session {
+            splitter,
+            detail: None,
+        })
     }
 
     /// Takes bytes from the front on, and answers how many: at most 65,536, and none while answers are left to be taken
@@ -46,6 +53,8 @@ impl Session {
         ensures within { result ≤ length bytes.now }
         ensures feeds { Feeds self.old self.new (take result bytes.now) }
         ensures taken { self.old.ready ≡ [] → IsFalse self.old.ended → result ≡ min (length bytes.now) 65_536 }
+        ensures left { IsFalse (is_empty self.old.ready) → result ≡ 0 }
+        ensures ended { IsTrue self.old.ended → result ≡ 0 }
     {
         if self.splitter.is_finished() || !self.splitter.is_drained() {
             return 0;
@@ -75,6 +84,12 @@ impl Session {
         ensures { AnswersNext R.answering result self.old self.new
             (R.stands responder.old) (R.stands responder.new) }
     {
-        answer_next(responder, &mut self.splitter)
+        answer_next(responder, &mut self.splitter, true, &mut self.detail)
+    }
+
+    /// What is told of the statement that was answered last, beside its refusal. It lies in the memory of what
+    /// answered, and is let go where the next answer is asked for.
+    pub fn detail(&self) -> Option<&Detail> {
+        self.detail.as_ref()
     }
 }

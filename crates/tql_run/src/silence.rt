@@ -3,6 +3,7 @@ ghost use Rattle.std.specs.Prelude.{None};
 
 use crate::listener::Listener;
 use crate::pushed::Pushed;
+use tql_detail::detail::Detail;
 use tql_value::refusal::Refusal;
 
 /// A listener that keeps nothing of what it is told.
@@ -12,5 +13,16 @@ pub struct Silence;
 impl Listener for Silence {
     ghost heard = { λ _. None };
 
-    fn refused(&mut self, _statement: u64, _line: u64, _refusal: Refusal, _pushed: &Pushed) {}
+    fn wants_details(&self) -> bool {
+        false
+    }
+
+    fn refused(
+        &mut self,
+        _statement: u64,
+        _line: u64,
+        _refusal: Refusal,
+        _detail: Option<&Detail>,
+        _pushed: &Pushed,
+    ) {}
 }

@@ -1,7 +1,7 @@
 -- The rows of a table in a copy that has changed, and the newest copy.
 use Rattle.std.proofs.Common.{◌≡◌, refl, sym, ap, ◌∙◌, ℕ, zero, suc, ◌+◌, List, [], ◌∷◌, ◌++◌, map, get_or, length, inl}
-use Rattle.std.proofs.Common.{inr, arith, length-append}
-use Rattle.std.specs.Prelude.{◌⊎◌, remove, slice_set, ℤ, Option, Some, None}
+use Rattle.std.proofs.Common.{inr, arith, length-append, Bool, true, false}
+use Rattle.std.specs.Prelude.{◌⊎◌, remove, slice_set, ℤ, Option, Some, None, int_le, if◌then◌else◌}
 use Rattle.std.proofs.lemmas.List.{length-map}
 use Rattle.std.proofs.Math.ListN.{length-set}
 use Rattle.tql_spec.specs.Bag.{In}
@@ -9,10 +9,12 @@ use Rattle.tql_spec.specs.Definition.{TableDef, Stamped}
 use Rattle.tql_spec.specs.History.{Copy, Entry, rows_in}
 use Rattle.tql_spec.specs.Machine.{State, Bound, CreateTable, DropTable, SetClock, Start, Commit, Rollback, ChangeRows}
 use Rattle.tql_spec.specs.Machine.{AnswerQuery}
-use Rattle.tql_spec.specs.Machine.{changed_table, class_of, state_faults, effect, newest_copy}
+use Rattle.tql_spec.specs.Machine.{changed_table, class_of, state_faults, effect, newest_copy, Prune}
+use Rattle.tql_spec.specs.Words.{listed}
+use Rattle.tql_spec.specs.Horizon.{pruned}
 use Rattle.tql_spec.specs.Binding.{bind}
 use Rattle.tql_spec.specs.Reached.{CopiesFit}
-use Rattle.tql_spec.proofs.MemberLists.{in_image}
+use Rattle.tql_spec.proofs.MemberLists.{in_image, in_left, in_right, in_either}
 use Rattle.tql_spec.proofs.RunKeeps.{asked_stays, changed_entry, altered_keeps, EffectKeeps}
 use Rattle.tql_spec.proofs.InOrder.{state}
 
@@ -56,6 +58,23 @@ no_rows [] t = refl
 no_rows (d ∷ defs) zero = refl
 no_rows (d ∷ defs) (suc t) = no_rows defs t
 
+-- a copy that a horizon leaves was there
+pub in_pruned : (h : ℤ) (x : Entry) (es : List Entry) → In x (pruned h es) → In x es
+in_pruned h x [] m = m
+in_pruned h x (e ∷ es) (inl q) = inl q
+in_pruned h x (e ∷ es) (inr m) = inr (either (int_le e.moment h) (in_pruned h x es) m)
+  where
+    either : (b : Bool) → (In x (pruned h es) → In x es) → In x (if b then [] else pruned h es) → In x es
+    either true k n = absurd n
+    either false k n = k n
+
+-- so is one of those, or the one in a transaction
+pub in_entries : (h : ℤ) (x : Entry) (first es : List Entry) → In x (first ++ pruned h es) → In x (first ++ es)
+in_entries h x first es m = elim (in_either x first (pruned h es) m) [
+  | inl i ↦ in_left x first es i
+  | inr i ↦ in_right x first es (in_pruned h x es i)
+]
+
 -- ---- copies fit the definitions
 
 -- lists of one length without one element each are of one length
@@ -90,35 +109,38 @@ first_fits e es n h k x (inl q) = ap (λ (y : Entry). length y.copy) q ∙ h
 first_fits e es n h k x (inr m) = k x m
 
 -- each effect keeps the number of tables in copies
-pub effect_fits : (defs : List TableDef) (history : List Entry) (next : ℤ) (begun : Option Entry) (b : Bound)
-    → state_faults (state defs history next begun) (class_of b) ≡ []
-    → CopiesFit (state defs history next begun) → CopiesFit (effect (state defs history next begun) b).1
-effect_fits defs history next None (CreateTable d) e f =
+pub effect_fits : (base : State) (defs : List TableDef) (history : List Entry) (next : ℤ) (begun : Option Entry)
+    (b : Bound)
+    → state_faults (state base defs history next begun) (class_of b) ≡ []
+    → CopiesFit (state base defs history next begun) → CopiesFit (effect (state base defs history next begun) b).1
+effect_fits base defs history next None (CreateTable d) e f =
     each_fits (λ copy. copy ++ [] ∷ []) defs (defs ++ d ∷ []) history f
     (λ copy h. length-append copy ([] ∷ []) ∙ ap (λ n. n + 1) h ∙ sym (length-append defs (d ∷ [])))
-effect_fits defs history next (Some w) (CreateTable d) e f = absurd (cc)
-effect_fits defs history next None (DropTable t) e f =
+effect_fits base defs history next (Some w) (CreateTable d) e f = absurd (cc)
+effect_fits base defs history next None (DropTable t) e f =
     each_fits (λ copy. remove copy t) defs (remove defs t) history f (λ copy h. length_removed copy defs t h)
-effect_fits defs history next (Some w) (DropTable t) e f = absurd (cc)
-effect_fits defs history next begun (SetClock m) e f = f
-effect_fits defs history next None Start e f = first_fits _ history (length defs) (newest_fits defs history f) f
-effect_fits defs history next (Some w) Start e f = absurd (cc)
-effect_fits defs history next None Commit e f = f
-effect_fits defs history next (Some w) Commit e f = f
-effect_fits defs history next None Rollback e f = f
-effect_fits defs history next (Some w) Rollback e f = λ x m. f x (inr m)
-effect_fits defs history next None (ChangeRows c) e f =
-    let s : State = state defs history next None in
+effect_fits base defs history next (Some w) (DropTable t) e f = absurd (cc)
+effect_fits base defs history next begun (Prune m) e f = λ x i. f x (in_entries m x (listed begun) history i)
+effect_fits base defs history next begun (SetClock m) e f = f
+effect_fits base defs history next None Start e f = first_fits _ history (length defs) (newest_fits defs history f) f
+effect_fits base defs history next (Some w) Start e f = absurd (cc)
+effect_fits base defs history next None Commit e f = f
+effect_fits base defs history next (Some w) Commit e f = f
+effect_fits base defs history next None Rollback e f = f
+effect_fits base defs history next (Some w) Rollback e f = λ x m. f x (inr m)
+effect_fits base defs history next None (ChangeRows c) e f =
+    let s : State = state base defs history next None in
     altered_keeps CopiesFit s c f
     (λ q. first_fits (changed_entry s c) history (length defs)
     (length-set (newest_copy defs history) (changed_table c) _ ∙ newest_fits defs history f) f)
-effect_fits defs history next (Some w) (ChangeRows c) e f =
-    let s : State = state defs history next (Some w) in
+effect_fits base defs history next (Some w) (ChangeRows c) e f =
+    let s : State = state base defs history next (Some w) in
     altered_keeps CopiesFit s c f
     (λ q. first_fits (changed_entry s c) history (length defs)
     (length-set w.copy (changed_table c) _ ∙ f w (inl refl)) (λ x m. f x (inr m)))
-effect_fits defs history next begun (AnswerQuery q) e f = asked_stays CopiesFit (state defs history next begun) q _ f
+effect_fits base defs history next begun (AnswerQuery q) e f =
+    asked_stays CopiesFit (state base defs history next begun) q _ f
 
 -- each statement that is taken keeps it
 pub keeps_fit : EffectKeeps CopiesFit
-keeps_fit s t k f = effect_fits s.definitions s.history s.next s.transaction (bind s.definitions t).value k.free f
+keeps_fit s t k f = effect_fits s s.definitions s.history s.next s.transaction (bind s.definitions t).value k.free f

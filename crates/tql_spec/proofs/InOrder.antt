@@ -1,6 +1,6 @@
 -- The moments of commits fall below the clock, and copies fit the definitions.
 use Rattle.std.proofs.Common.{◌≡◌, refl, sym, ap, ◌∙◌, true, false, List, [], ◌∷◌, map, arith}
-use Rattle.std.specs.Prelude.{Bool, ℤ, pos, ◌+ℤ◌, ◌<ℤ◌, ◌≤ℤ◌, int_le, Option, Some, None}
+use Rattle.std.specs.Prelude.{Bool, ℤ, pos, ◌+ℤ◌, ◌<ℤ◌, ◌≤ℤ◌, int_le, Option, Some, None, if◌then◌else◌}
 use Rattle.std.proofs.lemmas.Int.{ints}
 use Rattle.tql_spec.specs.Calendar.{high}
 use Rattle.tql_spec.specs.Refusal.{Refusal, MomentNotAllowed, fault_if}
@@ -8,7 +8,8 @@ use Rattle.tql_spec.specs.Definition.{TableDef}
 use Rattle.tql_spec.specs.History.{Copy, Entry, FallingFrom, Falling}
 use Rattle.tql_spec.specs.Machine.{State, Bound, CreateTable, DropTable, SetClock, Start, Commit, Rollback, ChangeRows}
 use Rattle.tql_spec.specs.Machine.{AnswerQuery}
-use Rattle.tql_spec.specs.Machine.{class_of, state_faults, effect, is_not_later, committed, new_state}
+use Rattle.tql_spec.specs.Machine.{class_of, state_faults, effect, is_not_later, committed, new_state, Prune}
+use Rattle.tql_spec.specs.Horizon.{pruned}
 use Rattle.tql_spec.specs.Binding.{bind}
 use Rattle.tql_spec.specs.Reached.{IsReached, IsInOrder}
 use Rattle.tql_spec.proofs.RunKeeps.{asked_stays, changed_copy, altered_keeps, EffectKeeps, run_keeps}
@@ -34,24 +35,35 @@ falls_in_each : (g : Copy → Copy) (until : ℤ) (es : List Entry) → FallingF
 falls_in_each g until [] f = tt
 falls_in_each g until (e ∷ es) f = (f.0, falls_in_each g e.moment es f.1)
 
+-- the moments of the copies that a horizon leaves
+pub falls_pruned : (h until : ℤ) (es : List Entry) → FallingFrom until es → FallingFrom until (pruned h es)
+falls_pruned h until [] f = tt
+falls_pruned h until (e ∷ es) f = (f.0, either (int_le e.moment h) (falls_pruned h e.moment es f.1))
+  where
+    either : (b : Bool) → FallingFrom e.moment (pruned h es) → FallingFrom e.moment (if b then [] else pruned h es)
+    either true g = tt
+    either false g = g
+
 -- a clock that is not at the highest moment lies before it
 before_end : (n : ℤ) → int_le high n ≡ false → n <ℤ high
 before_end n e = grind (arith, ints)
 
--- a state by its parts
-abbrev pub state : List TableDef → List Entry → ℤ → Option Entry → State
-state defs history next begun = record { definitions = defs; history = history; next = next; transaction = begun }
+-- a state with other parts
+abbrev pub state : State → List TableDef → List Entry → ℤ → Option Entry → State
+state base defs history next begun =
+    record base { definitions = defs; history = history; next = next; transaction = begun }
 
 -- none open
-closed : (defs : List TableDef) (history : List Entry) (next : ℤ) → Falling history → FallingFrom next history
-    → IsInOrder (state defs history next None)
-closed defs history next f g = record { falling = f; below_clock = g; opened = λ e q. absurd (cc) }
+closed : (base : State) (defs : List TableDef) (history : List Entry) (next : ℤ) → Falling history
+    → FallingFrom next history
+    → IsInOrder (state base defs history next None)
+closed base defs history next f g = record { falling = f; below_clock = g; opened = λ e q. absurd (cc) }
 
 -- a transaction at the clock's moment
-opened_at : (defs : List TableDef) (history : List Entry) (next : ℤ) (copy : Copy) → next <ℤ high
+opened_at : (base : State) (defs : List TableDef) (history : List Entry) (next : ℤ) (copy : Copy) → next <ℤ high
     → FallingFrom next history
-    → IsInOrder (state defs history next (Some (record { moment = next; copy = copy })))
-opened_at defs history next copy h f = record {
+    → IsInOrder (state base defs history next (Some (record { moment = next; copy = copy })))
+opened_at base defs history next copy h f = record {
   falling = (h, f);
   below_clock = f;
   opened = λ e q. ap
@@ -63,15 +75,16 @@ opened_at defs history next copy h f = record {
     moment_or (Some e) = e.moment
 
 -- a commit leaves the clock behind its moment
-just_after : (defs : List TableDef) (history : List Entry) (next : ℤ) (e : Entry) → e.moment <ℤ high
-    → FallingFrom e.moment history → IsInOrder (committed (state defs history next None) e)
-just_after defs history next e h f = closed defs (e ∷ history) (e.moment +ℤ pos 1) (h, f) (omega (arith, ints), f)
+just_after : (base : State) (defs : List TableDef) (history : List Entry) (next : ℤ) (e : Entry) → e.moment <ℤ high
+    → FallingFrom e.moment history → IsInOrder (committed (state base defs history next None) e)
+just_after base defs history next e h f =
+    closed base defs (e ∷ history) (e.moment +ℤ pos 1) (h, f) (omega (arith, ints), f)
 
 -- another working copy
-still_open : (defs : List TableDef) (history : List Entry) (next : ℤ) (w : Entry) (copy : Copy)
-    → IsInOrder (state defs history next (Some w))
-    → IsInOrder (state defs history next (Some (record { moment = w.moment; copy = copy })))
-still_open defs history next w copy o = record {
+still_open : (base : State) (defs : List TableDef) (history : List Entry) (next : ℤ) (w : Entry) (copy : Copy)
+    → IsInOrder (state base defs history next (Some w))
+    → IsInOrder (state base defs history next (Some (record { moment = w.moment; copy = copy })))
+still_open base defs history next w copy o = record {
   falling = o.falling;
   below_clock = o.below_clock;
   opened = λ x p. ap moment_or (sym p) ∙ o.opened w refl;
@@ -82,46 +95,51 @@ still_open defs history next w copy o = record {
     moment_or (Some x) = x.moment
 
 -- each effect keeps the order of moments
-effect_in_order : (defs : List TableDef) (history : List Entry) (next : ℤ) (begun : Option Entry) (b : Bound)
-    → state_faults (state defs history next begun) (class_of b) ≡ []
-    → IsInOrder (state defs history next begun) → IsInOrder (effect (state defs history next begun) b).1
-effect_in_order defs history next None (CreateTable d) e o =
-    closed _ _ next (falls_in_each _ high history o.falling) (falls_in_each _ next history o.below_clock)
-effect_in_order defs history next (Some w) (CreateTable d) e o = absurd (cc)
-effect_in_order defs history next None (DropTable t) e o =
-    closed _ _ next (falls_in_each _ high history o.falling) (falls_in_each _ next history o.below_clock)
-effect_in_order defs history next (Some w) (DropTable t) e o = absurd (cc)
-effect_in_order defs history next None (SetClock m) e o =
-    closed defs history m o.falling
+effect_in_order : (base : State) (defs : List TableDef) (history : List Entry) (next : ℤ) (begun : Option Entry)
+    (b : Bound)
+    → state_faults (state base defs history next begun) (class_of b) ≡ []
+    → IsInOrder (state base defs history next begun) → IsInOrder (effect (state base defs history next begun) b).1
+effect_in_order base defs history next None (CreateTable d) e o =
+    closed base _ _ next (falls_in_each _ high history o.falling) (falls_in_each _ next history o.below_clock)
+effect_in_order base defs history next (Some w) (CreateTable d) e o = absurd (cc)
+effect_in_order base defs history next None (DropTable t) e o =
+    closed base _ _ next (falls_in_each _ high history o.falling) (falls_in_each _ next history o.below_clock)
+effect_in_order base defs history next (Some w) (DropTable t) e o = absurd (cc)
+effect_in_order base defs history next None (SetClock m) e o =
+    closed base defs history m o.falling
     (falls_later next m history o.below_clock (no_fault (is_not_later m history) MomentNotAllowed e))
-effect_in_order defs history next (Some w) (SetClock m) e o = absurd (cc)
-effect_in_order defs history next None Start e o =
-    opened_at defs history next _ (before_end next (no_fault (int_le high next) MomentNotAllowed e)) o.below_clock
-effect_in_order defs history next (Some w) Start e o = absurd (cc)
-effect_in_order defs history next None Commit e o = absurd (cc)
-effect_in_order defs history next (Some w) Commit e o = just_after defs history next w o.falling.0 o.falling.1
-effect_in_order defs history next None Rollback e o = absurd (cc)
-effect_in_order defs history next (Some w) Rollback e o =
-    let f = o.falling.0 in closed defs history next
+effect_in_order base defs history next (Some w) (SetClock m) e o = absurd (cc)
+effect_in_order base defs history next None Start e o =
+    opened_at base defs history next _ (before_end next (no_fault (int_le high next) MomentNotAllowed e)) o.below_clock
+effect_in_order base defs history next (Some w) Start e o = absurd (cc)
+effect_in_order base defs history next None Commit e o = absurd (cc)
+effect_in_order base defs history next (Some w) Commit e o = just_after base defs history next w o.falling.0 o.falling.1
+effect_in_order base defs history next None Rollback e o = absurd (cc)
+effect_in_order base defs history next (Some w) Rollback e o =
+    let f = o.falling.0 in closed base defs history next
     (falls_below w.moment high history (omega (arith, ints)) o.falling.1) o.below_clock
-effect_in_order defs history next None (ChangeRows c) e o =
-    altered_keeps IsInOrder (state defs history next None) c o
-    (λ q. just_after defs history next _
+effect_in_order base defs history next None (ChangeRows c) e o =
+    altered_keeps IsInOrder (state base defs history next None) c o
+    (λ q. just_after base defs history next _
     (before_end next (no_fault (int_le high next) MomentNotAllowed e)) o.below_clock)
-effect_in_order defs history next (Some w) (ChangeRows c) e o =
-    altered_keeps IsInOrder (state defs history next (Some w)) c o
-    (λ q. still_open defs history next w (changed_copy (state defs history next (Some w)) c) o)
-effect_in_order defs history next begun (AnswerQuery q) e o =
-    asked_stays IsInOrder (state defs history next begun) q _ o
+effect_in_order base defs history next (Some w) (ChangeRows c) e o =
+    altered_keeps IsInOrder (state base defs history next (Some w)) c o
+    (λ q. still_open base defs history next w (changed_copy (state base defs history next (Some w)) c) o)
+effect_in_order base defs history next None (Prune m) e o =
+    closed (record base { horizon = m }) defs (pruned m history) next (falls_pruned m high history o.falling)
+    (falls_pruned m next history o.below_clock)
+effect_in_order base defs history next (Some w) (Prune m) e o = absurd (cc)
+effect_in_order base defs history next begun (AnswerQuery q) e o =
+    asked_stays IsInOrder (state base defs history next begun) q _ o
 
 -- each statement that is taken keeps it
 pub keeps_in_order : EffectKeeps IsInOrder
 keeps_in_order s t k o =
-    effect_in_order s.definitions s.history s.next s.transaction (bind s.definitions t).value k.free o
+    effect_in_order s s.definitions s.history s.next s.transaction (bind s.definitions t).value k.free o
 
 -- the first state has it
 pub first_in_order : IsInOrder new_state
-first_in_order = closed [] [] _ tt tt
+first_in_order = closed new_state [] [] _ tt tt
 
 -- so every state that a run reaches has it
 pub reached_in_order : (s : State) → IsReached s → IsInOrder s

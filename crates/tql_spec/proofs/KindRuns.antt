@@ -3,6 +3,7 @@ use Rattle.std.proofs.Common.{◌≡◌, refl, sym, subst, ℕ, zero, suc, Bool,
 use Rattle.std.proofs.Common.{length, inl, inr, arith}
 use Rattle.std.specs.Prelude.{◌&&◌, not, remove, slice_set, ℤ, int_le, int_lt, if◌then◌else◌, Option, Some, None}
 use Rattle.std.proofs.Math.ListN.{get_or-append}
+use Rattle.tql_spec.specs.Words.{listed}
 use Rattle.tql_spec.specs.Bag.{In}
 use Rattle.tql_spec.specs.Calendar.{high}
 use Rattle.tql_spec.specs.Refusal.{first}
@@ -13,7 +14,7 @@ use Rattle.tql_spec.specs.History.{as_of_from, found_from, completed, with_end, 
 use Rattle.tql_spec.specs.Machine.{State, Bound, CreateTable, DropTable, SetClock, Start, Commit, Rollback, ChangeRows}
 use Rattle.tql_spec.specs.Machine.{AnswerQuery}
 use Rattle.tql_spec.specs.Machine.{Change, outcome, changed_table, class_of, state_faults, effect, newest_copy}
-use Rattle.tql_spec.specs.Machine.{new_state, bag_of, entries}
+use Rattle.tql_spec.specs.Machine.{new_state, bag_of, entries, Prune, limit_faults}
 use Rattle.tql_spec.specs.Binding.{bind}
 use Rattle.tql_spec.specs.Reached.{CopiesFit}
 use Rattle.tql_spec.specs.Typing.{AreOfKinds, AreTypedDefinitions, IsTypedDefinition, IsTypedState, RowsAreTyped}
@@ -21,9 +22,9 @@ use Rattle.tql_spec.specs.TypingLaws.{IsTypedBag, IsTypedBound, IsTypedChange, B
 use Rattle.tql_spec.specs.TypingLaws.{StepsKeepTypes, ReachedAreTyped}
 use Rattle.tql_spec.proofs.MemberLists.{in_either, in_image, in_kept}
 use Rattle.tql_spec.proofs.FirstFaults.{none_first}
-use Rattle.tql_spec.proofs.RunKeeps.{unless_either, asked_stays, changed_entry, altered_keeps, run_keeps}
+use Rattle.tql_spec.proofs.RunKeeps.{unless_either, asked_stays, changed_entry, altered_keeps, run_keeps, no_right}
 use Rattle.tql_spec.proofs.InOrder.{state}
-use Rattle.tql_spec.proofs.Copies.{rows_more, skip, removed_at, rows_set, no_rows, effect_fits}
+use Rattle.tql_spec.proofs.Copies.{rows_more, skip, removed_at, rows_set, no_rows, effect_fits, in_entries}
 use Rattle.tql_spec.proofs.WidthRuns.{there_within}
 use Rattle.tql_spec.proofs.RowKinds.{same_kinds, generated_same}
 use Rattle.tql_spec.proofs.RowChanges.{Good, AllGood}
@@ -182,29 +183,32 @@ rows_typed : (s : State) → Both s → RowsAreTyped s
 rows_typed s h e m t r i = (h.1 e m t r i).typed
 
 -- each effect keeps it
-effect_good : (defs : List TableDef) (history : List Entry) (next : ℤ) (begun : Option Entry) (b : Bound)
-    → state_faults (state defs history next begun) (class_of b) ≡ [] → IsTypedBound defs b
-    → CopiesFit (state defs history next begun)
-    → Both (state defs history next begun) → Both (effect (state defs history next begun) b).1
-effect_good defs history next None (CreateTable d) e g f h = (
+effect_good : (base : State) (defs : List TableDef) (history : List Entry) (next : ℤ) (begun : Option Entry) (b : Bound)
+    → state_faults (state base defs history next begun) (class_of b) ≡ [] → IsTypedBound defs b
+    → CopiesFit (state base defs history next begun)
+    → Both (state base defs history next begun) → Both (effect (state base defs history next begun) b).1
+effect_good base defs history next None (CreateTable d) e g f h = (
   defined_more defs d h.0 g,
   good_in_each (λ copy. copy ++ [] ∷ []) (defs ++ d ∷ []) history (λ x m. good_more defs d x.copy (f x m) (h.1 x m)),
 )
-effect_good defs history next (Some w) (CreateTable d) e g f h = absurd (cc)
-effect_good defs history next None (DropTable t) e g f h = (
+effect_good base defs history next (Some w) (CreateTable d) e g f h = absurd (cc)
+effect_good base defs history next None (DropTable t) e g f h = (
   λ i. subst IsTypedDefinition (sym (removed_at defs t i no_table)) (h.0 (skip t i)),
   good_in_each (λ copy. remove copy t) (remove defs t) history (λ x m. good_less defs t x.copy (h.1 x m)),
 )
-effect_good defs history next (Some w) (DropTable t) e g f h = absurd (cc)
-effect_good defs history next begun (SetClock m) e g f h = h
-effect_good defs history next None Start e g f h = (h.0, first_good defs _ history (newest_good defs history h.1) h.1)
-effect_good defs history next (Some w) Start e g f h = absurd (cc)
-effect_good defs history next None Commit e g f h = h
-effect_good defs history next (Some w) Commit e g f h = h
-effect_good defs history next None Rollback e g f h = h
-effect_good defs history next (Some w) Rollback e g f h = (h.0, λ x m. h.1 x (inr m))
-effect_good defs history next None (ChangeRows c) e g f h =
-    let s : State = state defs history next None in
+effect_good base defs history next (Some w) (DropTable t) e g f h = absurd (cc)
+effect_good base defs history next begun (SetClock m) e g f h = h
+effect_good base defs history next begun (Prune m) e g f h =
+    (h.0, λ x i. h.1 x (in_entries m x (listed begun) history i))
+effect_good base defs history next None Start e g f h =
+    (h.0, first_good defs _ history (newest_good defs history h.1) h.1)
+effect_good base defs history next (Some w) Start e g f h = absurd (cc)
+effect_good base defs history next None Commit e g f h = h
+effect_good base defs history next (Some w) Commit e g f h = h
+effect_good base defs history next None Rollback e g f h = h
+effect_good base defs history next (Some w) Rollback e g f h = (h.0, λ x m. h.1 x (inr m))
+effect_good base defs history next None (ChangeRows c) e g f h =
+    let s : State = state base defs history next None in
     altered_keeps Both s c h
     (λ q. (
       h.0,
@@ -212,8 +216,8 @@ effect_good defs history next None (ChangeRows c) e g f h =
           (changed_good s next (newest_copy defs history) c h.0 (bag_typed s (rows_typed s h)) g
           (newest_good defs history h.1) q.sound) h.1,
     ))
-effect_good defs history next (Some w) (ChangeRows c) e g f h =
-    let s : State = state defs history next (Some w) in
+effect_good base defs history next (Some w) (ChangeRows c) e g f h =
+    let s : State = state base defs history next (Some w) in
     altered_keeps Both s c h
     (λ q. (
       h.0,
@@ -221,7 +225,8 @@ effect_good defs history next (Some w) (ChangeRows c) e g f h =
           (changed_good s w.moment w.copy c h.0 (bag_typed s (rows_typed s h)) g (h.1 w (inl refl)) q.sound)
           (λ x m. h.1 x (inr m)),
     ))
-effect_good defs history next begun (AnswerQuery q) e g f h = asked_stays Both (state defs history next begun) q _ h
+effect_good base defs history next begun (AnswerQuery q) e g f h =
+    asked_stays Both (state base defs history next begun) q _ h
 
 -- a state by these
 typed_state : (s : State) → CopiesFit s → Both s → IsTypedState s
@@ -237,15 +242,19 @@ effect_typed : (s : State) (b : Bound) → state_faults s (class_of b) ≡ [] �
     → IsTypedBound s.definitions b
     → IsTypedState (effect s b).1
 effect_typed s b e h k = typed_state (effect s b).1
-    (effect_fits s.definitions s.history s.next s.transaction b e h.copies)
-    (effect_good s.definitions s.history s.next s.transaction b e k h.copies
+    (effect_fits s s.definitions s.history s.next s.transaction b e h.copies)
+    (effect_good s s.definitions s.history s.next s.transaction b e k h.copies
     (h.definitions, λ x m t r i. record { typed = h.rows x m t r i; period = h.periods x m t r i }))
 
 -- so does a step
 pub steps_keep : StepsKeepTypes
 steps_keep = record {
-  steps = λ s b h k. unless_either IsTypedState (first (state_faults s (class_of b))) s (effect s b).0 (effect s b).1 h
-      (λ e. effect_typed s b (none_first (state_faults s (class_of b)) e) h k);
+  steps = λ s b h k. unless_either IsTypedState (first (limit_faults s b ++ state_faults s (class_of b))) s
+      (effect s b).0
+      (effect s b).1 h
+      (λ e. effect_typed s b
+      (no_right (limit_faults s b) (state_faults s (class_of b))
+      (none_first (limit_faults s b ++ state_faults s (class_of b)) e)) h k);
   effects = effect_typed;
 }
 

@@ -27,6 +27,7 @@ use Rattle.tql_spec.specs.Syntax.{TheseItems, SelectTree, KeyName, ByHeading, By
 use Rattle.tql_spec.specs.Syntax.{ValueCell, Tuple, SetTree, PortionTree, RefList, Constraint, KeyTree, ForeignTree}
 use Rattle.tql_spec.specs.Syntax.{CheckTree, Element, Statement, CreateTree, DropTree, InsertValues, InsertSelect}
 use Rattle.tql_spec.specs.Syntax.{UpdateTree, DeleteTree, QueryTree, StartTree, CommitTree, RollbackTree, AtTree}
+use Rattle.tql_spec.specs.Syntax.{PruneTree}
 use Rattle.tql_spec.proofs.LateNames.{is_late, AreLate, none, ◌⊗◌, unknown, ambiguous, misfit, misplaced, referenced}
 use Rattle.tql_spec.proofs.LateNames.{crowded, outside, falling, each_late, one_column_late, expr_late, condition_late}
 use Rattle.tql_spec.proofs.LateNames.{conjuncts_late, optional_late}
@@ -260,6 +261,7 @@ bind_late defs StartTree = none
 bind_late defs CommitTree = none
 bind_late defs RollbackTree = none
 bind_late defs (AtTree t) = moment_late t ⊗ none
+bind_late defs (PruneTree t) = moment_late t ⊗ none
 
 -- ---- the first fault
 

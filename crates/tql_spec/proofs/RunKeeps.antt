@@ -8,9 +8,10 @@ use Rattle.tql_spec.specs.Change.{Outcome}
 use Rattle.tql_spec.specs.History.{Copy, Entry}
 use Rattle.tql_spec.specs.Machine.{State, Reply, Done, Change, effect, unless_refused, asked, changed, class_of}
 use Rattle.tql_spec.specs.Machine.{state_faults, working, with_working, outcome, changed_table, constraint_faults}
-use Rattle.tql_spec.specs.Machine.{verb_of}
+use Rattle.tql_spec.specs.Machine.{verb_of, Bound, limit_faults}
 use Rattle.tql_spec.specs.Script.{Piece}
 use Rattle.tql_spec.specs.Syntax.{Statement}
+use Rattle.tql_spec.specs.Names.{Checked}
 use Rattle.tql_spec.specs.Binding.{bind, statement_class}
 use Rattle.tql_spec.specs.Run.{Sense, Says, Faulty, Answers, Run, respond_to, statement_faults}
 use Rattle.tql_spec.proofs.FirstFaults.{none_first, manner_kept}
@@ -68,20 +69,25 @@ altered_keeps P s c p k =
           (constraint_faults s.definitions copy) none;
     }))
 
--- what a statement is bound to, without a fault of names, and none by the state
+-- what a statement is bound to, without a fault of names, and none by the state or its limits
 pub record IsTaken (s : State) (t : Statement) : Type 0 where
   pub sound : (bind s.definitions t).faults ≡ []
   pub free : state_faults s (class_of (bind s.definitions t).value) ≡ []
+  pub within : limit_faults s (bind s.definitions t).value ≡ []
 
 -- a statement without any fault is taken, for answer_keeps
 taken : (s : State) (t : Statement) → first (statement_faults s t) ≡ None → IsTaken s t
 taken s t e =
+    let b : Checked Bound = bind s.definitions t in
+    let limits : List Refusal = limit_faults s b.value in
     let none = none_first (statement_faults s t) e in
-    let sound = no_right (state_faults s (statement_class t)) (bind s.definitions t).faults none in
+    let rest = no_right limits (state_faults s (statement_class t) ++ b.faults) none in
+    let sound = no_right (state_faults s (statement_class t)) b.faults rest in
     record {
       sound = sound;
       free = subst (λ m. state_faults s m ≡ []) (manner_kept s.definitions t (ap first sound))
-          (no_left (state_faults s (statement_class t)) (bind s.definitions t).faults none);
+          (no_left (state_faults s (statement_class t)) b.faults rest);
+      within = no_left limits (state_faults s (statement_class t) ++ b.faults) none;
     }
 
 -- the effect keeps the property, of each statement that is taken
@@ -89,7 +95,7 @@ abbrev pub EffectKeeps : (State → Type 0) → Type 0
 EffectKeeps P = (s : State) (t : Statement) → IsTaken s t → P s → P (effect s (bind s.definitions t).value).1
 
 -- an answer keeps what each effect keeps
-answer_keeps : (P : State → Type 0) → EffectKeeps P → (s : State) (sense : Sense) → P s → P (respond_to s sense).1
+pub answer_keeps : (P : State → Type 0) → EffectKeeps P → (s : State) (sense : Sense) → P s → P (respond_to s sense).1
 answer_keeps P k s (Faulty e) p = p
 answer_keeps P k s (Says t) p =
     let r = effect s (bind s.definitions t).value in

@@ -181,7 +181,7 @@ none_before t m (e ∷ es) until ends h =
     ∙ none_before t m es e.moment (ends_before (at t e) ends) (λ c n. h c (inr n))
 
 -- nor at the highest moment
-none_after : (t : ℕ) (m : ℤ) (es : List Entry) (until : ℤ) (ends : Stamped → ℤ) → FallingFrom until es → until ≤ℤ m
+pub none_after : (t : ℕ) (m : ℤ) (es : List Entry) (until : ℤ) (ends : Stamped → ℤ) → FallingFrom until es → until ≤ℤ m
     → as_of_from until ends m (table_history t es) ≡ []
 none_after t m [] until ends f h = refl
 none_after t m (e ∷ es) until ends f h =

@@ -1,7 +1,8 @@
 -- Each copy leaves the rows of the one before it as often as they were, or takes them away: kept by each statement,
 -- and why rows are steady.
-use Rattle.std.proofs.Common.{◌≡◌, refl, sym, ap, subst, ◌∙◌, ℕ, List, [], ◌∷◌, ◌++◌, map, inl, inr, arith}
-use Rattle.std.specs.Prelude.{◌⊎◌, slice_set, remove, ℤ, ◌<ℤ◌, ◌≤ℤ◌, Option, Some, None}
+use Rattle.std.proofs.Common.{◌≡◌, refl, sym, ap, subst, ◌∙◌, ℕ, List, [], ◌∷◌, ◌++◌, map, inl, inr, arith, Bool, true}
+use Rattle.std.proofs.Common.{false}
+use Rattle.std.specs.Prelude.{◌⊎◌, slice_set, remove, ℤ, ◌<ℤ◌, ◌≤ℤ◌, Option, Some, None, int_le, if◌then◌else◌}
 use Rattle.std.proofs.lemmas.Int.{ints}
 use Rattle.tql_spec.specs.Bag.{In}
 use Rattle.tql_spec.specs.Calendar.{high}
@@ -10,11 +11,12 @@ use Rattle.tql_spec.specs.History.{Copy, Entry, FallingFrom, Falling, rows_in}
 use Rattle.tql_spec.specs.Machine.{State, Bound, CreateTable, DropTable, SetClock, Start, Commit, Rollback, ChangeRows}
 use Rattle.tql_spec.specs.Machine.{AnswerQuery}
 use Rattle.tql_spec.specs.Machine.{Change, outcome, changed_table, class_of, state_faults, effect, entries}
-use Rattle.tql_spec.specs.Machine.{newest_copy, new_state}
+use Rattle.tql_spec.specs.Machine.{newest_copy, new_state, Prune}
+use Rattle.tql_spec.specs.Horizon.{pruned}
 use Rattle.tql_spec.specs.Binding.{bind}
 use Rattle.tql_spec.specs.Spans.{times, InEach, IsSteady}
 use Rattle.tql_spec.specs.Reached.{IsInOrder, ReachedAreSteady, ReachedReadBySpans}
-use Rattle.tql_spec.proofs.MemberLists.{times_some, times_none, there_if}
+use Rattle.tql_spec.proofs.MemberLists.{times_some, there_if}
 use Rattle.tql_spec.proofs.RunKeeps.{asked_stays, altered_keeps, EffectKeeps, run_keeps}
 use Rattle.tql_spec.proofs.InOrder.{state, keeps_in_order, first_in_order, reached_in_order}
 use Rattle.tql_spec.proofs.Copies.{rows_more, skip, removed_at, rows_set, no_rows}
@@ -24,25 +26,26 @@ use Rattle.tql_spec.proofs.SteadyRanges.{steady_ranges_agree}
 
 -- ---- one copy after another
 
--- rows of a copy of the moment m: those that began before m stand as often as in an older one or not at all, and none
--- begins later
-record Leaves (m : ℤ) (rows old : List Stamped) : Type 0 where
-  as_before : (r : Stamped) → r.start <ℤ m → (times r rows ≡ 0) ⊎ (times r rows ≡ times r old)
+-- rows of a copy of the moment m: those that began before m stand as often as in the one before it, where there is one,
+-- or not at all, and none begins later
+record Leaves (m : ℤ) (rows : List Stamped) (old : Option (List Stamped)) : Type 0 where
+  as_before : (r : Stamped) (before : List Stamped) → old ≡ Some before → r.start <ℤ m
+      → (times r rows ≡ 0) ⊎ (times r rows ≡ times r before)
   not_after : (r : Stamped) → In r rows → r.start ≤ℤ m
 
+-- a table's rows in the newest copy, where there is one
+abbrev newest_rows : ℕ → List Entry → Option (List Stamped)
+newest_rows t [] = None
+newest_rows t (e ∷ es) = Some (rows_in e.copy t)
+
 -- in each table
-abbrev Follows : ℤ → Copy → Copy → Type 0
-Follows m copy old = (t : ℕ) → Leaves m (rows_in copy t) (rows_in old t)
+abbrev Follows : ℤ → Copy → List Entry → Type 0
+Follows m copy older = (t : ℕ) → Leaves m (rows_in copy t) (newest_rows t older)
 
--- the newest copy, none before any commit
-abbrev newest : List Entry → Copy
-newest [] = []
-newest (e ∷ es) = e.copy
-
--- each copy follows the one before it
+-- each copy follows the one before it; of the oldest no more is said than that no row begins later
 abbrev Chain : List Entry → Type 0
 Chain [] = Unit {0}
-Chain (e ∷ es) = Follows e.moment e.copy (newest es) × Chain es
+Chain (e ∷ es) = Follows e.moment e.copy es × Chain es
 
 -- ---- from copies that follow one another to steady rows
 
@@ -53,7 +56,7 @@ down_to : (t : ℕ) (r : Stamped) (c : Entry) (between : List Entry) (d : Entry)
     → InEach t between r × (times r (rows_in c.copy t) ≡ times r (rows_in d.copy t))
 down_to t r c [] d older k f n h = (
   (λ x m. absurd m),
-  elim ((k.0 t).as_before r (omega (arith, ints, h, f.0))) [
+  elim ((k.0 t).as_before r _ refl (omega (arith, ints, h, f.0))) [
     | inl z ↦ absurd (omega (arith, z, times_some r (rows_in c.copy t) n))
     | inr e ↦ e
   ],
@@ -61,7 +64,7 @@ down_to t r c [] d older k f n h = (
 down_to t r c (e ∷ between) d older k f n h =
     let sooner : d.moment <ℤ e.moment = below e.moment between f.1 in
     let same : times r (rows_in c.copy t) ≡ times r (rows_in e.copy t) = elim
-    ((k.0 t).as_before r (omega (arith, ints, h, sooner, f.0))) [
+    ((k.0 t).as_before r _ refl (omega (arith, ints, h, sooner, f.0))) [
       | inl z ↦ absurd (omega (arith, z, times_some r (rows_in c.copy t) n))
       | inr q ↦ q
     ] in
@@ -140,7 +143,8 @@ steady t es k f = record {
 -- ---- what a statement keeps
 
 -- the same rows in other places
-leaves_as : (m : ℤ) {rows rows' old old' : List Stamped} → rows' ≡ rows → old' ≡ old → Leaves m rows old
+leaves_as : (m : ℤ) {rows rows' : List Stamped} {old old' : Option (List Stamped)} → rows' ≡ rows → old' ≡ old
+    → Leaves m rows old
     → Leaves m rows' old'
 leaves_as m {rows} {rows'} {old} {old'} p q l = subst (λ x. Leaves m x old') (sym p) (subst (Leaves m rows) (sym q) l)
 
@@ -153,39 +157,56 @@ chain_in_each g from h (e
     ∷ es) k = ((λ t. leaves_as e.moment (h e.copy t) (below es t) (k.0 (from t))), chain_in_each g from h es k.1)
   where
     below : (xs : List Entry) (t : ℕ)
-        → rows_in (newest (map (λ (x : Entry). record x { copy = g x.copy }) xs)) t ≡ rows_in (newest xs) (from t)
+        → newest_rows t (map (λ (x : Entry). record x { copy = g x.copy }) xs) ≡ newest_rows (from t) xs
     below [] t = refl
-    below (x ∷ xs) t = h x.copy t
+    below (x ∷ xs) t = ap (λ rows. Some rows) (h x.copy t)
+
+-- what a horizon leaves
+chain_pruned : (h : ℤ) (es : List Entry) → Chain es → Chain (pruned h es)
+chain_pruned h [] k = tt
+chain_pruned h (e ∷ es) k = either (int_le e.moment h) (chain_pruned h es k.1)
+  where
+    same : (t : ℕ) (xs : List Entry) → newest_rows t (pruned h xs) ≡ newest_rows t xs
+    same t [] = refl
+    same t (x ∷ xs) = refl
+
+    either : (b : Bool) → Chain (pruned h es) → Chain (e ∷ (if b then [] else pruned h es))
+    either true rest = ((λ t. record { as_before = λ r before q. absurd (cc); not_after = (k.0 t).not_after }), tt)
+    either false rest = ((λ t. leaves_as e.moment refl (same t es) (k.0 t)), rest)
+
+-- two options of one value
+some_is : (x y : List Stamped) → Some x ≡ Some y → x ≡ y
+some_is x y q = cc
 
 -- a copy of the copies' newest, later than it
 leaves_same : (m : ℤ) (defs : List TableDef) (es : List Entry) → Chain es → FallingFrom m es
-    → Follows m (newest_copy defs es) (newest es)
+    → Follows m (newest_copy defs es) es
 leaves_same m defs [] k f t = record {
-  as_before = λ r h. inl (times_none r (rows_in (newest_copy defs []) t)
-      (λ n. subst (λ xs. In r xs) (no_rows defs t) n));
+  as_before = λ r before q. absurd (cc);
   not_after = λ r n. absurd (subst (λ xs. In r xs) (no_rows defs t) n);
 }
 leaves_same m defs (e ∷ es) k f t =
     record {
-      as_before = λ r h. inr refl;
+      as_before = λ r before q h. inr (ap (times r) (some_is _ _ q));
       not_after = λ r n. let l = (k.0 t).not_after r n in omega
           (arith, ints, l, f.0);
     }
 
 -- a change in one copy
-changed_follows : (s : State) (m : ℤ) (copy old : Copy) (c : Change) → Follows m copy old
+changed_follows : (s : State) (m : ℤ) (copy : Copy) (old : List Entry) (c : Change) → Follows m copy old
     → Follows m (slice_set copy (changed_table c) (outcome s m copy c).rows) old
 changed_follows s m copy old c k t = elim (rows_set copy (changed_table c) (outcome s m copy c).rows t) [
   | inl e ↦ leaves_as m e refl (k t)
   | inr e ↦ leaves_as m e.1 refl
-      (after (change_passes s m copy c) (subst (λ i. Leaves m (rows_in copy i) (rows_in old t)) e.0 (k t)))
+      (after (change_passes s m copy c) (subst (λ i. Leaves m (rows_in copy i) (newest_rows t old)) e.0 (k t)))
 ]
   where
-    after : {rows new before : List Stamped} → Passes m rows new → Leaves m rows before → Leaves m new before
+    after : {rows new : List Stamped} {before : Option (List Stamped)} → Passes m rows new → Leaves m rows before
+        → Leaves m new before
     after p l = record {
-      as_before = λ r h. elim (p.as_before r h) [
+      as_before = λ r b o h. elim (p.as_before r h) [
         | inl z ↦ inl z
-        | inr e ↦ elim (l.as_before r h) [ inl z ↦ inl (e ∙ z) | inr q ↦ inr (e ∙ q) ]
+        | inr e ↦ elim (l.as_before r b o h) [ inl z ↦ inl (e ∙ z) | inr q ↦ inr (e ∙ q) ]
       ];
       not_after = p.not_after l.not_after;
     }
@@ -196,42 +217,45 @@ record IsChained (s : State) : Type 0 where
   chain : Chain (entries s)
 
 -- each effect keeps the chain
-effect_chained : (defs : List TableDef) (history : List Entry) (next : ℤ) (begun : Option Entry) (b : Bound)
-    → state_faults (state defs history next begun) (class_of b) ≡ []
-    → IsInOrder (state defs history next begun) → Chain (entries (state defs history next begun))
-    → Chain (entries (effect (state defs history next begun) b).1)
-effect_chained defs history next None (CreateTable d) e o k =
+effect_chained : (base : State) (defs : List TableDef) (history : List Entry) (next : ℤ) (begun : Option Entry)
+    (b : Bound)
+    → state_faults (state base defs history next begun) (class_of b) ≡ []
+    → IsInOrder (state base defs history next begun) → Chain (entries (state base defs history next begun))
+    → Chain (entries (effect (state base defs history next begun) b).1)
+effect_chained base defs history next None (CreateTable d) e o k =
     chain_in_each (λ copy. copy ++ [] ∷ []) (λ t. t) rows_more history k
-effect_chained defs history next (Some w) (CreateTable d) e o k = absurd (cc)
-effect_chained defs history next None (DropTable t) e o k =
+effect_chained base defs history next (Some w) (CreateTable d) e o k = absurd (cc)
+effect_chained base defs history next None (DropTable t) e o k =
     chain_in_each (λ copy. remove copy t) (skip t) (λ copy i. removed_at copy t i []) history k
-effect_chained defs history next (Some w) (DropTable t) e o k = absurd (cc)
-effect_chained defs history next begun (SetClock m) e o k = k
-effect_chained defs history next None Start e o k = (leaves_same next defs history k o.below_clock, k)
-effect_chained defs history next (Some w) Start e o k = absurd (cc)
-effect_chained defs history next None Commit e o k = k
-effect_chained defs history next (Some w) Commit e o k = k
-effect_chained defs history next None Rollback e o k = k
-effect_chained defs history next (Some w) Rollback e o k = k.1
-effect_chained defs history next None (ChangeRows c) e o k =
-    let s : State = state defs history next None in
+effect_chained base defs history next (Some w) (DropTable t) e o k = absurd (cc)
+effect_chained base defs history next begun (SetClock m) e o k = k
+effect_chained base defs history next None (Prune m) e o k = chain_pruned m history k
+effect_chained base defs history next (Some w) (Prune m) e o k = absurd (cc)
+effect_chained base defs history next None Start e o k = (leaves_same next defs history k o.below_clock, k)
+effect_chained base defs history next (Some w) Start e o k = absurd (cc)
+effect_chained base defs history next None Commit e o k = k
+effect_chained base defs history next (Some w) Commit e o k = k
+effect_chained base defs history next None Rollback e o k = k
+effect_chained base defs history next (Some w) Rollback e o k = k.1
+effect_chained base defs history next None (ChangeRows c) e o k =
+    let s : State = state base defs history next None in
     altered_keeps (λ x. Chain (entries x)) s c k
     (λ q. (
-      changed_follows s next (newest_copy defs history) (newest history) c
+      changed_follows s next (newest_copy defs history) history c
           (leaves_same next defs history k o.below_clock),
       k,
     ))
-effect_chained defs history next (Some w) (ChangeRows c) e o k =
-    let s : State = state defs history next (Some w) in
-    altered_keeps (λ x. Chain (entries x)) s c k (λ q. (changed_follows s w.moment w.copy (newest history) c k.0, k.1))
-effect_chained defs history next begun (AnswerQuery q) e o k =
-    asked_stays (λ x. Chain (entries x)) (state defs history next begun) q _ k
+effect_chained base defs history next (Some w) (ChangeRows c) e o k =
+    let s : State = state base defs history next (Some w) in
+    altered_keeps (λ x. Chain (entries x)) s c k (λ q. (changed_follows s w.moment w.copy history c k.0, k.1))
+effect_chained base defs history next begun (AnswerQuery q) e o k =
+    asked_stays (λ x. Chain (entries x)) (state base defs history next begun) q _ k
 
 -- each statement that is taken keeps it
 keeps_chained : EffectKeeps IsChained
 keeps_chained s t k c = record {
   in_order = keeps_in_order s t k c.in_order;
-  chain = effect_chained s.definitions s.history s.next s.transaction
+  chain = effect_chained s s.definitions s.history s.next s.transaction
       (bind s.definitions t).value k.free c.in_order c.chain;
 }
 

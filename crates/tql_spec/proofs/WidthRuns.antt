@@ -4,14 +4,14 @@ use Rattle.std.proofs.Common.{map, get_or, length, inl, inr, arith}
 use Rattle.std.specs.Prelude.{◌||◌, not, remove, slice_set, ℤ, Option, Some, None, if◌then◌else◌}
 use Rattle.std.proofs.lemmas.List.{length-map}
 use Rattle.std.proofs.Math.ListN.{get_or-append}
-use Rattle.tql_spec.specs.Words.{same_text}
+use Rattle.tql_spec.specs.Words.{same_text, listed}
 use Rattle.tql_spec.specs.Bag.{In}
 use Rattle.tql_spec.specs.Datum.{Moments, same_kind}
 use Rattle.tql_spec.specs.Refusal.{Refusal, TypesDoNotFit, FormNotAllowedHere, fault_if}
 use Rattle.tql_spec.specs.Definition.{Name, TableDef, Stamped, no_table, table_at, next_place}
 use Rattle.tql_spec.specs.History.{Copy, Entry, rows_in}
 use Rattle.tql_spec.specs.Syntax.{Element, Statement, CreateTree, DropTree, InsertValues, InsertSelect, UpdateTree}
-use Rattle.tql_spec.specs.Syntax.{DeleteTree, QueryTree, StartTree, CommitTree, RollbackTree, AtTree}
+use Rattle.tql_spec.specs.Syntax.{DeleteTree, QueryTree, StartTree, CommitTree, RollbackTree, AtTree, PruneTree}
 use Rattle.tql_spec.specs.Names.{Checked, check_each}
 use Rattle.tql_spec.specs.Creation.{PeriodPart, application_parts, system_parts, application_period, system_period}
 use Rattle.tql_spec.specs.Creation.{whole_faults, column_names, columns_of, column_number, number_in, or_first, kind_in}
@@ -19,7 +19,7 @@ use Rattle.tql_spec.specs.Creation.{has_number, starts, stops, first_of, create}
 use Rattle.tql_spec.specs.Machine.{State, Bound, CreateTable, DropTable, SetClock, Start, Commit, Rollback, ChangeRows}
 use Rattle.tql_spec.specs.Machine.{AnswerQuery}
 use Rattle.tql_spec.specs.Machine.{Change, outcome, changed_table, class_of, state_faults, effect, newest_copy}
-use Rattle.tql_spec.specs.Machine.{new_state}
+use Rattle.tql_spec.specs.Machine.{new_state, Prune}
 use Rattle.tql_spec.specs.Binding.{bind}
 use Rattle.tql_spec.specs.Reached.{Fits, CopiesFit, RowsFit, ReachedFit}
 use Rattle.tql_spec.proofs.Members.{by_bool}
@@ -28,7 +28,7 @@ use Rattle.tql_spec.proofs.RunKeeps.{no_left, no_right, asked_stays, changed_ent
 use Rattle.tql_spec.proofs.RunKeeps.{run_keeps}
 use Rattle.tql_spec.proofs.InOrder.{state, no_fault}
 use Rattle.tql_spec.proofs.Constraints.{same_text-self, same_text-is}
-use Rattle.tql_spec.proofs.Copies.{rows_more, skip, removed_at, rows_set, no_rows, keeps_fit}
+use Rattle.tql_spec.proofs.Copies.{rows_more, skip, removed_at, rows_set, no_rows, keeps_fit, in_entries}
 use Rattle.tql_spec.proofs.Widths.{IsPair, IsProper, Sound, AllFit, change_fits}
 
 -- ---- the generated columns of a new table
@@ -137,6 +137,7 @@ created defs StartTree e d q = absurd (cc)
 created defs CommitTree e d q = absurd (cc)
 created defs RollbackTree e d q = absurd (cc)
 created defs (AtTree m) e d q = absurd (cc)
+created defs (PruneTree m) e d q = absurd (cc)
 
 -- ---- definitions
 
@@ -230,53 +231,56 @@ abbrev FitBoth : State → Type 0
 FitBoth s = AllSound s.definitions × RowsFit s
 
 -- each effect keeps that rows fit
-effect_rows : (defs : List TableDef) (history : List Entry) (next : ℤ) (begun : Option Entry) (b : Bound)
-    → state_faults (state defs history next begun) (class_of b) ≡ []
-    → ((d : TableDef) → b ≡ CreateTable d → Sound d) → CopiesFit (state defs history next begun)
-    → FitBoth (state defs history next begun) → FitBoth (effect (state defs history next begun) b).1
-effect_rows defs history next None (CreateTable d) e g f h = (
+effect_rows : (base : State) (defs : List TableDef) (history : List Entry) (next : ℤ) (begun : Option Entry) (b : Bound)
+    → state_faults (state base defs history next begun) (class_of b) ≡ []
+    → ((d : TableDef) → b ≡ CreateTable d → Sound d) → CopiesFit (state base defs history next begun)
+    → FitBoth (state base defs history next begun) → FitBoth (effect (state base defs history next begun) b).1
+effect_rows base defs history next None (CreateTable d) e g f h = (
   sound_more defs d h.0 (g d refl),
   rows_in_each (λ copy. copy ++ [] ∷ []) defs (defs ++ d ∷ []) history
       (λ x m. rows_fit_more defs d x.copy (f x m) (h.1 x m)),
 )
-effect_rows defs history next (Some w) (CreateTable d) e g f h = absurd (cc)
-effect_rows defs history next None (DropTable t) e g f h = (
+effect_rows base defs history next (Some w) (CreateTable d) e g f h = absurd (cc)
+effect_rows base defs history next None (DropTable t) e g f h = (
   sound_less defs t h.0,
   rows_in_each (λ copy. remove copy t) defs (remove defs t) history
       (λ x m. rows_fit_less defs t x.copy (h.1 x m)),
 )
-effect_rows defs history next (Some w) (DropTable t) e g f h = absurd (cc)
-effect_rows defs history next begun (SetClock m) e g f h = h
-effect_rows defs history next None Start e g f h =
+effect_rows base defs history next (Some w) (DropTable t) e g f h = absurd (cc)
+effect_rows base defs history next begun (SetClock m) e g f h = h
+effect_rows base defs history next begun (Prune m) e g f h =
+    (h.0, λ x i. h.1 x (in_entries m x (listed begun) history i))
+effect_rows base defs history next None Start e g f h =
     (h.0, first_rows defs _ history (newest_rows_fit defs history h.1) h.1)
-effect_rows defs history next (Some w) Start e g f h = absurd (cc)
-effect_rows defs history next None Commit e g f h = h
-effect_rows defs history next (Some w) Commit e g f h = h
-effect_rows defs history next None Rollback e g f h = h
-effect_rows defs history next (Some w) Rollback e g f h = (h.0, λ x m. h.1 x (inr m))
-effect_rows defs history next None (ChangeRows c) e g f h =
-    let s : State = state defs history next None in
+effect_rows base defs history next (Some w) Start e g f h = absurd (cc)
+effect_rows base defs history next None Commit e g f h = h
+effect_rows base defs history next (Some w) Commit e g f h = h
+effect_rows base defs history next None Rollback e g f h = h
+effect_rows base defs history next (Some w) Rollback e g f h = (h.0, λ x m. h.1 x (inr m))
+effect_rows base defs history next None (ChangeRows c) e g f h =
+    let s : State = state base defs history next None in
     altered_keeps FitBoth s c h
     (λ q. (
       h.0,
       first_rows defs (changed_entry s c) history
           (changed_rows_fit s next (newest_copy defs history) c h.0 (newest_rows_fit defs history h.1)) h.1,
     ))
-effect_rows defs history next (Some w) (ChangeRows c) e g f h =
-    let s : State = state defs history next (Some w) in
+effect_rows base defs history next (Some w) (ChangeRows c) e g f h =
+    let s : State = state base defs history next (Some w) in
     altered_keeps FitBoth s c h
     (λ q. (
       h.0,
       first_rows defs (changed_entry s c) history
           (changed_rows_fit s w.moment w.copy c h.0 (h.1 w (inl refl))) (λ x m. h.1 x (inr m)),
     ))
-effect_rows defs history next begun (AnswerQuery q) e g f h = asked_stays FitBoth (state defs history next begun) q _ h
+effect_rows base defs history next begun (AnswerQuery q) e g f h =
+    asked_stays FitBoth (state base defs history next begun) q _ h
 
 -- each statement that is taken keeps it
 keeps_rows_fit : EffectKeeps AreFit
 keeps_rows_fit s t k f =
     let both : FitBoth (effect s
-    (bind s.definitions t).value).1 = effect_rows s.definitions s.history s.next s.transaction
+    (bind s.definitions t).value).1 = effect_rows s s.definitions s.history s.next s.transaction
     (bind s.definitions t).value k.free (created s.definitions t k.sound) f.copies (f.sound, f.rows) in
     record { copies = keeps_fit s t k f.copies; sound = both.0; rows = both.1 }
 

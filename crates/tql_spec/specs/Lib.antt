@@ -12,6 +12,7 @@ pub mod History
 pub mod Spans
 pub mod Query
 pub mod QueryLaws
+pub mod Horizon
 pub mod Change
 pub mod ChangeLaws
 pub mod Constraint
@@ -32,6 +33,7 @@ pub mod Creation
 pub mod Binding
 pub mod Run
 pub mod Reached
+pub mod HorizonLaws
 pub mod Meaning
 pub mod Typing
 pub mod TypingLaws

@@ -1,16 +1,17 @@
 -- The machine that copies the whole database at every commit: one statement, its names bound, run whole.
 use Rattle.std.specs.Prelude.{ℕ, Bool, false, not, ◌&&◌, List, [], ◌∷◌, ◌++◌, map, slice_set, remove, ℤ, pos, ◌+ℤ◌}
-use Rattle.std.specs.Prelude.{int_le, Option, Some, None, is_some, is_none}
+use Rattle.std.specs.Prelude.{int_le, Option, Some, None, is_some, is_none, int_lt}
 use Rattle.tql_spec.specs.Words.{listed, map_all}
 use Rattle.tql_spec.specs.Calendar.{high, first_moment}
 use Rattle.tql_spec.specs.Datum.{Row}
 use Rattle.tql_spec.specs.Period.{Period}
 use Rattle.tql_spec.specs.Refusal.{Refusal, ValueOutOfRange, DuplicateKey, ReferenceNotMet, NotInThisTransactionState}
-use Rattle.tql_spec.specs.Refusal.{MomentNotAllowed, fault_if, first}
+use Rattle.tql_spec.specs.Refusal.{MomentNotAllowed, fault_if, first, BeforeTheHorizon}
 use Rattle.tql_spec.specs.Expression.{Expr, Cond, eval}
 use Rattle.tql_spec.specs.Definition.{Name, TableDef, table_at}
 use Rattle.tql_spec.specs.History.{Copy, Entry, rows_in, versions}
 use Rattle.tql_spec.specs.Query.{Query, Ref, answer, in_order}
+use Rattle.tql_spec.specs.Horizon.{pruned, asks_before}
 use Rattle.tql_spec.specs.Change.{Outcome, Work, insert, modify}
 use Rattle.tql_spec.specs.Constraint.{keys_hold, references_hold}
 
@@ -32,6 +33,7 @@ pub data Bound : Type 0 where
   Rollback : Bound
   ChangeRows : Change → Bound
   AnswerQuery : Query → Bound
+  Prune : ℤ → Bound
 
 -- the words that replies begin with
 pub data Verb : Type 0 where
@@ -44,6 +46,7 @@ pub data Verb : Type 0 where
   Committed : Verb
   RolledBack : Verb
   ClockSet : Verb
+  Pruned : Verb
 
 -- what a statement is answered: done with a count or none, a table, or a refusal
 pub data Reply : Type 0 where
@@ -53,17 +56,18 @@ pub data Reply : Type 0 where
 
 -- ---- the state
 
--- the definitions, the copies of the commits, newest first, the moment of the next transaction, and an open
--- transaction with its working copy
+-- the definitions, the copies of the commits, newest first, the moment of the next transaction, an open transaction
+-- with its working copy, and the horizon, before which no query may ask
 pub record State : Type 0 where
   pub definitions : List TableDef
   pub history : List Entry
   pub next : ℤ
   pub transaction : Option Entry
+  pub horizon : ℤ
 
--- no table, no commit, and the clock at the first moment
+-- no table, no commit, and clock and horizon at the first moment
 abbrev pub new_state : State
-new_state = record { definitions = []; history = []; next = first_moment; transaction = None }
+new_state = record { definitions = []; history = []; next = first_moment; transaction = None; horizon = first_moment }
 
 -- what queries see: an open transaction counts as the last commit
 abbrev pub entries : State → List Entry
@@ -89,8 +93,8 @@ bag_of s r = versions (table_at s.definitions r.table) r.table r.when (entries s
 
 -- ---- what a state refuses
 
--- the classes of statements, by what they do to the transaction and the clock; AT has its moment, where its literal is
--- valid
+-- the classes of statements, by what they do to the transaction, the clock and the history; AT and PRUNE have their
+-- moment, where its literal is valid
 pub data StatementClass : Type 0 where
   Defines : StatementClass
   SetsClock : Option ℤ → StatementClass
@@ -98,6 +102,7 @@ pub data StatementClass : Type 0 where
   Ends : StatementClass
   Changes : StatementClass
   Queries : StatementClass
+  Prunes : Option ℤ → StatementClass
 
 -- the class of a bound statement
 abbrev pub class_of : Bound → StatementClass
@@ -109,6 +114,7 @@ class_of Commit = Ends
 class_of Rollback = Ends
 class_of (ChangeRows c) = Changes
 class_of (AnswerQuery q) = Queries
+class_of (Prune m) = Prunes (Some m)
 
 -- a moment that is not later than the last commit's
 abbrev pub is_not_later : ℤ → List Entry → Bool
@@ -130,6 +136,36 @@ state_faults s Starts =
 state_faults s Ends = fault_if (is_none s.transaction) NotInThisTransactionState
 state_faults s Changes = fault_if (is_none s.transaction && is_clock_at_end s) MomentNotAllowed
 state_faults s Queries = []
+state_faults s (Prunes m) = fault_if (is_some s.transaction) NotInThisTransactionState
+
+-- the fault of a query by the horizon
+abbrev pub query_faults : ℤ → Query → List Refusal
+query_faults h q = fault_if (asks_before h q) BeforeTheHorizon
+
+-- the fault of a change by the horizon: an INSERT's query is asked as any other
+abbrev pub change_faults : ℤ → Change → List Refusal
+change_faults h (InsertTuples t columns tuples) = []
+change_faults h (InsertQuery t columns q) = query_faults h q
+change_faults h (Modify t portion work conds) = []
+
+-- what names are bound under: the horizon
+pub record Limits : Type 0 where
+  pub horizon : ℤ
+
+-- the faults of a bound statement by the horizon; the moment that stands for a literal out of range is before none
+abbrev pub bound_faults : Limits → List TableDef → Bound → List Refusal
+bound_faults l defs (ChangeRows c) = change_faults l.horizon c
+bound_faults l defs (AnswerQuery q) = query_faults l.horizon q
+bound_faults l defs (Prune m) = fault_if (int_lt m l.horizon) BeforeTheHorizon
+bound_faults l defs _ = []
+
+-- the limits of a state
+abbrev pub limits_of : State → Limits
+limits_of s = record { horizon = s.horizon }
+
+-- and the faults by these
+abbrev pub limit_faults : State → Bound → List Refusal
+limit_faults s b = bound_faults (limits_of s) s.definitions b
 
 -- ---- effects
 
@@ -218,10 +254,11 @@ effect s Commit = (Done Committed None, with_commit s s.transaction)
 effect s Rollback = (Done RolledBack None, record s { transaction = None })
 effect s (ChangeRows c) = changed s c
 effect s (AnswerQuery q) = asked s q (answer (bag_of s) q)
+effect s (Prune m) = (Done Pruned None, record s { history = pruned m s.history; horizon = m })
 
 -- one step
 abbrev pub step : State → Bound → Reply × State
-step s b = let r = effect s b in unless_refused (first (state_faults s (class_of b))) s r.0 r.1
+step s b = let r = effect s b in unless_refused (first (limit_faults s b ++ state_faults s (class_of b))) s r.0 r.1
 
 -- the replies to a list of statements, and the state after them
 abbrev pub replies : State → List Bound → List Reply

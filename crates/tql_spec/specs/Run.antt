@@ -7,13 +7,15 @@ use Rattle.tql_spec.specs.Refusal.{NestedTooDeep, TooManyColumnsOrTables, first}
 use Rattle.tql_spec.specs.Definition.{TableDef}
 use Rattle.tql_spec.specs.History.{Entry, Copy}
 use Rattle.tql_spec.specs.Constraint.{keys_hold, references_hold}
-use Rattle.tql_spec.specs.Machine.{State, Reply, Refused, effect, entries, state_faults, unless_refused}
+use Rattle.tql_spec.specs.Machine.{State, Reply, Refused, effect, entries, state_faults, unless_refused, Bound}
+use Rattle.tql_spec.specs.Machine.{limit_faults}
 use Rattle.tql_spec.specs.Answer.{Answer, Replied, Accepted}
 use Rattle.tql_spec.specs.Text.{replies_text}
 use Rattle.tql_spec.specs.Script.{Piece, statements}
 use Rattle.tql_spec.specs.Token.{Token, AreTokens, depth}
 use Rattle.tql_spec.specs.Syntax.{Statement, is_too_wide}
 use Rattle.tql_spec.specs.Grammar.{IsStatement}
+use Rattle.tql_spec.specs.Names.{Checked}
 use Rattle.tql_spec.specs.Binding.{bind, statement_class}
 
 -- ---- what a piece of a script says
@@ -59,9 +61,11 @@ HasSense p (Says s) = IsWhole p × IsTextOf p.text s × IsFalse (is_too_wide s)
 
 -- ---- steps
 
--- every fault of the state, of names, kinds, forms and literals that a statement has
+-- every fault of the state, of names, kinds, forms and literals, and of the horizon that a statement has
 abbrev pub statement_faults : State → Statement → List Refusal
-statement_faults s t = state_faults s (statement_class t) ++ (bind s.definitions t).faults
+statement_faults s t =
+    let b : Checked Bound = bind s.definitions t in
+    limit_faults s b.value ++ (state_faults s (statement_class t) ++ b.faults)
 
 -- the reply to a statement and the state after it
 abbrev pub respond : State → Statement → Reply × State

@@ -11,7 +11,7 @@ use Rattle.tql_spec.specs.Change.{Assignment, Work}
 use Rattle.tql_spec.specs.Machine.{State, Change, InsertTuples, InsertQuery, Modify, Bound, CreateTable, DropTable}
 use Rattle.tql_spec.specs.Machine.{SetClock, Start, Commit, Rollback, ChangeRows, AnswerQuery, bag_of, class_of}
 use Rattle.tql_spec.specs.Machine.{state_faults}
-use Rattle.tql_spec.specs.Machine.{effect, step}
+use Rattle.tql_spec.specs.Machine.{effect, step, Prune}
 use Rattle.tql_spec.specs.Syntax.{Sum, Statement}
 use Rattle.tql_spec.specs.Names.{Known, expr, kind_at}
 use Rattle.tql_spec.specs.Binding.{bind, kinds_for}
@@ -69,6 +69,7 @@ IsTypedBound defs Commit = Unit {0}
 IsTypedBound defs Rollback = Unit {0}
 IsTypedBound defs (ChangeRows c) = IsTypedChange defs c
 IsTypedBound defs (AnswerQuery q) = Unit {0}
+IsTypedBound defs (Prune m) = Unit {0}
 
 -- ---- laws
 

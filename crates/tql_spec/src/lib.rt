@@ -14,6 +14,7 @@ ghost use Rattle.tql_spec.specs.Lines.{StatementsInPlace};
 ghost use Rattle.tql_spec.specs.Token.{HasOneTokenList};
 ghost use Rattle.tql_spec.specs.Spans.{ReadsBySpans, SteadyRangesAgree};
 ghost use Rattle.tql_spec.specs.Reached.{ReachedAreInOrder, ReachedFit, ReachedAreSteady, ReachedReadBySpans};
+ghost use Rattle.tql_spec.specs.HorizonLaws.{PrunedAnswersStay, OnlyMomentsAreBefore, ReachedHorizons, PrunesAreUnseen};
 ghost use Rattle.tql_spec.specs.TypingLaws.{ValuesAreOfKind, BoundAreTyped, BagsAreTyped, StepsKeepTypes};
 ghost use Rattle.tql_spec.specs.TypingLaws.{ReachedAreTyped, OwnPeriodsArePoints};
 ghost use Rattle.tql_spec.specs.AtPoints.{CopyTestsAreRight, RunsKeepPoints, ReachedHoldAtPoints};
@@ -87,6 +88,16 @@ pub fn steady_rows()
 /// In every state that a run reaches queries find what the spans of the copies say.
 pub fn questions_in_runs()
     ensures { ReachedReadBySpans }
+{}
+
+/// The copies that a horizon leaves answer each query that does not ask before it as all of them do; what is before it
+/// is told by literals that read as moments, and each horizon that a run reaches is a moment of the calendar. A run
+/// without the statements that pruned, or were refused for the horizon, answers all others the same.
+pub fn pruned_history()
+    ensures tables { PrunedAnswersStay }
+    ensures literals { OnlyMomentsAreBefore }
+    ensures horizons { ReachedHorizons }
+    ensures runs { PrunesAreUnseen }
 {}
 
 /// A run keeps keys and references in every copy: by their tests, and at every point.

@@ -23,7 +23,7 @@ use Rattle.tql_store.proofs.Prune.{prune-stands}
 use Rattle.tql_store.proofs.Readings.{beyond, stands_tells, sum-picked}
 use Rattle.tql_store_rows.specs.Changes.{alive, fresh, closed_if, replaced, reopened, undone, pruned}
 use Rattle.tql_store.specs.Changes.{starting, begun, rows_after, newest, InTransaction, last_rows}
-use Rattle.tql_store_rows.specs.Changes.{Under}
+use Rattle.tql_store_rows.specs.Changes.{Past, Under}
 use Rattle.tql_store.specs.Stands.{stands_at, Within, Fits, Told, Proper, StandsFor}
 
 -- a turn, of versions that stand for copies of which the newest is of the moment
@@ -281,26 +281,30 @@ undone-later horizon m versions entries s later below =
           ∙ sym (sum-map (with_end s.ends) w s.rows);
     }
 
--- ---- a lower horizon
+-- ---- a later horizon
 
-told-from : (h : ℤ) (rows : List Stamped) (ends : Stamped → ℤ) (until : ℤ) (entries : List TableEntry)
-    → Told None rows ends until entries → Told (Some h) rows ends until entries
-told-from h rows ends until [] (inl a) = absurd a
-told-from h rows ends until [] (inr a) = inr a
-told-from h rows ends until (e ∷ older) told =
-    (told.0, (elim (told.1.0) [ inl a ↦ absurd a | inr f ↦ inr f ], told-from h rows ends e.moment older told.1.1))
+told-later : (g h : Option ℤ) (rows : List Stamped) (ends : Stamped → ℤ) (until : ℤ) (entries : List TableEntry)
+    → ((u : ℤ) → Past g u → Past h u) → Told g rows ends until entries → Told h rows ends until entries
+told-later g h rows ends until [] k (inl past) = inl (k until past)
+told-later g h rows ends until [] k (inr born) = inr born
+told-later g h rows ends until (e ∷ older) k told = (
+  told.0,
+  (
+    elim (told.1.0) [ inl past ↦ inl (k until past) | inr f ↦ inr f ],
+    told-later g h rows ends e.moment older k told.1.1,
+  ),
+)
 
--- versions that stand for all copies do so from a horizon on
-pub stands-from : (horizon : Option ℤ) (versions : List Version) (entries : List TableEntry) → Under horizon high
-    → StandsFor None versions entries → StandsFor horizon versions entries
-stands-from None versions entries top s = s
-stands-from (Some h) versions entries top s = record {
+-- versions that stand for copies from a horizon on do so from a later one on
+pub stands-later : (g h : Option ℤ) (versions : List Version) (entries : List TableEntry)
+    → ((u : ℤ) → Past g u → Past h u) → Under h high → StandsFor g versions entries → StandsFor h versions entries
+stands-later g h versions entries k top s = record {
   rows = s.rows;
   ends = s.ends;
   top = top;
   made = s.made;
   proper = s.proper;
-  told = told-from h s.rows s.ends high entries s.told;
+  told = told-later g h s.rows s.ends high entries k s.told;
 }
 
 -- ---- the laws

@@ -4,6 +4,7 @@ pub mod Begin
 pub mod Apply
 pub mod Prune
 pub mod Laws
+pub mod Kept
 pub mod StoreLaws
 pub mod TableLaws
 pub mod Places
@@ -12,6 +13,7 @@ pub mod Numbers
 pub mod Turning
 pub mod Removing
 pub mod Storing
+pub mod Pruned
 pub mod Making
 pub mod Searching
 pub mod Putting

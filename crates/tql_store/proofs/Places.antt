@@ -97,15 +97,16 @@ one_for false = refl
 -- a table more
 pub adds : (versioned : Bool) (t : ℕ) (old new : StoreModel) → slot_at old.tables t ≡ Free
     → Takes t (place_for versioned) old.tables new.tables → new.working ≡ old.working → new.last ≡ old.last
-    → ((u : ℕ) → live new u ≡ live old u)
+    → new.horizon ≡ old.horizon → ((u : ℕ) → live new u ≡ live old u)
     → AddsTable versioned t old new
-adds versioned t old new free takes working last versions = record {
+adds versioned t old new free takes working last reach versions = record {
   free = free;
   takes = takes;
   count = let counts = takes-count t (place_for versioned) old.tables new.tables takes.places in let gone : one
       (slot_at old.tables t) ≡ 0 = ap one free in let come = one_for versioned in omega arith;
   working = working;
   last = last;
+  horizon = reach;
   versions = versions;
 }
 

@@ -15,7 +15,7 @@ use Rattle.tql_value.specs.When.{is_now, when_of}
 use Rattle.tql_value.specs.declared.when.When.{When}
 use Rattle.tql_store.proofs.StoreLaws.{answers-found}
 use Rattle.tql_store.specs.Represents.{Answers, AnswersBy}
-use Rattle.tql_store.specs.StoreModel.{StoreModel, is_versioned, live, named}
+use Rattle.tql_store.specs.StoreModel.{StoreModel, is_versioned, live}
 use Rattle.tql_store.specs.Views.{IsFound, Names, NamesOnce}
 
 -- two tests, one after the other
@@ -29,12 +29,12 @@ pub answers-by : (h : StoreModel) (t : ℕ) (when : When) (test : Row → Bool) 
     → (is_now (when_of when) || is_versioned h t) ≡ true
     → SameBag found (filter (λ v. asked when v && test v.row.cells) (live h t))
     → AnswersBy h t (when_of when) test found
-answers-by h t when test found versioned e = λ copies working r.
+answers-by h t when test found versioned e = λ ask copies working r.
     same-trans (subst (λ (vs : List Version). SameBag found vs)
     (filter_both (asked when) (λ (v : Version). test v.row.cells) (live h t)) e)
     (same-filter (λ (v : Version). test v.row.cells)
     (answers-found h t when (filter (asked when) (live h t)) versioned (same-refl (filter (asked when) (live h t)))
-    copies working r))
+    ask copies working r))
 
 -- ---- where none are sought
 
@@ -63,8 +63,8 @@ looked_at_each h t when found versions ids once answers = record {
   ids = ids;
   once = λ id v e. subst (λ (b : Bool). count_by (λ (s : code.Version). nat_eq s.id id) found
       ≡ (if alive v && b then 1 else 0)) (sym (and_true (asked when v))) (once id v e);
-  copies = λ copies working r. subst (λ (vs : List Version). SameBag (map version_shown found) vs)
-      (sym (filter_true _)) (answers copies working r);
+  copies = λ ask copies working r. subst (λ (vs : List Version). SameBag (map version_shown found) vs)
+      (sym (filter_true _)) (answers ask copies working r);
 }
 
 -- so of a result

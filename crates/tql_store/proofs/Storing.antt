@@ -32,29 +32,30 @@ same-list {X} {xs} {ys} e = subst (SameBag xs) e (same-refl xs)
 
 -- ---- what a store shows
 
-abbrev pub shown : List TableSlot → List rows.TableModel → Option ℤ → Option ℤ → StoreModel
-shown places tables working last = record {
+abbrev pub shown : List TableSlot → List rows.TableModel → Option ℤ → Option ℤ → ℤ → StoreModel
+shown places tables working last horizon = record {
   tables = places;
   versions = map versions tables;
   working = working;
   last = last;
+  horizon = horizon;
 }
 
 -- as the code tells it
-pub shows : (places : List TableSlot) (tables : List rows.TableModel) (working last : Option ℤ) (h : StoreModel)
-    → shown places tables working last ≡ h → shown places tables working last ≡ h
-shows places tables working last h e = e
+pub shows : (places : List TableSlot) (tables : List rows.TableModel) (working last : Option ℤ) (horizon : ℤ)
+    (h : StoreModel)
+    → shown places tables working last horizon ≡ h → shown places tables working last horizon ≡ h
+shows places tables working last horizon h e = e
 
-pub versions-of : {places : List TableSlot} {working last : Option ℤ} (tables : List rows.TableModel) (h : StoreModel)
-    (t : ℕ)
-    (x : rows.TableModel) → shown places tables working last ≡ h → x ≡ table_at tables t
+pub versions-of : {places : List TableSlot} {working last : Option ℤ} {horizon : ℤ} (tables : List rows.TableModel)
+    (h : StoreModel) (t : ℕ) (x : rows.TableModel) → shown places tables working last horizon ≡ h
+    → x ≡ table_at tables t
     → slice_index_or h.versions t [] ≡ versions x
 versions-of tables h t x is e = ap (λ (k : StoreModel). slice_index_or k.versions t []) (sym is) ∙ versions-at tables t
     ∙ ap versions (sym e)
 
-pub live-of : {places : List TableSlot} {working last : Option ℤ} (tables : List rows.TableModel) (h : StoreModel)
-    (t : ℕ)
-    → shown places tables working last ≡ h → live h t ≡ rows.live (table_at tables t)
+pub live-of : {places : List TableSlot} {working last : Option ℤ} {horizon : ℤ} (tables : List rows.TableModel)
+    (h : StoreModel) (t : ℕ) → shown places tables working last horizon ≡ h → live h t ≡ rows.live (table_at tables t)
 live-of tables h t is = ap (filter alive) (versions-of tables h t (table_at tables t) is refl)
 
 -- ---- what the readings of its tables rest on
@@ -162,21 +163,22 @@ one_moment o m n e f = same (sym e ∙ f)
     same : {x y : ℤ} → Some x ≡ Some y → x ≡ y
     same {x} {y} e = cc
 
-pub committed-versions : (m : ℤ) (working last : Option ℤ) (places : List TableSlot) (old new : List rows.TableModel)
-    (touched : List ℕ) (h g : StoreModel) → working ≡ Some m → IsOrderly places old touched working last
+pub committed-versions : (m horizon : ℤ) (working last : Option ℤ) (places : List TableSlot)
+    (old new : List rows.TableModel) (touched : List ℕ) (h g : StoreModel) → working ≡ Some m
+    → IsOrderly places old touched working last
     → HaveEnded (IsCommitted m) (length touched) touched old new
-    → shown places old working last ≡ h → g.versions ≡ map versions new → (t : ℕ) (n : ℤ) → h.working ≡ Some n
+    → shown places old working last horizon ≡ h → g.versions ≡ map versions new → (t : ℕ) (n : ℤ) → h.working ≡ Some n
     → SameBag (live g t) (if is_brief (slot_at h.tables t) then pruned n (live h t) else live h t)
-committed-versions m working last places old new touched h g at o e is now t n w =
+committed-versions m horizon working last places old new touched h g at o e is now t n w =
     let turn = in_turn working m at o in
     let same : m ≡ n = one_moment working m n at (ap (λ (k : StoreModel). k.working) is ∙ w) in
     subst (λ (k : StoreModel). SameBag (live g t)
     (if is_brief (slot_at k.tables t) then pruned n (live k t) else live k t)) is
     (subst (λ (x : ℤ). SameBag (live g t)
-    (if is_brief (slot_at places t) then pruned x (live (shown places old working last) t) else live
-    (shown places old working last) t)) same
+    (if is_brief (slot_at places t) then pruned x (live (shown places old working last horizon) t) else live
+    (shown places old working last horizon) t)) same
     (subst (λ vs. SameBag (live g t) (if is_brief (slot_at places t) then pruned m vs else vs))
-    (sym (live-of old (shown places old working last) t refl))
+    (sym (live-of old (shown places old working last horizon) t refl))
     (subst (λ vs. SameBag vs
     (if is_brief (slot_at places t) then pruned m (rows.live (table_at old t)) else rows.live (table_at old t)))
     (sym (ap (λ (vss : List (List Version)). filter alive (slice_index_or vss t [])) now
@@ -184,12 +186,13 @@ committed-versions m working last places old new touched h g at o e is now t n w
     (commit-bag m places t (table_at old t) (table_at new t) (turn.keeps t) (turn.gone t)
     (each-committed m last old new touched turn.ready e t)))))
 
-pub undone-versions : (m : ℤ) (working last : Option ℤ) (places : List TableSlot) (old new : List rows.TableModel)
-    (touched : List ℕ) (h g : StoreModel) → working ≡ Some m → IsOrderly places old touched working last
+pub undone-versions : (m horizon : ℤ) (working last : Option ℤ) (places : List TableSlot)
+    (old new : List rows.TableModel) (touched : List ℕ) (h g : StoreModel) → working ≡ Some m
+    → IsOrderly places old touched working last
     → HaveEnded (IsUndone m) (length touched) touched old new
-    → shown places old working last ≡ h → g.versions ≡ map versions new → (t : ℕ) (n : ℤ) → h.working ≡ Some n
+    → shown places old working last horizon ≡ h → g.versions ≡ map versions new → (t : ℕ) (n : ℤ) → h.working ≡ Some n
     → SameBag (live g t) (undone n (live h t))
-undone-versions m working last places old new touched h g at o e is now t n w =
+undone-versions m horizon working last places old new touched h g at o e is now t n w =
     let turn = in_turn working m at o in
     let same : m ≡ n = one_moment working m n at (ap (λ (k : StoreModel). k.working) is ∙ w) in
     subst (λ (x : ℤ). SameBag (live g t) (undone x (live h t))) same
@@ -202,33 +205,35 @@ undone-versions m working last places old new touched h g at o e is now t n w =
 -- ---- changes
 
 -- what the store's contract asks is what its table asks
-pub removable-at : (m : ℤ) (working last : Option ℤ) (places : List TableSlot) (tables : List rows.TableModel)
+pub removable-at : (m horizon : ℤ) (working last : Option ℤ) (places : List TableSlot) (tables : List rows.TableModel)
     (touched : List ℕ) (h : StoreModel) (t : ℕ) (removed : List ℕ) → working ≡ Some m
-    → IsOrderly places tables touched working last → shown places tables working last ≡ h
+    → IsOrderly places tables touched working last → shown places tables working last horizon ≡ h
     → AreRemovable h t removed → rows.AreRemovable (table_at tables t) removed
-removable-at m working last places tables touched h t removed at o is r =
+removable-at m horizon working last places tables touched h t removed at o is r =
     let s = subst (λ (k : StoreModel). AreRemovable k t removed) (sym is) r in
     let s' = subst (λ (vs : List Version). All (λ id. IsTrue (is_open (slice_get vs id))) removed)
     (versions-at tables t) s.current in
     removable-rows m (table_at tables t) removed ((in_turn working m at o).ready.turn t) s' s.once
 
 pub replaces-at : {R : Type 0} (cells : R
-    → List Datum) (added : List R) (m : ℤ) (working last : Option ℤ) (places : List TableSlot)
+    → List Datum) (added : List R) (m horizon : ℤ) (working last : Option ℤ) (places : List TableSlot)
     (old new : List rows.TableModel)
     (touched : List ℕ) (h g : StoreModel) (n : ℕ) (removed : List ℕ) → working ≡ Some m
-    → IsOrderly places old touched working last → shown places old working last ≡ h
-    → shown places new working last ≡ g → AreRemovable h n removed → HasTurned m n old new
+    → IsOrderly places old touched working last → shown places old working last horizon ≡ h
+    → shown places new working last horizon ≡ g → AreRemovable h n removed → HasTurned m n old new
     → SameBag (rows.live (table_at new n))
     (filter alive (closing m removed (table_at old n).current ++ (table_at old n).closed) ++ map
     (λ r. fresh m (cells r)) added)
     → ((gone : Stamped → Bool) → IsJudged gone removed (table_at old n)
     → SameBag (rows.live (table_at new n)) (replaced m gone (map cells added) (rows.live (table_at old n))))
     → ReplacesVersions n removed (map cells added) h g
-replaces-at {R} cells added m working last places old new touched h g n removed at o is now r turned bag judged =
+replaces-at {R} cells added m horizon working last places old new touched h g n removed at o is now r turned bag
+    judged =
     record {
       tables = ap (λ (k : StoreModel). k.tables) (sym now) ∙ ap (λ (k : StoreModel). k.tables) is;
       working = ap (λ (k : StoreModel). k.working) (sym now) ∙ ap (λ (k : StoreModel). k.working) is;
       last = ap (λ (k : StoreModel). k.last) (sym now) ∙ ap (λ (k : StoreModel). k.last) is;
+      horizon = ap (λ (k : StoreModel). k.horizon) (sym now) ∙ ap (λ (k : StoreModel). k.horizon) is;
       others = λ u e. same-list (live-of new g u now ∙ ap rows.live (turned.others u e) ∙ sym (live-of old h u is));
       versions = λ x gone w j.
           let same : m ≡ x = one_moment working m x at (ap (λ (k : StoreModel). k.working) is ∙ w) in
@@ -244,7 +249,7 @@ replaces-at {R} cells added m working last places old new touched h g n removed 
           (subst (λ vs. length (filter is_current (rows.live (table_at new n))) + length removed ≡ length
           (filter is_current vs) + length (map cells added)) (sym (live-of old h n is))
           (counted-rows m cells added removed (table_at old n) (table_at new n) turn
-          (removable-at m working last places old touched h n removed at o is r) bag
+          (removable-at m horizon working last places old touched h n removed at o is r) bag
           ∙ ap (λ (k : ℕ). length (filter is_current (rows.live (table_at old n))) + k) (sym (length-cells added))));
     }
   where
@@ -261,22 +266,24 @@ pub kept_for : (b : Bool) → b ≡ is_kept (place_for b)
 kept_for true = refl
 kept_for false = refl
 
-live-shown : (new : List rows.TableModel) (g : StoreModel) (t : ℕ) → g.versions ≡ map versions new
+pub live-shown : (new : List rows.TableModel) (g : StoreModel) (t : ℕ) → g.versions ≡ map versions new
     → live g t ≡ rows.live (table_at new t)
 live-shown new g t now = ap (λ (vss : List (List Version)). filter alive (slice_index_or vss t [])) now
     ∙ ap (filter alive) (versions-at new t)
 
-pub dropped-versions : (n : ℕ) (places : List TableSlot) (working last : Option ℤ) (old new : List rows.TableModel)
-    (x : rows.TableModel) (h g : StoreModel) → shown places old working last ≡ h → IsPut n x old new → x ≡ empty false
+pub dropped-versions : (n : ℕ) (places : List TableSlot) (working last : Option ℤ) (horizon : ℤ)
+    (old new : List rows.TableModel) (x : rows.TableModel) (h g : StoreModel)
+    → shown places old working last horizon ≡ h → IsPut n x old new → x ≡ empty false
     → g.versions ≡ map versions new
     → (t : ℕ) → SameBag (live g t) (if nat_eq t n then [] else live h t)
-dropped-versions n places working last old new x h g is put e now t = same-list (live-shown new g t now
+dropped-versions n places working last horizon old new x h g is put e now t = same-list (live-shown new g t now
     ∙ put-live false n old new x put e t
     ∙ ap (λ (vs : List Version). if nat_eq t n then [] else vs) (sym (live-of old h t is)))
 
-pub added-versions : (keeps : Bool) (n : ℕ) (places : List TableSlot) (working last : Option ℤ)
-    (old new : List rows.TableModel) (x : rows.TableModel) (h g : StoreModel) → shown places old working last ≡ h
-    → rows.live (table_at old n) ≡ [] → IsPut n x old new → x ≡ empty keeps → g.versions ≡ map versions new
+pub added-versions : (keeps : Bool) (n : ℕ) (places : List TableSlot) (working last : Option ℤ) (horizon : ℤ)
+    (old new : List rows.TableModel) (x : rows.TableModel) (h g : StoreModel)
+    → shown places old working last horizon ≡ h → rows.live (table_at old n) ≡ [] → IsPut n x old new
+    → x ≡ empty keeps → g.versions ≡ map versions new
     → (t : ℕ) → live g t ≡ live h t
-added-versions keeps n places working last old new x h g is none put e now t = live-shown new g t now
+added-versions keeps n places working last horizon old new x h g is none put e now t = live-shown new g t now
     ∙ added-live n old new none (put-live keeps n old new x put e) t ∙ sym (live-of old h t is)

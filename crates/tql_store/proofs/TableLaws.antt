@@ -9,14 +9,16 @@ use Rattle.tql_spec.specs.Bag.{SameBag}
 use Rattle.tql_spec.specs.Calendar.{high}
 use Rattle.tql_spec.specs.Definition.{Stamped, Version}
 use Rattle.tql_spec.specs.History.{TableEntry, still}
-use Rattle.tql_store.proofs.Laws.{stands-from, same-stands}
-use Rattle.tql_store.proofs.StoreLaws.{at_rest, no_horizon, of_parts}
+use Rattle.tql_store.proofs.Kept.{kept_past, kept_under}
+use Rattle.tql_store.proofs.Laws.{stands-later, same-stands}
+use Rattle.tql_store.proofs.StoreLaws.{at_rest, kept_horizon, of_parts}
 use Rattle.tql_store.specs.Changes.{newest, emptied}
 use Rattle.tql_store.specs.Represents.{Copies, Working, horizon_of, StandsWith, Represents, Takes, AddsTable}
 use Rattle.tql_store.specs.Represents.{AddKeepsCopies, copies_without, DropEmpties}
 use Rattle.tql_store.specs.StoreModel.{StoreModel, live}
 use Rattle.tql_store.specs.TableSlots.{slot_at, place_for, is_brief}
-use Rattle.tql_store_rows.specs.Changes.{Under}
+use Rattle.tql_store_rows.specs.Changes.{Past, Under}
+use Rattle.tql_store.specs.Kept.{kept_of}
 use Rattle.tql_store.specs.Stands.{Told, StandsFor}
 use Rattle.tql_store.specs.declared.tables.TableSlot.{TableSlot}
 use Rattle.tql_store.specs.declared.tables.TableSlot.TheVariants.{Free}
@@ -36,52 +38,62 @@ under_more : (last : Option ℤ) (m n : ℤ) → Under last m → m <ℤ n → U
 under_more None m n u h = tt
 under_more (Some l) m n u h = omega (arith, ints)
 
--- what stands for all copies does so from the last commit on
-from_last : (last o : Option ℤ) (versions : List Version) (entries : List TableEntry) (rows : List Stamped)
-    → newest entries ≡ last → StandsWith None o versions entries rows → StandsWith last o versions entries rows
-from_last last None versions entries rows e s =
-    stands-from last versions entries
-    (subst (λ (g : Option ℤ). Under g high) e (newest-under None s.rows s.ends high entries s.told)) s
-from_last last (Some m) versions entries rows e s =
+-- what stands for copies as far as they are kept does so from the last commit on
+from_last : (k : ℤ) (last o : Option ℤ) (versions : List Version) (entries : List TableEntry) (rows : List Stamped)
+    → newest entries ≡ last → StandsWith (kept_of k entries) o versions entries rows
+    → StandsWith last o versions entries rows
+from_last k last None versions entries rows e s =
+    stands-later (kept_of k entries) last versions entries
+    (λ u past. subst (λ (g : Option ℤ). Past g u) e (kept_past _ k u versions entries s past))
+    (subst (λ (g : Option ℤ). Under g high) e (newest-under _ s.rows s.ends high entries s.told)) s
+from_last k last (Some m) versions entries rows e s =
     let early : Under last m =
-    subst (λ (g : Option ℤ). Under g m) e (newest-under None s.now.rows s.now.ends m entries s.now.told.1.1) in
+    subst (λ (g : Option ℤ). Under g m) e (newest-under _ s.now.rows s.now.ends m entries s.now.told.1.1) in
     let top : Under last high = under_more last m high early s.below in
+    let far = λ (u : ℤ) (past : Past (kept_of k entries) u).
+    subst (λ (g : Option ℤ). Past g u) e (kept_past _ k u _ entries s.before past) in
     record {
       since = early;
       below = s.below;
-      now = stands-from last versions _ top s.now;
-      before = stands-from last _ entries top s.before;
+      now = stands-later (kept_of k entries) last versions _ far top s.now;
+      before = stands-later (kept_of k entries) last _ entries far top s.before;
     }
 
 -- a table that is versioned or not
-from_either : (b : Bool) (last o : Option ℤ) (versions : List Version) (entries : List TableEntry)
-    (rows : List Stamped) → newest entries ≡ last → StandsWith None o versions entries rows
-    → StandsWith (if b then last else None) o versions entries rows
-from_either true last o versions entries rows e s = from_last last o versions entries rows e s
-from_either false last o versions entries rows e s = s
+from_either : (b : Bool) (k : ℤ) (last o : Option ℤ) (versions : List Version) (entries : List TableEntry)
+    (rows : List Stamped) → newest entries ≡ last → StandsWith (kept_of k entries) o versions entries rows
+    → StandsWith (if b then last else kept_of k entries) o versions entries rows
+from_either true k last o versions entries rows e s = from_last k last o versions entries rows e s
+from_either false k last o versions entries rows e s = s
 
-horizon_at : (t : ℕ) (p : TableSlot) (old new : List TableSlot) (last : Option ℤ) (u : ℕ) → Takes t p old new
-    → (b : Bool)
-    → nat_eq u t ≡ b → horizon_of new last u ≡ (if is_brief (if b then p else slot_at old u) then last else None)
-horizon_at t p old new last u takes b e = ap (λ (q : TableSlot). if is_brief q then last else None) (takes.places u
+horizon_at : (t : ℕ) (p : TableSlot) (old new : List TableSlot) (last : Option ℤ) (k : ℤ) (entries : List TableEntry)
+    (u : ℕ) → Takes t p old new → (b : Bool) → nat_eq u t ≡ b
+    → horizon_of new last k entries u
+    ≡ (if is_brief (if b then p else slot_at old u) then last else kept_of k entries)
+horizon_at t p old new last k entries u takes b e =
+    ap (λ (q : TableSlot). if is_brief q then last else kept_of k entries) (takes.places u
     ∙ ap (λ (c : Bool). if c then p else slot_at old u) e)
 
 pub add-keeps : (versioned : Bool) (t : ℕ) (old new : StoreModel) → AddsTable versioned t old new
     → AddKeepsCopies old new
 add-keeps versioned t old new a = λ copies working r. record {
   dated = λ u. r.dated u ∙ sym a.last;
-  stands = λ u. of_parts _ _ _ new refl a.last a.working u
-      (subst (λ (vs : List Version). StandsWith (horizon_of new.tables old.last u) old.working vs (copies u)
-      (working u)) (sym (a.versions u))
+  stands = λ u. of_parts (live new u) (copies u) (working u) new refl a.last a.horizon a.working u
+      (subst (λ (vs : List Version). StandsWith (horizon_of new.tables old.last old.horizon (copies u) u) old.working vs
+      (copies u) (working u)) (sym (a.versions u))
       (by_bool (nat_eq u t)
       (λ same. subst (λ (g : Option ℤ). StandsWith g old.working (live old u) (copies u) (working u))
-      (sym (horizon_at t (place_for versioned) old.tables new.tables old.last u a.takes true same))
-      (from_either (is_brief (place_for versioned)) old.last old.working (live old u) (copies u) (working u) (r.dated u)
+      (sym (horizon_at t (place_for versioned) old.tables new.tables old.last old.horizon (copies u) u a.takes true
+      same))
+      (from_either (is_brief (place_for versioned)) old.horizon old.last old.working (live old u) (copies u) (working u)
+      (r.dated u)
       (subst (λ (g : Option ℤ). StandsWith g old.working (live old u) (copies u) (working u))
-      (no_horizon old.tables old.last u (ap is_brief (ap (slot_at old.tables) (decided u t same) ∙ a.free)))
+      (kept_horizon old.tables old.last old.horizon (copies u) u
+      (ap is_brief (ap (slot_at old.tables) (decided u t same) ∙ a.free)))
       (r.stands u))))
       (λ other. subst (λ (g : Option ℤ). StandsWith g old.working (live old u) (copies u) (working u))
-      (sym (horizon_at t (place_for versioned) old.tables new.tables old.last u a.takes false other)) (r.stands u))));
+      (sym (horizon_at t (place_for versioned) old.tables new.tables old.last old.horizon (copies u) u a.takes false
+      other)) (r.stands u))));
 }
 
 -- ---- a dropped table
@@ -103,23 +115,28 @@ told-emptied horizon rows ends until (e ∷ older) told = (
 )
 
 -- no version stands for copies without rows
-emptied-stands : (horizon : Option ℤ) (versions : List Version) (entries : List TableEntry)
-    → StandsFor horizon versions entries → StandsFor None [] (emptied entries)
-emptied-stands horizon versions entries s = record {
-  rows = [];
-  ends = still;
-  top = tt;
-  made = record { totals = λ w. refl };
-  proper = λ r m. absurd m;
-  told = told-emptied horizon s.rows s.ends high entries s.told;
-}
+emptied-stands : (horizon : Option ℤ) (k : ℤ) (versions : List Version) (entries : List TableEntry)
+    → StandsFor horizon versions entries → StandsFor (kept_of k (emptied entries)) [] (emptied entries)
+emptied-stands horizon k versions entries s =
+    stands-later None (kept_of k (emptied entries)) [] (emptied entries) (λ u past. absurd past)
+    (kept_under None k high [] (emptied entries) all (newest-under None [] still high (emptied entries) all.told)) all
+  where
+    all : StandsFor None [] (emptied entries)
+    all = record {
+      rows = [];
+      ends = still;
+      top = tt;
+      made = record { totals = λ w. refl };
+      proper = λ r m. absurd m;
+      told = told-emptied horizon s.rows s.ends high entries s.told;
+    }
 
 pub drop-empties : (t : ℕ) (old new : StoreModel) → old.working ≡ None → Takes t Free old.tables new.tables
-    → new.working ≡ old.working → new.last ≡ old.last
+    → new.working ≡ old.working → new.last ≡ old.last → new.horizon ≡ old.horizon
     → ((u : ℕ) → SameBag (live new u) (if nat_eq u t then [] else live old u)) → DropEmpties t old new
-drop-empties t old new closed takes working_same last versions = λ copies working r. record {
+drop-empties t old new closed takes working_same last reach versions = λ copies working r. record {
   dated = λ u. dated (nat_eq u t) (copies u) ∙ r.dated u ∙ sym last;
-  stands = λ u. of_parts _ _ _ new refl last (working_same ∙ closed) u
+  stands = λ u. of_parts _ _ _ new refl last reach (working_same ∙ closed) u
       (by_bool (nat_eq u t)
       (λ same. gone copies u same (at_rest old copies working closed r u))
       (λ other. stays copies u other (at_rest old copies working closed r u)));
@@ -133,17 +150,19 @@ drop-empties t old new closed takes working_same last versions = λ copies worki
     left u b e = subst (λ (c : Bool). SameBag (live new u) (if c then [] else live old u)) e (versions u)
 
     gone : (copies : Copies) (u : ℕ) → nat_eq u t ≡ true
-        → StandsFor (horizon_of old.tables old.last u) (live old u) (copies u)
-        → StandsFor (horizon_of new.tables old.last u) (live new u) (copies_without t copies u)
+        → StandsFor (horizon_of old.tables old.last old.horizon (copies u) u) (live old u) (copies u)
+        → StandsFor (horizon_of new.tables old.last old.horizon (copies_without t copies u) u) (live new u)
+        (copies_without t copies u)
     gone copies u same s =
-        rw (same, horizon_at t Free old.tables new.tables old.last u takes true same)
-        (same-stands (left u true same) (emptied-stands _ (live old u) (copies u) s))
+        rw (same, horizon_at t Free old.tables new.tables old.last old.horizon (emptied (copies u)) u takes true same)
+        (same-stands (left u true same) (emptied-stands _ old.horizon (live old u) (copies u) s))
 
     stays : (copies : Copies) (u : ℕ) → nat_eq u t ≡ false
-        → StandsFor (horizon_of old.tables old.last u) (live old u) (copies u)
-        → StandsFor (horizon_of new.tables old.last u) (live new u) (copies_without t copies u)
+        → StandsFor (horizon_of old.tables old.last old.horizon (copies u) u) (live old u) (copies u)
+        → StandsFor (horizon_of new.tables old.last old.horizon (copies_without t copies u) u) (live new u)
+        (copies_without t copies u)
     stays copies u other s =
-        rw (other, horizon_at t Free old.tables new.tables old.last u takes false other)
+        rw (other, horizon_at t Free old.tables new.tables old.last old.horizon (copies u) u takes false other)
         (same-stands (left u false other) s)
 
 -- ---- copies and working copies that are one
@@ -186,7 +205,7 @@ pub represents-same : (h : StoreModel) (copies others : Copies) (working changed
     → Represents h others changed
 represents-same h copies others working changed same bags r = record {
   dated = λ t. ap newest (sym (same t)) ∙ r.dated t;
-  stands = λ t. subst (λ (entries : List TableEntry). StandsWith (horizon_of h.tables h.last t) h.working (live h t)
-      entries (changed t)) (same t)
+  stands = λ t. subst (λ (entries : List TableEntry). StandsWith (horizon_of h.tables h.last h.horizon entries t)
+      h.working (live h t) entries (changed t)) (same t)
       (same_with _ h.working (live h t) (copies t) (working t) (changed t) (bags t) (r.stands t));
 }

@@ -1,5 +1,6 @@
 pub mod TableSlots
 pub mod Stands
+pub mod Kept
 pub mod Changes
 pub mod StoreModel
 pub mod Views

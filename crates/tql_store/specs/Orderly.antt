@@ -5,6 +5,7 @@ use Rattle.std.specs.Prelude.{Contains, Option, Some, None, ℤ, ◌<ℤ◌, if�
 use Rattle.tql_spec.specs.Bag.{SameBag}
 use Rattle.tql_spec.specs.Calendar.{high}
 use Rattle.tql_store_rows.specs.Changes.{Under, pruned, undone}
+use Rattle.tql_store_rows.specs.Pruned.{IsPruned, IsPruning, Pruning}
 use Rattle.tql_store_rows.specs.TableModel as rows
 use Rattle.tql_store_rows.specs.TableModel.{AtRest, InTurn, Since}
 use Rattle.tql_store.specs.TableSlots.{slot_at, is_kept}
@@ -86,6 +87,22 @@ pub record HaveEnded (Ends : rows.TableModel → rows.TableModel
   pub even : length new ≡ length old
   pub ended : (k : ℕ) → k < n → Ends (table_at old (touch_at touched k)) (table_at new (touch_at touched k))
   pub others : (t : ℕ) → ((k : ℕ) → k < n → touch_at touched k ≢ t) → table_at new t ≡ table_at old t
+
+-- ---- what a horizon does
+
+-- what stands at a number in a list that says where closed versions stand, or that none go
+abbrev pub pruning_at : List (Option Pruning) → ℕ → Option Pruning
+pruning_at prunings t = slice_index_or prunings t None
+
+-- each table's closed versions stand where its number says
+pub record AreMade (h : ℤ) (tables : List rows.TableModel) (prunings : List (Option Pruning)) : Type 0 where
+  pub even : length prunings ≡ length tables
+  pub each : (t : ℕ) → t < length tables → IsPruning h (table_at tables t).closed (pruning_at prunings t)
+
+-- each table is pruned
+pub record ArePruned (h : ℤ) (old new : List rows.TableModel) : Type 0 where
+  pub even : length new ≡ length old
+  pub each : (t : ℕ) → IsPruned h (table_at old t) (table_at new t)
 
 -- ---- what a change does
 

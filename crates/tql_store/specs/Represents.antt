@@ -6,7 +6,9 @@ use Rattle.tql_spec.specs.Datum.{Datum, Row}
 use Rattle.tql_spec.specs.Definition.{Stamped, Version}
 use Rattle.tql_spec.specs.History.{TableEntry, When}
 use Rattle.tql_spec.specs.History.{found as versions_found}
+use Rattle.tql_spec.specs.Horizon.{is_before}
 use Rattle.tql_store_rows.specs.Changes.{is_current}
+use Rattle.tql_store.specs.Kept.{forgotten, kept_of}
 use Rattle.tql_store.specs.Stands.{StandsFor}
 use Rattle.tql_store_rows.specs.Changes.{alive, replaced}
 use Rattle.tql_store.specs.Changes.{rows_after, InTransaction, last_rows, newest, emptied}
@@ -25,10 +27,10 @@ Copies = ℕ → List TableEntry
 abbrev pub Working : Type 0
 Working = ℕ → List Stamped
 
--- from where on the versions of a table are kept: all of them, or of an unversioned table what stands since the last
--- commit
-abbrev pub horizon_of : List TableSlot → Option ℤ → ℕ → Option ℤ
-horizon_of places last t = if is_brief (slot_at places t) then last else None
+-- from where on the versions of a table are kept: as far back as a horizon and the copies tell, or of an unversioned
+-- table what stands since the last commit
+abbrev pub horizon_of : List TableSlot → Option ℤ → ℤ → List TableEntry → ℕ → Option ℤ
+horizon_of places last h entries t = if is_brief (slot_at places t) then last else kept_of h entries
 
 -- with no transaction open the versions of a table stand for its copies; else for these with the working one
 abbrev pub StandsWith : Option ℤ → Option ℤ → List Version → List TableEntry → List Stamped → Type 0
@@ -41,7 +43,8 @@ StandsWith horizon (Some m) versions entries rows = InTransaction horizon versio
 -- the store stands for these copies of each table, and, if a transaction is open, this working copy
 pub record Represents (h : StoreModel) (copies : Copies) (working : Working) : Type 0 where
   pub dated : (t : ℕ) → newest (copies t) ≡ h.last
-  pub stands : (t : ℕ) → StandsWith (horizon_of h.tables h.last t) h.working (live h t) (copies t) (working t)
+  pub stands : (t : ℕ)
+      → StandsWith (horizon_of h.tables h.last h.horizon (copies t) t) h.working (live h t) (copies t) (working t)
 
 -- ---- transactions
 
@@ -76,6 +79,7 @@ pub record ReplacesVersions (t : ℕ) (removed : List ℕ) (added : List (List D
   pub tables : new.tables ≡ old.tables
   pub working : new.working ≡ old.working
   pub last : new.last ≡ old.last
+  pub horizon : new.horizon ≡ old.horizon
   pub others : (u : ℕ) → nat_eq u t ≡ false → SameBag (live new u) (live old u)
   pub versions : (m : ℤ) (gone : Stamped → Bool) → old.working ≡ Some m → Judged old t gone removed
       → SameBag (live new t) (replaced m gone added (live old t))
@@ -105,6 +109,7 @@ pub record AddsTable (versioned : Bool) (t : ℕ) (old new : StoreModel) : Type 
   pub count : table_count new ≡ table_count old + 1
   pub working : new.working ≡ old.working
   pub last : new.last ≡ old.last
+  pub horizon : new.horizon ≡ old.horizon
   pub versions : (u : ℕ) → live new u ≡ live old u
 
 -- the same copies: the new table has no row in any, as its number had none
@@ -121,6 +126,17 @@ abbrev pub DropEmpties : ℕ → StoreModel → StoreModel → Type 0
 DropEmpties t old new = (copies : Copies) (working : Working) → Represents old copies working
     → Represents new (copies_without t copies) working
 
+-- ---- a horizon
+
+-- the copies of each table that a horizon leaves; an unversioned table keeps its last one alone, as before
+abbrev pub copies_left : ℤ → Copies → Copies
+copies_left h copies t = forgotten h (copies t)
+
+-- what a pruning does to the copies
+abbrev pub PrunesCopies : ℤ → StoreModel → StoreModel → Type 0
+PrunesCopies h old new = (copies : Copies) (working : Working) → Represents old copies working
+    → Represents new (copies_left h copies) working
+
 -- ---- readings
 
 -- the copies that queries see: an open transaction counts as the last commit
@@ -128,13 +144,13 @@ abbrev pub seen_by : Option ℤ → Copies → Working → Copies
 seen_by None copies working = copies
 seen_by (Some m) copies working = appended m working copies
 
--- what a reading answers: what the definitions find in the copies
+-- what a reading answers that asks for nothing before the horizon: what the definitions find in the copies
 abbrev pub Answers : StoreModel → ℕ → When → List Version → Type 0
-Answers h t when found = (copies : Copies) (working : Working) → Represents h copies working
-    → SameBag found (versions_found when (seen_by h.working copies working t))
+Answers h t when found = is_before h.horizon when ≡ false → (copies : Copies) (working : Working)
+    → Represents h copies working → SameBag found (versions_found when (seen_by h.working copies working t))
 
 -- and what one answers that asks for rows which pass a test
 abbrev pub AnswersBy : StoreModel → ℕ → When → (Row → Bool) → List Version → Type 0
-AnswersBy h t when test found = (copies : Copies) (working : Working) → Represents h copies working
-    → SameBag found
+AnswersBy h t when test found = is_before h.horizon when ≡ false → (copies : Copies) (working : Working)
+    → Represents h copies working → SameBag found
     (filter (λ (v : Version). test v.row.cells) (versions_found when (seen_by h.working copies working t)))

@@ -7,12 +7,13 @@ use Rattle.tql_store.specs.TableSlots.{slot_at, is_taken, is_kept}
 use Rattle.tql_store.specs.declared.tables.TableSlot.{TableSlot}
 
 -- a store: what stands at each table's number; the versions of each, by whose places they are named; the moment of an
--- open transaction; the last commit's
+-- open transaction; the last commit's; the horizon, before which no question asks
 pub record StoreModel : Type 0 where
   pub tables : List TableSlot
   pub versions : List (List Version)
   pub working : Option ℤ
   pub last : Option ℤ
+  pub horizon : ℤ
 
 -- whether a table is there
 abbrev pub has_table : StoreModel → ℕ → Bool

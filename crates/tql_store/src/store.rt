@@ -1,15 +1,15 @@
 //! The store: the versions of all tables, what a change is to it, and how a transaction begins and ends.
-ghost use Rattle.std.specs.Prelude.{◌≡◌, ◌↔◌, Bool, ℕ, ℤ, ◌||◌, ◌<◌, ◌++◌, ◌+◌, ◌<ℤ◌, nat_eq, if◌then◌else◌, []};
+ghost use Rattle.std.specs.Prelude.{◌≡◌, ◌↔◌, Bool, ℕ, ℤ, ◌||◌, ◌<◌, ◌++◌, ◌+◌, ◌<ℤ◌, ◌≤ℤ◌, nat_eq, if◌then◌else◌, []};
 ghost use Rattle.std.specs.Prelude.{map, filter, length, All, IsNone, IsSome, IsTrue, is_some, Some, None, IfOk, OnOk};
 ghost use Rattle.std.specs.Prelude.{OnErr, IfErr, Err, IfSome, option_map};
-ghost use Rattle.tql_spec.specs.Calendar.{high};
+ghost use Rattle.tql_spec.specs.Calendar.{first_moment, high};
 ghost use Rattle.tql_spec.specs.Bag.{SameBag};
 ghost use Rattle.tql_spec.specs.Definition.{Stamped, period_between};
 ghost use Rattle.tql_spec.specs.Period.{holds, share_a_point};
 ghost use Rattle.tql_period.specs.Points.{points_of};
 ghost use Rattle.tql_store_index.specs.Basis.{is_looked_at, is_sought, sought_of};
 ghost use Rattle.tql_store_index.specs.Tuple.{is_at};
-ghost use Rattle.tql_store_rows.specs.Changes.{alive, closing, fresh, pruned, replaced, undone};
+ghost use Rattle.tql_store_rows.specs.Changes.{alive, closing, fresh, left_by, pruned, replaced, undone};
 ghost use Rattle.tql_store_rows.specs.Changes.{Under};
 ghost use Rattle.tql_store_rows.specs.TableModel.{AtRest, InTurn, AreRemovable as AreRemovableRows, IsJudged};
 ghost use Rattle.tql_store_rows.specs.TableModel.{live as live_rows};
@@ -23,7 +23,7 @@ ghost use Rattle.tql_store_rows.specs.Readings.{version_shown as version_of};
 ghost use Rattle.tql_store.specs.Views.{Names, NamesOnce, IsFound, current_named};
 ghost use Rattle.tql_store.specs.Represents.{Represents, BeginCopies, ChangeReplaces, CommitAppends, ReplacesVersions};
 ghost use Rattle.tql_store.specs.Represents.{RollbackRestores, AddsTable, AddKeepsCopies, DropEmpties, Takes};
-ghost use Rattle.tql_store.specs.Represents.{Answers};
+ghost use Rattle.tql_store.specs.Represents.{Answers, PrunesCopies};
 ghost use Rattle.tql_store_rows.specs.Readings.{asked};
 ghost use Rattle.tql_store.specs.declared.tables.TableSlot.TheVariants.{Free};
 ghost use Rattle.tql_value.specs.Views.{datum_of_value, datum_of_view};
@@ -31,6 +31,7 @@ ghost use Rattle.tql_value.specs.declared.when.When.TheVariants.{Now};
 ghost use Rattle.tql_value.specs.When.{is_now, when_of};
 ghost use Rattle.tql_value.specs.declared.refusal.Refusal.TheVariants.{OutOfMemory};
 
+use crate::pruning::{prune_each, prunings_of};
 use crate::tables::{TableSlot, clear_place, free_table, place_at, put_table, taken_count};
 use crate::turns::{commit_each, note, put_rows, set_rows, undo_each};
 use std::alloc::AllocError;
@@ -41,6 +42,7 @@ use tql_period::period::Period;
 use tql_store_index::basis::Sought;
 use tql_store_rows::version::Version;
 use tql_store_rows::versions::Versions;
+use tql_value::calendar::FIRST_MOMENT;
 use tql_value::refusal::Refusal;
 use tql_value::table::TableId;
 use tql_value::value::{Value, View};
@@ -123,6 +125,8 @@ pub struct Store<I: IntervalIndex> {
     touched: Vec<usize, Memory>,
     working: Option<i64>,
     last: Option<i64>,
+    /// No question asks before it, in microseconds since 1970-01-01.
+    horizon: i64,
 }
 
 impl<I: IntervalIndex> Drop for Store<I> {
@@ -134,6 +138,7 @@ impl<I: IntervalIndex> Drop for Store<I> {
             touched,
             working: _,
             last: _,
+            horizon: _,
         } = self;
         drop(places);
         drop(rows);
@@ -153,6 +158,7 @@ impl<I: IntervalIndex> Model for Store<I> {
       versions = map versions s.rows.items;
       working = s.working;
       last = s.last;
+      horizon = s.horizon;
     } };
 
     ghost use Rattle.tql_store.specs.Orderly.{IsOrderly};
@@ -166,6 +172,7 @@ impl<I: IntervalIndex> Store<I> {
         ensures tables { result.tables ≡ [] }
         ensures working { result.working ≡ None }
         ensures last { result.last ≡ None }
+        ensures horizon { result.horizon ≡ first_moment }
         ensures versions { (t : ℕ) → live result t ≡ [] }
         ensures copies { Represents result (λ t. []) (λ t. []) }
     {
@@ -176,6 +183,7 @@ impl<I: IntervalIndex> Store<I> {
             touched: Vec::new(memory),
             working: None,
             last: None,
+            horizon: FIRST_MOMENT,
         }
     }
 
@@ -217,6 +225,14 @@ impl<I: IntervalIndex> Store<I> {
         }
     }
 
+    /// The moment before which no question is to ask, in microseconds since 1970-01-01: at first that of
+    /// 0001-01-01 00:00:00.
+    pub fn horizon(&self) -> i64
+        ensures { result ≡ self.now.horizon }
+    {
+        self.horizon
+    }
+
     /// Adds a table, empty at every moment (this project's choice), at a number below 1,000 where none stands.
     /// Its rows are found without looking at all of them by their values in each of these lists of columns, of a
     /// versioned table the closed versions too, and current rows by the period from the first of two columns to the
@@ -251,6 +267,7 @@ impl<I: IntervalIndex> Store<I> {
         ensures count { tables_there self.new + 1 ≡ tables_there self.old }
         ensures working { self.new.working ≡ self.old.working }
         ensures last { self.new.last ≡ self.old.last }
+        ensures horizon { self.new.horizon ≡ self.old.horizon }
         ensures versions { (t : ℕ) → SameBag (live self.new t) (if nat_eq t table then [] else live self.old t) }
         ensures copies { DropEmpties table self.old self.new }
     {
@@ -278,6 +295,7 @@ impl<I: IntervalIndex> Store<I> {
         ensures tables { self.new.tables ≡ self.old.tables }
         ensures working { self.new.working ≡ Some moment }
         ensures last { self.new.last ≡ self.old.last }
+        ensures horizon { self.new.horizon ≡ self.old.horizon }
         ensures versions { (t : ℕ) → live self.new t ≡ live self.old t }
         ensures names { (t id : ℕ) → named self.new t id ≡ named self.old t id }
         ensures copies { BeginCopies self.old self.new }
@@ -308,6 +326,7 @@ impl<I: IntervalIndex> Store<I> {
         ensures tables { self.new.tables ≡ self.old.tables }
         ensures working { self.new.working ≡ None }
         ensures last { self.new.last ≡ self.old.working }
+        ensures horizon { self.new.horizon ≡ self.old.horizon }
         ensures versions { (t : ℕ) (m : ℤ) → self.old.working ≡ Some m → SameBag (live self.new t)
             (if is_brief (slot_at self.old.tables t) then pruned m (live self.old t) else live self.old t) }
         ensures copies { CommitAppends self.old self.new }
@@ -325,6 +344,7 @@ impl<I: IntervalIndex> Store<I> {
         ensures tables { self.new.tables ≡ self.old.tables }
         ensures working { self.new.working ≡ None }
         ensures last { self.new.last ≡ self.old.last }
+        ensures horizon { self.new.horizon ≡ self.old.horizon }
         ensures versions { (t : ℕ) (m : ℤ) → self.old.working ≡ Some m
             → SameBag (live self.new t) (undone m (live self.old t)) }
         ensures copies { RollbackRestores self.old self.new }
@@ -333,6 +353,29 @@ impl<I: IntervalIndex> Store<I> {
         undo_each(&mut self.rows, &self.touched, moment);
         self.touched.clear();
         self.working = None;
+    }
+
+    /// Lets history go (this project's addition): of each table that keeps it the versions that are closed and end at
+    /// or before the horizon, a moment in microseconds since 1970-01-01 that may lie beyond the last commit. Time is in
+    /// proportion to the closed versions of all tables, times a logarithm. Refused where memory is, and then nothing is
+    /// changed in any table; the memory of what goes is given back.
+    pub fn prune(&mut self, horizon: i64) -> Result<(), Refusal>
+        requires closed { IsNone self.old.working }
+        requires later { self.old.horizon ≤ℤ horizon }
+        ensures tables { self.new.tables ≡ self.old.tables }
+        ensures working { self.new.working ≡ self.old.working }
+        ensures last { self.new.last ≡ self.old.last }
+        ensures horizon { OnOk result (self.new.horizon ≡ horizon) }
+        ensures versions { OnOk result ((t : ℕ) → SameBag (live self.new t)
+            (if is_brief (slot_at self.old.tables t) then live self.old t else left_by horizon (live self.old t))) }
+        ensures copies { OnOk result (PrunesCopies horizon self.old self.new) }
+        ensures err { OnErr result (self.new ≡ self.old) }
+        ensures memory { IfErr result (λ e. e ≡ OutOfMemory) }
+    {
+        let mut prunings = prunings_of(self.memory, &self.rows, horizon)?;
+        prune_each(&mut self.rows, &mut prunings, horizon);
+        self.horizon = horizon;
+        Ok(())
     }
 
     /// The versions of a table that are asked for (FOR SYSTEM_TIME, ISO/IEC 9075-2:2011, 7.6): of one that is not

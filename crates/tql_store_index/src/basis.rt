@@ -1,5 +1,6 @@
 //! By what rows are found, and what is sought: the rows with given values, or those of a point or a period.
-ghost use Rattle.std.specs.Prelude.{◌≡◌, ◌↔◌, IsTrue, option_map, map};
+ghost use Rattle.std.specs.Prelude.{◌≡◌, ◌↔◌, IsTrue, IfOk, option_map, map};
+ghost use Rattle.std.specs.Bool.{OnTrue};
 ghost use Rattle.tql_spec.specs.Definition.{period_between, point_of as point_for};
 ghost use Rattle.tql_spec.specs.Period.{where_rising};
 ghost use Rattle.tql_period.specs.Points.{points_of};
@@ -7,6 +8,7 @@ ghost use Rattle.tql_value.specs.Views.{datum_of_value, datum_of_view};
 ghost use Rattle.tql_store_index.specs.Basis.{basis_of, sought_of, basis_for, stands_by, is_sought};
 
 use crate::tuple::{cell, has_values, point_of_row};
+use std::alloc::AllocError;
 use tql_memory::Memory;
 use tql_period::period::Period;
 use tql_value::value::{Value, View};
@@ -50,6 +52,19 @@ fn period_of_row(start: usize, end: usize, row: &[Value]) -> Option<Period>
 }
 
 impl Basis {
+    /// The same basis once more.
+    pub(crate) fn copy(&self) -> Result<Basis, AllocError>
+        ensures { IfOk result (λ b. basis_of b ≡ basis_of self.now) }
+    {
+        match self {
+            Basis::Values(columns) => {
+                let columns = columns.clone()?;
+                Ok(Basis::Values(columns))
+            }
+            Basis::Period(start, end) => Ok(Basis::Period(*start, *end)),
+        }
+    }
+
     /// Under which period a row stands: that of a number for its values, none of them NULL, or its own.
     pub(crate) fn period(&self, row: &[Value]) -> Option<Period>
         ensures { option_map points_of result ≡ stands_by (basis_of self.now) (map datum_of_value row.now) }

@@ -1,11 +1,12 @@
 //! Where rows stand by each of several bases: their values in lists of columns, their application period.
-ghost use Rattle.std.specs.Prelude.{◌≡◌, ◌≢◌, ◌<◌, ◌≤◌, ◌+◌, ◌==◌, ◌++◌, [], ◌∷◌, OnOk, OnErr, IfOk, IfSome, length};
-ghost use Rattle.std.specs.Prelude.{None, map, slice_set};
+ghost use Rattle.std.specs.Prelude.{◌≡◌, ◌≢◌, ◌<◌, ◌≤◌, ◌+◌, ◌==◌, ◌++◌, [], ◌∷◌, All, OnOk, OnErr, IfOk, IfSome};
+ghost use Rattle.std.specs.Prelude.{None, length, map, slice_set};
 ghost use Rattle.tql_spec.specs.Bag.{SameBag};
 ghost use Rattle.tql_store_index.specs.Basis.{basis_for, basis_of, meets, sought_of, stands_by};
 ghost use Rattle.tql_store_index.specs.Seating.{seat_at};
 ghost use Rattle.tql_store_index.specs.Standing.{passes, seats_if, stands};
-ghost use Rattle.tql_store_index.specs.ValueIndexes.{Each, IsGrown, IsTurned, IsLinked, DiffersIn, AreLoose, index_at};
+ghost use Rattle.tql_store_index.specs.ValueIndexes.{Each, IsGrown, IsTurned, IsLinked, DiffersIn, AreLoose, bare};
+ghost use Rattle.tql_store_index.specs.ValueIndexes.{index_at};
 ghost use Rattle.tql_value.specs.Views.{datum_of_value};
 
 use crate::basis::{Basis, Sought};
@@ -195,6 +196,7 @@ impl<I: IntervalIndex> ValueIndexes<I> {
     /// One basis more, behind the others, by which no row stands yet. Refused where memory is, and then nothing is
     /// changed.
     pub fn add(&mut self, memory: Memory, basis: Basis) -> Result<(), AllocError>
+        ensures none { All (λ k. k.standing ≡ []) self.old → All (λ k. k.standing ≡ []) self.new }
         ensures ok { OnOk result
             (self.new ≡ self.old ++ record { basis = basis_of basis; standing = [] } ∷ []) }
         ensures err { OnErr result (self.new ≡ self.old) }
@@ -204,6 +206,18 @@ impl<I: IntervalIndex> ValueIndexes<I> {
             index: SeatIndex::new(memory),
         })?;
         Ok(())
+    }
+
+    /// The same bases, by which no row stands yet.
+    pub fn emptied(&self, memory: Memory) -> Result<ValueIndexes<I>, AllocError>
+        ensures { IfOk result (λ k. k ≡ map bare self.now) }
+    {
+        let mut indexes = ValueIndexes::new(memory);
+        for index in &self.indexes {
+            let basis = index.basis.copy()?;
+            indexes.add(memory, basis)?;
+        }
+        Ok(indexes)
     }
 
     /// Makes room for so many seats.

@@ -16,3 +16,4 @@ pub mod RowsStanding
 pub mod Choosing
 pub mod Ending
 pub mod PastRows
+pub mod Leaving

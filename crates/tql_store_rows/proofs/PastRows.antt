@@ -26,7 +26,7 @@ use Rattle.tql_store_rows.specs.declared.kept.Kept.{Kept}
 
 -- ---- rows at places
 
-at_rows : (vs : List Version) (i : ℕ) → get_or (rows_of vs) i [] ≡ (get_or vs i nothing).row.cells
+pub at_rows : (vs : List Version) (i : ℕ) → get_or (rows_of vs) i [] ≡ (get_or vs i nothing).row.cells
 at_rows [] i = refl
 at_rows (v ∷ vs) zero = refl
 at_rows (v ∷ vs) (suc i) = at_rows vs i

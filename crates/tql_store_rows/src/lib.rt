@@ -5,6 +5,7 @@ mod entries;
 mod finding;
 mod kept;
 mod past;
+pub mod pruning;
 mod readings;
 mod standing;
 pub mod version;

@@ -2,3 +2,4 @@ pub mod Nesting
 pub mod Parses
 pub mod Texts
 pub mod Endings
+pub mod Stops

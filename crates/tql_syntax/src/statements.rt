@@ -13,7 +13,18 @@ use tql_syntax_statement::queries::query;
 use tql_syntax_tree::statement::Statement;
 use tql_syntax_tree::tree::Tree;
 
-/// A statement of transactions or of the clock.
+/// PRUNE is read: HISTORY BEFORE and a moment.
+#[tactic(auto, unfolding(tql_syntax_grammar::specs::ReadingStatements::prune_at))]
+fn prune<'a>(tokens: &mut Cursor<'_, 'a>) -> Result<Statement<'a>, ParseError>
+    ensures { Reads statement_of (reading.prune_at tokens.old) result tokens.new }
+{
+    tokens.expect_word("HISTORY")?;
+    tokens.expect_word("BEFORE")?;
+    let text = moment(tokens)?;
+    Ok(Statement::Prune(text))
+}
+
+/// A statement of transactions, of the clock or of the horizon.
 #[tactic(auto, unfolding(tql_syntax_grammar::specs::ReadingStatements::control_at))]
 fn control<'a>(tokens: &mut Cursor<'_, 'a>) -> Result<Statement<'a>, ParseError>
     ensures { Reads statement_of (reading.control_at tokens.old) result tokens.new }
@@ -30,12 +41,15 @@ fn control<'a>(tokens: &mut Cursor<'_, 'a>) -> Result<Statement<'a>, ParseError>
         tokens.eat_word("WORK");
         return Ok(Statement::Rollback);
     }
+    if tokens.eat_word("PRUNE") {
+        return prune(tokens);
+    }
     tokens.expect_word("AT")?;
     let text = moment(tokens)?;
     Ok(Statement::At(text))
 }
 
-/// A statement that changes rows, or one of transactions or of the clock.
+/// A statement that changes rows, or one of transactions, of the clock or of the horizon.
 #[tactic(auto, unfolding(tql_syntax_grammar::specs::ReadingStatements::change_at))]
 fn change<'a>(memory: Memory, tokens: &mut Cursor<'_, 'a>) -> Result<Statement<'a>, ParseError>
     ensures { Reads statement_of (reading.change_at tokens.old) result tokens.new }

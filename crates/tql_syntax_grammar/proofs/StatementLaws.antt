@@ -1,12 +1,13 @@
 -- Statements: what is read is spelled, and what is spelled is read. So a token list spells one statement at most.
-use Rattle.std.specs.Prelude.{◌≡◌, refl, List, [], codes, Some}
+use Rattle.std.specs.Prelude.{◌≡◌, refl, List, [], ◌∷◌, codes, Some}
 use Rattle.std.proofs.Common.{ap, subst, inl, inr}
 use Rattle.tql_spec.specs.Token.{Token, Word}
 use Rattle.tql_spec.specs.Syntax.{Statement, CreateTree, DropTree, InsertValues, InsertSelect, UpdateTree, DeleteTree}
-use Rattle.tql_spec.specs.Syntax.{QueryTree, StartTree, CommitTree, RollbackTree, AtTree}
+use Rattle.tql_spec.specs.Syntax.{QueryTree, StartTree, CommitTree, RollbackTree, AtTree, PruneTree}
 use Rattle.tql_spec.specs.Grammar.{statement, IsStatement, SpellsOnce}
 use Rattle.tql_syntax_grammar.specs.Outcome.{Read, whole}
-use Rattle.tql_syntax_grammar.specs.ReadingStatements.{control_at, change_at, statement_at, read_statement}
+use Rattle.tql_syntax_grammar.specs.ReadingStatements.{prune_at, control_at, change_at, statement_at}
+use Rattle.tql_syntax_grammar.specs.ReadingStatements.{read_statement}
 use Rattle.tql_syntax_grammar.proofs.WordLaws.{noise_spelled, noise_eaten, moment_sound, moment_complete}
 use Rattle.tql_syntax_grammar.proofs.CreateLaws.{create_sound, create_complete, drop_sound, drop_complete}
 use Rattle.tql_syntax_grammar.proofs.QueryLaws.{query_sound, query_complete}
@@ -14,6 +15,16 @@ use Rattle.tql_syntax_grammar.proofs.ChangeLaws.{insert_sound, values_complete, 
 use Rattle.tql_syntax_grammar.proofs.ChangeLaws.{update_complete, delete_sound, delete_complete}
 use Rattle.tql_syntax_grammar.proofs.Steps.{Sound, into_is, spelled, expected, expected_is, expected_of, front_is}
 use Rattle.tql_syntax_grammar.proofs.Steps.{whole_is}
+
+prune_sound : (ts us : List Token) (s : Statement) (rest : List Token) → ts ≡ Word (codes "PRUNE") ∷ us
+    → prune_at us ≡ Read s rest → statement s ts rest
+unfolding prune_at
+prune_sound ts us s rest word e =
+    let history = expected _ e in
+    let before = expected _ history.2 in
+    let m = into_is PruneTree _ s rest before.2 in
+    subst (λ (x : Statement). statement x ts rest) m.2
+    (before.0, (history.0, (us, word, history.1), before.1), moment_sound _ _ _ m.1)
 
 control_sound : Sound statement control_at
 unfolding control_at
@@ -29,9 +40,14 @@ control_sound ts s rest e =
                 elim (front_is (Word (codes "ROLLBACK")) ts (rw b.0 at b.1)) [
                   | inl c ↦ spelled statement c.1 (_, c.0, noise_spelled (codes "WORK") _)
                   | inr c ↦
-                      let word = expected _ (rw c.0 at c.1) in
-                      let m = into_is AtTree _ s rest word.2 in
-                      subst (λ (x : Statement). statement x ts rest) m.2 (word.0, word.1, moment_sound _ _ _ m.1)
+                      elim (front_is (Word (codes "PRUNE")) ts (rw c.0 at c.1)) [
+                        | inl d ↦ prune_sound ts _ s rest d.0 d.1
+                        | inr d ↦
+                            let word = expected _ (rw d.0 at d.1) in
+                            let m = into_is AtTree _ s rest word.2 in
+                            subst (λ (x : Statement). statement x ts rest) m.2
+                            (word.0, word.1, moment_sound _ _ _ m.1)
+                      ]
                 ]
           ]
     ]
@@ -69,7 +85,7 @@ statement_sound ts s rest e =
     ]
 
 statement_complete : (s : Statement) (ts : List Token) → statement s ts [] → statement_at ts ≡ Read s []
-unfolding statement_at change_at control_at
+unfolding statement_at change_at control_at prune_at
 statement_complete (CreateTree n e es v) ts p = rw (p.1.1.1.1, create_complete n e es v ts [] p refl) refl
 statement_complete (DropTree n) ts p = rw (p.1.1.1, drop_complete n ts [] p refl) refl
 statement_complete (InsertValues n cs t others) ts p = rw (p.1.1.1.1.1, values_complete n cs t others ts p) refl
@@ -81,6 +97,9 @@ statement_complete StartTree ts p = rw (p.1, expected_of p.2) refl
 statement_complete CommitTree ts p = rw (p.1, noise_eaten (codes "WORK") p.0 [] p.2 refl) refl
 statement_complete RollbackTree ts p = rw (p.1, noise_eaten (codes "WORK") p.0 [] p.2 refl) refl
 statement_complete (AtTree m) ts p = rw (p.1, expected_of refl, moment_complete p.0 m [] p.2) refl
+statement_complete (PruneTree m) ts p =
+    let words = p.1.1 in
+    rw (words.1, expected_of words.2, expected_of p.1.2, moment_complete p.0 m [] p.2) refl
 
 -- what is read is the statement that the tokens spell
 pub reads_statement : (ts : List Token) (s : Statement) → read_statement ts ≡ Some s → IsStatement s ts

@@ -439,3 +439,32 @@ exchanged :
     ≡ codes "CREATE TABLE\nINSERT 1\nUPDATE 1\nA|B\n2|1\n(1 rows)\n"
 unfolding reading
 exchanged = refl
+
+-- nothing before the horizon is asked for, nor does it go back; within a transaction it is not set at all
+pruned :
+    prints (empty_log
+    ++ codes "INSERT INTO log VALUES (7); AT TIMESTAMP '2011-02-01 00:00:00'; DELETE FROM log; "
+    ++ codes "AT TIMESTAMP '2011-03-01 00:00:00'; INSERT INTO log VALUES (8); "
+    ++ codes "PRUNE HISTORY BEFORE TIMESTAMP '2011-02-10 00:00:00'; "
+    ++ codes "SELECT * FROM log FOR SYSTEM_TIME AS OF TIMESTAMP '2011-02-09 23:59:59.999999'; "
+    ++ codes "SELECT * FROM log FOR SYSTEM_TIME FROM TIMESTAMP '2011-02-10 00:00:00' TO TIMESTAMP '2012-01-01 "
+    ++ codes "00:00:00'; PRUNE HISTORY BEFORE TIMESTAMP '2011-01-15 00:00:00'; "
+    ++ codes "PRUNE HISTORY BEFORE TIMESTAMP '2011-02-30 00:00:00'; START TRANSACTION; "
+    ++ codes "PRUNE HISTORY BEFORE TIMESTAMP '2011-01-15 00:00:00';")
+    ≡ codes "CREATE TABLE\nAT\nINSERT 1\nAT\nDELETE 1\nAT\nINSERT 1\nPRUNE HISTORY\nREFUSED E45 before the horizon\n"
+    ++ codes "X|S|E\n8|2011-03-01 00:00:00|9999-12-31 23:59:59.999999\n(1 rows)\nREFUSED E45 before the horizon\n"
+    ++ codes "REFUSED E30 value out of range\nSTART TRANSACTION\nREFUSED E40 not in this transaction state\n"
+unfolding reading
+pruned = refl
+
+-- a version that began before the horizon and stands there is kept
+pruned_within :
+    prints (empty_log
+    ++ codes "INSERT INTO log VALUES (7); AT TIMESTAMP '2011-02-01 00:00:00'; DELETE FROM log; "
+    ++ codes "AT TIMESTAMP '2011-03-01 00:00:00'; INSERT INTO log VALUES (8); "
+    ++ codes "PRUNE HISTORY BEFORE TIMESTAMP '2011-01-15 00:00:00'; "
+    ++ codes "SELECT * FROM log FOR SYSTEM_TIME AS OF TIMESTAMP '2011-01-15 00:00:00';")
+    ≡ codes "CREATE TABLE\nAT\nINSERT 1\nAT\nDELETE 1\nAT\nINSERT 1\nPRUNE HISTORY\n"
+    ++ codes "X|S|E\n7|2011-01-01 00:00:00|2011-02-01 00:00:00\n(1 rows)\n"
+unfolding reading
+pruned_within = refl

@@ -11,7 +11,7 @@ use Rattle.tql_spec.specs.Syntax.{CrossJoin, ChainTree, Item, Items, AllColumns,
 use Rattle.tql_spec.specs.Syntax.{ByHeading, ByPosition, OrderTree, CellTree, NullCell, ValueCell, Tuple, SetTree}
 use Rattle.tql_spec.specs.Syntax.{PointTree, DatePoint, MomentPoint, PortionTree, Statement, CreateTree, DropTree}
 use Rattle.tql_spec.specs.Syntax.{InsertValues, InsertSelect, UpdateTree, DeleteTree, QueryTree, StartTree}
-use Rattle.tql_spec.specs.Syntax.{CommitTree, RollbackTree, AtTree}
+use Rattle.tql_spec.specs.Syntax.{CommitTree, RollbackTree, AtTree, PruneTree}
 use Rattle.tql_syntax_grammar.specs.Outcome.{Read, Parser, ◌>>=◌, found, into, eat, keyword, symbol, name_at, number_at}
 use Rattle.tql_syntax_grammar.specs.Outcome.{quote_at, begins, begins_second, begins_third, begins_name, if_front}
 use Rattle.tql_syntax_grammar.specs.Outcome.{behind}
@@ -400,15 +400,21 @@ start_at ts = into (λ _. StartTree) (keyword (codes "TRANSACTION") ts)
 abbrev pub work_at : Statement → Parser Statement
 work_at s ts = into (λ _. s) (noise (codes "WORK") ts)
 
--- transactions and the clock
+-- PRUNE is read
+unfoldable pub prune_at : Parser Statement
+prune_at ts =
+    keyword (codes "HISTORY") ts >>= λ _ a. keyword (codes "BEFORE") a >>= λ _ b. into PruneTree (moment_at b)
+
+-- transactions, the clock and the horizon
 unfoldable pub control_at : Parser Statement
 control_at =
     if_front (Word (codes "START")) start_at
     (if_front (Word (codes "COMMIT")) (work_at CommitTree)
     (if_front (Word (codes "ROLLBACK")) (work_at RollbackTree)
-    (λ us. keyword (codes "AT") us >>= λ _ a. into AtTree (moment_at a))))
+    (if_front (Word (codes "PRUNE")) prune_at
+    (λ us. keyword (codes "AT") us >>= λ _ a. into AtTree (moment_at a)))))
 
--- changes, or transactions and the clock
+-- changes, or transactions, the clock and the horizon
 unfoldable pub change_at : Parser Statement
 change_at =
     if_front (Word (codes "INSERT")) insert_at

@@ -252,3 +252,4 @@ statement_of statement.StartTransaction = tree.StartTree
 statement_of statement.Commit = tree.CommitTree
 statement_of statement.Rollback = tree.RollbackTree
 statement_of (statement.At t) = tree.AtTree (content_of t)
+statement_of (statement.Prune t) = tree.PruneTree (content_of t)

@@ -345,6 +345,8 @@ pub enum Statement<'a> {
     Rollback,
     /// AT, with the quoted text of its moment.
     At(&'a str),
+    /// PRUNE HISTORY, with the quoted text of its moment.
+    Prune(&'a str),
 }
 
 /// The joined reference in a box.

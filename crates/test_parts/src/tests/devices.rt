@@ -1,6 +1,8 @@
 //! A responder that counts bytes.
 ghost use Rattle.std.specs.Prelude.{⊤};
 
+use tql_detail::detail::Detail;
+use tql_detail::place::Place;
 use tql_memory::Memory;
 use tql_result::answer::Answer;
 use tql_result::reply::{Reply, Verb};
@@ -30,5 +32,12 @@ impl Responder for Lengths {
         })
     }
 
-    ghost refuses = { record { at_once = λ _ _ _ _. tt; for_memory = λ _ _. tt } };
+    fn detail(&self, _text: &[u8], _refusal: Refusal) -> Option<Detail> {
+        Some(Detail {
+            place: Some(Place::first()),
+            words: String::from_str(self.memory, "no").ok()?,
+        })
+    }
+
+    ghost refuses = { record { at_once = λ _ _ _ _. tt; for_memory = λ _ _ _. tt } };
 }

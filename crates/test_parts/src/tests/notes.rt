@@ -1,6 +1,7 @@
 //! tql_run: which refused statements a listener is told of, and where they stand.
 use crate::tests::devices::Lengths;
 use std::test::Fail;
+use tql_detail::place::Place;
 use tql_memory::memory;
 use tql_result::vec_sink::VecSink;
 use tql_run::note::Note;
@@ -67,6 +68,20 @@ fn tells_where_refused_statements_stand(rt: HostRuntime) -> Result<(), Fail> {
             "reads of {size}"
         );
     }
+    Ok(())
+}
+
+/// The places of what is told beside the refusals of the script: of finished statements.
+const PLACES: [Place; 2] = [Place { line: 3, column: 4 }, Place { line: 8, column: 2 }];
+
+#[test]
+fn tells_where_what_is_told_beside_stands(rt: HostRuntime) -> Result<(), Fail> {
+    let notes = notes_of(&rt, SCRIPT, SOUND)?;
+    let mut places = Vec::new(rt.alloc());
+    for told in &notes.told {
+        places.push(told.detail.place)?;
+    }
+    assert!(rt; places.as_slice() == [Some(PLACES[0]), Some(PLACES[1])].as_slice());
     Ok(())
 }
 

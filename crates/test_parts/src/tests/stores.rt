@@ -18,9 +18,10 @@ use tql_value::value::{Value, View};
 use tql_value::when::When;
 
 /// The number in a row, its start and its end.
-type Shown = (i64, i64, i64);
+pub type Shown = (i64, i64, i64);
 
-fn shown(version: &Version<'_>) -> Shown {
+/// What a test looks at of a version.
+pub fn shown(version: &Version<'_>) -> Shown {
     let number = match version.row.first() {
         Some(Value::Int(number)) => *number,
         _ => -1,
@@ -41,7 +42,7 @@ fn finds(
 }
 
 /// A row of the number: a day of that number and the tenth after it stand behind it.
-fn row_of(memory: Memory, number: i64) -> Result<Vec<Value, Memory>, Refusal> {
+pub fn row_of(memory: Memory, number: i64) -> Result<Vec<Value, Memory>, Refusal> {
     let mut row = Vec::new(memory);
     row.push(Value::Int(number))?;
     row.push(Value::Day(number))?;
@@ -107,7 +108,7 @@ fn removal<I: IntervalIndex>(
 }
 
 /// Makes a change in a transaction of its own, and tells whether it was made and kept.
-fn transact<I: IntervalIndex>(
+pub fn transact<I: IntervalIndex>(
     rt: &impl Abort,
     store: &mut Store<I>,
     moment: i64,

@@ -41,7 +41,7 @@ impl Engine {
     ghost use Rattle.tql_engine.specs.Modifying.{Makes};
     ghost use Rattle.tql_catalog.specs.Tables.{definitions_of};
     ghost use Rattle.tql_engine.specs.Stands.{StandsFor};
-    ghost use Rattle.tql_engine.specs.Allowed.{IsIdle, HasTimeLeft};
+    ghost use Rattle.tql_engine.specs.Allowed.{IsIdle, HasTimeLeft, AsksWithin};
     ghost use Rattle.tql_engine.specs.Effects.{DoesStep};
 
     /// Makes a change of the table at a place, in the open transaction or in one of its own at the clock's moment. It
@@ -92,6 +92,7 @@ impl Engine {
     fn query_delta(&self, insertion: &QueryInsertion) -> Result<Delta, Refusal>
         requires within { insertion.now.table < length (definitions_of self.now.tables) }
         requires placed { IsPlacedQuery (definitions_of self.now.tables) (bound_query_of insertion.now.query) }
+        requires asked { AsksWithin self.now (bound_query_of insertion.now.query) }
         ensures { (s : State) (p : Table) → StandsFor self.now s
             → slice_get self.now.tables insertion.now.table ≡ Some p → Adds s p insertion.now result }
     {
@@ -107,6 +108,7 @@ impl Engine {
     pub(super) fn insert_from(&mut self, insertion: &QueryInsertion) -> Result<Reply, Refusal>
         requires within { insertion.now.table < length (definitions_of self.old.tables) }
         requires placed { IsPlacedQuery (definitions_of self.old.tables) (bound_query_of insertion.now.query) }
+        requires asked { AsksWithin self.old (bound_query_of insertion.now.query) }
         requires typed { IsTypedChange (definitions_of self.old.tables) (query_insertion_of insertion.now) }
         requires below { IsIdle self.old → HasTimeLeft self.old }
         ensures { (s : State) → StandsFor self.old s
@@ -132,6 +134,7 @@ impl Engine {
             &table.definition,
             &modification.terms,
             &modification.conjuncts,
+            true,
         )?;
         let seen = self.store.look(table.id, When::Now, access.sought())?;
         modify(self.memory, table, &seen, modification)

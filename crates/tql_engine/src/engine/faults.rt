@@ -61,7 +61,10 @@ impl Engine {
             ≡ first (state_faults s (asked_first (statement_class (statement_of statement.now)))) }
     {
         match statement {
-            Statement::Create(_) | Statement::DropTable(_) | Statement::At(_) => self.open_fault(),
+            Statement::Create(_)
+            | Statement::DropTable(_)
+            | Statement::At(_)
+            | Statement::Prune(_) => self.open_fault(),
             Statement::Insert(_) | Statement::Update(_) | Statement::Delete(_) =>
                 self.undated_fault(),
             Statement::StartTransaction => self.start_fault(),

@@ -19,6 +19,7 @@ impl Engine {
     ghost use Rattle.tql_exec.specs.Found.{ordered};
     ghost use Rattle.tql_expr.specs.Evaluated.{Evaluated};
     ghost use Rattle.tql_value.specs.Views.{rows_of};
+    ghost use Rattle.tql_engine.specs.Allowed.{AsksWithin};
     ghost use Rattle.tql_engine.specs.Stands.{StandsFor};
     ghost use Rattle.tql_engine.specs.Effects.{DoesStep};
 
@@ -28,7 +29,8 @@ impl Engine {
         &self,
         query: &BoundQuery,
     ) -> Result<Vec<Vec<Value, Memory>, Memory>, Refusal>
-        requires { IsPlacedQuery (definitions_of self.now.tables) (bound_query_of query.now) }
+        requires placed { IsPlacedQuery (definitions_of self.now.tables) (bound_query_of query.now) }
+        requires within { AsksWithin self.now (bound_query_of query.now) }
         ensures { (s : State) → StandsFor self.now s → Evaluated (λ rows. rows_of rows.items)
             (ordered (bound_query_of query.now).ordering (answer (bag_of s) (bound_query_of query.now))) result }
     {
@@ -38,7 +40,8 @@ impl Engine {
 
     /// These rows under their headings.
     fn answered(&self, query: &BoundQuery) -> Result<ResultTable, Refusal>
-        requires { IsPlacedQuery (definitions_of self.now.tables) (bound_query_of query.now) }
+        requires placed { IsPlacedQuery (definitions_of self.now.tables) (bound_query_of query.now) }
+        requires within { AsksWithin self.now (bound_query_of query.now) }
         ensures rows { (s : State) → StandsFor self.now s → Evaluated (λ rows. rows_of rows.rows.items)
             (ordered (bound_query_of query.now).ordering (answer (bag_of s) (bound_query_of query.now))) result }
         ensures headings { IfOk result
@@ -50,7 +53,8 @@ impl Engine {
 
     /// SELECT.
     pub(super) fn answer_query(&self, query: &BoundQuery) -> Result<Reply, Refusal>
-        requires { IsPlacedQuery (definitions_of self.now.tables) (bound_query_of query.now) }
+        requires placed { IsPlacedQuery (definitions_of self.now.tables) (bound_query_of query.now) }
+        requires within { AsksWithin self.now (bound_query_of query.now) }
         ensures { (s : State) → StandsFor self.now s
             → DoesStep self.now s result (step s (machine.AnswerQuery (bound_query_of query.now))) }
     {

@@ -1,5 +1,5 @@
 -- Portions of a period that is not there (E21) and of SYSTEM_TIME (E23), beside queries of all forms over empty tables, outside a
--- transaction and in one, and statements that are not in the grammar; a check takes all but the last four.
+-- transaction and in one, a horizon, and statements that are not in the grammar; a check takes all but the last three.
 -- By hand from docs/LANGUAGE.md.
 CREATE TABLE log (x INTEGER, s TIMESTAMP GENERATED ALWAYS AS ROW START, e TIMESTAMP GENERATED ALWAYS AS ROW END,
   PERIOD FOR SYSTEM_TIME (s, e)) WITH SYSTEM VERSIONING;

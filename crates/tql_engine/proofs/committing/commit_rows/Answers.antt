@@ -22,6 +22,7 @@ returns-in-Ok-clause-ok c = record {
   commits = c.commit.ensures.copies;
   idle = c.commit.ensures.working;
   places = c.commit.ensures.tables ∙ c.in-Ok.ensures.ok.tables ∙ c.begin.ensures.tables;
+  horizon = c.commit.ensures.horizon ∙ c.in-Ok.ensures.ok.horizon ∙ c.begin.ensures.horizon;
 }
 
 pub returns-in-Err-clause-err : goal.returns-in-Err-clause-err
@@ -32,4 +33,6 @@ returns-in-Err-clause-err c = record {
   restores = subst (λ old. RollbackRestores old c.rollback.new.self) c.in-Err.ensures.err c.rollback.ensures.copies;
   idle = c.rollback.ensures.working;
   places = c.rollback.ensures.tables ∙ ap (λ (h : StoreModel). h.tables) c.in-Err.ensures.err ∙ c.begin.ensures.tables;
+  horizon = c.rollback.ensures.horizon ∙ ap (λ (h : StoreModel). h.horizon) c.in-Err.ensures.err
+      ∙ c.begin.ensures.horizon;
 }

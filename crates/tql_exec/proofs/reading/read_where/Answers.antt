@@ -25,6 +25,6 @@ returns g c copies working r wide =
     conds c.args.access.now c.requires.served wide found
     (subst (λ o. SameBag found (filter (λ (v : Version). is_looked_at o v.row.cells)
     (versions_for c.args.store.now copies working s)))
-    c.sought.ensures (c.in_ok-versions.ensures.copies copies working r)))
+    c.sought.ensures (c.in_ok-versions.ensures.copies c.requires.readable.within copies working r)))
     (given (λ v. v.items) (keep conds rows) c.passing_rows.result
     (rw c.deref.ensures.value at c.passing_rows.ensures))

@@ -17,4 +17,5 @@ returns-in-Unfinished-clause-answered g c s p st e =
     w.0 w.1 w.2 c.cut_fault.ensures
 
 pub returns-in-NoMemory-clause-answered : goal.returns-in-NoMemory-clause-answered
-returns-in-NoMemory-clause-answered g c s p st e = memory_answered _ g.met.R.Responder.refuses s p _ st
+returns-in-NoMemory-clause-answered g c s p st e =
+    let w = subst (λ q. StandsFor q p) c.in-NoMemory.is e in memory_answered _ g.met.R.Responder.refuses s p _ st w

@@ -72,7 +72,8 @@ invariant_of-self-in-Err c =
       }) c.self.invariant.state) (sym c.in-Err.ensures.kept)
           (given_up_law c.self.inside.store c.add_table.new.self c.drop_table.new.self table adds
           c.drop_table.ensures.places c.drop_table.ensures.count c.drop_table.ensures.working
-          c.drop_table.ensures.copies c.self.invariant.state c.self.inside.tables c.self.inside.next
+          c.drop_table.ensures.horizon c.drop_table.ensures.copies c.self.invariant.state c.self.inside.tables
+          c.self.inside.next
           c.self.invariant.stands c.in_ok-id.ensures.copies);
       typed = c.self.invariant.typed;
       holds = c.self.invariant.holds;
@@ -101,7 +102,8 @@ returns-in-Err-clause-err c s st =
       next = c.self.inside.next;
     }) s) (sym c.in-Err.ensures.kept)
     (given_up_law c.self.inside.store c.add_table.new.self c.drop_table.new.self table adds
-    c.drop_table.ensures.places c.drop_table.ensures.count c.drop_table.ensures.working c.drop_table.ensures.copies s
+    c.drop_table.ensures.places c.drop_table.ensures.count c.drop_table.ensures.working c.drop_table.ensures.horizon
+    c.drop_table.ensures.copies s
     c.self.inside.tables c.self.inside.next (subst (λ (h : EngineModel). StandsFor h s) (sym c.self.view_is) st)
     c.in_ok-id.ensures.copies)
 

@@ -18,7 +18,7 @@ invariant_of-self c =
     rw (clock_steps _ s st (dated_below _ s e.0 st e.1))
     (sound_after _ _ c.self.invariant Commit _ tt (λ t e. absurd (cc))
     (commit_does _ s c.commit.new.self st is_open c.commit.ensures.copies (c.commit.ensures.working)
-    (c.commit.ensures.tables)))
+    (c.commit.ensures.tables) (c.commit.ensures.horizon)))
 
 pub returns-clause-answered : goal.returns-clause-answered
 returns-clause-answered c s st =
@@ -27,7 +27,7 @@ returns-clause-answered c s st =
     let e = open_entry _ s back is_open in
     rw (clock_steps _ s back (dated_below _ s e.0 back e.1))
     (commit_does _ s c.commit.new.self back is_open c.commit.ensures.copies (c.commit.ensures.working)
-    (c.commit.ensures.tables))
+    (c.commit.ensures.tables) (c.commit.ensures.horizon))
 
 pub returns-then-not-has_transaction-clause-answered : goal.returns-then-not-has_transaction-clause-answered
 returns-then-not-has_transaction-clause-answered c s st =

@@ -8,7 +8,7 @@ use Rattle.tql_catalog.specs.declared.catalog.Table.{Table}
 use Rattle.tql_dml.specs.Alters.{IsVersionOf}
 use Rattle.tql_expr.specs.Meaning.{cond}
 use Rattle.tql_expr.specs.declared.terms.CondId.{CondId}
-use Rattle.tql_plan_access.specs.Access.{Serves}
+use Rattle.tql_plan_access.specs.Access.{ServesTable}
 use Rattle.tql_store.specs.StoreModel.{has_table}
 use Rattle.tql_store.specs.Views.{IsFound}
 use Rattle.tql_store_index.specs.Basis.{Sought, is_looked_at}
@@ -19,6 +19,7 @@ use Rattle.tql_engine.specs.Modifying.{Makes, Made}
 use Rattle.tql_engine.specs.Stands.{EngineModel, StandsFor}
 use Rattle.tql_engine.proofs.Looking.{read_fit}
 use Rattle.tql_engine.proofs.Modifying.{makes_of}
+use Rattle.tql_engine.proofs.Shown.{current_shown}
 use Rattle.tql_engine.proofs.Standing.{some_is, there_law}
 use Rattle.tql_engine.proofs.engine.Engine.delta_of.Goals as goal
 
@@ -51,10 +52,13 @@ returns c p e =
     let q : Table = c.table_at-table.result.now in
     let x : Modification = c.args.modification.now in
     let o : Option Sought = c.in_ok-access.access in
+    let there = subst (λ (h : EngineModel). slice_get h.tables x.table ≡ Some q) (sym c.self.view_is)
+    c.table_at-table.ensures in
     let made : Made c.self.inside.store q x c.modify.result = record {
       sought = o;
-      serves = subst (λ (ids : List CondId). Serves q.definition.system (length q.definition.columns)
-          (map (cond x.terms) ids) o) c.deref.ensures.value c.in_ok-access.ensures.serves;
+      serves = subst (λ (ids : List CondId). ServesTable q.definition (map (cond x.terms) ids) o) c.deref.ensures.value
+          c.in_ok-access.ensures.serves;
+      shown = current_shown _ c.self.invariant.state x.table q c.self.invariant.stands c.self.invariant.typed there;
       seen = c.deref-2.result.now;
       found = subst (λ (vs : List Version). IsFound c.self.inside.store q.id Now (is_looked_at o) vs)
           (sym c.deref-2.ensures.value)

@@ -48,7 +48,8 @@ invariant_of-self c =
     (drop_does _ _ s c.args.place c.self.invariant.stands closed
     (drop_law _ s c.args.place c.remove-table.result _ _ c.self.invariant.stands closed c.remove-table.ensures.taken
     c.remove-table.ensures.others
-    c.drop_table.ensures.places c.drop_table.ensures.count c.drop_table.ensures.working c.drop_table.ensures.copies))
+    c.drop_table.ensures.places c.drop_table.ensures.count c.drop_table.ensures.working c.drop_table.ensures.horizon
+    c.drop_table.ensures.copies))
 
 pub returns : goal.returns
 returns c s st =
@@ -57,4 +58,5 @@ returns c s st =
     drop_does _ _ s c.args.place inside closed
     (drop_law _ s c.args.place c.remove-table.result _ _ inside closed c.remove-table.ensures.taken
     c.remove-table.ensures.others
-    c.drop_table.ensures.places c.drop_table.ensures.count c.drop_table.ensures.working c.drop_table.ensures.copies)
+    c.drop_table.ensures.places c.drop_table.ensures.count c.drop_table.ensures.working c.drop_table.ensures.horizon
+    c.drop_table.ensures.copies)

@@ -7,6 +7,8 @@ use Rattle.tql_catalog.specs.declared.catalog.Table.{Table}
 use Rattle.tql_store.proofs.Judging.{none-removable}
 use Rattle.tql_value.specs.Views.{rows_of}
 use Rattle.tql_engine.specs.Adding.{Adds}
+use Rattle.tql_bound.specs.Queries.{bound_query_of}
+use Rattle.tql_engine.proofs.Doing.{within_law}
 use Rattle.tql_engine.proofs.Modifying.{table_there}
 use Rattle.tql_engine.proofs.QueryInserting.{query_errs, query_makes}
 use Rattle.tql_engine.proofs.Standing.{place_law, some_is}
@@ -33,7 +35,8 @@ make-requires-clause-made c =
           };
       makes = λ s st.
           let given : Adds s t.0 x (Ok c.in-Ok.delta) = c.in-Ok.ensures s t.0 st t.1 in
-          query_makes c.inserts_keep_no_order.ensures c.args.self.now s t.0 x st t.1 c.requires.below given.0.bag
+          query_makes c.inserts_keep_no_order.ensures c.args.self.now s t.0 x st t.1 c.requires.below
+          (within_law c.args.self.now s (bound_query_of x.query) st c.requires.asked) given.0.bag
           given.0.rows given.0.answered given.0.same c.in-Ok.delta given.0.alters;
     }
 
@@ -41,7 +44,8 @@ pub returns-in-Err : goal.returns-in-Err
 returns-in-Err c s st =
     let x : QueryInsertion = c.args.insertion.now in
     let t = table_there c.args.self.now.tables x.table (place_law c.args.self.now.tables x.table c.requires.within) in
-    query_errs c.inserts_keep_no_order.ensures c.args.self.now s t.0 x st t.1 c.requires.below c.in-Err.refusal
+    query_errs c.inserts_keep_no_order.ensures c.args.self.now s t.0 x st t.1 c.requires.below
+    (within_law c.args.self.now s (bound_query_of x.query) st c.requires.asked) c.in-Err.refusal
     (c.in-Err.ensures s t.0 st t.1)
 
 pub returns-in-Ok : goal.returns-in-Ok
@@ -50,5 +54,6 @@ returns-in-Ok c s st =
     let t = table_there c.args.self.now.tables x.table (place_law c.args.self.now.tables x.table c.requires.within) in
     let given : Adds s t.0 x (Ok c.in-Ok.delta) = c.in-Ok.ensures s t.0 st t.1 in
     c.make.ensures s (query_insertion_of x) st
-    (query_makes c.inserts_keep_no_order.ensures c.args.self.now s t.0 x st t.1 c.requires.below given.0.bag
+    (query_makes c.inserts_keep_no_order.ensures c.args.self.now s t.0 x st t.1 c.requires.below
+    (within_law c.args.self.now s (bound_query_of x.query) st c.requires.asked) given.0.bag
     given.0.rows given.0.answered given.0.same c.in-Ok.delta given.0.alters)

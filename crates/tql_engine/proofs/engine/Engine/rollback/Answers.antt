@@ -14,14 +14,14 @@ invariant_of-self c =
     let is_open = sym c.has_transaction.ensures ∙ c.if-not-has_transaction.false in
     sound_after _ _ c.self.invariant Rollback _ tt (λ t e. absurd (cc))
     (rollback_does _ s c.rollback.new.self st is_open c.rollback.ensures.copies (c.rollback.ensures.working)
-    (c.rollback.ensures.tables))
+    (c.rollback.ensures.tables) (c.rollback.ensures.horizon))
 
 pub returns-clause-answered : goal.returns-clause-answered
 returns-clause-answered c s st =
     let back = subst (λ h. StandsFor h s) (sym c.self.view_is) st in
     let is_open = sym c.has_transaction.ensures ∙ c.if-not-has_transaction.false in
     rollback_does _ s c.rollback.new.self back is_open c.rollback.ensures.copies (c.rollback.ensures.working)
-    (c.rollback.ensures.tables)
+    (c.rollback.ensures.tables) (c.rollback.ensures.horizon)
 
 pub returns-then-not-has_transaction-clause-answered : goal.returns-then-not-has_transaction-clause-answered
 returns-then-not-has_transaction-clause-answered c s st =

@@ -28,7 +28,7 @@ invariant_of-self c =
     let below = subst (λ (h : EngineModel). h.next <ℤ high) (sym c.self.view_is) c.requires.below in
     sound_after _ _ c.self.invariant Start _ tt (λ t e. absurd (cc))
     (start_does _ s _ st closed below c.begin.ensures.copies
-    (c.begin.ensures.working ∙ ap Some (clock_reads _ s st)) (c.begin.ensures.tables))
+    (c.begin.ensures.working ∙ ap Some (clock_reads _ s st)) (c.begin.ensures.tables) (c.begin.ensures.horizon))
 
 pub returns : goal.returns
 returns c s st =
@@ -36,4 +36,4 @@ returns c s st =
     let closed = subst (λ (h : EngineModel). IsNone h.store.working) (sym c.self.view_is) c.requires.closed in
     let below = subst (λ (h : EngineModel). h.next <ℤ high) (sym c.self.view_is) c.requires.below in
     start_does _ s _ back closed below c.begin.ensures.copies
-    (c.begin.ensures.working ∙ ap Some (clock_reads _ s back)) (c.begin.ensures.tables)
+    (c.begin.ensures.working ∙ ap Some (clock_reads _ s back)) (c.begin.ensures.tables) (c.begin.ensures.horizon)

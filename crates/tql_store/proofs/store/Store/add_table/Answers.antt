@@ -51,9 +51,12 @@ returns-clause-ok g c =
     (first_of (search rules, grind (arith, common_steps)))
     (first_of (search rules, grind (arith, common_steps)))
     (first_of (search rules, grind (arith, common_steps)))
+    (first_of (search rules, grind (arith, common_steps)))
     (added-versions c.args.versioned c.free_table-table.result c.self.inside.places.items c.self.inside.working
-    c.self.inside.last c.self.inside.rows.items c.put_rows.new.rows.items c.in_ok-rows.rows c.args.self.now
-    (shown c.put_table.new.places.items c.put_rows.new.rows.items c.self.inside.working c.self.inside.last)
+    c.self.inside.last c.self.inside.horizon c.self.inside.rows.items c.put_rows.new.rows.items c.in_ok-rows.rows
+    c.args.self.now
+    (shown c.put_table.new.places.items c.put_rows.new.rows.items c.self.inside.working c.self.inside.last
+    c.self.inside.horizon)
     c.self.view_is (c.self.invariant.gone c.free_table-table.result free) put c.in_ok-rows.ensures.empty refl)
 
 pub returns-clause-copies : goal.returns-clause-copies

@@ -38,7 +38,8 @@ make-requires-clause-removable g c =
     c.moment-moment.ensures in
     subst (λ (ts : List rows.TableModel). AreRemovable (table_at ts c.args.delta.table) c.args.delta.removed.items)
     (sym c.deref_mut.ensures.value)
-    (removable-at (to_z w64 (of_z w64 c.moment-moment.result)) c.self.inside.working c.self.inside.last
+    (removable-at (to_z w64 (of_z w64 c.moment-moment.result)) c.self.inside.horizon c.self.inside.working
+    c.self.inside.last
     c.self.inside.places.items c.self.inside.rows.items c.self.inside.touched.items c.args.self.now c.args.delta.table
     c.args.delta.removed.items at c.self.invariant c.self.view_is c.requires.removable)
 
@@ -59,13 +60,15 @@ invariant_of-self g c =
 pub returns-in_err-make-clause-err : goal.returns-in_err-make-clause-err
 returns-in_err-make-clause-err g c =
     on_err c.from_residual.result
-    (ap (λ (ts : List rows.TableModel). shown c.self.inside.places.items ts c.self.inside.working c.self.inside.last)
+    (ap (λ (ts : List rows.TableModel). shown c.self.inside.places.items ts c.self.inside.working c.self.inside.last
+    c.self.inside.horizon)
     (with_items_is c.self.inside.rows c.make.new.rows (c.make.ensures.turned.even ∙ c.deref_mut.ensures.len))
     ∙ ap (λ vss. record {
       tables = c.self.inside.places.items;
       versions = vss;
       working = c.self.inside.working;
       last = c.self.inside.last;
+      horizon = c.self.inside.horizon;
     }) (c.in_err-make.ensures.err
     ∙ ap (λ (ts : List rows.TableModel). map versions ts) c.deref_mut.ensures.value) ∙ c.self.view_is)
 
@@ -93,11 +96,11 @@ returns-clause-ok g c =
     c.moment-moment.ensures in
     let value = c.deref_mut.ensures.value in
     replaces-at (λ (row : Vec Value _). map datum_of_value row.items) c.args.delta.added.items
-    (to_z w64 (of_z w64 c.moment-moment.result)) c.self.inside.working c.self.inside.last
+    (to_z w64 (of_z w64 c.moment-moment.result)) c.self.inside.horizon c.self.inside.working c.self.inside.last
     c.self.inside.places.items c.self.inside.rows.items c.make.new.rows c.self.inside.touched.items
     c.args.self.now _ c.args.delta.table c.args.delta.removed.items at c.self.invariant c.self.view_is
     (sym (ap (λ (ts : List rows.TableModel). shown c.self.inside.places.items ts c.self.inside.working
-    c.self.inside.last)
+    c.self.inside.last c.self.inside.horizon)
     (with_items_is c.self.inside.rows c.make.new.rows (c.make.ensures.turned.even ∙ c.deref_mut.ensures.len))))
     c.requires.removable
     (subst (λ (ts : List rows.TableModel). HasTurned (to_z w64 (of_z w64 c.moment-moment.result)) c.args.delta.table ts

@@ -23,4 +23,4 @@ invariant_of-self g c =
 pub returns-clause-copies : goal.returns-clause-copies
 returns-clause-copies g c =
     begin-copies _ c.args.self.now _ (search rules) c.requires.later c.requires.below (search rules) (search rules)
-    (search rules) (λ t. search rules)
+    (search rules) (search rules) (λ t. search rules)

@@ -63,14 +63,16 @@ returns-clause-versions g c =
     c.deref_mut.ensures.value
     (subst (λ (js : List ℕ). HaveEnded (IsCommitted (to_z w64 (of_z w64 c.moment-moment.result))) (length js) js
     c.deref_mut.result.now c.commit_each.new.rows) c.deref.ensures.value c.commit_each.ensures) in
-    committed-versions (to_z w64 (of_z w64 c.moment-moment.result)) c.self.inside.working c.self.inside.last
+    committed-versions (to_z w64 (of_z w64 c.moment-moment.result)) c.self.inside.horizon c.self.inside.working
+    c.self.inside.last
     c.self.inside.places.items c.self.inside.rows.items c.commit_each.new.rows c.self.inside.touched.items
     c.args.self.now (shown c.self.inside.places.items (with_items c.self.inside.rows c.commit_each.new.rows).items
-    None c.self.inside.working) at c.self.invariant ended c.self.view_is
+    None c.self.inside.working c.self.inside.horizon) at c.self.invariant ended c.self.view_is
     (ap (λ (ts : List rows.TableModel). map versions ts)
     (with_items_is c.self.inside.rows c.commit_each.new.rows (c.commit_each.ensures.even
     ∙ c.deref_mut.ensures.len)))
 
 pub returns-clause-copies : goal.returns-clause-copies
 returns-clause-copies g c =
-    commit-appends c.args.self.now _ (search rules) (search rules) (search rules) (returns-clause-versions g c)
+    commit-appends c.args.self.now _ (search rules) (search rules) (search rules) (search rules)
+    (returns-clause-versions g c)

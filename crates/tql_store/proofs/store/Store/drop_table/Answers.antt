@@ -53,9 +53,10 @@ returns-clause-versions g c =
     (subst (λ (ts : List rows.TableModel). IsPut c.from.result c.new-rows.result ts c.set_rows.new.rows)
     c.deref_mut-2.ensures.value c.set_rows.ensures.put) in
     dropped-versions c.args.table c.self.inside.places.items c.self.inside.working c.self.inside.last
-    c.self.inside.rows.items c.set_rows.new.rows c.new-rows.result c.args.self.now
+    c.self.inside.horizon c.self.inside.rows.items c.set_rows.new.rows c.new-rows.result c.args.self.now
     (shown (with_items c.self.inside.places c.clear_place.new.places).items
-    (with_items c.self.inside.rows c.set_rows.new.rows).items c.self.inside.working c.self.inside.last)
+    (with_items c.self.inside.rows c.set_rows.new.rows).items c.self.inside.working c.self.inside.last
+    c.self.inside.horizon)
     c.self.view_is put c.new-rows.ensures.empty
     (ap (λ (ts : List rows.TableModel). map rows.versions ts)
     (with_items_is c.self.inside.rows c.set_rows.new.rows (c.set_rows.ensures.len ∙ c.deref_mut-2.ensures.len)))
@@ -63,4 +64,4 @@ returns-clause-versions g c =
 pub returns-clause-copies : goal.returns-clause-copies
 returns-clause-copies g c =
     drop-empties c.args.table c.args.self.now _ (search rules) (returns-clause-places g c) (search rules)
-    (search rules) (returns-clause-versions g c)
+    (search rules) (search rules) (returns-clause-versions g c)

@@ -1,9 +1,8 @@
-use Rattle.std.proofs.Common.{◌≡◌, List, Option, Some, None, IfOk, option_map, sym, subst}
+use Rattle.std.proofs.Common.{Option, IfOk, option_map, sym, subst}
 use Rattle.tql_store_index.specs.Basis.{is_looked_at, sought_of}
 use Rattle.tql_store_index.specs.declared.basis.Sought.{Sought}
 use Rattle.tql_store.specs.Views.{IsFound}
 use Rattle.tql_store.proofs.Searching.{looked_at_all}
-use Rattle.tql_store.proofs.store.Store.look.Given as given
 use Rattle.tql_store.proofs.store.Store.look.Goals as goal
 
 pub returns-in-None : goal.returns-in-None

@@ -58,13 +58,15 @@ returns-clause-versions g c =
     c.deref_mut.ensures.value
     (subst (λ (js : List ℕ). HaveEnded (IsUndone (to_z w64 (of_z w64 c.moment-moment.result))) (length js) js
     c.deref_mut.result.now c.undo_each.new.rows) c.deref.ensures.value c.undo_each.ensures) in
-    undone-versions (to_z w64 (of_z w64 c.moment-moment.result)) c.self.inside.working c.self.inside.last
+    undone-versions (to_z w64 (of_z w64 c.moment-moment.result)) c.self.inside.horizon c.self.inside.working
+    c.self.inside.last
     c.self.inside.places.items c.self.inside.rows.items c.undo_each.new.rows c.self.inside.touched.items
     c.args.self.now (shown c.self.inside.places.items (with_items c.self.inside.rows c.undo_each.new.rows).items
-    None c.self.inside.last) at c.self.invariant ended c.self.view_is
+    None c.self.inside.last c.self.inside.horizon) at c.self.invariant ended c.self.view_is
     (ap (λ (ts : List rows.TableModel). map versions ts)
     (with_items_is c.self.inside.rows c.undo_each.new.rows (c.undo_each.ensures.even ∙ c.deref_mut.ensures.len)))
 
 pub returns-clause-copies : goal.returns-clause-copies
 returns-clause-copies g c =
-    rollback-restores c.args.self.now _ (search rules) (search rules) (search rules) (returns-clause-versions g c)
+    rollback-restores c.args.self.now _ (search rules) (search rules) (search rules) (search rules)
+    (returns-clause-versions g c)

@@ -29,7 +29,7 @@ read g c =
     record {
       shown = versions-of c.self.inside.rows.items c.args.self.now c.args.table c.index.result.now
           (shows c.self.inside.places.items c.self.inside.rows.items c.self.inside.working c.self.inside.last
-          c.args.self.now c.self.view_is) at;
+          c.self.inside.horizon c.args.self.now c.self.view_is) at;
       readable = subst IsReadable (sym at)
           (readable-at c.self.inside.places.items c.self.inside.rows.items c.self.inside.touched.items
           c.self.inside.working c.self.inside.last c.self.invariant c.args.table);

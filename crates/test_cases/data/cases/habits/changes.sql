@@ -1,0 +1,24 @@
+-- cases: growths
+-- What people write first of changes and transactions, by habit of other systems.
+BEGIN;
+BEGIN TRANSACTION;
+START;
+END;
+COMMIT TRANSACTION;
+ROLLBACK TO a;
+SAVEPOINT a;
+UPDATE t SET x = 1 FROM u WHERE u.x = 1;
+UPDATE t AS u SET x = 1;
+DELETE FROM t AS u WHERE u.x = 1;
+DELETE t WHERE x = 1;
+INSERT t VALUES (1);
+INSERT INTO t SET x = 1;
+INSERT INTO t VALUES (1) RETURNING x;
+INSERT INTO t VALUES (1) ON CONFLICT DO NOTHING;
+INSERT INTO t VALUES (1, 2;
+INSERT INTO t VALUES (1, 2,);
+REPLACE INTO t VALUES (1);
+MERGE INTO t USING u ON t.x = u.x;
+EXPLAIN SELECT x FROM t;
+SHOW TABLES;
+SET x = 1;

@@ -1,0 +1,33 @@
+-- cases: growths in-turn
+-- The kinds, numbers and forms that E22 and E23 are told with; none where nothing is known of it. By hand.
+CREATE TABLE emp (ename VARCHAR(20), dept INTEGER, d1 DATE, d2 DATE, PERIOD FOR ep (d1, d2), PRIMARY KEY (ename));
+CREATE TABLE dept (dno INTEGER, dname VARCHAR(20), PRIMARY KEY (dno));
+CREATE TABLE log (x INTEGER, s TIMESTAMP GENERATED ALWAYS AS ROW START, e TIMESTAMP GENERATED ALWAYS AS ROW END, PERIOD FOR SYSTEM_TIME (s, e)) WITH SYSTEM VERSIONING;
+INSERT INTO dept VALUES (1);
+INSERT INTO dept VALUES (1, 'a'), (2, 'b', 3);
+INSERT INTO log VALUES (1, 2);
+INSERT INTO dept (dno) VALUES (1, 'a');
+INSERT INTO dept SELECT dno FROM dept;
+INSERT INTO dept VALUES ('a', 'b');
+INSERT INTO dept (dname, dno) VALUES (5, 1);
+INSERT INTO emp VALUES ('a', 1, '2011-01-01', DATE '2011-01-02');
+UPDATE emp SET d1 = TIMESTAMP '2011-01-01 00:00:00';
+UPDATE emp SET dept = ename;
+UPDATE emp SET dept = 1 WHERE ename = 7;
+DELETE FROM emp WHERE 'x' = dept;
+SELECT ename FROM emp WHERE d1 > '2011-01-01';
+SELECT ename FROM emp WHERE dept BETWEEN 1 AND '2';
+SELECT ename FROM emp WHERE (ename IN ('a', 2));
+SELECT ename FROM emp JOIN dept d ON ename = d.dno;
+SELECT ename FROM emp WHERE dept + 1 = 'x';
+SELECT SUM(ename) FROM emp;
+INSERT INTO log (x, s) VALUES (1, TIMESTAMP '2011-01-01 00:00:00');
+UPDATE log SET e = TIMESTAMP '2011-01-01 00:00:00';
+SELECT * FROM dept FOR SYSTEM_TIME AS OF TIMESTAMP '2011-01-01 00:00:00';
+SELECT ename, COUNT(*) FROM emp;
+SELECT ename, SUM(dept) FROM emp GROUP BY dept;
+SELECT * FROM emp GROUP BY dept;
+SELECT ename FROM emp WHERE COUNT(*) > 1;
+DELETE FROM emp WHERE dept = MAX(dept);
+SELECT dept FROM emp GROUP BY dept HAVING ename = 'a';
+CREATE TABLE c (a INTEGER) WITH SYSTEM VERSIONING;

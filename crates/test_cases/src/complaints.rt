@@ -1,0 +1,134 @@
+//! What is told of the refused statements of a script, as the program tells it on the standard error.
+ghost use Rattle.std.specs.Prelude.{None};
+
+use crate::compare::text_difference;
+use crate::runs::{Answering, Granted, answer};
+use std::alloc::{AllocError, Global};
+use tql_detail::detail::Detail;
+use tql_engine::engine::Engine;
+use tql_engine::runner::run;
+use tql_memory::{Memory, memory};
+use tql_result::vec_sink::VecSink;
+use tql_run::complaint::Complaint;
+use tql_run::listener::Listener;
+use tql_run::pushed::Pushed;
+use tql_run::slice_source::SliceSource;
+use tql_value::refusal::Refusal;
+
+/// The bytes of a piece, where growths are refused.
+const PIECE: usize = 7;
+
+/// More growths than what is told of one statement makes, and than a script of the cases that is run for each.
+const MOST_TOLD: u64 = 64;
+
+const MOST_GROWTHS: u64 = 20_000;
+
+/// A listener that writes a line for each refused statement. A line that finds no memory is cut off.
+#[derive(Drop)]
+struct Lines {
+    text: String,
+}
+
+impl Lines {
+    /// Writes a line.
+    fn put(&mut self, complaint: &Complaint<'_>) -> Result<(), AllocError> {
+        let line = format!(in *self.text.allocator(); "{complaint}\n")?;
+        self.text.push_str(line.as_str())
+    }
+}
+
+impl Listener for Lines {
+    ghost heard = { λ _. None };
+
+    fn wants_details(&self) -> bool {
+        true
+    }
+
+    fn refused(
+        &mut self,
+        statement: u64,
+        line: u64,
+        refusal: Refusal,
+        detail: Option<&Detail>,
+        _pushed: &Pushed,
+    ) {
+        let complaint = Complaint {
+            statement,
+            line,
+            refusal,
+            detail,
+        };
+        let _ = self.put(&complaint);
+    }
+}
+
+/// What a run told, what it wrote, and how many of the blocks that it was granted are left.
+#[derive(Drop)]
+struct Telling {
+    lines: String,
+    text: Vec<u8, Memory>,
+    left: u64,
+}
+
+/// Runs a script on a new engine in pieces of so many bytes and in so many blocks of memory, with what is told of it.
+fn run_told(
+    alloc: Global,
+    script: &[u8],
+    size: usize,
+    granted: u64,
+) -> Result<Telling, AllocError> {
+    let mut source = SliceSource::in_pieces(script, size);
+    let mut sink = VecSink::new(Vec::new(memory(alloc, u64::MAX)?));
+    let mut lines = Lines {
+        text: String::new(alloc),
+    };
+    let memory = memory(alloc, granted)?;
+    let mut engine = Engine::new(memory);
+    let _ = run(&mut engine, &mut source, &mut sink, &mut lines);
+    Ok(Telling {
+        lines: lines.text,
+        text: sink.into_bytes(),
+        left: memory.left(),
+    })
+}
+
+/// Where what is told of a script's refused statements is not what is listed, whole or in pieces of a byte.
+pub fn complaints_fault(
+    alloc: Global,
+    script: &[u8],
+    listed: &[u8],
+) -> Result<Option<String>, AllocError> {
+    for size in [usize::MAX, 1] {
+        let told = run_told(alloc, script, size, u64::MAX)?;
+        if let Some(fault) = text_difference(alloc, listed, told.lines.as_bytes())? {
+            return Ok(Some(fault));
+        }
+    }
+    Ok(None)
+}
+
+/// Whether a script is answered as it is where nothing is told, in so many blocks of memory, and leaves as many.
+fn is_answered_alike(alloc: Global, script: &[u8], granted: u64) -> Result<bool, AllocError> {
+    let told = run_told(alloc, script, PIECE, granted)?;
+    let silent = answer(
+        alloc,
+        Answering::Run,
+        script,
+        PIECE,
+        Granted::First(granted),
+    )?;
+    Ok(told.left == silent.left && told.text.as_slice() == silent.text.as_slice())
+}
+
+/// Where telling changes what is answered, with each growth refused in turn, those of what is told among them.
+pub fn telling_fault(alloc: Global, script: &[u8]) -> Result<Option<String>, AllocError> {
+    let told = run_told(alloc, script, PIECE, u64::MAX)?;
+    let most = u64::MAX - told.left;
+    for granted in 0..most.saturating_add(MOST_TOLD).min(MOST_GROWTHS) {
+        if !is_answered_alike(alloc, script, granted)? {
+            let fault = format!(in alloc; "is told otherwise where {granted} growths are granted")?;
+            return Ok(Some(fault));
+        }
+    }
+    Ok(None)
+}

@@ -1,0 +1,202 @@
+//! tql_store: what a horizon leaves of a history, at once and later, and each growth of it refused in turn.
+ghost use Rattle.std.specs.Prelude.{IfOk, IsTrue};
+ghost use Rattle.tql_store.specs.StoreModel.{has_table as table_there, AreRemovable};
+
+use crate::tests::stores::{Shown, current_ids, lists, row_of, shown, transact};
+use std::alloc::AllocError;
+use std::process::Abort;
+use std::test::Fail;
+use tql_index::tree_index::TreeIndex;
+use tql_memory::{Memory, memory};
+use tql_store::store::{Delta, Store};
+use tql_store_rows::version::HIGH;
+use tql_value::calendar::FIRST_MOMENT;
+use tql_value::refusal::Refusal;
+use tql_value::table::TableId;
+use tql_value::value::{Value, View};
+use tql_value::when::When;
+
+/// A change that removes all rows and adds one of the number.
+fn renewal(
+    memory: Memory,
+    store: &Store<TreeIndex>,
+    table: TableId,
+    number: i64,
+) -> Result<Delta, Refusal>
+    requires { IsTrue (table_there store.now table) }
+    ensures { IfOk result (λ d. AreRemovable store.now d.table d.removed.items) }
+{
+    let mut added: Vec<Vec<Value, Memory>, Memory> = Vec::new(memory);
+    added.push(row_of(memory, number)?)?;
+    let removed = current_ids(memory, store, table)?;
+    Ok(Delta {
+        table,
+        removed,
+        added,
+        count: 1,
+    })
+}
+
+/// Renews the row of a table at the moment, by the moment's number.
+fn renew(
+    rt: &impl Abort,
+    all: Memory,
+    store: &mut Store<TreeIndex>,
+    table: TableId,
+    moment: i64,
+) -> Result<(), Fail> {
+    assert!(rt; store.has_table(table));
+    let delta = renewal(all, store, table, moment)?;
+    let made = transact(rt, store, moment, delta, true);
+    assert!(rt; made);
+    Ok(())
+}
+
+/// A table more, whose rows are found by its first column, and by the second with it.
+fn add(
+    rt: &impl Abort,
+    all: Memory,
+    store: &mut Store<TreeIndex>,
+    versioned: bool,
+) -> Result<TableId, Fail> {
+    assert!(rt; store.table_count() < 1000);
+    let table = store.add_table(versioned, lists(all)?, Some((1, 2)))?;
+    Ok(table)
+}
+
+fn prune(rt: &impl Abort, store: &mut Store<TreeIndex>, horizon: i64) -> Result<(), Refusal> {
+    assert!(rt; !store.has_transaction() && store.horizon() <= horizon);
+    store.prune(horizon)
+}
+
+/// Whether the table has these versions and no others, and each of them is found by its number.
+fn keeps(store: &Store<TreeIndex>, table: TableId, those: &[Shown]) -> Result<bool, AllocError> {
+    if !store.has_table(table) || !store.is_versioned(table) {
+        return Ok(false);
+    }
+    let all = store.found(table, When::FromTo(0, HIGH))?;
+    let mut are_right = all.len() == those.len();
+    for one in those {
+        let (number, _, end) = *one;
+        let last = When::AsOf(end.saturating_sub(1));
+        let found = store.found_with(table, &[0], &[View::Int(number)], last)?;
+        are_right = are_right
+            && all.iter().any(|version| shown(version) == *one)
+            && found.len() == 1
+            && found.first().map(shown) == Some(*one);
+    }
+    Ok(are_right)
+}
+
+/// Checks that it has.
+fn check_kept(
+    rt: &impl Abort,
+    store: &Store<TreeIndex>,
+    table: TableId,
+    those: &[Shown],
+) -> Result<(), Fail> {
+    let are_right = keeps(store, table, those)?;
+    assert!(rt; are_right);
+    Ok(())
+}
+
+/// Whether a table that keeps no history has the row.
+fn has_row(store: &Store<TreeIndex>, table: TableId, row: Shown) -> Result<bool, AllocError> {
+    if !store.has_table(table) || store.is_versioned(table) {
+        return Ok(false);
+    }
+    let found = store.found(table, When::Now)?;
+    Ok(found.len() == 1 && found.first().map(shown) == Some(row))
+}
+
+#[test]
+fn a_horizon_leaves_what_ends_after_it(rt: HostRuntime) -> Result<(), Fail> {
+    let all = memory(rt.alloc(), u64::MAX)?;
+    let mut store: Store<TreeIndex> = Store::new(all);
+    let table = add(&rt, all, &mut store, true)?;
+    let brief = add(&rt, all, &mut store, false)?;
+    for moment in [10, 20, 30, 40] {
+        renew(&rt, all, &mut store, table, moment)?;
+        renew(&rt, all, &mut store, brief, moment.saturating_add(1))?;
+    }
+    assert!(rt; store.horizon() == FIRST_MOMENT);
+    prune(&rt, &mut store, 25)?;
+    assert!(rt; store.horizon() == 25);
+    check_kept(
+        &rt,
+        &store,
+        table,
+        &[(20, 20, 30), (30, 30, 40), (40, 40, HIGH)],
+    )?;
+    prune(&rt, &mut store, 30)?;
+    prune(&rt, &mut store, 30)?;
+    check_kept(&rt, &store, table, &[(30, 30, 40), (40, 40, HIGH)])?;
+    renew(&rt, all, &mut store, table, 50)?;
+    check_kept(
+        &rt,
+        &store,
+        table,
+        &[(30, 30, 40), (40, 40, 50), (50, 50, HIGH)],
+    )?;
+    prune(&rt, &mut store, HIGH)?;
+    check_kept(&rt, &store, table, &[(50, 50, HIGH)])?;
+    renew(&rt, all, &mut store, table, 60)?;
+    check_kept(&rt, &store, table, &[(50, 50, 60), (60, 60, HIGH)])?;
+    let is_there = has_row(&store, brief, (41, 41, HIGH))?;
+    assert!(rt; is_there && store.horizon() == HIGH);
+    Ok(())
+}
+
+/// Makes a history of two tables in this memory, prunes it with so many growths granted, and tells whether that was
+/// done and whether what is there is right.
+fn prunes_both(
+    rt: &impl Abort,
+    all: Memory,
+    little: Memory,
+    granted: u64,
+) -> Result<(bool, bool), Fail> {
+    let mut store: Store<TreeIndex> = Store::new(little);
+    let one = add(rt, all, &mut store, true)?;
+    let two = add(rt, all, &mut store, true)?;
+    for moment in [10, 20, 30] {
+        renew(rt, all, &mut store, one, moment)?;
+        renew(rt, all, &mut store, two, moment.saturating_add(1))?;
+    }
+    little.grant(granted);
+    let result = prune(rt, &mut store, 25);
+    little.grant(u64::MAX);
+    match result {
+        Ok(()) => {
+            let are_right = store.horizon() == 25
+                && keeps(&store, one, &[(20, 20, 30), (30, 30, HIGH)])?
+                && keeps(&store, two, &[(21, 21, 31), (31, 31, HIGH)])?;
+            Ok((true, are_right))
+        }
+        Err(refusal) => {
+            let are_right = refusal == Refusal::OutOfMemory
+                && store.horizon() == FIRST_MOMENT
+                && keeps(&store, one, &[(10, 10, 20), (20, 20, 30), (30, 30, HIGH)])?
+                && keeps(&store, two, &[(11, 11, 21), (21, 21, 31), (31, 31, HIGH)])?;
+            Ok((false, are_right))
+        }
+    }
+}
+
+#[test]
+fn all_tables_are_pruned_or_none(rt: HostRuntime) -> Result<(), Fail> {
+    let all = memory(rt.alloc(), u64::MAX)?;
+    let mut refused: u64 = 0;
+    let mut done = false;
+    for granted in 0..96 {
+        let little = memory(rt.alloc(), u64::MAX)?;
+        let (is_done, are_right) = prunes_both(&rt, all, little, granted)?;
+        assert!(rt; are_right && (is_done || !done));
+        done = is_done;
+        if !is_done {
+            refused = granted;
+        }
+    }
+    // Ten growths are those of the first table, so the second one's were refused too.
+    assert!(rt; done && refused > 10);
+    Ok(())
+}

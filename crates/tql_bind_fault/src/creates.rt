@@ -1,0 +1,184 @@
+//! Names of a CREATE TABLE that are repeated, or that its lists name and that are not there.
+use std::alloc::AllocError;
+use tql_bind_spot::scope::{has_column, table_named};
+use tql_bind_spot::words::Words;
+use tql_catalog::catalog::Catalog;
+use tql_memory::Memory;
+use tql_syntax_tree::expression::Name;
+use tql_syntax_tree::statement::{Constraint, CreateTree, Element, ForeignTree, KeyTree, RefList};
+
+/// The names of a table that is to be made: its columns, and all names that it has.
+#[derive(Drop)]
+struct Draft {
+    columns: Vec<String<Memory>, Memory>,
+    names: Vec<String<Memory>, Memory>,
+}
+
+/// Whether a name is among these.
+fn is_among(name: &str, names: &[String<Memory>]) -> bool {
+    names.iter().any(|other| other.as_str() == name)
+}
+
+/// Adds the name of an element, and tells where it stands there already.
+fn draft_element(
+    memory: Memory,
+    element: &Element<'_>,
+    draft: &mut Draft,
+    words: &mut Words,
+) -> Result<(), AllocError> {
+    let name = match element {
+        Element::Column(column) => {
+            draft.columns.push(column.name.meant(memory)?)?;
+            column.name
+        }
+        Element::Period(period) => match period.name {
+            Some(name) => name,
+            None => return Ok(()),
+        },
+        Element::Constraint(_) => return Ok(()),
+    };
+    let meant = name.meant(memory)?;
+    if !words.are_there() && is_among(meant.as_str(), &draft.names) {
+        words.show("", meant.as_str())?;
+        words.say(" is there twice")?;
+    }
+    draft.names.push(meant)?;
+    Ok(())
+}
+
+/// Tells of a column that is not there.
+fn tell_column(
+    memory: Memory,
+    name: Name<'_>,
+    draft: &Draft,
+    words: &mut Words,
+) -> Result<(), AllocError> {
+    let meant = name.meant(memory)?;
+    if !words.are_there() && !is_among(meant.as_str(), &draft.columns) {
+        words.show("no column ", meant.as_str())?;
+    }
+    Ok(())
+}
+
+/// Tells of columns that are not there.
+fn tell_columns(
+    memory: Memory,
+    first: Name<'_>,
+    more: &[Name<'_>],
+    draft: &Draft,
+    words: &mut Words,
+) -> Result<(), AllocError> {
+    tell_column(memory, first, draft, words)?;
+    for name in more {
+        tell_column(memory, *name, draft, words)?;
+    }
+    Ok(())
+}
+
+/// Tells of columns of the table that is referenced that are not there.
+fn tell_parent(
+    memory: Memory,
+    catalog: &Catalog,
+    table: Name<'_>,
+    list: &RefList<'_>,
+    words: &mut Words,
+) -> Result<(), AllocError> {
+    let Some(parent) = table_named(memory, catalog, table)? else {
+        return Ok(());
+    };
+    for index in 0..=list.more.len() {
+        let name = match index.checked_sub(1) {
+            Some(before) => list.more.get(before).copied().unwrap_or(list.first),
+            None => list.first,
+        };
+        let meant = name.meant(memory)?;
+        if !words.are_there() && !has_column(parent, meant.as_str()) {
+            words.show("no column ", meant.as_str())?;
+            words.show(" in ", parent.name())?;
+        }
+    }
+    Ok(())
+}
+
+/// Tells of columns of a key that are not there.
+fn tell_key(
+    memory: Memory,
+    key: &KeyTree<'_>,
+    draft: &Draft,
+    words: &mut Words,
+) -> Result<(), AllocError> {
+    tell_columns(memory, key.first, &key.more, draft, words)
+}
+
+/// Tells of columns of a reference that are not there.
+fn tell_foreign(
+    memory: Memory,
+    catalog: &Catalog,
+    foreign: &ForeignTree<'_>,
+    draft: &Draft,
+    words: &mut Words,
+) -> Result<(), AllocError> {
+    tell_columns(
+        memory,
+        foreign.child.first,
+        &foreign.child.more,
+        draft,
+        words,
+    )?;
+    tell_parent(memory, catalog, foreign.table, &foreign.parent, words)
+}
+
+/// Tells of columns that an element names and that are not there.
+fn tell_element(
+    memory: Memory,
+    catalog: &Catalog,
+    element: &Element<'_>,
+    draft: &Draft,
+    words: &mut Words,
+) -> Result<(), AllocError> {
+    match element {
+        Element::Column(_) => Ok(()),
+        Element::Period(period) => {
+            tell_column(memory, period.start, draft, words)?;
+            tell_column(memory, period.end, draft, words)
+        }
+        Element::Constraint(constraint) => match &**constraint {
+            Constraint::Key(key) => tell_key(memory, key, draft, words),
+            Constraint::Foreign(foreign) => tell_foreign(memory, catalog, foreign, draft, words),
+            Constraint::Check(_) => Ok(()),
+        },
+    }
+}
+
+/// Tells which name of a CREATE TABLE is repeated, or else which column is not there.
+pub(crate) fn create_words(
+    memory: Memory,
+    catalog: &Catalog,
+    create: &CreateTree<'_>,
+    words: &mut Words,
+) -> Result<(), AllocError> {
+    let mut draft = Draft {
+        columns: Vec::new(memory),
+        names: Vec::new(memory),
+    };
+    draft_element(memory, &create.first, &mut draft, words)?;
+    for element in &create.more {
+        draft_element(memory, element, &mut draft, words)?;
+    }
+    tell_elements(memory, catalog, create, &draft, words)
+}
+
+/// Tells of columns that the elements name and that are not there.
+fn tell_elements(
+    memory: Memory,
+    catalog: &Catalog,
+    create: &CreateTree<'_>,
+    draft: &Draft,
+    words: &mut Words,
+) -> Result<(), AllocError> {
+    tell_element(memory, catalog, &create.first, draft, words)?;
+    for element in &create.more {
+        tell_element(memory, catalog, element, draft, words)?;
+    }
+    Ok(())
+}

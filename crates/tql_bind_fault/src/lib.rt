@@ -1,0 +1,9 @@
+//! What is told of a statement whose names, kinds or forms are refused.
+#![tactic(auto)]
+
+mod creates;
+mod forms;
+mod kinds;
+mod names;
+mod tables;
+pub mod told;

@@ -1,0 +1,43 @@
+use Rattle.std.proofs.Common.{◌∙◌, sym, subst}
+use Rattle.std.specs.Prelude.{ℤ, IsNone, ◌≤ℤ◌}
+use Rattle.std.proofs.Math.Facts.{to_z-of_z}
+use Rattle.tql_spec.specs.Machine.{State, Prune}
+use Rattle.tql_store.specs.Represents.{PrunesCopies}
+use Rattle.tql_engine.specs.Stands.{EngineModel, StandsFor}
+use Rattle.tql_engine.proofs.Doing.{prune_does}
+use Rattle.tql_engine.proofs.Pruning.{prune_law}
+use Rattle.tql_engine.proofs.Typed.{sound_after}
+use Rattle.tql_engine.proofs.engine.Engine.prune.Goals as goal
+
+pub prune-requires-clause-closed : goal.prune-requires-clause-closed
+prune-requires-clause-closed c =
+    subst (λ (h : EngineModel). IsNone h.store.working) (sym c.self.view_is) c.requires.closed
+
+pub prune-requires-clause-later : goal.prune-requires-clause-later
+prune-requires-clause-later c =
+    rw (to_z-of_z c.ranges.moment)
+    (subst (λ (h : EngineModel). h.store.horizon ≤ℤ c.args.moment) (sym c.self.view_is) c.requires.later)
+
+pub returns-clause-answered : goal.returns-clause-answered
+returns-clause-answered c s st =
+    let inside = subst (λ (h : EngineModel). StandsFor h s) (sym c.self.view_is) st in
+    let closed = subst (λ (h : EngineModel). IsNone h.store.working) (sym c.self.view_is) c.requires.closed in
+    let later = subst (λ (h : EngineModel). h.store.horizon ≤ℤ c.args.moment) (sym c.self.view_is) c.requires.later in
+    let copies = subst (λ (m : ℤ). PrunesCopies m c.self.inside.store c.prune.new.self) (to_z-of_z c.ranges.moment)
+    c.in_ok-prune.ensures.copies in
+    prune_does _ s c.args.moment c.prune.new.self inside closed later
+    (prune_law _ s c.args.moment c.prune.new.self inside copies c.prune.ensures.working c.prune.ensures.tables
+    (c.in_ok-prune.ensures.horizon ∙ to_z-of_z c.ranges.moment))
+
+pub invariant_of-self-2 : goal.invariant_of-self-2
+invariant_of-self-2 c =
+    let s : State = c.self.invariant.state in
+    let st = c.self.invariant.stands in
+    let closed = subst (λ (h : EngineModel). IsNone h.store.working) (sym c.self.view_is) c.requires.closed in
+    let later = subst (λ (h : EngineModel). h.store.horizon ≤ℤ c.args.moment) (sym c.self.view_is) c.requires.later in
+    let copies = subst (λ (m : ℤ). PrunesCopies m c.self.inside.store c.prune.new.self) (to_z-of_z c.ranges.moment)
+    c.in_ok-prune.ensures.copies in
+    sound_after _ _ c.self.invariant (Prune c.args.moment) _ tt (λ t e. absurd (cc))
+    (prune_does _ s c.args.moment c.prune.new.self st closed later
+    (prune_law _ s c.args.moment c.prune.new.self st copies c.prune.ensures.working c.prune.ensures.tables
+    (c.in_ok-prune.ensures.horizon ∙ to_z-of_z c.ranges.moment)))

@@ -1,0 +1,73 @@
+-- What a host does with a session over an engine, and what the engine then stands for.
+use Rattle.std.specs.Prelude.{◌≡◌, ℕ, List, [], ◌∷◌, ◌++◌, map, Option, Some, None}
+use Rattle.tql_spec.specs.Answer.{Answer, Replied}
+use Rattle.tql_spec.specs.Machine.{State, Reply}
+use Rattle.tql_spec.specs.Run.{Run}
+use Rattle.tql_spec.specs.Script.{Piece, statements}
+use Rattle.tql_points.specs.PointRun.{AgreesAtPoints}
+use Rattle.tql_lex.specs.Feeding.{Feeds, Finishes}
+use Rattle.tql_lex.specs.Holding.{Holds}
+use Rattle.tql_lex.specs.Pieces.{MayFollow}
+use Rattle.tql_lex.specs.Stream.{Stream}
+use Rattle.tql_result.specs.Replies.{answer_of}
+use Rattle.tql_result.specs.declared.answer.Answer as code
+use Rattle.tql_run.specs.Writing.{AnswersNext}
+use Rattle.tql_run.specs.Ending.{AllEndSurely, Responds}
+use Rattle.tql_engine.specs.HoldPoints.{HoldsFor}
+use Rattle.tql_engine.specs.Stands.{EngineModel, StandsFor}
+
+-- a call of a session, and what came of it: these bytes were taken; the end was told; the next answer, or none
+pub data Call : Type 0 where
+  Feed : List ℕ → Call
+  Finish : Call
+  Next : Option code.Answer → Call
+
+-- one call, as the clauses of `Session::feed`, `finish` and `next_answer` tell it; once the end was told no bytes come
+abbrev pub Turns : Call → (old : Stream) → (before : EngineModel) → (new : Stream) → (after : EngineModel) → Type 0
+Turns (Feed bytes) old before new after = Feeds old new bytes × MayFollow old.ended bytes × (after ≡ before)
+Turns Finish old before new after = Finishes old new × (after ≡ before)
+Turns (Next answer) old before new after = AnswersNext Responds answer old new (StandsFor before) (StandsFor after)
+
+-- calls one after another
+abbrev pub Calls : List Call → (old : Stream) → (before : EngineModel) → (new : Stream) → (after : EngineModel)
+    → Type 0
+Calls [] old before new after = (new ≡ old) × (after ≡ before)
+Calls (c ∷ cs) old before new after =
+    (mid : Stream) × ((between : EngineModel) × (Turns c old before mid between × Calls cs mid between new after))
+
+-- the bytes that they fed
+abbrev pub fed : List Call → List ℕ
+fed [] = []
+fed (Feed bytes ∷ cs) = bytes ++ fed cs
+fed (Finish ∷ cs) = fed cs
+fed (Next answer ∷ cs) = fed cs
+
+-- the answers that they gave
+abbrev pub given : List Call → List Answer
+given [] = []
+given (Feed bytes ∷ cs) = given cs
+given (Finish ∷ cs) = given cs
+given (Next None ∷ cs) = given cs
+given (Next (Some answer) ∷ cs) = answer_of answer ∷ given cs
+
+-- The answers are the machine's replies to the first statements of what was fed, whatever may follow it; the engine
+-- stands for the state behind them, in whose copies, the working one too, keys and references hold at every point; and
+-- they agree with the machines of all points.
+pub record SessionRan (s : State) (calls : List Call) (stream : Stream) (after : EngineModel) : Type 0 where
+  pub done : List Piece
+  pub left : List ℕ
+  pub first : (more : List ℕ) → MayFollow stream.ended more
+      → statements (fed calls ++ more) ≡ done ++ statements (left ++ more)
+  pub replies : List Reply
+  pub gave : given calls ≡ map Replied replies
+  pub state : State
+  pub ran : Run s done replies state
+  pub ends : AllEndSurely done replies
+  pub holds : HoldsFor after state
+  pub agrees : AgreesAtPoints s done replies state
+
+-- the law: so it is behind each call of a new session, from every state of which keys and references hold so
+abbrev pub SessionsHold : Type 0
+SessionsHold =
+    (old new : Stream) (before after : EngineModel) (calls : List Call) → Holds old [] []
+    → Calls calls old before new after → (s : State) → HoldsFor before s → SessionRan s calls new after

@@ -1,0 +1,15 @@
+use Rattle.std.proofs.Common.{refl, subst, Option}
+use Rattle.tql_lex.specs.declared.piece.Piece.{Piece}
+use Rattle.tql_lex.specs.Pieces.{Gives, StandsFor}
+use Rattle.tql_lex.proofs.HoldLemmas.{given_as}
+use Rattle.tql_run.proofs.runner.answer_whole.Goals as goal
+
+pub returns-in-Some : goal.returns-in-Some
+returns-in-Some g c =
+    let gives = subst (λ (o : Option Piece). Gives c.args.splitter.now o c.next_statement.follows.lender-at-none)
+    c.in-Some.is c.next_statement.follows.holds-at-none in
+    record {
+      one = given_as (StandsFor c.in-Some.piece) _ _ _ _ gives refl
+          (λ p says s st. c.answer_piece-answer.ensures.answered s p st says);
+      printable = c.answer_piece-answer.ensures.printable;
+    }

@@ -1,0 +1,37 @@
+//! A refused statement in a line, as the program tells it.
+use std::fmt;
+use tql_detail::detail::Detail;
+use tql_value::refusal::Refusal;
+
+/// What a listener is told of a refused statement, to be written as a line: its number, the line and, where it is
+/// known, the column of the fault, the refusal, and what is told beside it.
+#[derive(Drop)]
+pub struct Complaint<'a> {
+    pub statement: u64,
+    pub line: u64,
+    pub refusal: Refusal,
+    pub detail: Option<&'a Detail>,
+}
+
+impl fmt::Display for Complaint<'_> {
+    fn fmt<W: fmt::Write>(&self, f: &mut fmt::Formatter<W>) -> fmt::Result {
+        let statement = self.statement;
+        let line = self.line;
+        let text = self.refusal.text();
+        let Some(detail) = self.detail else {
+            return write!(f, "statement {statement}, line {line}: {text}");
+        };
+        let words = detail.words.as_str();
+        match detail.place {
+            Some(place) => {
+                let line = place.line;
+                let column = place.column;
+                write!(
+                    f,
+                    "statement {statement}, line {line}, column {column}: {text}, {words}"
+                )
+            }
+            None => write!(f, "statement {statement}, line {line}: {text}, {words}"),
+        }
+    }
+}
