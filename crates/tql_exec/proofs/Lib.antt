@@ -3,3 +3,4 @@ pub mod Printed
 pub mod Begun
 pub mod Early
 pub mod Looked
+pub mod ByKey

@@ -7,3 +7,4 @@ mod multiplying;
 mod reading;
 pub mod running;
 mod sorting;
+mod stepping;

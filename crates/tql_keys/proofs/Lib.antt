@@ -26,3 +26,8 @@ pub mod Children
 pub mod NamedRows
 pub mod Parented
 pub mod WholeReferences
+pub mod Alikes
+pub mod KeptRows
+pub mod KeptKeys
+pub mod KeptReferences
+pub mod KeptLists

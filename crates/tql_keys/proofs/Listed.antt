@@ -8,7 +8,8 @@ use Rattle.std.proofs.lemmas.List.Sorted.{list_any-IsPermutation}
 use Rattle.tql_spec.proofs.Members.{by_bool}
 use Rattle.tql_store.specs.StoreModel.{is_among}
 
-some_is : (i : ℕ) (js : List ℕ) → list_any (nat_eq i) js ≡ is_among i js
+-- whether one of the numbers is this one
+pub some_is : (i : ℕ) (js : List ℕ) → list_any (nat_eq i) js ≡ is_among i js
 some_is i [] = refl
 some_is i (j ∷ js) = ap (λ (b : Bool). nat_eq i j || b) (some_is i js)
 

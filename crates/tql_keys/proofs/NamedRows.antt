@@ -18,11 +18,12 @@ use Rattle.tql_keys.specs.Named.{of_named, AreNamed}
 use Rattle.tql_keys.proofs.Bools.{same_bool}
 
 -- a row of one of two equal bags is one of the other
-in_bag : (r : Stamped) {xs ys : List Stamped} → SameBag xs ys → In r xs → In r ys
+pub in_bag : (r : Stamped) {xs ys : List Stamped} → SameBag xs ys → In r xs → In r ys
 in_bag r {xs} {ys} h m =
     there_if r ys (subst (λ n. 0 < n) (h.totals (λ s. cond (same_stamped r s) 1 0)) (times_some r xs m))
 
-kept_in : {A : Type 0} (p : A → Bool) (x : A) (xs : List A) → In x xs → p x ≡ true → In x (filter p xs)
+-- a member that passes is among those kept
+pub kept_in : {A : Type 0} (p : A → Bool) (x : A) (xs : List A) → In x xs → p x ≡ true → In x (filter p xs)
 kept_in p x [] m e = absurd m
 kept_in p x (y ∷ xs) (inl q) e = at (p y) (sym (ap p q) ∙ e)
   where
@@ -35,13 +36,15 @@ kept_in p x (y ∷ xs) (inr m) e = at (p y) (kept_in p x xs m e)
     at true n = inr n
     at false n = n
 
-among_in : (i : ℕ) (js : List ℕ) → is_among i js ≡ true → In i js
+-- a number that is among others is a member of them
+pub among_in : (i : ℕ) (js : List ℕ) → is_among i js ≡ true → In i js
 among_in i [] e = absurd (cc)
 among_in i (j ∷ js) e = by_bool (nat_eq i j)
     (λ h. inl (grind (arith, nat_tests)))
     (λ h. inr (among_in i js (sym (ap (λ b. b || is_among i js) h) ∙ e)))
 
-in_among : (i : ℕ) (js : List ℕ) → In i js → is_among i js ≡ true
+-- and the other way
+pub in_among : (i : ℕ) (js : List ℕ) → In i js → is_among i js ≡ true
 in_among i [] m = absurd m
 in_among i (j ∷ js) (inl q) = ap (λ b. b || is_among i js) (is i j q)
   where

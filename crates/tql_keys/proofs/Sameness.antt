@@ -32,7 +32,8 @@ any_bag p {xs} {ys} h =
 share_turned : (x y : Period) → share_a_point x y ≡ share_a_point y x
 share_turned x y = grind (arith, ints, clamps)
 
-clash_turned : (d : TableDef) (k : Key) (r s : Row) → clash d k r s ≡ clash d k s r
+-- rows clash whichever comes first
+pub clash_turned : (d : TableDef) (k : Key) (r s : Row) → clash d k r s ≡ clash d k s r
 clash_turned d k r s =
     ap (λ b. b && (not k.by_period || share_a_point (period_of d r) (period_of d s)))
     (match_sym k.columns r k.columns s)

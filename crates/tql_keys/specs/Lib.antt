@@ -1,6 +1,7 @@
 pub mod Asked
 pub mod Checked
 pub mod Coming
+pub mod Keeping
 pub mod Laws
 pub mod Named
 pub mod Parents

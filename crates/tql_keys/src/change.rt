@@ -1,5 +1,6 @@
 //! A change of one table's rows, as the tests read it.
 ghost use Rattle.std.specs.Prelude.{◌≡◌, ℕ, IfOk};
+ghost use Rattle.tql_spec.specs.Bag.{SameBag};
 ghost use Rattle.tql_store.specs.StoreModel.{is_among};
 ghost use Rattle.tql_keys.specs.Rising.{AreRising};
 
@@ -14,12 +15,16 @@ pub(crate) struct Change<'a> {
     pub(crate) removed: &'a [usize],
     pub(crate) added: &'a [Vec<Value, Memory>],
     pub(crate) moment: i64,
+    /// The ids of the rows that go, in the order in which they were given.
+    pub(crate) given: &'a [usize],
     pub(crate) ghost rising: { AreRising removed.now },
+    pub(crate) ghost same: { SameBag given.now removed.now },
 }
 
 impl Change<'_> {
     ghost use Rattle.std.specs.Prelude.{◌≡◌};
     ghost use Rattle.tql_store.specs.StoreModel.{is_among};
+    ghost use Rattle.tql_keys.specs.Rising.{are_distinct};
 
     /// Whether the row of an id goes.
     pub(crate) fn removes(&self, id: usize) -> bool
@@ -27,12 +32,20 @@ impl Change<'_> {
     {
         self.removed.binary_search(&id).is_ok()
     }
+
+    /// Whether no id is given twice.
+    pub(crate) fn names_once(&self) -> bool
+        ensures { result ≡ are_distinct self.now.given.now }
+    {
+        self.removed.is_sorted_by(|id, next| *id < *next)
+    }
 }
 
 /// These ids, rising.
 pub(crate) fn rising(memory: Memory, ids: &[usize]) -> Result<Vec<usize, Memory>, AllocError>
     ensures rising { IfOk result (λ rising. AreRising rising.items) }
     ensures same { IfOk result (λ rising. (id : ℕ) → is_among id rising.items ≡ is_among id ids.now) }
+    ensures bag { IfOk result (λ rising. SameBag ids.now rising.items) }
 {
     let mut rising = Vec::from_slice(memory, ids)?;
     rising.sort_unstable();

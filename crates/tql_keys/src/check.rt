@@ -21,7 +21,7 @@ ghost use Rattle.tql_keys.specs.Checked.{TellsTests, TellsFirst, TellsAtPoints};
 
 use crate::change::{Change, rising};
 use crate::keys::keys_after;
-use crate::references::{child_holds_after, parent_holds_after};
+use crate::references::{child_after, parent_after};
 use std::alloc::AllocError;
 use tql_catalog::catalog::Catalog;
 use tql_catalog::constraint::Reference;
@@ -76,10 +76,10 @@ fn reference_between<I: IntervalIndex>(
     let to = catalog.table(parent);
     read_key(&to.definition, reference);
     if child == place {
-        return child_holds_after(memory, store, &from.definition, reference, to, change);
+        return child_after(memory, store, from, reference, to, change);
     }
     if parent == place {
-        return parent_holds_after(memory, store, from, reference, to, change);
+        return parent_after(memory, store, from, reference, to, change);
     }
     Ok(true)
 }
@@ -199,6 +199,7 @@ fn test<I: IntervalIndex>(
         removed: &removed,
         added: &delta.added,
         moment,
+        given: &delta.removed,
     };
     if !keys_after(memory, store, catalog.table(place), &change)? {
         return Err(Refusal::DuplicateKey);

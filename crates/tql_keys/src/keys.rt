@@ -1,5 +1,5 @@
 //! The keys of a table after a change.
-ghost use Rattle.std.specs.Prelude.{◌≡◌, Bool, true, List, IfOk, IsTrue};
+ghost use Rattle.std.specs.Prelude.{◌≡◌, ◌&&◌, Bool, true, List, IfOk, IsTrue};
 ghost use Rattle.tql_spec.specs.Definition.{Stamped};
 ghost use Rattle.tql_spec.specs.Constraint.{key_holds, shown_rows};
 ghost use Rattle.tql_catalog.specs.Definitions.{key_of};
@@ -8,11 +8,14 @@ ghost use Rattle.tql_expr.specs.Shown.{shown_by};
 ghost use Rattle.tql_store.specs.Changes.{rows_after};
 ghost use Rattle.tql_store.specs.StoreModel.{has_table};
 ghost use Rattle.tql_value.specs.Views.{rows_of};
-ghost use Rattle.tql_keys.specs.Asked.{AreRowsOf, IsJudged, row_named, staying, keys_hold_of};
+ghost use Rattle.tql_keys.specs.Asked.{AreRowsOf, IsJudged, new_rows, row_named, staying, keys_hold_of};
+ghost use Rattle.tql_keys.specs.Keeping.{are_kept as are_kept_in};
+ghost use Rattle.tql_keys.specs.Rising.{are_distinct};
 ghost use Rattle.tql_keys.specs.Touched.{is_free as free_in};
 
 use crate::change::Change;
 use crate::finding::SoughtColumns;
+use crate::keeping::are_kept;
 use crate::reading::{collides, current_row, tuple_of};
 use crate::rivals::are_apart;
 use std::alloc::AllocError;
@@ -90,6 +93,47 @@ fn holds_after<I: IntervalIndex>(
     Ok(true)
 }
 
+/// Whether the rows that come are like those that go in what a key sees, and none that goes is named twice.
+fn is_untouched<I: IntervalIndex>(
+    store: &Store<I>,
+    table: &Table,
+    key: &Key,
+    change: &Change<'_>,
+) -> bool
+    requires { IsTrue (has_table store.now table.now.id) }
+    ensures { result ≡ (are_kept_in table.now.definition (key_of key.now).columns (key_of key.now).by_period
+        (row_named store.now table.now.id) change.now.given.now
+        (new_rows table.now.definition change.now.moment (rows_of change.now.added.now))
+        && are_distinct change.now.given.now) }
+{
+    are_kept(store, table, &key.columns, key.by_period, change) && change.names_once()
+}
+
+/// Whether a key that held holds after a change. It is not tested where the rows that come have the tuples, and of a
+/// key WITHOUT OVERLAPS the periods, of those that go.
+fn key_after<I: IntervalIndex>(
+    memory: Memory,
+    store: &Store<I>,
+    table: &Table,
+    key: &Key,
+    change: &Change<'_>,
+) -> Result<bool, AllocError>
+    requires there { IsTrue (has_table store.now table.now.id) }
+    requires columns { IsTrue (are_assignable table.now.definition (key_of key.now).columns) }
+    ensures { IfOk result (λ holds. (rows : List Stamped) (gone : Stamped → Bool)
+        → AreRowsOf store.now table.now rows
+        → IsJudged (row_named store.now table.now.id) gone change.now.removed.now
+        → key_holds table.now.definition (shown_rows table.now.definition rows) (key_of key.now) ≡ true
+        → holds ≡ key_holds table.now.definition
+        (shown_rows table.now.definition (rows_after change.now.moment gone (rows_of change.now.added.now) rows))
+        (key_of key.now)) }
+{
+    if is_untouched(store, table, key, change) {
+        return Ok(true);
+    }
+    holds_after(memory, store, table, key, change)
+}
+
 /// Whether the keys of a table, which held, hold after a change of its rows.
 pub(crate) fn keys_after<I: IntervalIndex>(
     memory: Memory,
@@ -106,7 +150,7 @@ pub(crate) fn keys_after<I: IntervalIndex>(
         (shown_rows table.now.definition (rows_after change.now.moment gone (rows_of change.now.added.now) rows))) }
 {
     for key in table.definition.keys() {
-        if !holds_after(memory, store, table, key, change)? {
+        if !key_after(memory, store, table, key, change)? {
             return Ok(false);
         }
     }

@@ -5,6 +5,7 @@ mod change;
 pub mod check;
 mod coming;
 mod finding;
+mod keeping;
 mod keys;
 pub mod laws;
 mod ranks;

@@ -24,6 +24,7 @@ ghost use Rattle.tql_keys.specs.Touched.{has_tuple as tuple_in, is_spared as spa
 use crate::change::Change;
 use crate::coming::{sorted_coming, with_tuple};
 use crate::finding::SoughtColumns;
+use crate::keeping::are_kept;
 use crate::reading::{current_row, has_tuple, period, tuple_of};
 use std::alloc::AllocError;
 use tql_catalog::catalog::Table;
@@ -293,13 +294,14 @@ fn is_met_now<I: IntervalIndex>(
         removed: &gone,
         added: &come,
         moment: 0,
+        given: &gone,
     };
     is_met(memory, store, child, row, reference, parents, &nothing, &[])
 }
 
 /// Whether a reference that held holds after a change of its child table. Of the parent table the rows with the tuples
 /// of those that come are looked at alone.
-pub(crate) fn child_holds_after<I: IntervalIndex>(
+fn child_holds_after<I: IntervalIndex>(
     memory: Memory,
     store: &Store<I>,
     child: &TableDef,
@@ -412,7 +414,7 @@ fn is_spared_by<I: IntervalIndex>(
 
 /// Whether a reference that held holds after a change of its parent table. Of the child table the rows with the tuples
 /// of those that go are looked at alone.
-pub(crate) fn parent_holds_after<I: IntervalIndex>(
+fn parent_holds_after<I: IntervalIndex>(
     memory: Memory,
     store: &Store<I>,
     child: &Table,
@@ -447,4 +449,74 @@ pub(crate) fn parent_holds_after<I: IntervalIndex>(
         }
     }
     Ok(true)
+}
+
+/// Whether a reference that held holds after a change of its child table. It is not tested where the rows that come
+/// have the tuples, and of a PERIOD reference the periods, of those that go.
+pub(crate) fn child_after<I: IntervalIndex>(
+    memory: Memory,
+    store: &Store<I>,
+    child: &Table,
+    reference: &Reference,
+    parent: &Table,
+    change: &Change<'_>,
+) -> Result<bool, AllocError>
+    requires there { IsTrue (has_table store.now parent.now.id) }
+    requires columns { IsTrue (are_assignable parent.now.definition (reference_of reference.now).parent_columns) }
+    requires child_there { IsTrue (has_table store.now child.now.id) }
+    ensures { IfOk result (λ holds. (parents rows : List Stamped) (gone : Stamped → Bool)
+        → AreRowsOf store.now parent.now parents → AreRowsOf store.now child.now rows
+        → reference_holds child.now.definition parent.now.definition (reference_of reference.now)
+        (shown_rows parent.now.definition parents) (shown_rows child.now.definition rows) ≡ true
+        → holds ≡ reference_holds child.now.definition parent.now.definition (reference_of reference.now)
+        (shown_rows parent.now.definition parents)
+        (shown_rows child.now.definition (rows_after change.now.moment gone (rows_of change.now.added.now) rows))) }
+{
+    if are_kept(
+        store,
+        child,
+        &reference.columns,
+        reference.by_period,
+        change,
+    ) {
+        return Ok(true);
+    }
+    child_holds_after(memory, store, &child.definition, reference, parent, change)
+}
+
+/// Whether a reference that held holds after a change of its parent table. It is not tested where the rows that come
+/// have the tuples, and of a PERIOD reference the periods, of those that go.
+pub(crate) fn parent_after<I: IntervalIndex>(
+    memory: Memory,
+    store: &Store<I>,
+    child: &Table,
+    reference: &Reference,
+    parent: &Table,
+    change: &Change<'_>,
+) -> Result<bool, AllocError>
+    requires there { IsTrue (has_table store.now parent.now.id) }
+    requires columns { IsTrue (are_assignable parent.now.definition (reference_of reference.now).parent_columns) }
+    requires child_there { IsTrue (has_table store.now child.now.id) }
+    requires child_columns { IsTrue (are_assignable child.now.definition (reference_of reference.now).columns) }
+    ensures { IfOk result (λ holds. (rows children : List Stamped) (gone : Stamped → Bool)
+        → AreRowsOf store.now parent.now rows
+        → IsJudged (row_named store.now parent.now.id) gone change.now.removed.now
+        → AreRowsOf store.now child.now children
+        → reference_holds child.now.definition parent.now.definition (reference_of reference.now)
+        (shown_rows parent.now.definition rows) (shown_rows child.now.definition children) ≡ true
+        → holds ≡ reference_holds child.now.definition parent.now.definition (reference_of reference.now)
+        (shown_rows parent.now.definition (rows_after change.now.moment gone (rows_of change.now.added.now) rows))
+        (shown_rows child.now.definition children)) }
+{
+    references_at_each_point();
+    if are_kept(
+        store,
+        parent,
+        &reference.parent_columns,
+        reference.by_period,
+        change,
+    ) {
+        return Ok(true);
+    }
+    parent_holds_after(memory, store, child, reference, parent, change)
 }

@@ -4,4 +4,7 @@ pub mod Demanded
 pub mod DemandedKeys
 pub mod Asked
 pub mod Served
+pub mod Keyed
+pub mod Steps
+pub mod LastKey
 pub mod DemandedPeriods

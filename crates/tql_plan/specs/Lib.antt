@@ -1,5 +1,6 @@
 pub mod Nodes
 pub mod Meaning
+pub mod Keyed
 pub mod Planned
 pub mod Maps
 pub mod Asked

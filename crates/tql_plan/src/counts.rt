@@ -1,6 +1,7 @@
 //! In how many places a plan finds rows otherwise than by reading and comparing all.
 ghost use Rattle.std.specs.Prelude.{◌≡◌, if◌then◌else◌, option_map};
-ghost use Rattle.tql_plan.specs.Maps.{chains_maps, intervals_of, keys_of, maps_of, products_maps, steps_maps, with_map};
+ghost use Rattle.tql_plan.specs.Maps.{chains_keys, chains_maps, intervals_of, keys_of, maps_of, products_maps};
+ghost use Rattle.tql_plan.specs.Maps.{steps_keys, steps_maps, with_map};
 ghost use Rattle.tql_plan_access.specs.Access.{is_by_key, is_by_period};
 ghost use Rattle.tql_store_index.specs.Basis.{sought_of};
 
@@ -13,7 +14,7 @@ use tql_store_index::basis::Sought;
 pub struct Counts {
     /// Joins and products whose partners are found by an equality.
     pub maps: usize,
-    /// Scans whose rows are found by the values of a key or of a reference.
+    /// Scans, joins and products whose rows are found by the values of a key or of a reference.
     pub keys: usize,
     /// Scans whose rows are found by their application period, which holds a point or shares one with a period.
     pub intervals: usize,
@@ -49,6 +50,38 @@ fn chain_maps(chains: &[ChainPlan<'_>]) -> usize
         maps = with_steps(maps, &chain.joins);
     }
     maps
+}
+
+/// One more where a key is named.
+fn with_key(count: usize, key: Option<usize>) -> usize
+    ensures { result ≡ with_map count key }
+{
+    match key {
+        Some(_) => count.saturating_add(1),
+        None => count,
+    }
+}
+
+/// So many, and those of steps.
+fn with_steps_keys(count: usize, steps: &[Step<'_>]) -> usize
+    ensures { result ≡ steps_keys count steps.now }
+{
+    let mut keys = count;
+    for step in steps {
+        keys = with_key(keys, step.key);
+    }
+    keys
+}
+
+/// So many, and the joins of chains whose partners are found by a key.
+fn with_chains_keys(count: usize, chains: &[ChainPlan<'_>]) -> usize
+    ensures { result ≡ chains_keys count chains.now }
+{
+    let mut keys = count;
+    for chain in chains {
+        keys = with_steps_keys(keys, &chain.joins);
+    }
+    keys
 }
 
 /// So many, and the products that name an equality.
@@ -91,9 +124,10 @@ impl<'a> Plan<'a> {
     {
         let maps = with_products(chain_maps(&self.chains), &self.products);
         let maps = with_equality(maps, self.equality);
+        let keys = with_chains_keys(key_count(self.access.sought()), &self.chains);
         Counts {
             maps,
-            keys: key_count(self.access.sought()),
+            keys: with_key(keys, self.key),
             intervals: interval_count(self.access.sought()),
         }
     }

@@ -3,6 +3,7 @@
 
 mod accesses;
 pub mod counts;
+mod keys;
 pub mod plan;
 pub mod planner;
 mod products;

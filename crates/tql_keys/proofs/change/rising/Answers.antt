@@ -1,5 +1,7 @@
-use Rattle.std.proofs.Common.{ap, ◌∙◌, ℕ, List}
+use Rattle.std.proofs.Common.{ap, subst, ◌∙◌, ℕ, List}
 use Rattle.std.proofs.lemmas.List.Sorted.{IsNonDecreasingBy-from_sort}
+use Rattle.tql_spec.specs.Bag.{SameBag}
+use Rattle.tql_spec.proofs.Bags.{same-permutation}
 use Rattle.tql_store.specs.StoreModel.{is_among}
 use Rattle.tql_keys.proofs.Listed.{among_either}
 use Rattle.tql_keys.proofs.change.rising.Goals as goal
@@ -12,3 +14,8 @@ pub returns-clause-same : goal.returns-clause-same
 returns-clause-same c id =
     among_either id _ _ c.sort_unstable.ensures.permutation
     ∙ ap (λ (ids : List ℕ). is_among id ids) c.in_ok-rising.ensures.items
+
+pub returns-clause-bag : goal.returns-clause-bag
+returns-clause-bag c =
+    subst (λ (ids : List ℕ). SameBag ids c.sort_unstable.new.self.items) c.in_ok-rising.ensures.items
+    (same-permutation c.sort_unstable.ensures.permutation)

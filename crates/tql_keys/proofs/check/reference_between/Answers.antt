@@ -25,17 +25,18 @@ returns-then-child-place g c =
     let y = c.table-to.ensures.definition in
     let ut : u ≡ t = c.if-child-place.true in
     let pt : p ≢ t = λ q. c.requires.another (q ∙ sym ut) in
-    IfOk-weaker c.child_holds_after.result _ _ (λ b h copy gone is judged before.
+    IfOk-weaker c.child_after.result _ _ (λ b h copy gone is judged before.
     let l : t < length copy = omega (arith, is.as_many, c.requires.within) in
     let held = held_in_copy D copy u p f from.definition to.definition x y before in
-    let told = h (rows_in copy p) (rows_in copy u) gone (is.rows p to c.table-to.ensures.table) held in
+    let told = h (rows_in copy p) (rows_in copy u) gone (is.rows p to c.table-to.ensures.table)
+    (is.rows u from c.table-from.ensures.table) held in
     told_of_copy D (copy_after m t gone added copy) u p f from.definition to.definition
     (rows_after m gone added (rows_in copy u)) (rows_in copy p) b x y
     (ap (rows_in (copy_after m t gone added copy)) ut
     ∙ rows_there copy t (rows_after m gone added (rows_in copy t)) l
     ∙ ap (λ k. rows_after m gone added (rows_in copy k)) (sym ut))
     (rows_elsewhere copy t p (rows_after m gone added (rows_in copy t)) pt) told)
-    c.child_holds_after.ensures
+    c.child_after.ensures
 
 pub returns-then-parent-place : goal.returns-then-parent-place
 returns-then-parent-place g c =
@@ -54,7 +55,7 @@ returns-then-parent-place g c =
     let ut : u ≢ t = λ q. c.requires.another (pt ∙ sym q) in
     let there : slice_get c.args.catalog.now t ≡ Some to =
     ap (slice_get c.args.catalog.now) (sym pt) ∙ c.table-to.ensures.table in
-    IfOk-weaker c.parent_holds_after.result _ _ (λ b h copy gone is judged before.
+    IfOk-weaker c.parent_after.result _ _ (λ b h copy gone is judged before.
     let l : t < length copy = omega (arith, is.as_many, c.requires.within) in
     let held = held_in_copy D copy u p f from.definition to.definition x y before in
     let told = h (rows_in copy p) (rows_in copy u) gone (is.rows p to c.table-to.ensures.table) (judged to there)
@@ -65,7 +66,7 @@ returns-then-parent-place g c =
     (ap (rows_in (copy_after m t gone added copy)) pt
     ∙ rows_there copy t (rows_after m gone added (rows_in copy t)) l
     ∙ ap (λ k. rows_after m gone added (rows_in copy k)) (sym pt)) told)
-    c.parent_holds_after.ensures
+    c.parent_after.ensures
 
 pub returns : goal.returns
 returns g c copy gone is judged before =

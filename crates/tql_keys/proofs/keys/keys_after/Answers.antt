@@ -11,8 +11,8 @@ use Rattle.tql_keys.proofs.Positions.{part_in, parts_decide, parts_all}
 use Rattle.tql_keys.proofs.Stepping.{none_left}
 use Rattle.tql_keys.proofs.keys.keys_after.Goals as goal
 
-pub holds_after-requires-clause-columns : goal.holds_after-requires-clause-columns
-holds_after-requires-clause-columns g c =
+pub key_after-requires-clause-columns : goal.key_after-requires-clause-columns
+key_after-requires-clause-columns g c =
     let d = c.args.table.now.definition in
     let items = c.keys-key-items.result.now in
     let inside : c.loop-key.key-index < length items = search rules in
@@ -30,9 +30,9 @@ returns-then-not-branch g c rows gone of judged h =
     (shown_rows d (rows_after c.args.change.now.moment gone (rows_of c.args.change.now.added.now) rows)) in
     let inside : i < length items = search rules in
     let before = part_in key_of (key_holds d (shown_rows d rows)) d.keys items keys i k inside c.key-item.is h in
-    let told : c.in_ok-holds_after.field-0 ≡ P (key_of k) = c.in_ok-holds_after.ensures rows gone of judged before in
-    let left = parts_decide key_of P d.keys items keys i k c.in_ok-holds_after.field-0 inside c.key-item.is told in
-    let fails : c.in_ok-holds_after.field-0 ≡ false = search (rules, tests) in
+    let told : c.in_ok-key_after.field-0 ≡ P (key_of k) = c.in_ok-key_after.ensures rows gone of judged before in
+    let left = parts_decide key_of P d.keys items keys i k c.in_ok-key_after.field-0 inside c.key-item.is told in
+    let fails : c.in_ok-key_after.field-0 ≡ false = search (rules, tests) in
     sym (sym (parts_all key_of P d.keys items keys) ∙ sym (c.loop-key.invariant rows gone of judged h) ∙ left
     ∙ ap (λ b. b && list_all (λ x. P (key_of x)) (drop (i + 1) items)) fails)
 
@@ -47,9 +47,9 @@ loop-key-preserved g c rows gone of judged h =
     (shown_rows d (rows_after c.args.change.now.moment gone (rows_of c.args.change.now.added.now) rows)) in
     let inside : i < length items = search rules in
     let before = part_in key_of (key_holds d (shown_rows d rows)) d.keys items keys i k inside c.key-item.is h in
-    let told : c.in_ok-holds_after.field-0 ≡ P (key_of k) = c.in_ok-holds_after.ensures rows gone of judged before in
-    let left = parts_decide key_of P d.keys items keys i k c.in_ok-holds_after.field-0 inside c.key-item.is told in
-    let holds : c.in_ok-holds_after.field-0 ≡ true = search (rules, tests) in
+    let told : c.in_ok-key_after.field-0 ≡ P (key_of k) = c.in_ok-key_after.ensures rows gone of judged before in
+    let left = parts_decide key_of P d.keys items keys i k c.in_ok-key_after.field-0 inside c.key-item.is told in
+    let holds : c.in_ok-key_after.field-0 ≡ true = search (rules, tests) in
     sym (left ∙ ap (λ b. b && list_all (λ x. P (key_of x)) (drop (i + 1) items)) holds)
     ∙ c.loop-key.invariant rows gone of judged h
 

@@ -1,0 +1,31 @@
+-- cases: in-turn
+-- Few rows joined with a table by a column that alone is a key or a reference: INNER and LEFT, several partners, NULL, chains, a table with itself. By hand from docs/LANGUAGE.md.
+CREATE TABLE dept (dno INTEGER, dname VARCHAR(10), PRIMARY KEY (dno));
+CREATE TABLE emp (eno INTEGER, dno INTEGER, PRIMARY KEY (eno), FOREIGN KEY (dno) REFERENCES dept (dno));
+INSERT INTO dept VALUES (1, 'a'), (2, 'b'), (3, 'c');
+INSERT INTO emp VALUES (1, 1), (2, 1), (3, 2), (4, NULL);
+SELECT eno, dname FROM emp JOIN dept ON emp.dno = dept.dno;
+SELECT eno, dname FROM emp LEFT JOIN dept ON emp.dno = dept.dno;
+SELECT dname, eno FROM dept JOIN emp ON dept.dno = emp.dno;
+SELECT dname, eno FROM dept LEFT JOIN emp ON dept.dno = emp.dno;
+SELECT dname, eno FROM dept LEFT JOIN emp ON emp.dno = dept.dno AND eno > 1;
+SELECT dname, eno FROM dept LEFT JOIN emp ON eno > 1 AND emp.dno = dept.dno WHERE dname <> 'b';
+SELECT dname FROM dept LEFT JOIN emp ON emp.dno = dept.dno WHERE eno IS NULL;
+SELECT a.eno AS x, dname, b.eno AS y FROM emp a JOIN dept ON a.dno = dept.dno JOIN emp b ON dept.dno = b.dno;
+SELECT a.eno AS x, dname, b.eno AS y FROM emp a LEFT JOIN dept ON a.dno = dept.dno LEFT JOIN emp b ON b.eno = dept.dno;
+SELECT a.eno AS x, b.eno AS y FROM emp a JOIN emp b ON a.dno = b.eno;
+SELECT a.eno AS x, b.eno AS y FROM emp a LEFT JOIN emp b ON a.eno = b.dno WHERE a.eno <> 3;
+SELECT eno, dname FROM emp JOIN dept ON emp.dno = dept.dno AND dept.dno = 2;
+SELECT eno, dname FROM emp JOIN dept ON dept.dno = emp.dno WHERE emp.eno = 2;
+SELECT eno, dname FROM emp JOIN dept ON dept.dno = emp.dno WHERE emp.eno = 4;
+SELECT eno, dname FROM emp LEFT JOIN dept ON dept.dno = emp.dno WHERE emp.eno = 4;
+SELECT eno, dname FROM emp LEFT JOIN dept ON dept.dno = emp.dno WHERE emp.eno = 9;
+SELECT eno, dname FROM emp CROSS JOIN dept WHERE emp.dno = dept.dno AND eno < 3;
+CREATE TABLE job (eno INTEGER, what VARCHAR(5), f DATE, u DATE, PERIOD FOR ep (f, u), PRIMARY KEY (eno, ep WITHOUT OVERLAPS));
+INSERT INTO job VALUES (1, 'x', DATE '2011-01-01', DATE '2011-02-01'), (1, 'y', DATE '2011-02-01', DATE '2011-03-01'), (3, 'z', DATE '2011-01-01', DATE '2011-03-01');
+SELECT emp.eno, what FROM emp JOIN job ON emp.eno = job.eno;
+SELECT emp.eno, what FROM emp LEFT JOIN job ON emp.eno = job.eno AND ep CONTAINS DATE '2011-02-15';
+SELECT emp.eno, what FROM emp LEFT JOIN job ON emp.eno = job.eno WHERE what IS NULL OR what = 'x';
+DELETE FROM job WHERE what = 'x';
+UPDATE job SET eno = 2 WHERE what = 'z';
+SELECT emp.eno, what FROM emp LEFT JOIN job ON emp.eno = job.eno;

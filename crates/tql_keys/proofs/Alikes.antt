@@ -1,0 +1,108 @@
+-- Rows that are alike in some columns, and where it counts in their periods: keys and references see no more of them.
+use Rattle.std.proofs.Common.{◌≡◌, refl, sym, ap, ◌∙◌, ℕ, Bool, true, false, List}
+use Rattle.std.specs.Prelude.{◌&&◌, ◌||◌, not, ℤ}
+use Rattle.std.specs.List.{list_any}
+use Rattle.std.specs.Ordering.{int_eq, is_eq}
+use Rattle.std.specs.declared.cmp.Ordering.{Ordering}
+use Rattle.std.specs.declared.cmp.Ordering.TheVariants.{Less, Equal, Greater}
+use Rattle.std.proofs.lemmas.Bool.Decides.{Decides-int_eq}
+use Rattle.tql_spec.specs.Datum.{Row, is_null}
+use Rattle.tql_spec.specs.Definition.{TableDef, Key, Reference, cell, period_of}
+use Rattle.tql_spec.specs.Constraint.{clash, covered, has_null, is_met, is_met_by, match_on, parents_of}
+use Rattle.tql_spec.specs.Period.{Period, share_a_point}
+use Rattle.tql_spec.specs.Query.{by_columns}
+use Rattle.tql_spec.proofs.Members.{both}
+use Rattle.tql_spec.proofs.Orders.{by_columns-ties}
+use Rattle.tql_keys.specs.Keeping.{are_alike, same_ends, same_period}
+use Rattle.tql_keys.specs.Touched.{tuple, has_tuple, with_tuple}
+use Rattle.tql_keys.proofs.Agreeing.{any_map}
+use Rattle.tql_keys.proofs.Gathering.{parents_is}
+use Rattle.tql_keys.proofs.Sameness.{clash_turned}
+use Rattle.tql_keys.proofs.Tuples.{match_tuple}
+
+-- the same tuple, and where it counts the same period
+pub record AreAlike (d : TableDef) (columns : List ℕ) (by_period : Bool) (r s : Row) : Type 0 where
+  pub tuples : tuple columns r ≡ tuple columns s
+  pub periods : by_period ≡ true → period_of d r ≡ period_of d s
+
+level : (o : Ordering) → is_eq o ≡ true → o ≡ Equal
+level Less e = absurd (cc)
+level Equal e = refl
+level Greater e = absurd (cc)
+
+-- tuples that lie level are one
+one_tuple : (a b : Row) → is_eq (by_columns a b) ≡ true → a ≡ b
+one_tuple a b e = by_columns-ties a b (level (by_columns a b) e)
+
+-- from a start to an end
+abbrev between : ℤ → ℤ → Period
+between start end = record { start = start; end = end }
+
+-- periods with the same ends are one
+one_period : (x y : Period) → same_ends x y ≡ true → x ≡ y
+one_period x y e =
+    let b = both (int_eq x.start y.start) (int_eq x.end y.end) e in
+    let s : x.start ≡ y.start = (Decides-int_eq x.start y.start).0 b.0 in
+    let t : x.end ≡ y.end = (Decides-int_eq x.end y.end).0 b.1 in
+    ap (λ z. between z x.end) s ∙ ap (between y.start) t
+
+-- what the test tells
+pub alike_says : (d : TableDef) (columns : List ℕ) (by_period : Bool) (r s : Row)
+    → are_alike d columns by_period r s ≡ true → AreAlike d columns by_period r s
+alike_says d columns by_period r s e =
+    let b = both (is_eq (by_columns (tuple columns r) (tuple columns s))) (not by_period || same_period d r s) e in
+    record {
+      tuples = one_tuple (tuple columns r) (tuple columns s) b.0;
+      periods = λ p. one_period (period_of d r) (period_of d s) (sym (ap (λ c. not c || same_period d r s) p) ∙ b.1);
+    }
+
+-- a row is like itself
+pub alike_itself : (d : TableDef) (columns : List ℕ) (by_period : Bool) (r : Row) → AreAlike d columns by_period r r
+alike_itself d columns by_period r = record { tuples = refl; periods = λ p. refl }
+
+-- ---- keys
+
+-- a row matches those that are alike alike
+pub matches_alike : (cs : List ℕ) (c : Row) (ks : List ℕ) (r s : Row) → tuple ks r ≡ tuple ks s
+    → match_on cs c ks r ≡ match_on cs c ks s
+matches_alike cs c ks r s e =
+    match_tuple cs c ks r ∙ ap (λ vs. has_tuple cs vs c) e ∙ sym (match_tuple cs c ks s)
+
+clash_second : (d : TableDef) (k : Key) (a r s : Row) → AreAlike d k.columns k.by_period r s
+    → clash d k a r ≡ clash d k a s
+clash_second d k a r s h =
+    ap (λ b. b && (not k.by_period || share_a_point (period_of d a) (period_of d r)))
+    (matches_alike k.columns a k.columns r s h.tuples)
+    ∙ ap (λ b. match_on k.columns a k.columns s && b)
+    (shared k.by_period (period_of d a) (period_of d r) (period_of d s) h.periods)
+  where
+    shared : (b : Bool) (x y z : Period) → (b ≡ true → y ≡ z)
+        → not b || share_a_point x y ≡ not b || share_a_point x z
+    shared false x y z q = refl
+    shared true x y z q = ap (share_a_point x) (q refl)
+
+-- rows clash as those do that are like them
+pub clash_alike : (d : TableDef) (k : Key) (a b r s : Row) → AreAlike d k.columns k.by_period a b
+    → AreAlike d k.columns k.by_period r s → clash d k a r ≡ clash d k b s
+clash_alike d k a b r s h j =
+    clash_second d k a r s j ∙ clash_turned d k a s ∙ clash_second d k s a b h ∙ clash_turned d k s b
+
+-- ---- references
+
+any_null : (columns : List ℕ) (r : Row) → has_null columns r ≡ list_any is_null (tuple columns r)
+any_null columns r = sym (any_map is_null (cell r) columns)
+
+-- a child row is met as one is that is like it
+pub met_alike : (c p : TableDef) (f : Reference) (parents : List Row) (r s : Row) → AreAlike c f.columns f.by_period r s
+    → is_met c p f parents r ≡ is_met c p f parents s
+met_alike c p f parents r s h =
+    ap (λ b. b || is_met_by c p f.by_period (parents_of f parents r) r)
+    (any_null f.columns r ∙ ap (list_any is_null) h.tuples ∙ sym (any_null f.columns s))
+    ∙ ap (λ (ps : List Row). has_null f.columns s || is_met_by c p f.by_period ps r)
+    (parents_is f parents r ∙ ap (λ vs. with_tuple f.parent_columns vs parents) h.tuples ∙ sym (parents_is f parents s))
+    ∙ ap (λ b. has_null f.columns s || b) (by_either f.by_period (parents_of f parents s) h.periods)
+  where
+    by_either : (b : Bool) (ps : List Row) → (b ≡ true → period_of c r ≡ period_of c s)
+        → is_met_by c p b ps r ≡ is_met_by c p b ps s
+    by_either false ps q = refl
+    by_either true ps q = ap (covered p ps) (q refl)

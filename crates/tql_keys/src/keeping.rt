@@ -1,0 +1,94 @@
+//! Whether the rows that come have what keys and references see of those that go: their values in some columns, and
+//! where it counts their application periods.
+ghost use Rattle.std.specs.Prelude.{◌≡◌, IsTrue, option_map};
+ghost use Rattle.tql_spec.specs.Definition.{shown};
+ghost use Rattle.tql_expr.specs.Shown.{shown_by};
+ghost use Rattle.tql_store.specs.Changes.{starting};
+ghost use Rattle.tql_store.specs.StoreModel.{has_table};
+ghost use Rattle.tql_value.specs.Views.{row_of, rows_of};
+ghost use Rattle.tql_keys.specs.Asked.{new_rows, row_named};
+ghost use Rattle.tql_keys.specs.Keeping.{same_period, are_alike, is_kept as is_kept_in, are_kept as are_kept_in};
+
+use crate::change::Change;
+use crate::ranks::compare_tuples;
+use crate::reading::{current_row, point};
+use tql_catalog::catalog::Table;
+use tql_catalog::table_def::TableDef;
+use tql_expr::columns::Columns;
+use tql_expr::stored::StoredRow;
+use tql_index::index::IntervalIndex;
+use tql_store::store::Store;
+use tql_value::value::Value;
+
+/// Whether two rows of a table have the same application period.
+fn is_period_kept(definition: &TableDef, old: &StoredRow<'_>, new: &StoredRow<'_>) -> bool
+    ensures { result ≡ same_period definition.now (shown_by old.now) (shown_by new.now) }
+{
+    match definition.application() {
+        Some(application) => {
+            point(old.column(application.start)) == point(new.column(application.start))
+                && point(old.column(application.end)) == point(new.column(application.end))
+        }
+        None => true,
+    }
+}
+
+/// Whether two rows of a table have the same values in these columns, and where it counts the same period.
+fn is_alike(
+    definition: &TableDef,
+    columns: &[usize],
+    by_period: bool,
+    old: &StoredRow<'_>,
+    new: &StoredRow<'_>,
+) -> bool
+    ensures { result ≡ are_alike definition.now columns.now by_period (shown_by old.now) (shown_by new.now) }
+{
+    compare_tuples(columns, old, new).is_eq()
+        && (!by_period || is_period_kept(definition, old, new))
+}
+
+/// Whether a row that comes at a moment is like the current one that an id names.
+fn is_kept<I: IntervalIndex>(
+    store: &Store<I>,
+    table: &Table,
+    columns: &[usize],
+    by_period: bool,
+    id: usize,
+    cells: &[Value],
+    moment: i64,
+) -> bool
+    requires { IsTrue (has_table store.now table.now.id) }
+    ensures { result ≡ is_kept_in table.now.definition columns.now by_period (row_named store.now table.now.id id)
+        (shown table.now.definition (starting moment (row_of cells.now))) }
+{
+    let definition = &table.definition;
+    let Some(gone) = store.row(table.id, id) else {
+        return false;
+    };
+    let old = current_row(definition, gone.row, gone.start);
+    let new = current_row(definition, cells, moment);
+    is_alike(definition, columns, by_period, &old, &new)
+}
+
+/// Whether as many rows come as go, and each is like the one in whose place it comes: has the same values in these
+/// columns, and where it counts the same application period.
+pub(crate) fn are_kept<I: IntervalIndex>(
+    store: &Store<I>,
+    table: &Table,
+    columns: &[usize],
+    by_period: bool,
+    change: &Change<'_>,
+) -> bool
+    requires { IsTrue (has_table store.now table.now.id) }
+    ensures { result ≡ are_kept_in table.now.definition columns.now by_period (row_named store.now table.now.id)
+        change.now.given.now (new_rows table.now.definition change.now.moment (rows_of change.now.added.now)) }
+{
+    let ids = change.given;
+    let rows = change.added;
+    ids.len() == rows.len()
+        && ids.iter().zip(rows).all(
+            |(id, cells)|
+                requires { IsTrue (has_table store.now table.now.id) }
+            { is_kept(store, table, columns, by_period, *id, cells, change.moment) },
+        )
+}
