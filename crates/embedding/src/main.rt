@@ -1,14 +1,25 @@
 //! How a program of your own uses the engine: it runs a script and tells which statements were refused, asks what was
-//! paid in March as the books had it on two days, and adds up the rows of each answer.
+//! paid in March as the books had it on two days, and adds up the rows of each answer. Then it tells which tables are
+//! there and which kinds an answer's columns have, puts values into statements, and reads them back.
 #![tactic(auto)]
 
+mod values;
+
+use crate::values::read_back;
 use std::io;
-use tql::{Engine, Memory, Notes, Reply, ResultTable, SliceSource, VecSink, View, memory, run};
+use tql::{
+    Engine, Kind, Memory, Notes, Reply, ResultTable, SliceSource, TableDef, VecSink, View,
+    date_text, is_day, literal, memory_within, read_date, run,
+};
+
+/// How many bytes of memory the engine may have in use.
+const MOST_BYTES: usize = 64 << 20;
 
 /// What the office entered, and when; the last line has a slip of the pen.
 const ENTERED: &[u8] = b"
 CREATE TABLE pay (employee INTEGER, cents INTEGER, s TIMESTAMP GENERATED ALWAYS AS ROW START,
   e TIMESTAMP GENERATED ALWAYS AS ROW END, PERIOD FOR SYSTEM_TIME (s, e)) WITH SYSTEM VERSIONING;
+CREATE TABLE notes (day DATE, words VARCHAR(40));
 AT TIMESTAMP '2011-03-28 09:00:00';
 INSERT INTO pay VALUES (1, 300000), (2, 250000);
 AT TIMESTAMP '2011-04-04 09:00:00';
@@ -67,12 +78,107 @@ fn enter(rt: &impl Print, memory: Memory, engine: &mut Engine) -> io::Result<()>
     }
 }
 
+/// What a kind is called.
+fn kind_name(kind: Kind) -> &'static str {
+    match kind {
+        Kind::Int => "integer",
+        Kind::Text => "text",
+        Kind::Day => "date",
+        Kind::Moment => "timestamp",
+    }
+}
+
+/// Prints a table's name, and its columns with their kinds.
+fn print_table(rt: &impl Print, definition: &TableDef) -> io::Result<()> {
+    print!(rt; "{}:", definition.name())?;
+    for column in definition.columns() {
+        print!(rt; " {} {}", column.name.as_str(), kind_name(column.kind))?;
+    }
+    println!(rt; "")
+}
+
+/// Prints the tables that are there.
+fn print_tables(rt: &impl Print, engine: &Engine) -> io::Result<()> {
+    for place in 0..engine.table_count() {
+        if let Some(definition) = engine.table_definition(place) {
+            print_table(rt, definition)?;
+        }
+    }
+    Ok(())
+}
+
+/// Prints the kinds of the columns that a question's answer has.
+fn print_kinds(rt: &impl Print, engine: &Engine, question: &[u8]) -> io::Result<()> {
+    match &engine.column_kinds(question) {
+        Ok(Some(kinds)) => {
+            print!(rt; "kinds:")?;
+            for kind in kinds {
+                print!(rt; " {}", kind_name(*kind))?;
+            }
+            println!(rt; "")
+        }
+        Ok(None) => println!(rt; "no question"),
+        Err(refusal) => println!(rt; "refused: {}", refusal.text()),
+    }
+}
+
+/// Enters a note of a day. What the clerk wrote is put into the statement as a literal, whatever stands in it.
+fn enter_note(
+    rt: &impl Print,
+    memory: Memory,
+    engine: &mut Engine,
+    day: &str,
+    words: &str,
+) -> io::Result<()> {
+    let Some(day) = read_date(day) else {
+        return println!(rt; "no day: {day}");
+    };
+    let mut statement = String::from_str(memory, "INSERT INTO notes VALUES (")?;
+    statement.push_str(literal(memory, View::Day(day))?.as_str())?;
+    statement.push_str(", ")?;
+    statement.push_str(literal(memory, View::Text(words))?.as_str())?;
+    statement.push_str(")")?;
+    match &engine.step(statement.as_bytes()) {
+        Reply::Refused(refusal) => println!(rt; "refused: {}", refusal.text()),
+        Reply::Done(_, _) | Reply::Table(_) => println!(rt; "{}", statement.as_str()),
+    }
+}
+
+/// Prints the days of the notes.
+fn print_days(rt: &impl Print, memory: Memory, engine: &mut Engine) -> io::Result<()> {
+    if let Reply::Table(table) = &engine.step(b"SELECT day FROM notes") {
+        for row in &table.rows {
+            if let Some(View::Day(day)) = row.get(0).map(|value| value.view()) {
+                if is_day(day) {
+                    println!(rt; "{}", date_text(memory, day)?.as_str())?;
+                }
+            }
+        }
+    }
+    Ok(())
+}
+
 fn main(rt: HostRuntime) -> io::Result<()> {
-    let memory = memory(rt.alloc(), u64::MAX)?;
+    let memory = memory_within(rt.alloc(), MOST_BYTES)?;
     let mut engine = Engine::new(memory);
     enter(&rt, memory, &mut engine)?;
     for question in QUESTIONS {
         ask(&rt, &mut engine, question)?;
     }
-    Ok(())
+    print_tables(&rt, &engine)?;
+    print_kinds(
+        &rt,
+        &engine,
+        b"SELECT employee, MIN(s) AS first FROM pay GROUP BY employee",
+    )?;
+    print_kinds(&rt, &engine, b"SELECT wages FROM pay")?;
+    enter_note(
+        &rt,
+        memory,
+        &mut engine,
+        "2011-04-04",
+        "O'Hara's books; settled -- so far",
+    )?;
+    print_days(&rt, memory, &mut engine)?;
+    read_back(&rt, memory, &mut engine)
 }

@@ -1,13 +1,10 @@
 //! The engine for programs of your own: an in-memory bitemporal table engine, each of its answers proved.
 //!
 //! Make the memory that everything is kept in, and an engine in it; give it a script, or one statement after another,
-//! and read the replies. A run tells a listener which statements were refused, on which lines, and which word or name
-//! is meant, where that is known. A script may come part by part: a `Session` is fed bytes as they come, and gives the
-//! answers as soon as their statements are whole. Nothing is kept when the engine is let go. A table is written as
-//! comma-separated values by `write_csv_table`, and an answer as JSON by `write_json_answer`.
+//! and read the replies. Nothing is kept when the engine is let go.
 //!
 //! ```text
-//! let memory = memory(rt.alloc(), u64::MAX)?;
+//! let memory = memory(rt.alloc(), u64::MAX)?;          // or memory_within(rt.alloc(), 1 << 30)?
 //! let mut engine = Engine::new(memory);
 //! let mut output = Vec::new(memory);
 //! let script = b"CREATE TABLE pay (cents INTEGER); INSERT INTO pay VALUES (300000);";
@@ -17,16 +14,39 @@
 //! }
 //! ```
 //!
+//! `Engine::step` is given one statement, without its `;`. A `;` ends a statement of a script, and is no part of a
+//! statement: in a text that is given to `step` it stands in a quote alone, or is refused as not a statement.
+//!
+//! A script runs by `run`, over a `Source` that gives its bytes and a `Sink` that takes the replies' bytes, as
+//! `SliceSource` and `VecSink` are in memory, and `StdSource` and `StdSink` over files and streams. A `Listener` is
+//! told which statements were refused, on which lines, and which word or name is meant, where that is known: `Notes`
+//! keeps that, `Silence` does not listen. Where neither is needed, `run_bytes` runs a script in memory. A host whose
+//! bytes come part by part has a `Session`: it is fed them as they come, and gives each answer as soon as its
+//! statement is whole. A table is written as comma-separated values by `write_csv_table`, and an answer as JSON by
+//! `write_json_answer`.
+//!
+//! Values are put into a statement by `literal`, which doubles each quote. Which tables are there, with their columns
+//! and kinds, `Engine::table_count` and `Engine::table_definition` tell; which kinds the columns of a query have,
+//! before it runs, `Engine::column_kinds`; and by what its rows are found, `Engine::plan_told`. Days and moments are
+//! numbers (`View::Day`, `View::Moment`): `read_date` and `read_timestamp` read their texts, `date_text` and
+//! `timestamp_text` write them, and `day_parts` and `moment_parts` tell their parts.
+//!
 //! `crates/embedding` is a program that does so. `docs/LANGUAGE.md` is the language; what is proved of each function
 //! stands in its contract.
 #![tactic(auto)]
 
+pub use tql_catalog::constraint::{Key, Reference};
+pub use tql_catalog::definition::{Application, Column, System};
+pub use tql_catalog::table_def::TableDef;
 pub use tql_detail::detail::Detail;
 pub use tql_detail::place::Place;
 pub use tql_engine::engine::Engine;
 pub use tql_engine::runner::{run, run_bytes};
-pub use tql_memory::{Memory, memory};
+pub use tql_literal::literal::literal;
+pub use tql_literal::points::{date_text, timestamp_text};
+pub use tql_memory::{Memory, memory, memory_within};
 pub use tql_result::answer::Answer;
+pub use tql_result::cell::is_printable;
 pub use tql_result::device::DeviceFault;
 pub use tql_result::reply::{Reply, Verb};
 pub use tql_result::sink::Sink;
@@ -45,5 +65,7 @@ pub use tql_run::session::Session;
 pub use tql_run::silence::Silence;
 pub use tql_run::slice_source::SliceSource;
 pub use tql_run::std_source::StdSource;
+pub use tql_value::calendar::{DayParts, MomentParts, day_parts, is_day, is_moment, moment_parts};
+pub use tql_value::literal::{read_date, read_timestamp};
 pub use tql_value::refusal::Refusal;
-pub use tql_value::value::{ResultTable, Value, View};
+pub use tql_value::value::{Kind, ResultTable, Value, View};

@@ -35,3 +35,6 @@ pub mod HoldPoints
 pub mod Making
 pub mod Ending
 pub mod Shown
+pub mod TableLists
+pub mod KnownKinds
+pub mod ColumnKinds

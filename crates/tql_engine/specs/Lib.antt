@@ -13,3 +13,4 @@ pub mod Sessions
 pub mod HoldPoints
 pub mod Making
 pub mod Dropping
+pub mod ColumnKinds

@@ -3,10 +3,13 @@ ghost use Rattle.std.specs.Prelude.{◌≡◌, ◌<◌, length, slice_get, IfOk,
 
 mod changes;
 mod clock;
+mod column_kinds;
 mod creation;
+mod definitions;
 mod dropping;
 mod faults;
 mod horizon;
+mod plans;
 mod queries;
 mod transactions;
 

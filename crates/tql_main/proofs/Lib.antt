@@ -1,3 +1,4 @@
 mod LineLemmas
 mod SizeLemmas
 mod WordLemmas
+mod PlanLemmas

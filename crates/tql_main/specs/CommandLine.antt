@@ -24,6 +24,10 @@ check_rule = record (new_rule (codes "check")) { long = Some (codes "check"); ac
 abbrev pub quiet_rule : Rule
 quiet_rule = record (new_rule (codes "quiet")) { long = Some (codes "quiet"); short = Some 113; action = Some SetTrue }
 
+-- `--plans`
+abbrev pub plans_rule : Rule
+plans_rule = record (new_rule (codes "plans")) { long = Some (codes "plans"); action = Some SetTrue }
+
 -- `--memory SIZE`
 abbrev pub memory_rule : Rule
 memory_rule = record (new_rule (codes "memory")) { long = Some (codes "memory"); value_names = 1 }
@@ -40,11 +44,11 @@ script_rule = new_rule (codes "SCRIPT")
 abbrev pub with_version : App → App
 with_version = on_top (λ s. record s { has_version = true })
 
--- `tql [--check] [--quiet] [--memory SIZE] [--format FORMAT] [SCRIPT]`, with `--version` and, as every command,
--- `--help`
+-- `tql [--check] [--quiet] [--plans] [--memory SIZE] [--format FORMAT] [SCRIPT]`, with `--version` and, as every
+-- command, `--help`
 abbrev pub tql_line : App
-tql_line = with_rule (with_rule (with_rule (with_rule (with_rule (with_version (new_app (codes "tql"))) check_rule)
-    quiet_rule) memory_rule) format_rule) script_rule
+tql_line = with_rule (with_rule (with_rule (with_rule (with_rule (with_rule (with_version (new_app (codes "tql")))
+    check_rule) quiet_rule) plans_rule) memory_rule) format_rule) script_rule
 
 -- whether the script is to be checked, as a text
 abbrev pub check_in : List Text → Option Text
@@ -53,6 +57,10 @@ check_in words = one_of (codes "check") (matches_of tql_line words)
 -- whether nothing is to be told of refused statements, as a text
 abbrev pub quiet_in : List Text → Option Text
 quiet_in words = one_of (codes "quiet") (matches_of tql_line words)
+
+-- whether plans are to be told, as a text
+abbrev pub plans_in : List Text → Option Text
+plans_in words = one_of (codes "plans") (matches_of tql_line words)
 
 -- what the word SIZE is
 abbrev pub memory_in : List Text → Option Text
@@ -101,11 +109,13 @@ abbrev pub is_plain_word : Text → Bool
 is_plain_word [] = true
 is_plain_word (x ∷ rest) = not (x == 45)
 
--- the line is taken, asks for a check or not and for quiet or not, has this SIZE and this FORMAT, and names this
--- script, unless memory runs out
-abbrev pub TakesScript : Bool → Bool → Option Text → Option Text → Option Text → Result CommandLine Error → Type 0
-TakesScript check quiet memory format script r = MatchResult r
-    (λ line. (line.check ≡ check) × (line.quiet ≡ quiet) × (option_map (λ s. s.now) line.memory ≡ memory)
+-- the line is taken, asks for a check or not, for quiet or not and for plans or not, has this SIZE and this FORMAT, and
+-- names this script, unless memory runs out
+abbrev pub TakesScript : Bool → Bool → Bool → Option Text → Option Text → Option Text → Result CommandLine Error
+    → Type 0
+TakesScript check quiet plans memory format script r = MatchResult r
+    (λ line. (line.check ≡ check) × (line.quiet ≡ quiet) × (line.plans ≡ plans)
+    × (option_map (λ s. s.now) line.memory ≡ memory)
     × (option_map (λ s. s.now) line.format ≡ format) × (option_map (λ s. s.now) line.script ≡ script))
     (λ e. kind_of e ≡ kind.OutOfMemory)
 
@@ -116,40 +126,45 @@ RefusesLine k r = IsErrAnd r (λ e. (kind_of e ≡ kind.OutOfMemory) ⊎ (kind_o
 -- what lines of the plain forms give; the first word is the program's name
 pub record ReadsLine (words : List Text) (r : Result CommandLine Error) : Type 0 where
   -- no script, so the standard input
-  pub alone : (name : Text) → words ≡ name ∷ [] → TakesScript false false None None None r
+  pub alone : (name : Text) → words ≡ name ∷ [] → TakesScript false false false None None None r
   -- a script
   pub named : (name script : Text) → words ≡ name ∷ script ∷ [] → is_plain_word script ≡ true
-      → TakesScript false false None None (Some script) r
+      → TakesScript false false false None None (Some script) r
   -- a check of the standard input
-  pub checked : (name : Text) → words ≡ name ∷ codes "--check" ∷ [] → TakesScript true false None None None r
+  pub checked : (name : Text) → words ≡ name ∷ codes "--check" ∷ [] → TakesScript true false false None None None r
   -- a check of a script
   pub checked_named : (name script : Text) → words ≡ name ∷ codes "--check" ∷ script ∷ [] → is_plain_word script ≡ true
-      → TakesScript true false None None (Some script) r
+      → TakesScript true false false None None (Some script) r
   -- `-`, so the standard input
-  pub dash : (name : Text) → words ≡ name ∷ codes "-" ∷ [] → TakesScript false false None None None r
+  pub dash : (name : Text) → words ≡ name ∷ codes "-" ∷ [] → TakesScript false false false None None None r
   -- a check of it
   pub checked_dash : (name : Text) → words ≡ name ∷ codes "--check" ∷ codes "-" ∷ []
-      → TakesScript true false None None None r
+      → TakesScript true false false None None None r
   -- a run that tells nothing of refused statements
-  pub quiet : (name : Text) → words ≡ name ∷ codes "--quiet" ∷ [] → TakesScript false true None None None r
-  pub short_quiet : (name : Text) → words ≡ name ∷ codes "-q" ∷ [] → TakesScript false true None None None r
+  pub quiet : (name : Text) → words ≡ name ∷ codes "--quiet" ∷ [] → TakesScript false true false None None None r
+  pub short_quiet : (name : Text) → words ≡ name ∷ codes "-q" ∷ [] → TakesScript false true false None None None r
   -- such a run of a script
   pub quiet_named : (name script : Text) → words ≡ name ∷ codes "--quiet" ∷ script ∷ [] → is_plain_word script ≡ true
-      → TakesScript false true None None (Some script) r
+      → TakesScript false true false None None (Some script) r
   pub short_quiet_named : (name script : Text) → words ≡ name ∷ codes "-q" ∷ script ∷ [] → is_plain_word script ≡ true
-      → TakesScript false true None None (Some script) r
+      → TakesScript false true false None None (Some script) r
   -- such a check
   pub quiet_check : (name : Text) → words ≡ name ∷ codes "--check" ∷ codes "--quiet" ∷ []
-      → TakesScript true true None None None r
+      → TakesScript true true false None None None r
+  -- a run that tells plans
+  pub plans : (name : Text) → words ≡ name ∷ codes "--plans" ∷ [] → TakesScript false false true None None None r
+  -- such a run of a script
+  pub plans_named : (name script : Text) → words ≡ name ∷ codes "--plans" ∷ script ∷ [] → is_plain_word script ≡ true
+      → TakesScript false false true None None (Some script) r
   -- a run within so many bytes
   pub memory : (name size : Text) → words ≡ name ∷ codes "--memory" ∷ size ∷ [] → is_plain_word size ≡ true
-      → TakesScript false false (Some size) None None r
+      → TakesScript false false false (Some size) None None r
   pub memory_joined : (name size : Text) → words ≡ name ∷ (codes "--memory=" ++ size) ∷ []
-      → TakesScript false false (Some size) None None r
+      → TakesScript false false false (Some size) None None r
   -- such a run of a script
   pub memory_named : (name size script : Text) → words ≡ name ∷ codes "--memory" ∷ size ∷ script ∷ []
       → is_plain_word size ≡ true → is_plain_word script ≡ true
-      → TakesScript false false (Some size) None (Some script) r
+      → TakesScript false false false (Some size) None (Some script) r
   -- no SIZE
   pub memory_alone : (name : Text) → words ≡ name ∷ codes "--memory" ∷ [] → RefusesLine kind.InvalidValue r
   -- two of them
@@ -159,13 +174,13 @@ pub record ReadsLine (words : List Text) (r : Result CommandLine Error) : Type 0
       → RefusesLine kind.ArgumentConflict r
   -- a run whose replies have a format
   pub format : (name format : Text) → words ≡ name ∷ codes "--format" ∷ format ∷ [] → is_plain_word format ≡ true
-      → TakesScript false false None (Some format) None r
+      → TakesScript false false false None (Some format) None r
   pub format_joined : (name format : Text) → words ≡ name ∷ (codes "--format=" ++ format) ∷ []
-      → TakesScript false false None (Some format) None r
+      → TakesScript false false false None (Some format) None r
   -- such a run of a script
   pub format_named : (name format script : Text) → words ≡ name ∷ codes "--format" ∷ format ∷ script ∷ []
       → is_plain_word format ≡ true → is_plain_word script ≡ true
-      → TakesScript false false None (Some format) (Some script) r
+      → TakesScript false false false None (Some format) (Some script) r
   -- no FORMAT
   pub format_alone : (name : Text) → words ≡ name ∷ codes "--format" ∷ [] → RefusesLine kind.InvalidValue r
   -- two of them

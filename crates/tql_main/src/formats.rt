@@ -4,6 +4,9 @@ ghost use Rattle.tql_lex.specs.Feeding.{Feeds};
 ghost use Rattle.tql_value.specs.Points.{ArePrintable};
 ghost use Rattle.tql_result.specs.Replies.{table_rows, answer_of, IsPrintableAnswer};
 
+use crate::options::CommandLine;
+use crate::plans::PlansTold;
+use std::cell::Cell;
 use std::io::{self, BufWriter, Read};
 use tql_check::check::Checker;
 use tql_detail::detail::Detail;
@@ -46,11 +49,13 @@ struct Printer<'a, E: Eprint> {
     quiet: bool,
     has_table: bool,
     summary: Summary,
+    /// How many statements were answered, for whoever tells of them before they are.
+    count: &'a Cell<u64>,
 }
 
 impl<'a, E: Eprint> Printer<'a, E> {
     /// A printer that has printed nothing.
-    fn new(rt: &'a E, form: Form, quiet: bool) -> Printer<'a, E> {
+    fn new(rt: &'a E, form: Form, quiet: bool, count: &'a Cell<u64>) -> Printer<'a, E> {
         Printer {
             rt,
             form,
@@ -60,6 +65,7 @@ impl<'a, E: Eprint> Printer<'a, E> {
                 statements: 0,
                 refused: 0,
             },
+            count,
         }
     }
 
@@ -153,6 +159,7 @@ impl<'a, E: Eprint> Printer<'a, E> {
         requires { IsPrintableAnswer (answer_of answer.now) }
     {
         self.summary.statements = self.summary.statements.saturating_add(1);
+        self.count.set(self.summary.statements);
         if let Answer::Replied(Reply::Refused(_)) = answer {
             self.summary.refused = self.summary.refused.saturating_add(1);
         }
@@ -234,12 +241,13 @@ fn converse<E: Eprint, R: Responder, I: Source<O>, O: Sink>(
     Err(Fault::Read)
 }
 
-/// Answers a script by a responder, and prints the answers in a form.
+/// Answers a script by a responder, prints the answers in a form, and keeps this count of statements.
 fn answer_in<R: Responder, I: Read + Drop>(
     rt: &(impl Print + Eprint + AllocGlobal),
     responder: &mut R,
     form: Form,
     quiet: bool,
+    count: &Cell<u64>,
     reader: I,
 ) -> Result<Summary, Fault> {
     let memory = responder.memory();
@@ -248,7 +256,7 @@ fn answer_in<R: Responder, I: Read + Drop>(
     let writer = BufWriter::new(rt.alloc(), io::writer(rt)).map_err(|_| Fault::Memory)?;
     let mut sink = StdSink::new(writer);
     let mut source = StdSource::new(reader);
-    let mut printer = Printer::new(rt, form, quiet);
+    let mut printer = Printer::new(rt, form, quiet, count);
     converse(
         &mut printer,
         &mut session,
@@ -262,28 +270,36 @@ fn answer_in<R: Responder, I: Read + Drop>(
 /// Runs a script on a new engine, within so many bytes of memory, and prints the replies in a form: as comma-separated
 /// values, of which the standard output has the tables alone, an empty line between each two, or as JSON, each answer
 /// an object on a line. Of refusals, and in the first form of what is done, the standard error is told, but not where
-/// it is to be quiet. Each statement is answered as soon as it is whole, and its answer passed on before more is read.
+/// it is to be quiet, and of plans where they are to be told. Each statement is answered as soon as it is whole, and
+/// its answer passed on before more is read.
 pub(crate) fn run_formatted<I: Read + Drop>(
     rt: &(impl Print + Eprint + AllocGlobal),
     form: Form,
-    quiet: bool,
+    options: &CommandLine<'_>,
     most: usize,
     reader: I,
 ) -> Result<Summary, Fault> {
     let memory = memory_within(rt.alloc(), most)?;
     let mut engine = Engine::new(memory);
-    answer_in(rt, &mut engine, form, quiet, reader)
+    let count = Cell::new(0u64);
+    if options.plans {
+        let mut told = PlansTold::new(rt, engine, &count);
+        answer_in(rt, &mut told, form, options.quiet, &count, reader)
+    } else {
+        answer_in(rt, &mut engine, form, options.quiet, &count, reader)
+    }
 }
 
 /// Checks a script, and prints in a form what each of its statements is answered, as `run_formatted` does.
 pub(crate) fn check_formatted<I: Read + Drop>(
     rt: &(impl Print + Eprint + AllocGlobal),
     form: Form,
-    quiet: bool,
+    options: &CommandLine<'_>,
     most: usize,
     reader: I,
 ) -> Result<Summary, Fault> {
     let memory = memory_within(rt.alloc(), most)?;
     let mut checker = Checker::new(memory);
-    answer_in(rt, &mut checker, form, quiet, reader)
+    let count = Cell::new(0u64);
+    answer_in(rt, &mut checker, form, options.quiet, &count, reader)
 }

@@ -1,7 +1,7 @@
 //! The program: `tql [SCRIPT]` runs the script in the file SCRIPT, or on the standard input without it or where it is
 //! `-`, and writes the replies to the standard output. `tql --check [SCRIPT]` only checks each statement by the
 //! grammar, and replies with `OK` or a refusal. For each refused statement a line on the standard error says where it
-//! stands, but not with `--quiet`.
+//! stands, but not with `--quiet`; with `--plans` one for each query says by what its rows are found.
 //!
 //! It exits with 0 where no statement was refused, and after help or the version; with 1 where some statement was
 //! refused; with 2 where the command line is wrong; and with 3 where opening, reading or writing failed, or memory ran
@@ -11,6 +11,7 @@
 mod complaints;
 mod formats;
 mod options;
+mod plans;
 mod prompts;
 mod sizes;
 mod status;
@@ -18,18 +19,20 @@ mod status;
 use crate::complaints::Complaints;
 use crate::formats::{Form, check_formatted, run_formatted};
 use crate::options::{CommandLine, Format};
+use crate::plans::PlansTold;
 use crate::prompts::Prompted;
 use crate::status::{exit_status, line_status};
 use clap::Error;
+use std::cell::Cell;
 use std::io::{self, BufWriter, ErrorKind, IsTerminal, Read};
 use std::process::ExitCode;
 use std::{env, fs};
 use tql_check::check::check_script;
 use tql_engine::engine::Engine;
-use tql_engine::runner::run;
 use tql_memory::memory_within;
 use tql_result::std_sink::StdSink;
-use tql_run::runner::{Fault, Summary};
+use tql_run::responder::Responder;
+use tql_run::runner::{Fault, Summary, run};
 use tql_run::std_source::StdSource;
 
 /// What a script is called that is read from the standard input.
@@ -44,24 +47,42 @@ fn complain(rt: &impl Eprint, script: &str, fault: Fault) {
     };
 }
 
-/// Runs a script on a new engine, within so many bytes of memory, and prints the replies.
+/// Answers a script by a responder, prints the answers, and keeps this count of statements.
+fn answer_by<R: Responder, I: Read + Drop>(
+    rt: &(impl Print + Eprint + AllocGlobal),
+    responder: &mut R,
+    quiet: bool,
+    count: &Cell<u64>,
+    reader: I,
+) -> Result<Summary, Fault> {
+    let writer = BufWriter::new(rt.alloc(), io::writer(rt)).map_err(|_| Fault::Memory)?;
+    let mut source = StdSource::new(reader);
+    let mut sink = StdSink::new(writer);
+    run(
+        responder,
+        &mut source,
+        &mut sink,
+        &mut Complaints::new(rt, quiet, count),
+    )
+}
+
+/// Runs a script on a new engine, within so many bytes of memory, and prints the replies; and tells plans, where the
+/// options say so.
 fn run_script<R: Read + Drop>(
     rt: &(impl Print + Eprint + AllocGlobal),
-    quiet: bool,
+    options: &CommandLine<'_>,
     most: usize,
     reader: R,
 ) -> Result<Summary, Fault> {
     let memory = memory_within(rt.alloc(), most).map_err(|_| Fault::Memory)?;
-    let writer = BufWriter::new(rt.alloc(), io::writer(rt)).map_err(|_| Fault::Memory)?;
     let mut engine = Engine::new(memory);
-    let mut source = StdSource::new(reader);
-    let mut sink = StdSink::new(writer);
-    run(
-        &mut engine,
-        &mut source,
-        &mut sink,
-        &mut Complaints::new(rt, quiet),
-    )
+    let count = Cell::new(0u64);
+    if options.plans {
+        let mut told = PlansTold::new(rt, engine, &count);
+        answer_by(rt, &mut told, options.quiet, &count, reader)
+    } else {
+        answer_by(rt, &mut engine, options.quiet, &count, reader)
+    }
 }
 
 /// Checks a script, within so many bytes of memory, and prints what each of its statements is answered.
@@ -75,11 +96,12 @@ fn check_only<R: Read + Drop>(
     let writer = BufWriter::new(rt.alloc(), io::writer(rt)).map_err(|_| Fault::Memory)?;
     let mut source = StdSource::new(reader);
     let mut sink = StdSink::new(writer);
+    let count = Cell::new(0u64);
     check_script(
         memory,
         &mut source,
         &mut sink,
-        &mut Complaints::new(rt, quiet),
+        &mut Complaints::new(rt, quiet, &count),
     )
 }
 
@@ -93,7 +115,7 @@ fn answer_in_tables<R: Read + Drop>(
     if options.check {
         check_only(rt, options.quiet, most, reader)
     } else {
-        run_script(rt, options.quiet, most, reader)
+        run_script(rt, options, most, reader)
     }
 }
 
@@ -106,9 +128,9 @@ fn answer_in_form<R: Read + Drop>(
     reader: R,
 ) -> Result<Summary, Fault> {
     if options.check {
-        check_formatted(rt, form, options.quiet, most, reader)
+        check_formatted(rt, form, options, most, reader)
     } else {
-        run_formatted(rt, form, options.quiet, most, reader)
+        run_formatted(rt, form, options, most, reader)
     }
 }
 
@@ -200,8 +222,17 @@ fn end_format(rt: &impl Eprint, word: &str) -> u8 {
     2
 }
 
+/// Ends a program that is to check a script, and to tell plans, of which there are none then.
+fn end_plans(rt: &impl Eprint) -> u8 {
+    let _ = eprintln!(rt; "error: '--plans' cannot be used with '--check', which runs no query");
+    2
+}
+
 /// Runs or checks the script that the options name, and answers the exit status.
 fn run_options(rt: &HostRuntime, options: &CommandLine<'_>) -> u8 {
+    if options.check && options.plans {
+        return end_plans(rt);
+    }
     match (options.most_bytes(), options.reply_format()) {
         (Some(most), Some(format)) => run_within(rt, options, most, format),
         (None, _) => end_size(rt, options.memory.unwrap_or("")),

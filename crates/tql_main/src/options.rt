@@ -1,10 +1,10 @@
 //! The command line.
 ghost use Rattle.std.specs.Prelude.{Some, ◌≡◌, false, map, option_map, IfOk, string_bytes};
 ghost use Rattle.clap.specs.Words.{FailsBy, app_of, rule_of};
-ghost use Rattle.tql_main.specs.CommandLine.{ReadsLine, TellsFlag, check_in, faults_in, memory_in, quiet_in};
+ghost use Rattle.tql_main.specs.CommandLine.{ReadsLine, TellsFlag, check_in, faults_in, memory_in, plans_in, quiet_in};
 ghost use Rattle.tql_main.specs.CommandLine.{format_in, format_of, format_rule};
-ghost use Rattle.tql_main.specs.CommandLine.{check_rule, memory_rule, quiet_rule, script_rule};
-ghost use Rattle.tql_main.specs.CommandLine.{bound_of, file_of, script_in, tql_line, word_in};
+ghost use Rattle.tql_main.specs.CommandLine.{check_rule, memory_rule, plans_rule, quiet_rule};
+ghost use Rattle.tql_main.specs.CommandLine.{bound_of, file_of, script_in, script_rule, tql_line, word_in};
 
 use crate::sizes::bytes_of;
 use clap::{Arg, ArgAction, Command, Error};
@@ -43,6 +43,8 @@ pub struct CommandLine<'a> {
     pub check: bool,
     /// Whether nothing is told of refused statements on the standard error.
     pub quiet: bool,
+    /// Whether the standard error is told by what the rows of each query are found.
+    pub plans: bool,
     /// The word SIZE: how many bytes may be in use. Without one there is no bound.
     pub memory: Option<&'a str>,
     /// The word FORMAT: how replies are written. Without one it is a table.
@@ -110,6 +112,17 @@ fn quiet_flag<'a>(alloc: Global) -> Arg<'a>
         .help("Write no line to the standard error for a refused statement")
 }
 
+/// The flag `--plans`.
+fn plans_flag<'a>(alloc: Global) -> Arg<'a>
+    ensures rule { rule_of result ≡ plans_rule }
+    ensures here { result.global ≡ false }
+{
+    Arg::new(alloc, "plans")
+        .long("plans")
+        .action(ArgAction::SetTrue)
+        .help("Tell the standard error by what the rows of each query are found")
+}
+
 /// The option `--memory SIZE`.
 fn memory_option<'a>(alloc: Global) -> Arg<'a>
     ensures rule { rule_of result ≡ memory_rule }
@@ -140,7 +153,8 @@ fn script_word<'a>(alloc: Global) -> Arg<'a>
     Arg::new(alloc, "SCRIPT").help("The file of the script; `-`, or none, is the standard input")
 }
 
-/// The rules of `tql [--check] [--quiet] [--memory SIZE] [--format FORMAT] [SCRIPT]`, with `--help` and `--version`.
+/// The rules of `tql [--check] [--quiet] [--plans] [--memory SIZE] [--format FORMAT] [SCRIPT]`, with `--help` and
+/// `--version`.
 fn rules<'a>(alloc: Global) -> Result<Command<'a>, AllocError>
     ensures { IfOk result (λ command. app_of command ≡ tql_line) }
 {
@@ -150,16 +164,18 @@ fn rules<'a>(alloc: Global) -> Result<Command<'a>, AllocError>
         .after_help(NOTES)
         .arg(check_flag(alloc))?
         .arg(quiet_flag(alloc))?
+        .arg(plans_flag(alloc))?
         .arg(memory_option(alloc))?
         .arg(format_option(alloc))?
         .arg(script_word(alloc))?;
     Ok(command)
 }
 
-/// Reads the words: whether `--check` and `--quiet` are among them, and the words SIZE, FORMAT and SCRIPT.
+/// Reads the words: whether `--check`, `--quiet` and `--plans` are among them, and the words SIZE, FORMAT and SCRIPT.
 fn read_line<'a>(alloc: Global, words: &'a [String]) -> Result<CommandLine<'a>, Error>
     ensures check { IfOk result (λ o. TellsFlag (check_in (map string_bytes words.entry.now)) o.check) }
     ensures quiet { IfOk result (λ o. TellsFlag (quiet_in (map string_bytes words.entry.now)) o.quiet) }
+    ensures plans { IfOk result (λ o. TellsFlag (plans_in (map string_bytes words.entry.now)) o.plans) }
     ensures memory { IfOk result
         (λ o. option_map (λ s. s.now) o.memory ≡ memory_in (map string_bytes words.entry.now)) }
     ensures format { IfOk result
@@ -172,6 +188,7 @@ fn read_line<'a>(alloc: Global, words: &'a [String]) -> Result<CommandLine<'a>, 
     Ok(CommandLine {
         check: matches.get_flag("check"),
         quiet: matches.get_flag("quiet"),
+        plans: matches.get_flag("plans"),
         memory: matches.get_str("memory"),
         format: matches.get_str("format"),
         script: matches.get_str("SCRIPT"),
@@ -188,12 +205,13 @@ fn file_named<'a>(word: Option<&'a str>) -> Option<&'a str>
     }
 }
 
-/// Reads the command line `tql [--check] [--quiet] [--memory SIZE] [--format FORMAT] [SCRIPT]`, of which the first word
-/// is the program's name; `-` is the standard input. An error is help or the version that was asked for, a mistake in
-/// the words, or want of memory.
+/// Reads the command line `tql [--check] [--quiet] [--plans] [--memory SIZE] [--format FORMAT] [SCRIPT]`, of which the
+/// first word is the program's name; `-` is the standard input. An error is help or the version that was asked for, a
+/// mistake in the words, or want of memory.
 pub fn command_line<'a>(alloc: Global, words: &'a [String]) -> Result<CommandLine<'a>, Error>
     ensures check { IfOk result (λ o. TellsFlag (check_in (map string_bytes words.entry.now)) o.check) }
     ensures quiet { IfOk result (λ o. TellsFlag (quiet_in (map string_bytes words.entry.now)) o.quiet) }
+    ensures plans { IfOk result (λ o. TellsFlag (plans_in (map string_bytes words.entry.now)) o.plans) }
     ensures memory { IfOk result
         (λ o. option_map (λ s. s.now) o.memory ≡ memory_in (map string_bytes words.entry.now)) }
     ensures format { IfOk result
@@ -207,6 +225,7 @@ pub fn command_line<'a>(alloc: Global, words: &'a [String]) -> Result<CommandLin
     Ok(CommandLine {
         check: line.check,
         quiet: line.quiet,
+        plans: line.plans,
         memory: line.memory,
         format: line.format,
         script: file_named(line.script),

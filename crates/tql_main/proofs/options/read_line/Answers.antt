@@ -4,7 +4,7 @@ use Rattle.clap.specs.Words.{fault_of, found_of, first_of, is_simple, is_simple_
 use Rattle.clap.specs.Matches.{one_text}
 use Rattle.clap.proofs.OnLiterals.{clap_on_literals}
 use Rattle.clap.proofs.WalkLemmas.{first_value-rows, one_text-rows}
-use Rattle.tql_main.specs.CommandLine.{check_in, quiet_in, tql_line}
+use Rattle.tql_main.specs.CommandLine.{check_in, plans_in, quiet_in, tql_line}
 use Rattle.tql_main.proofs.options.read_line.Goals as goal
 
 is_plain : is_simple tql_line ≡ true
@@ -36,6 +36,17 @@ returns-clause-quiet c =
     ∙ ap (λ a. one_of (codes "quiet") (matches_of a (map (λ s. string_bytes s) c.args.words.now)))
     c.in_ok-command.ensures in
     record { set = λ e. c.get_flag-2.ensures.value (told ∙ e); clear = λ e. c.get_flag-2.ensures.other (told ∙ e) }
+
+pub returns-clause-plans : goal.returns-clause-plans
+returns-clause-plans c =
+    let has = c.in_ok-matches.ensures.matches (ap is_simple c.in_ok-command.ensures ∙ is_plain) in
+    let told : one_text (found_of c.in_ok-matches.matches) (codes "plans") ≡ plans_in
+    (map (λ s. string_bytes s) c.args.words.now) =
+    one_text-rows (found_of c.in_ok-matches.matches) (codes "plans")
+    ∙ ap (one_of (codes "plans")) has.0
+    ∙ ap (λ a. one_of (codes "plans") (matches_of a (map (λ s. string_bytes s) c.args.words.now)))
+    c.in_ok-command.ensures in
+    record { set = λ e. c.get_flag-3.ensures.value (told ∙ e); clear = λ e. c.get_flag-3.ensures.other (told ∙ e) }
 
 pub returns-clause-memory : goal.returns-clause-memory
 returns-clause-memory c =

@@ -8,12 +8,13 @@ use Rattle.tql_main.proofs.options.rules.Goals as goal
 pub returns : goal.returns
 returns c =
     c.in_ok-command.ensures.shape c.script_word.ensures.here
-    ∙ ap₂ with_rule (c.in_ok-arg-4.ensures.shape c.format_option.ensures.here
-    ∙ ap₂ with_rule (c.in_ok-arg-3.ensures.shape c.memory_option.ensures.here
+    ∙ ap₂ with_rule (c.in_ok-arg-5.ensures.shape c.format_option.ensures.here
+    ∙ ap₂ with_rule (c.in_ok-arg-4.ensures.shape c.memory_option.ensures.here
+    ∙ ap₂ with_rule (c.in_ok-arg-3.ensures.shape c.plans_flag.ensures.here
     ∙ ap₂ with_rule (c.in_ok-arg-2.ensures.shape c.quiet_flag.ensures.here
     ∙ ap₂ with_rule (c.in_ok-arg.ensures.shape c.check_flag.ensures.here
     ∙ ap₂ with_rule (ap app_of_fields c.after_help.ensures ∙ ap app_of_fields c.about.ensures
     ∙ ap app_of_fields c.version.ensures
     ∙ ap with_version c.new.ensures.app) c.check_flag.ensures.rule) c.quiet_flag.ensures.rule)
-    c.memory_option.ensures.rule) c.format_option.ensures.rule)
+    c.plans_flag.ensures.rule) c.memory_option.ensures.rule) c.format_option.ensures.rule)
     c.script_word.ensures.rule

@@ -1,0 +1,33 @@
+//! The tables that are there, as a host asks for them.
+use crate::engine::Engine;
+use tql_catalog::table_def::TableDef;
+
+impl Engine {
+    ghost use Rattle.std.specs.Prelude.{◌≡◌, length, option_map, slice_get};
+    ghost use Rattle.tql_spec.specs.Machine.{State};
+    ghost use Rattle.tql_catalog.specs.Tables.{definitions_of};
+    ghost use Rattle.tql_engine.specs.Stands.{StandsFor};
+
+    /// How many tables are there, at most 1,000. It takes no memory.
+    #[tactic(auto, using(crate::proofs::TableLists::count_law, crate::proofs::TableLists::count_is))]
+    pub fn table_count(&self) -> usize
+        ensures count { result ≡ length (definitions_of self.now.tables) }
+        ensures machine { (s : State) → StandsFor self.now s → result ≡ length s.definitions }
+    {
+        self.tables.len()
+    }
+
+    /// The definition of the table at a place, from 0, in the order of creation: its name, its columns with their
+    /// kinds, its periods and its constraints. None where fewer tables are there. It takes no memory.
+    pub fn table_definition(&self, place: usize) -> Option<&TableDef>
+        ensures definition { option_map (λ d. d.now) result ≡ slice_get (definitions_of self.now.tables) place }
+        ensures machine { (s : State) → StandsFor self.now s
+            → option_map (λ d. d.now) result ≡ slice_get s.definitions place }
+    {
+        if place < self.tables.len() {
+            Some(&self.tables.table(place).definition)
+        } else {
+            None
+        }
+    }
+}

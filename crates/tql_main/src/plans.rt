@@ -1,0 +1,54 @@
+//! What a run tells the standard error of the plans of its queries.
+use std::cell::Cell;
+use tql_detail::detail::Detail;
+use tql_engine::engine::Engine;
+use tql_memory::Memory;
+use tql_result::answer::Answer;
+use tql_run::responder::Responder;
+use tql_value::refusal::Refusal;
+
+/// An engine that writes a line to the standard error for each query before it answers: by what the rows of its table
+/// references are found. So it does for the query of an INSERT. A line that cannot be written is lost, and so is one
+/// for which there is no memory. It counts the statements that it answers.
+#[derive(Drop)]
+pub(crate) struct PlansTold<'a, E: Eprint> {
+    rt: &'a E,
+    engine: Engine,
+    count: &'a Cell<u64>,
+}
+
+impl<'a, E: Eprint> PlansTold<'a, E> {
+    /// An engine over this standard error, and this count of statements.
+    pub(crate) fn new(rt: &'a E, engine: Engine, count: &'a Cell<u64>) -> PlansTold<'a, E> {
+        PlansTold { rt, engine, count }
+    }
+}
+
+impl<E: Eprint> Responder for PlansTold<'_, E> {
+    ghost use Rattle.tql_run.specs.Ending.{Responds};
+    ghost use Rattle.tql_engine.specs.Stands.{StandsFor};
+    ghost use Rattle.tql_run.proofs.Faults.{responds_refuse};
+
+    ghost stands = { λ p. StandsFor p.engine };
+
+    ghost answering = { Responds };
+
+    fn memory(&self) -> Memory {
+        self.engine.memory()
+    }
+
+    fn answer(&mut self, text: &[u8]) -> Answer {
+        let number = self.count.get().saturating_add(1);
+        self.count.set(number);
+        if let Some(words) = self.engine.plan_told(text) {
+            let _ = eprintln!(self.rt; "tql: statement {number}: {words}");
+        }
+        self.engine.answer(text)
+    }
+
+    fn detail(&self, text: &[u8], refusal: Refusal) -> Option<Detail> {
+        self.engine.detail(text, refusal)
+    }
+
+    ghost refuses = { responds_refuse };
+}

@@ -1,0 +1,6 @@
+//! What is told of a query's plan: by what the rows of each table reference are found.
+#![tactic(auto)]
+
+mod calculations;
+mod columns;
+pub mod told;

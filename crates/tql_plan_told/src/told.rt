@@ -1,0 +1,311 @@
+//! A plan in words: by what the rows of each table reference of a query are found.
+use crate::calculations::first_calculation;
+use crate::columns::{chain_column, chains_column, column_name, definition_of, is_key};
+use std::alloc::AllocError;
+use tql_bind_spot::references::joined_reference;
+use tql_bind_spot::words::Words;
+use tql_bound::query::Chain;
+use tql_bound::reference::Reference;
+use tql_catalog::catalog::Catalog;
+use tql_catalog::table_def::TableDef;
+use tql_expr::equality::Equality;
+use tql_memory::Memory;
+use tql_plan::plan::Plan;
+use tql_store_index::basis::Sought;
+use tql_syntax_tree::expression::Name;
+use tql_syntax_tree::statement::{ChainTree, SelectTree};
+use tql_value::when::When;
+
+/// What is told of: the tables, a select, and the plan for it.
+#[derive(Clone, Copy)]
+struct Told<'t, 's, 'r, 'p> {
+    memory: Memory,
+    catalog: &'t Catalog,
+    select: &'t SelectTree<'s>,
+    plan: &'r Plan<'p>,
+}
+
+/// Says which versions are read, where it is not the current ones.
+fn say_when(when: When, words: &mut Words) -> Result<(), AllocError> {
+    match when {
+        When::Now => Ok(()),
+        When::AsOf(_) => words.say(" as of a moment"),
+        When::FromTo(_, _) | When::Between(_, _) => words.say(" over a range of moments"),
+    }
+}
+
+/// The other name of a chain's reference, by its number from 0.
+fn chain_alias<'s>(chain: &ChainTree<'s>, number: usize) -> Option<Name<'s>> {
+    if number == 0 {
+        return chain.first.alias;
+    }
+    let mut at = 1usize;
+    for join in &chain.joins {
+        if at == number {
+            return joined_reference(join).alias;
+        }
+        at = at.saturating_add(1);
+    }
+    None
+}
+
+/// The other name of a reference, by the number of its chain and its own in the chain, from 0.
+fn alias_at<'s>(select: &SelectTree<'s>, place: usize, number: usize) -> Option<Name<'s>> {
+    if place == 0 {
+        return chain_alias(&select.first, number);
+    }
+    let mut at = 1usize;
+    for chain in &select.more {
+        if at == place {
+            return chain_alias(chain, number);
+        }
+        at = at.saturating_add(1);
+    }
+    None
+}
+
+/// Says a table reference: its table, its other name where it has one, and which versions are read.
+fn say_reference(
+    told: Told<'_, '_, '_, '_>,
+    reference: Reference,
+    place: usize,
+    number: usize,
+    words: &mut Words,
+) -> Result<(), AllocError> {
+    if let Some(definition) = definition_of(told.catalog, reference) {
+        words.show("", definition.name())?;
+    }
+    if let Some(alias) = alias_at(told.select, place, number) {
+        let name = alias.meant(told.memory)?;
+        words.show(" ", name.as_str())?;
+    }
+    say_when(reference.when, words)
+}
+
+/// Says the columns of these numbers among the stored ones of a table, with commas between them.
+fn say_columns(
+    definition: &TableDef,
+    stored: &[usize],
+    words: &mut Words,
+) -> Result<(), AllocError> {
+    let mut mark = " (";
+    for place in stored {
+        let column = definition.assignable().get(*place).copied();
+        if let Some(name) = column.and_then(|number| column_name(definition, number)) {
+            words.show(mark, name)?;
+            mark = ", ";
+        }
+    }
+    words.say(")")
+}
+
+/// Says the application period of a table by which rows are found.
+fn say_period(definition: &TableDef, test: &str, words: &mut Words) -> Result<(), AllocError> {
+    match definition.application() {
+        Some(application) => words.show(" by its period ", application.name.as_str())?,
+        None => words.say(" by its period")?,
+    }
+    words.say(test)
+}
+
+/// Says by what the rows of the first reference are found.
+fn say_sought(
+    definition: &TableDef,
+    sought: Option<Sought<'_>>,
+    words: &mut Words,
+) -> Result<(), AllocError> {
+    match sought {
+        None => words.say(" read whole"),
+        Some(Sought::With(stored, _)) => {
+            words.say(if is_key(definition, stored) {
+                " by its key"
+            } else {
+                " by its reference"
+            })?;
+            say_columns(definition, stored, words)
+        }
+        Some(Sought::Holding(_, _, _)) => say_period(definition, " (CONTAINS)", words),
+        Some(Sought::Sharing(_, _, _)) => say_period(definition, " (OVERLAPS)", words),
+    }
+}
+
+/// Says by what partners are found: by a map of the rows by a column that is equal to one before, or by comparing all
+/// pairs.
+fn say_partners(
+    near: Option<&str>,
+    far: Option<&str>,
+    words: &mut Words,
+) -> Result<(), AllocError> {
+    match (near, far) {
+        (Some(near), Some(far)) => {
+            words.show(" by map on ", near)?;
+            if near == far {
+                Ok(())
+            } else {
+                words.show(" = ", far)
+            }
+        }
+        _ => words.say(" by pairs"),
+    }
+}
+
+/// Says that partners of few rows are found by an index, where a column has one.
+fn say_index(key: Option<usize>, words: &mut Words) -> Result<(), AllocError> {
+    match key {
+        Some(_) => words.say(" (of few rows by its index)"),
+        None => Ok(()),
+    }
+}
+
+impl Told<'_, '_, '_, '_> {
+    /// What is equal between the chain at this place and those before it.
+    fn equality_at(self, place: usize) -> Option<Equality> {
+        if place.saturating_add(1) >= self.plan.query.chains.len() {
+            self.plan.equality
+        } else {
+            self.plan.products.get(place)?.equality
+        }
+    }
+
+    /// Says by what the rows of a chain are found behind those of the chains before it.
+    fn say_product(self, place: usize, chain: &Chain, words: &mut Words) -> Result<(), AllocError> {
+        match self.equality_at(place) {
+            Some(equality) => {
+                let near = chains_column(self.catalog, &self.plan.query.chains, equality.near);
+                let far = chain_column(self.catalog, chain, equality.far);
+                say_partners(near, far, words)?;
+            }
+            None => words.say(" by pairs")?,
+        }
+        say_index(self.chain_key(place), words)
+    }
+
+    /// Which column of a chain behind others has an index, by which the partners of few rows are found.
+    fn chain_key(self, place: usize) -> Option<usize> {
+        if place.saturating_add(1) >= self.plan.query.chains.len() {
+            self.plan.key
+        } else {
+            None
+        }
+    }
+
+    /// Says the joins of a chain, each behind a comma.
+    fn say_joins(self, place: usize, chain: &Chain, words: &mut Words) -> Result<(), AllocError> {
+        let mut at = 0usize;
+        for join in &chain.joins {
+            words.say(", ")?;
+            say_reference(self, join.reference, place, at.saturating_add(1), words)?;
+            self.say_step(place, at, chain, join.reference, words)?;
+            at = at.saturating_add(1);
+        }
+        Ok(())
+    }
+
+    /// What is equal between the reference of a join and those before it in its chain.
+    fn step_equality(self, place: usize, at: usize) -> Option<Equality> {
+        self.plan.chains.get(place)?.joins.get(at)?.equality
+    }
+
+    /// Which column of the reference of a join has an index, by which the partners of few rows are found.
+    fn step_key(self, place: usize, at: usize) -> Option<usize> {
+        self.plan.chains.get(place)?.joins.get(at)?.key
+    }
+
+    /// Says by what the partners of a join are found.
+    fn say_step(
+        self,
+        place: usize,
+        at: usize,
+        chain: &Chain,
+        reference: Reference,
+        words: &mut Words,
+    ) -> Result<(), AllocError> {
+        match self.step_equality(place, at) {
+            Some(equality) => {
+                let near = chain_column(self.catalog, chain, equality.near);
+                let far = column_of(self.catalog, reference, equality.far);
+                say_partners(near, far, words)?;
+            }
+            None => words.say(" by pairs")?,
+        }
+        say_index(self.step_key(place, at), words)
+    }
+
+    /// Says the first reference of the first chain, and by what its rows are found.
+    fn say_first(self, reference: Reference, words: &mut Words) -> Result<(), AllocError> {
+        say_reference(self, reference, 0, 0, words)?;
+        match definition_of(self.catalog, reference) {
+            Some(definition) => say_sought(definition, self.plan.access.sought(), words),
+            None => Ok(()),
+        }
+    }
+
+    /// Says a chain behind others: one reference by itself, and several in parentheses.
+    fn say_next(self, place: usize, chain: &Chain, words: &mut Words) -> Result<(), AllocError> {
+        if chain.joins.is_empty() {
+            words.say(", ")?;
+            say_reference(self, chain.first, place, 0, words)?;
+        } else {
+            words.say(", (")?;
+            say_reference(self, chain.first, place, 0, words)?;
+            words.say(" read whole")?;
+            self.say_joins(place, chain, words)?;
+            words.say(")")?;
+        }
+        self.say_product(place, chain, words)
+    }
+
+    /// Says a chain, by its place.
+    fn say_chain(self, place: usize, chain: &Chain, words: &mut Words) -> Result<(), AllocError> {
+        if place == 0 {
+            self.say_first(chain.first, words)?;
+            self.say_joins(place, chain, words)
+        } else {
+            self.say_next(place, chain, words)
+        }
+    }
+
+    /// Says what may be out of range, where it keeps rows from being sought.
+    fn say_reason(self, words: &mut Words) -> Result<(), AllocError> {
+        if self.plan.is_safe {
+            return Ok(());
+        }
+        let calculation = first_calculation(self.memory, self.select)?;
+        let calculation = calculation.into_text();
+        words.say(", since ")?;
+        words.say(calculation.as_str())?;
+        words.say(" may be out of range")
+    }
+}
+
+/// The name of a reference's column.
+fn column_of(catalog: &Catalog, reference: Reference, number: usize) -> Option<&str> {
+    column_name(definition_of(catalog, reference)?, number)
+}
+
+/// A plan in words, of a select over these tables: for each table reference, from the left, by what its rows are found.
+/// The first one's are found by a key, a reference or the application period of its table, or it is read whole; the
+/// others' by a map of their rows by a column that ON or WHERE says to be equal to one before, or by comparing all
+/// pairs. Where a calculation of ON or WHERE may be out of range, the first one is told, since for it nothing is
+/// sought. The only error is a refused growth.
+pub fn plan_words(
+    memory: Memory,
+    catalog: &Catalog,
+    select: &SelectTree<'_>,
+    plan: &Plan<'_>,
+) -> Result<String<Memory>, AllocError> {
+    let told = Told {
+        memory,
+        catalog,
+        select,
+        plan,
+    };
+    let mut words = Words::none(memory);
+    let mut place = 0usize;
+    for chain in &plan.query.chains {
+        told.say_chain(place, chain, &mut words)?;
+        place = place.saturating_add(1);
+    }
+    told.say_reason(&mut words)?;
+    Ok(words.into_text())
+}
