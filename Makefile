@@ -7,6 +7,7 @@
 # make earned   looks whether errors of memory are made in tql_memory alone, in a second
 # make bench-index   proves and runs the program that times the two indexes; COUNTS="1000 10000" are its numbers of entries
 # make copies   looks whether the scripts of crates/test_cases/data/cases/copies are what tools/copies.py writes
+# make readers  looks whether the scripts of crates/test_cases/data/cases/readers are what tools/readers.py writes
 # make points   looks whether the scripts of crates/test_cases/data/cases/points are what tools/points.py writes
 # make devices  tries ./tql where what it reads or writes fails, and where memory or the stack is short
 # make growth-times   times ./tql on inputs of 1, 2, 4 and 8 times a size, and fails where a doubling more than triples the time
@@ -15,7 +16,7 @@
 # make plans    looks whether COUNT queries answer the same whichever way ./tql (or TQL=path) finds their rows (COUNT=1000)
 # make cost     what each crate weighs in the gate, and which are over a bound
 # make documents   whether the documents name what is there, and which lines are too long, in seconds
-.PHONY: run build install test edits lines earned bench-index copies points devices growth-times fuzz round-trip plans cost documents
+.PHONY: run build install test edits lines earned bench-index copies readers points devices growth-times fuzz round-trip plans cost documents
 .NOTPARALLEL:
 SECONDS ?= 60
 PREFIX ?= /usr/local
@@ -50,6 +51,9 @@ bench-index:
 
 copies:
 	@tools/copies.py --look
+
+readers:
+	@tools/readers.py --look
 
 points:
 	@tools/points.py --look

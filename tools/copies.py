@@ -21,18 +21,18 @@ from copying.values import MOMENT
 
 FOLDER = Path(__file__).resolve().parent.parent / "crates" / "test_cases" / "data" / "cases" / "copies"
 HEAD = "-- Made at random (tools/copies.py). The text comes from a machine that copies its tables at every commit.\n"
-# How many scripts, how many of them without PRUNE HISTORY, the first ones; how many statements each has besides its beginning and its end; and of
-# how many of either sort each growth is refused in turn.
-SCRIPTS, PLAIN, LENGTH, IN_TURN = 240, 200, 40, 10
+# How many scripts; how many of them, the first ones, are without PRUNE HISTORY, and how many without readers; how many statements each has besides
+# its beginning and its end; and of how many of each sort each growth is refused in turn.
+SCRIPTS, PLAIN, UNREAD, LENGTH, IN_TURN = 280, 200, 240, 40, 10
 
 
 def script(seed: int) -> tuple[str, str]:
     """A script that begins with three definitions and some rows, and at its end asks what all tables hold and held; and what the machine
     prints."""
     machine = Machine()
-    prunes = seed > PLAIN
-    maker, sql, text = Maker(seed, machine, prunes), "", ""
-    if seed - (PLAIN if prunes else 0) <= IN_TURN:
+    prunes, reads = seed > PLAIN, seed > UNREAD
+    maker, sql, text = Maker(seed, machine, prunes, reads), "", ""
+    if seed - (UNREAD if reads else PLAIN if prunes else 0) <= IN_TURN:
         sql = "-- cases: in-turn\n"
     sql += HEAD
 

@@ -1,9 +1,11 @@
 """A machine that copies all of its tables at every commit, and tests every key and every reference of every copy, point by point. PRUNE HISTORY
-lets go of the copies before the horizon."""
+lets go of the copies before the horizon. A reader has the copies that were committed when it was opened."""
 from copying.changes import completed
 from copying.queries import Select
 from copying.tables import Key, Reference, Table, define
-from copying.values import E20, E24, E30, E35, E36, E40, E41, E45, HIGH, Refused, first
+from copying.values import E16, E20, E24, E30, E35, E36, E40, E41, E45, E46, E47, HIGH, Refused, first
+
+MOST_READERS = 256
 
 
 def held(rows: list, places: tuple) -> list:
@@ -36,15 +38,26 @@ def is_met(table: Table, reference: Reference, rows: list, parents: list) -> boo
     return True
 
 
+def until(commits: list, at: int) -> int:
+    """Until when one of some copies is the last."""
+    return commits[at + 1][0] if at + 1 < len(commits) else HIGH
+
+
+def end_of(commits: list, name: str, at: int, row: tuple) -> int:
+    """Where a row of a copy ends: at the first later copy that lacks it."""
+    return next((moment for moment, copy in commits[at:] if row not in copy.get(name, [])), HIGH)
+
+
 class Machine:
     """The copies of all commits, the oldest first, with their moments; the tables; the moment of the next commit. An open transaction counts as
     the last commit. A row of a copy is its values, of which the generated ones are empty, with the moment of its commit. No question is asked
-    of what lies before the horizon."""
+    of what lies before the horizon. Of each open reader, by its name, the copies that it set aside."""
 
     def __init__(self) -> None:
         self.commits: list = []
         self.tables: dict = {}
         self.is_open, self.next, self.horizon = False, 0, 0
+        self.readers: dict = {}
 
     # ---- what is there
 
@@ -55,21 +68,22 @@ class Machine:
     def values(self, name: str) -> list:
         return [row for row, _ in self.rows(name)]
 
-    def until(self, at: int) -> int:
-        return self.commits[at + 1][0] if at + 1 < len(self.commits) else HIGH
-
-    def end_of(self, name: str, at: int, row: tuple) -> int:
-        """Where a row of a copy ends: at the first later copy that lacks it."""
-        return next((moment for moment, copy in self.commits[at:] if row not in copy.get(name, [])), HIGH)
-
     def asked(self, reference) -> list:
-        """The rows of a reference of FROM: of the last copy, or of those that its clause asks for, each once."""
+        """The rows of a reference of FROM, of all copies."""
+        return self.found(reference, self.commits)
+
+    def found(self, reference, commits: list) -> list:
+        """The rows of a reference of FROM: of the last of some copies, or of those that its clause asks for, each once."""
         name, span, found, seen = reference.table, reference.span, [], set()
-        for at, (moment, copy) in enumerate(self.commits):
-            if span.holds(moment, self.until(at)) if span else at + 1 == len(self.commits):
-                found += [(row, self.end_of(name, at, row)) for row in copy.get(name, []) if row not in seen]
+        for at, (moment, copy) in enumerate(commits):
+            if span.holds(moment, until(commits, at)) if span else at + 1 == len(commits):
+                found += [(row, end_of(commits, name, at, row)) for row in copy.get(name, []) if row not in seen]
                 seen = {row for row, _ in found}
         return [completed(self.tables[name], row, start, end) for (row, start), end in found]
+
+    def committed(self) -> list:
+        """The copies without that of an open transaction."""
+        return self.commits[:-1] if self.is_open else self.commits
 
     # ---- steps
 
@@ -149,8 +163,13 @@ class Machine:
         if self.is_open:
             raise Refused(E40)
 
+    def unread(self) -> None:
+        if self.readers:
+            raise Refused(E47)
+
     def definition(self, definition) -> str:
         self.rest()
+        self.unread()
         faults, table = define(self.tables, definition)
         self.stop(faults)
         self.tables[table.name] = table
@@ -158,6 +177,7 @@ class Machine:
 
     def drop(self, drop) -> str:
         self.rest()
+        self.unread()
         if drop.table not in self.tables:
             raise Refused(E20)
         if any(it.parent.name == drop.table for table in self.tables.values() for it in table.references):
@@ -181,11 +201,33 @@ class Machine:
         moment = prune.moment.value
         if moment is None:
             raise Refused(E30)
+        if any(not pinned or pinned[-1][0] < moment for pinned in self.readers.values()):
+            raise Refused(E47)
         if moment < self.horizon:
             raise Refused(E45)
         kept = max((at for at, (it, _) in enumerate(self.commits) if it <= moment), default=0)
         self.commits, self.horizon = self.commits[kept:], moment
         return "PRUNE HISTORY\n"
+
+    def open(self, opened) -> str:
+        if len(self.readers) >= MOST_READERS:
+            raise Refused(E16)
+        if opened.name in self.readers:
+            raise Refused(E46)
+        self.readers[opened.name] = [*self.committed()]
+        return "OPEN READER\n"
+
+    def read(self, read) -> str:
+        faults = read.query.bind(self.tables) + self.horizon_faults(read.query)
+        plain = [it for it in read.query.chains if it.table in self.tables and self.tables[it.table].system is None]
+        self.stop(faults + [E46] * (read.name not in self.readers or bool(plain)))
+        return read.query.printed(lambda reference: self.found(reference, self.readers[read.name]))
+
+    def close(self, closed) -> str:
+        if closed.name not in self.readers:
+            raise Refused(E46)
+        del self.readers[closed.name]
+        return "CLOSE READER\n"
 
     def odd(self, odd) -> str:
         raise Refused(odd.why)
@@ -211,6 +253,21 @@ class At:
 class Prune:
     def __init__(self, moment) -> None:
         self.moment, self.text = moment, f"PRUNE HISTORY BEFORE {moment.text}"
+
+
+class Open:
+    def __init__(self, name: str, text: str) -> None:
+        self.name, self.text = name, f"OPEN READER {text}"
+
+
+class Read:
+    def __init__(self, name: str, text: str, query: Select) -> None:
+        self.name, self.query, self.text = name, query, f"READ {text} {query.text}"
+
+
+class Close:
+    def __init__(self, name: str, text: str) -> None:
+        self.name, self.text = name, f"CLOSE READER {text}"
 
 
 class Odd:

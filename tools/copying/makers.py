@@ -3,7 +3,7 @@ from copying.changes import Change, Insert, Portion
 from copying.conditions import Aggregate, All, Compare, Literal, Null
 from copying.counter import BEGIN, NONE, SOME, Counter, alone
 from copying.definitions import Definitions
-from copying.machine import At, Drop, Machine, Odd, Prune, Turn
+from copying.machine import At, Close, Drop, Machine, Odd, Open, Prune, Read, Turn
 from copying.queries import From, Select, Span
 from copying.tables import SYSTEM, Definition, Table
 from copying.values import DAY, E10, E14, HIGH, MOMENT, NUMBER, SORTS, Refused, named
@@ -12,13 +12,15 @@ ODD = ("SELECT x FROM log WHERE", "INSERT INTO t", "CREATE TABLE t (x INTEGER PR
        "CREATE TABLE t (x INTEGER, FOREIGN KEY (x) REFERENCES t (x) ON DELETE CASCADE)", "SELECT * FROM t LIMIT 1", "COMMIT TRANSACTION",
        "CREATE TABLE t (x INTEGER, UNIQUE (p WITHOUT OVERLAPS))", "CREATE TABLE t (x INTEGER, CHECK x > 0)", "DROP TABLE t CASCADE")
 
+READERS = ("R", "MORNING", "a b")
+
 
 class Maker(Counter):
-    """Statements, and PRUNE HISTORY among them where that is wanted."""
+    """Statements, and PRUNE HISTORY and those of readers among them where they are wanted."""
 
-    def __init__(self, seed: int, machine: Machine, prunes: bool = False) -> None:
+    def __init__(self, seed: int, machine: Machine, prunes: bool = False, reads: bool = False) -> None:
         super().__init__(seed)
-        self.machine, self.definitions, self.prunes = machine, Definitions(self, machine), prunes
+        self.machine, self.definitions, self.prunes, self.reads = machine, Definitions(self, machine), prunes, reads
 
     def table(self, takes=None) -> Table:
         """A table that is there, mostly one of the wanted sort."""
@@ -282,6 +284,25 @@ class Maker(Counter):
         """A horizon at a commit or beside it, seldom at the highest moment."""
         return Prune(self.clock(HIGH if self.one_in(24) else self.moment()))
 
+    def reader(self):
+        """A reader opened, asked or closed, mostly where that can be."""
+        which, is_odd = self.below(12), self.one_in(12)
+        opened = [*self.machine.readers]
+        wanted = [it for it in READERS if it not in opened] if which < 2 or not opened else opened
+        name = self.any_of(READERS if is_odd or not wanted else wanted)
+        text = named(name, self.below(3))
+        if which < 2 or not opened:
+            return Open(name, text)
+        return Close(name, text) if which == 2 else self.asked(name, text)
+
+    def asked(self, name: str, text: str) -> Read:
+        """A question to a reader, mostly one that is answered by rows."""
+        tries = 1 if self.one_in(8) else 30
+        made = Read(name, text, self.question())
+        while tries > 1 and (not self.is_short(made) or self.is_dull(made)):
+            tries, made = tries - 1, Read(name, text, self.question())
+        return made
+
     def drop(self) -> Drop:
         name = self.any_of([*self.machine.tables, "NOSUCH"])
         return Drop(name, f"DROP TABLE {named(name)}{self.any_of(('', ' RESTRICT'))}")
@@ -294,6 +315,8 @@ class Maker(Counter):
     def statement(self):
         if self.prunes and self.one_in(12):
             return self.prune()
+        if self.reads and self.one_in(3):
+            return self.reader()
         which = self.below(60)
         if which < 20:
             return self.insert()
@@ -328,15 +351,17 @@ class Maker(Counter):
         try:
             if isinstance(statement, (Insert, Change)):
                 return self.machine.changed(statement)[1] == 0
+            if isinstance(statement, Read):
+                return "(0 rows)" in self.machine.read(statement)
             return isinstance(statement, Select) and "(0 rows)" in self.machine.select(statement)
         except Refused:
             return True
 
     def is_short(self, statement) -> bool:
         """Whether the reply is not too long, nor what it leaves, nor its periods."""
-        if isinstance(statement, Select):
+        if isinstance(statement, (Select, Read)):
             product = 1
-            for it in statement.chains:
+            for it in (statement.query if isinstance(statement, Read) else statement).chains:
                 product *= max(1, len(self.machine.rows(it.table)))
             return product <= 400 and self.machine.answer(statement).count("\n") <= 24
         return not isinstance(statement, (Insert, Change)) or self.is_narrow(statement)

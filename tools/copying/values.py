@@ -8,7 +8,8 @@ E21, E22, E23 = "E21 name unknown, ambiguous or repeated", "E22 types do not fit
 E24, E30, E31 = "E24 table is referenced", "E30 value out of range", "E31 portion not rising"
 E32, E33, E34 = "E32 null not allowed", "E33 period not rising", "E34 check failed"
 E35, E36 = "E35 duplicate key", "E36 reference not met"
-E40, E41, E45 = "E40 not in this transaction state", "E41 moment not allowed", "E45 before the horizon"
+E16, E40, E41 = "E16 too many tables or readers", "E40 not in this transaction state", "E41 moment not allowed"
+E45, E46, E47 = "E45 before the horizon", "E46 reader not usable", "E47 readers are open"
 
 NUMBER, TEXT, DAY, MOMENT = "number", "text", "day", "moment"
 SORTS = (NUMBER, TEXT, DAY, MOMENT)
@@ -35,8 +36,8 @@ def number(value: int) -> int:
 
 def first(faults) -> "str | None":
     """The first of these refusals in the order of report: of those that stand beside each other here that is the order of their numbers, but
-    E45 stands before E30."""
-    return min(faults, default=None, key=lambda it: (it >= E30 and it != E45, it))
+    E45 and E46 stand before E30."""
+    return min(faults, default=None, key=lambda it: (it >= E30 and it not in (E45, E46), it))
 
 
 def day_of(year: int, month: int, day: int) -> int:

@@ -29,6 +29,8 @@ fn verb(word: &str) -> Result<Verb, Stop> {
         "RolledBack" => Ok(Verb::RolledBack),
         "ClockSet" => Ok(Verb::ClockSet),
         "Pruned" => Ok(Verb::Pruned),
+        "OpenedReader" => Ok(Verb::OpenedReader),
+        "ClosedReader" => Ok(Verb::ClosedReader),
         _ => Err(Stop::Form),
     }
 }

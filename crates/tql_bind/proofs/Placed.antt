@@ -4,11 +4,12 @@ use Rattle.std.specs.Prelude.{IsTrue, not}
 use Rattle.tql_spec.specs.Binding.{bind, insert_columns, select, table_number}
 use Rattle.tql_spec.specs.Definition.{TableDef, table_at}
 use Rattle.tql_spec.specs.Machine.{ChangeRows, AnswerQuery, Bound, Change, CreateTable, DropTable, InsertQuery}
-use Rattle.tql_spec.specs.Machine.{SetClock, Prune, Start}
+use Rattle.tql_spec.specs.Machine.{SetClock, Prune, Start, OpenReader, Read, CloseReader}
 use Rattle.tql_spec.specs.Machine.{Commit, Rollback, changed_table}
 use Rattle.tql_spec.specs.Refusal.{first}
 use Rattle.tql_spec.specs.Syntax.{AtTree, CommitTree, CreateTree, DeleteTree, DropTree, InsertSelect, InsertValues}
-use Rattle.tql_spec.specs.Syntax.{QueryTree, RollbackTree, StartTree, Statement, UpdateTree, PruneTree}
+use Rattle.tql_spec.specs.Syntax.{QueryTree, RollbackTree, StartTree, Statement, UpdateTree, PruneTree, OpenTree}
+use Rattle.tql_spec.specs.Syntax.{ReadTree, CloseTree}
 use Rattle.tql_bind.specs.Creations.{is_creation}
 use Rattle.tql_bound.specs.Bounds.{HasMoment, IsSound, bound_of}
 use Rattle.tql_bound.specs.Placed.{IsPlacedQuery}
@@ -31,6 +32,9 @@ IsPlaced defs (ChangeRows c) = (changed_table c < length defs) × AreSourcesPlac
 IsPlaced defs (AnswerQuery q) = IsPlacedQuery defs q
 IsPlaced defs (SetClock m) = Unit {0}
 IsPlaced defs (Prune m) = Unit {0}
+IsPlaced defs (OpenReader n) = Unit {0}
+IsPlaced defs (Read n q) = IsPlacedQuery defs q
+IsPlaced defs (CloseReader n) = Unit {0}
 IsPlaced defs Start = Unit {0}
 IsPlaced defs Commit = Unit {0}
 IsPlaced defs Rollback = Unit {0}
@@ -54,6 +58,9 @@ placed defs CommitTree e = tt
 placed defs RollbackTree e = tt
 placed defs (AtTree t) e = tt
 placed defs (PruneTree t) e = tt
+placed defs (OpenTree n) e = tt
+placed defs (ReadTree n s keys) e = query_placed defs s keys (front_none (select defs s keys).faults _ e)
+placed defs (CloseTree n) e = tt
 
 -- ---- the code's
 
@@ -71,6 +78,9 @@ creates_none defs CommitTree d other is = cc
 creates_none defs RollbackTree d other is = cc
 creates_none defs (AtTree t) d other is = cc
 creates_none defs (PruneTree t) d other is = cc
+creates_none defs (OpenTree n) d other is = cc
+creates_none defs (ReadTree n s keys) d other is = cc
+creates_none defs (CloseTree n) d other is = cc
 
 sound_by : (defs : List TableDef) (s : Statement) (b : bound.Bound) → IsTrue (not (is_creation s))
     → (bind defs s).value ≡ bound_of b → HasMoment b → IsPlaced defs (bound_of b) → IsSound defs b
@@ -82,6 +92,9 @@ sound_by defs s (statement.Modify x) other is timed there = there.0
 sound_by defs s (statement.AnswerQuery x) other is timed there = there
 sound_by defs s (statement.SetClock m) other is timed there = timed
 sound_by defs s (statement.Prune m) other is timed there = timed
+sound_by defs s (statement.OpenReader n) other is timed there = tt
+sound_by defs s (statement.Read x) other is timed there = there
+sound_by defs s (statement.CloseReader n) other is timed there = tt
 sound_by defs s statement.Start other is timed there = tt
 sound_by defs s statement.Commit other is timed there = tt
 sound_by defs s statement.Rollback other is timed there = tt

@@ -163,7 +163,7 @@ named_where true false false groups items having e =
     by_items false true i h e = absurd (cc)
     by_items false false i h e = (none_any (is_loose groups) items i, none_any (has_expr (is_loose groups)) having h)
 
-not_present : (b : Bool) (f : Refusal) → fault_if b f ≡ [] → b ≡ false
+pub not_present : (b : Bool) (f : Refusal) → fault_if b f ≡ [] → b ≡ false
 not_present true f e = cc
 not_present false f e = refl
 

@@ -1,25 +1,59 @@
 -- What a statement is bound to under limits.
-use Rattle.std.specs.Prelude.{Bool, List, ◌++◌, ℤ}
-use Rattle.tql_spec.specs.Definition.{TableDef}
-use Rattle.tql_spec.specs.Horizon.{is_before}
-use Rattle.tql_spec.specs.Machine as machine
-use Rattle.tql_spec.specs.Machine.{Bound, bound_faults}
+use Rattle.std.specs.Prelude.{Bool, false, not, ◌||◌, nat_le, List, length, ◌++◌, ℤ, int_lt, is_none}
+use Rattle.tql_spec.specs.Definition.{TableDef, table_at}
+use Rattle.tql_spec.specs.Horizon.{is_before, asks_before}
+use Rattle.tql_spec.specs.Limits.{most_readers}
+use Rattle.tql_spec.specs.Machine.{Bound, bound_faults, ChangeRows, InsertQuery, AnswerQuery, Prune, OpenReader, Read}
+use Rattle.tql_spec.specs.Machine.{CloseReader}
 use Rattle.tql_spec.specs.Names.{Checked}
+use Rattle.tql_spec.specs.Readers as readers
+use Rattle.tql_spec.specs.Readers.{is_named, reads_plain}
 use Rattle.tql_spec.specs.Syntax.{Statement}
 use Rattle.tql_spec.specs.Binding.{bind}
 use Rattle.tql_value.specs.When.{when_of}
+use Rattle.tql_bound.specs.Readers.{names_of}
 use Rattle.tql_bound.specs.declared.reference.Reference.{Reference}
 use Rattle.tql_bind.specs.declared.limits.Limits.{Limits}
 
 -- the limits among the definitions' limits
-abbrev pub limits_of : Limits → machine.Limits
-limits_of l = record { horizon = l.horizon }
+abbrev pub limits_of : Limits → readers.Limits
+limits_of l = record { horizon = l.horizon; names = names_of l.readers.now }
+
+-- ---- references
 
 -- whether a reference asks for what lies before the horizon
 abbrev pub asks : ℤ → Reference → Bool
 asks h r = is_before h (when_of r.when)
 
+-- whether a reference is to a table that is not versioned
+abbrev pub is_plain : List TableDef → Reference → Bool
+is_plain defs r = is_none (table_at defs r.table).system
+
+-- ---- the faults by the limits, one by one
+
+-- a reader is opened where no more may be
+abbrev pub opens_too_many : readers.Limits → Bound → Bool
+opens_too_many l (OpenReader n) = nat_le most_readers (length l.names)
+opens_too_many l _ = false
+
+-- the reader cannot be used so
+abbrev pub is_unusable : readers.Limits → List TableDef → Bound → Bool
+is_unusable l defs (OpenReader n) = is_named n l.names
+is_unusable l defs (Read n q) = not (is_named n l.names) || reads_plain defs q
+is_unusable l defs (CloseReader n) = not (is_named n l.names)
+is_unusable l defs _ = false
+
+-- what lies before the horizon is asked for, or the horizon is set to a moment before it
+abbrev pub is_too_early : readers.Limits → Bound → Bool
+is_too_early l (ChangeRows (InsertQuery t columns q)) = asks_before l.horizon q
+is_too_early l (AnswerQuery q) = asks_before l.horizon q
+is_too_early l (Prune m) = int_lt m l.horizon
+is_too_early l (Read n q) = asks_before l.horizon q
+is_too_early l _ = false
+
+-- ---- statements
+
 -- what the names say, with the faults by the limits in front of those of names, kinds, forms and literals
-abbrev pub bind_under : machine.Limits → List TableDef → Statement → Checked Bound
+abbrev pub bind_under : readers.Limits → List TableDef → Statement → Checked Bound
 bind_under l defs s =
     let b : Checked Bound = bind defs s in record { value = b.value; faults = bound_faults l defs b.value ++ b.faults }

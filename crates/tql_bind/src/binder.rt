@@ -12,8 +12,8 @@ ghost use Rattle.tql_bound.specs.Bounds.{HasMoment, IsSound, bound_of};
 
 use crate::drop_table::bind_drop;
 use crate::insertions::insert;
-use crate::limits::{Limits, is_before_horizon};
-use crate::queries::bind_query;
+use crate::limits::{Limits, refuse_by_limits};
+use crate::queries::{bind_query, bind_read};
 use std::alloc::AllocError;
 use tql_bind_change::delete::delete_rows;
 use tql_bind_change::update::update_rows;
@@ -84,6 +84,9 @@ fn bound(
             let moment = moment(memory, quoted, faults)?;
             Ok(Bound::Prune(moment))
         }
+        Statement::OpenReader(name) => Ok(Bound::OpenReader(name.meant(memory)?)),
+        Statement::Read(name, tree) => bind_read(memory, tables, *name, tree, faults),
+        Statement::CloseReader(name) => Ok(Bound::CloseReader(name.meant(memory)?)),
     }
 }
 
@@ -92,7 +95,7 @@ fn faultless(
     memory: Memory,
     tables: &Catalog,
     statement: &Statement<'_>,
-    limits: &Limits,
+    limits: &Limits<'_>,
 ) -> Result<Bound, Refusal>
     requires other { IsTrue (not (is_creation (statement_of statement.now))) }
     requires narrow { IsFalse (is_too_wide (statement_of statement.now)) }
@@ -103,7 +106,7 @@ fn faultless(
 {
     let mut faults = Faults::none();
     let bound = bound(memory, tables, statement, &mut faults)?;
-    faults.refuse_if(is_before_horizon(&bound, limits), Refusal::BeforeTheHorizon);
+    refuse_by_limits(&bound, tables, limits, &mut faults);
     match faults.least() {
         Some(refusal) => Err(refusal),
         None => Ok(bound),
@@ -113,12 +116,14 @@ fn faultless(
 /// The statement with its names bound: one of at most 64 columns or 8 table references, over tables of at most 64
 /// columns. CREATE TABLE is bound whole, with its keys, references and checks. Refused: the first of the faults of
 /// names, kinds, forms and literals, and of those by the limits (a query that asks for what lies before the horizon,
-/// also an INSERT's, and PRUNE HISTORY with a moment before it), in the order of report; or memory.
+/// also an INSERT's or a READ's, and PRUNE HISTORY with a moment before it; a reader opened that is open, or beside 256
+/// others; one read or closed that is not open, or read for a table that is not versioned), in the order of report; or
+/// memory.
 pub fn bind(
     memory: Memory,
     tables: &Catalog,
     statement: &Statement<'_>,
-    limits: &Limits,
+    limits: &Limits<'_>,
 ) -> Result<Bound, Refusal>
     requires narrow { IsFalse (is_too_wide (statement_of statement.now)) }
     requires tables { All (λ d. length d.columns ≤ 64) (definitions_of tables.now) }

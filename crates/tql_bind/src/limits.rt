@@ -1,29 +1,45 @@
 //! What names are bound under, and what that refuses.
-ghost use Rattle.std.specs.Prelude.{◌≡◌, List, map};
+ghost use Rattle.std.specs.Prelude.{◌≡◌, List, map, not, string_bytes};
 ghost use Rattle.std.specs.List.{list_any};
-ghost use Rattle.tql_spec.specs.Definition.{TableDef};
 ghost use Rattle.tql_spec.specs.Horizon as spec;
 ghost use Rattle.tql_spec.specs.Machine.{bound_faults};
-ghost use Rattle.tql_spec.specs.Refusal.{BeforeTheHorizon, fault_if};
+ghost use Rattle.tql_spec.specs.Names.{refuse_for};
+ghost use Rattle.tql_spec.specs.Readers as readers;
+ghost use Rattle.tql_spec.specs.Words.{same_text};
+ghost use Rattle.tql_catalog.specs.Tables.{definitions_of};
 ghost use Rattle.tql_bound.specs.Bounds.{bound_of};
 ghost use Rattle.tql_bound.specs.Queries.{bound_query_of, references_in};
+ghost use Rattle.tql_bound.specs.Readers.{names_of};
 ghost use Rattle.tql_bound.specs.declared.query.Join as joined;
 ghost use Rattle.tql_value.specs.When.{when_of};
+ghost use Rattle.tql_bind_expr.specs.Gathered.{Gathers};
+ghost use Rattle.tql_bind.specs.Limited as limited;
 ghost use Rattle.tql_bind.specs.Limited.{asks, limits_of};
 
+use tql_bind_expr::faults::Faults;
+use tql_bind_expr::texts::is_same_text;
 use tql_bound::bound::Bound;
 use tql_bound::query::{BoundQuery, Chain, Join};
+use tql_bound::reader::Reader;
+use tql_bound::reference::Reference;
+use tql_catalog::catalog::Catalog;
+use tql_value::refusal::Refusal;
 use tql_value::when::When;
+
+/// The most readers that are open at once. The limit is this project's choice.
+const MOST_READERS: usize = 256;
 
 /// What names are bound under.
 #[derive(Clone, Copy)]
-pub struct Limits {
+pub struct Limits<'a> {
     /// The moment before which no query may ask, in microseconds since 1970-01-01.
     pub horizon: i64,
+    /// The readers that are open.
+    pub readers: &'a [Reader],
 }
 
 /// Whether a moment asked for, or the first of a range, lies before the horizon, also where the range is empty.
-fn is_before(when: When, limits: &Limits) -> bool
+fn is_before(when: When, limits: &Limits<'_>) -> bool
     ensures { result ≡ spec.is_before limits.now.horizon (when_of when) }
 {
     match when {
@@ -35,7 +51,7 @@ fn is_before(when: When, limits: &Limits) -> bool
 }
 
 /// Whether the reference of some join asks for what lies before the horizon.
-fn do_joins_ask_before(joins: &[Join], limits: &Limits) -> bool
+fn do_joins_ask_before(joins: &[Join], limits: &Limits<'_>) -> bool
     ensures { result ≡ list_any (asks limits.now.horizon) (map (λ (j : joined.Join). j.reference) joins.now) }
 {
     joins
@@ -44,14 +60,14 @@ fn do_joins_ask_before(joins: &[Join], limits: &Limits) -> bool
 }
 
 /// Whether some reference of a chain asks for what lies before the horizon.
-fn does_chain_ask_before(chain: &Chain, limits: &Limits) -> bool
+fn does_chain_ask_before(chain: &Chain, limits: &Limits<'_>) -> bool
     ensures { result ≡ list_any (asks limits.now.horizon) (references_in chain.now) }
 {
     is_before(chain.first.when, limits) || do_joins_ask_before(&chain.joins, limits)
 }
 
 /// Whether some reference of a query asks for what lies before the horizon.
-fn does_ask_before(query: &BoundQuery, limits: &Limits) -> bool
+fn does_ask_before(query: &BoundQuery, limits: &Limits<'_>) -> bool
     ensures { result ≡ spec.asks_before limits.now.horizon (bound_query_of query.now) }
 {
     query
@@ -61,21 +77,133 @@ fn does_ask_before(query: &BoundQuery, limits: &Limits) -> bool
 }
 
 /// Whether a bound statement asks for what lies before the horizon, or sets the horizon to a moment before it.
-pub(crate) fn is_before_horizon(bound: &Bound, limits: &Limits) -> bool
-    ensures { (defs : List TableDef)
-        → fault_if result BeforeTheHorizon ≡ bound_faults (limits_of limits.now) defs (bound_of bound.now) }
+fn is_too_early(bound: &Bound, limits: &Limits<'_>) -> bool
+    ensures { result ≡ limited.is_too_early (limits_of limits.now) (bound_of bound.now) }
 {
     match bound {
         Bound::AnswerQuery(query) => does_ask_before(query, limits),
         Bound::InsertFrom(insertion) => does_ask_before(&insertion.query, limits),
+        Bound::Read(read) => does_ask_before(&read.query, limits),
         Bound::Prune(moment) => *moment < limits.horizon,
         Bound::CreateTable(_)
         | Bound::DropTable(_)
         | Bound::Insert(_)
         | Bound::Modify(_)
         | Bound::SetClock(_)
+        | Bound::OpenReader(_)
+        | Bound::CloseReader(_)
         | Bound::Start
         | Bound::Commit
         | Bound::Rollback => false,
     }
+}
+
+/// Whether a reference is to a table that is not versioned.
+fn is_plain(reference: &Reference, tables: &Catalog) -> bool
+    ensures { result ≡ limited.is_plain (definitions_of tables.now) reference.now }
+{
+    !tables.is_versioned(reference.table)
+}
+
+/// Whether the reference of some join is to a table that is not versioned.
+fn do_joins_read_plain(joins: &[Join], tables: &Catalog) -> bool
+    ensures { result
+        ≡ list_any (limited.is_plain (definitions_of tables.now)) (map (λ (j : joined.Join). j.reference) joins.now) }
+{
+    joins.iter().any(|join| is_plain(&join.reference, tables))
+}
+
+/// Whether some reference of a chain is to a table that is not versioned.
+fn does_chain_read_plain(chain: &Chain, tables: &Catalog) -> bool
+    ensures { result ≡ list_any (limited.is_plain (definitions_of tables.now)) (references_in chain.now) }
+{
+    is_plain(&chain.first, tables) || do_joins_read_plain(&chain.joins, tables)
+}
+
+/// Whether some reference of a query is to a table that is not versioned.
+fn reads_plain(query: &BoundQuery, tables: &Catalog) -> bool
+    ensures { result ≡ readers.reads_plain (definitions_of tables.now) (bound_query_of query.now) }
+{
+    query
+        .chains
+        .iter()
+        .any(|chain| does_chain_read_plain(chain, tables))
+}
+
+/// Whether this is the name of the reader.
+fn is_named(reader: &Reader, name: &str) -> bool
+    ensures { result ≡ same_text name.now (string_bytes reader.now.name) }
+{
+    is_same_text(name, &reader.name)
+}
+
+/// Whether a reader of this name is open.
+fn is_open(name: &str, limits: &Limits<'_>) -> bool
+    ensures { result ≡ readers.is_named name.now (names_of limits.now.readers.now) }
+{
+    limits.readers.iter().any(|reader| is_named(reader, name))
+}
+
+/// Whether a bound statement opens a reader where no more may be open.
+fn opens_too_many(bound: &Bound, limits: &Limits<'_>) -> bool
+    ensures { result ≡ limited.opens_too_many (limits_of limits.now) (bound_of bound.now) }
+{
+    match bound {
+        Bound::OpenReader(_) => MOST_READERS <= limits.readers.len(),
+        Bound::CreateTable(_)
+        | Bound::DropTable(_)
+        | Bound::Insert(_)
+        | Bound::InsertFrom(_)
+        | Bound::Modify(_)
+        | Bound::AnswerQuery(_)
+        | Bound::SetClock(_)
+        | Bound::Prune(_)
+        | Bound::Read(_)
+        | Bound::CloseReader(_)
+        | Bound::Start
+        | Bound::Commit
+        | Bound::Rollback => false,
+    }
+}
+
+/// Whether a bound statement opens a reader that is open, reads or closes one that is not, or reads a table that is not
+/// versioned.
+fn is_unusable(bound: &Bound, tables: &Catalog, limits: &Limits<'_>) -> bool
+    ensures { result ≡ limited.is_unusable (limits_of limits.now) (definitions_of tables.now) (bound_of bound.now) }
+{
+    match bound {
+        Bound::OpenReader(name) => is_open(name, limits),
+        Bound::Read(read) => !is_open(&read.reader, limits) || reads_plain(&read.query, tables),
+        Bound::CloseReader(name) => !is_open(name, limits),
+        Bound::CreateTable(_)
+        | Bound::DropTable(_)
+        | Bound::Insert(_)
+        | Bound::InsertFrom(_)
+        | Bound::Modify(_)
+        | Bound::AnswerQuery(_)
+        | Bound::SetClock(_)
+        | Bound::Prune(_)
+        | Bound::Start
+        | Bound::Commit
+        | Bound::Rollback => false,
+    }
+}
+
+/// The faults of a bound statement by the limits.
+pub(crate) fn refuse_by_limits(
+    bound: &Bound,
+    tables: &Catalog,
+    limits: &Limits<'_>,
+    faults: &mut Faults,
+)
+    ensures { Gathers
+        (refuse_for (bound_faults (limits_of limits.now) (definitions_of tables.now) (bound_of bound.now)))
+        faults.old faults.new tt }
+{
+    let is_too_many = opens_too_many(bound, limits);
+    faults.refuse_if(is_too_many, Refusal::TooManyTablesOrReaders);
+    let is_unusable = is_unusable(bound, tables, limits);
+    faults.refuse_if(is_unusable, Refusal::ReaderNotUsable);
+    let is_too_early = is_too_early(bound, limits);
+    faults.refuse_if(is_too_early, Refusal::BeforeTheHorizon);
 }

@@ -198,12 +198,15 @@ pub(crate) fn form_words(
         },
         Statement::Delete(delete) => tell_aggregate(memory, delete.filter.as_deref(), words),
         Statement::Query(query) => select_forms(memory, catalog, &query.select, words),
+        Statement::Read(_, query) => select_forms(memory, catalog, &query.select, words),
         Statement::Create(_)
         | Statement::DropTable(_)
         | Statement::StartTransaction
         | Statement::Commit
         | Statement::Rollback
         | Statement::At(_)
-        | Statement::Prune(_) => Ok(()),
+        | Statement::Prune(_)
+        | Statement::OpenReader(_)
+        | Statement::CloseReader(_) => Ok(()),
     }
 }

@@ -417,12 +417,15 @@ pub(crate) fn kind_words(
             None => Ok(()),
         },
         Statement::Query(query) => select_kinds(memory, catalog, &query.select, words),
+        Statement::Read(_, query) => select_kinds(memory, catalog, &query.select, words),
         Statement::Create(_)
         | Statement::DropTable(_)
         | Statement::StartTransaction
         | Statement::Commit
         | Statement::Rollback
         | Statement::At(_)
-        | Statement::Prune(_) => Ok(()),
+        | Statement::Prune(_)
+        | Statement::OpenReader(_)
+        | Statement::CloseReader(_) => Ok(()),
     }
 }

@@ -391,11 +391,14 @@ pub(crate) fn name_words(
             None => Ok(()),
         },
         Statement::Query(query) => query_words(memory, catalog, query, words),
+        Statement::Read(_, query) => query_words(memory, catalog, query, words),
         Statement::DropTable(_)
         | Statement::StartTransaction
         | Statement::Commit
         | Statement::Rollback
         | Statement::At(_)
-        | Statement::Prune(_) => Ok(()),
+        | Statement::Prune(_)
+        | Statement::OpenReader(_)
+        | Statement::CloseReader(_) => Ok(()),
     }
 }

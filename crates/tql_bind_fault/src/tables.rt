@@ -106,10 +106,13 @@ pub(crate) fn table_words(
         Statement::Update(update) => lacking(memory, catalog, update.table, words),
         Statement::Delete(delete) => lacking(memory, catalog, delete.table, words),
         Statement::Query(query) => select_tables(memory, catalog, &query.select, words),
+        Statement::Read(_, query) => select_tables(memory, catalog, &query.select, words),
         Statement::StartTransaction
         | Statement::Commit
         | Statement::Rollback
         | Statement::At(_)
-        | Statement::Prune(_) => Ok(()),
+        | Statement::Prune(_)
+        | Statement::OpenReader(_)
+        | Statement::CloseReader(_) => Ok(()),
     }
 }

@@ -1,5 +1,5 @@
 -- The bound statements that those of the code stand for, and what is true of each.
-use Rattle.std.specs.Prelude.{◌≡◌, ◌<◌, ◌≤◌, List, length, None}
+use Rattle.std.specs.Prelude.{◌≡◌, ◌<◌, ◌≤◌, List, length, None, string_bytes}
 use Rattle.tql_spec.specs.Definition.{TableDef, place_of}
 use Rattle.tql_spec.specs.Machine as machine
 use Rattle.tql_bound.specs.Changes.{insertion_of, modification_of, query_insertion_of}
@@ -9,7 +9,7 @@ use Rattle.tql_bound.specs.Placed.{IsPlacedQuery}
 use Rattle.tql_bound.specs.declared.bound.Bound.{Bound}
 use Rattle.tql_bound.specs.declared.bound.Bound.TheVariants.{CreateTable, DropTable, Insert as Inserts, InsertFrom}
 use Rattle.tql_bound.specs.declared.bound.Bound.TheVariants.{Modify, AnswerQuery, SetClock, Prune, Start}
-use Rattle.tql_bound.specs.declared.bound.Bound.TheVariants.{Commit, Rollback}
+use Rattle.tql_bound.specs.declared.bound.Bound.TheVariants.{Commit, Rollback, OpenReader, Read, CloseReader}
 
 -- ---- what they stand for
 
@@ -23,6 +23,9 @@ bound_of (Modify x) = machine.ChangeRows (modification_of x)
 bound_of (AnswerQuery x) = machine.AnswerQuery (bound_query_of x)
 bound_of (SetClock m) = machine.SetClock m
 bound_of (Prune m) = machine.Prune m
+bound_of (OpenReader n) = machine.OpenReader (string_bytes n)
+bound_of (Read x) = machine.Read (string_bytes x.reader) (bound_query_of x.query)
+bound_of (CloseReader n) = machine.CloseReader (string_bytes n)
 bound_of Start = machine.Start
 bound_of Commit = machine.Commit
 bound_of Rollback = machine.Rollback
@@ -51,6 +54,9 @@ IsSound defs (Modify x) = x.table < length defs
 IsSound defs (AnswerQuery x) = IsPlacedQuery defs (bound_query_of x)
 IsSound defs (SetClock m) = IsMoment m
 IsSound defs (Prune m) = IsMoment m
+IsSound defs (OpenReader n) = Unit {0}
+IsSound defs (Read x) = IsPlacedQuery defs (bound_query_of x.query)
+IsSound defs (CloseReader n) = Unit {0}
 IsSound defs Start = Unit {0}
 IsSound defs Commit = Unit {0}
 IsSound defs Rollback = Unit {0}

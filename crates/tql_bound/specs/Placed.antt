@@ -1,5 +1,5 @@
 -- Queries whose tables are there.
-use Rattle.std.specs.Prelude.{◌≡◌, ℕ, ◌<◌, ◌||◌, IsTrue, List, [], ◌∷◌, length, is_some}
+use Rattle.std.specs.Prelude.{◌≡◌, ◌<◌, ◌||◌, IsTrue, List, [], ◌∷◌, length, is_some}
 use Rattle.tql_spec.specs.Definition.{TableDef, table_at}
 use Rattle.tql_spec.specs.Query.{Chain, Cross, Inner, Join, Left, Query, Ref}
 use Rattle.tql_spec.specs.QueryLaws.{NamesGroups}

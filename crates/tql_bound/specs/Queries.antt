@@ -1,5 +1,5 @@
 -- The machine's queries that bound queries stand for.
-use Rattle.std.specs.Prelude.{List, ◌∷◌, map, Option, option_map, string_bytes}
+use Rattle.std.specs.Prelude.{List, ◌∷◌, map, option_map, string_bytes}
 use Rattle.std.specs.List.{flat_map}
 use Rattle.tql_spec.specs.Expression.{Cond}
 use Rattle.tql_spec.specs.Query as query

@@ -1,7 +1,9 @@
 //! Statements whose names are bound.
 use crate::change::{Insertion, Modification, QueryInsertion};
 use crate::query::BoundQuery;
+use crate::reader::ReaderQuery;
 use tql_catalog::table_def::TableDef;
+use tql_memory::Memory;
 
 /// A statement whose names are bound.
 #[derive(Drop)]
@@ -22,6 +24,12 @@ pub enum Bound {
     SetClock(i64),
     /// PRUNE HISTORY, with the moment in microseconds since 1970-01-01.
     Prune(i64),
+    /// OPEN READER, with the reader's name.
+    OpenReader(String<Memory>),
+    /// READ.
+    Read(ReaderQuery),
+    /// CLOSE READER, with the reader's name.
+    CloseReader(String<Memory>),
     /// START TRANSACTION.
     Start,
     /// COMMIT.

@@ -4,4 +4,5 @@
 pub mod bound;
 pub mod change;
 pub mod query;
+pub mod reader;
 pub mod reference;

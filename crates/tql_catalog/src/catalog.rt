@@ -1,6 +1,6 @@
 //! The tables that are there.
 ghost use Rattle.std.specs.Prelude.{◌≡◌, ◌≢◌, ◌↔◌, ◌<◌, ◌++◌, [], ◌∷◌, length, slice_get, All, IsTrue, OnOk, OnErr};
-ghost use Rattle.std.specs.Prelude.{Some, option_map, remove, false};
+ghost use Rattle.std.specs.Prelude.{Some, option_map, is_some, remove, false};
 ghost use Rattle.std.specs.List.{list_all};
 ghost use Rattle.std.specs.Option.{ForSome};
 ghost use Rattle.tql_spec.specs.Binding as binding;
@@ -108,6 +108,16 @@ impl Catalog {
         match self.tables.get_index(place) {
             Some((_, table)) => &table.definition,
             None => nothing,
+        }
+    }
+
+    /// Whether a system-versioned table is at this place.
+    pub fn is_versioned(&self, place: usize) -> bool
+        ensures { result ≡ is_some (spec.table_at (definitions_of self.now) place).system }
+    {
+        match self.tables.get_index(place) {
+            Some((_, table)) => table.definition.is_versioned(),
+            None => false,
         }
     }
 

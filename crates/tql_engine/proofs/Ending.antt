@@ -12,9 +12,9 @@ use Rattle.tql_syntax.specs.declared.ending.TransactionEnd.TheVariants.{Commit, 
 use Rattle.tql_value.specs.Refusals.{refusal_of}
 use Rattle.tql_value.specs.declared.refusal.Refusal.{Refusal}
 use Rattle.tql_value.specs.declared.refusal.Refusal.TheVariants as r
-use Rattle.tql_engine.specs.Effects.{DoesStep, reply_by}
+use Rattle.tql_engine_state.specs.Effects.{DoesStep, reply_by}
 use Rattle.tql_run.specs.Ending.{EndsTransaction, IsEnded}
-use Rattle.tql_engine.specs.Stands.{EngineModel}
+use Rattle.tql_engine_state.specs.Stands.{EngineModel}
 use Rattle.tql_engine.proofs.Stepping.{Answered, result_answered}
 
 -- a statement that the machine answers by a step

@@ -17,7 +17,7 @@ use Rattle.tql_run.specs.declared.runner.Fault.TheVariants.{Read, Write, Memory}
 use Rattle.tql_engine.specs.Bytes.{RunsBytes}
 use Rattle.tql_run.specs.Ending.{Responds}
 use Rattle.tql_engine.specs.HoldPoints.{HoldsFor}
-use Rattle.tql_engine.specs.Stands.{EngineModel, StandsFor}
+use Rattle.tql_engine_state.specs.Stands.{EngineModel, StandsFor}
 
 -- one reply of the machine
 keeps_one : (old new : State) (p : Piece) (r : Reply) → HoldAtPoints old → Answers old p r new → HoldAtPoints new

@@ -2,26 +2,29 @@
 -- does at it.
 use Rattle.std.proofs.Common.{◌≡◌, refl, sym, subst, ap, ◌∙◌, ◌<◌, arith, Bool, true, false, List, [], ◌∷◌, ◌++◌}
 use Rattle.std.proofs.Common.{Option, Some, None, Result, Err}
-use Rattle.std.specs.Prelude.{ℤ, nat_lt, int_lt, is_some, is_none, ◌&&◌, if◌then◌else◌}
+use Rattle.std.specs.Prelude.{ℤ, nat_lt, nat_le, int_lt, is_some, is_none, ◌&&◌, ◌||◌, not, length, if◌then◌else◌}
 use Rattle.std.specs.List.{AllByRecursion}
 use Rattle.tql_spec.specs.Calendar.{read_timestamp}
 use Rattle.tql_spec.specs.Refusal as spec
 use Rattle.tql_spec.specs.Refusal.{NotInThisTransactionState, MomentNotAllowed, place, earlier, first, fault_if}
-use Rattle.tql_spec.specs.Refusal.{BeforeTheHorizon}
+use Rattle.tql_spec.specs.Refusal.{BeforeTheHorizon, ReadersAreOpen, ReaderNotUsable}
 use Rattle.tql_spec.specs.Horizon.{asks_before}
+use Rattle.tql_spec.specs.Limits.{most_readers}
+use Rattle.tql_spec.specs.Readers.{Limits, is_any_open, is_named, passes_some, reads_plain}
 use Rattle.tql_spec.specs.Names.{Checked}
 use Rattle.tql_spec.specs.Definition.{TableDef}
 use Rattle.tql_spec.specs.Machine as machine
 use Rattle.tql_spec.specs.Machine.{State, Refused, StatementClass, Defines, SetsClock, Starts, Ends, Changes, Queries}
-use Rattle.tql_spec.specs.Machine.{class_of, Prunes, Limits, bound_faults, limits_of, limit_faults}
+use Rattle.tql_spec.specs.Machine.{class_of, Prunes, bound_faults, limits_of, limit_faults}
 use Rattle.tql_spec.specs.Machine.{state_faults, is_not_later, is_clock_at_end, effect, step, unless_refused}
 use Rattle.tql_spec.specs.Syntax.{Statement, CreateTree, DropTree, InsertValues, InsertSelect, UpdateTree, DeleteTree}
 use Rattle.tql_spec.specs.Syntax.{QueryTree, StartTree, CommitTree, RollbackTree, AtTree, PruneTree}
+use Rattle.tql_spec.specs.Syntax.{OpenTree, ReadTree, CloseTree}
 use Rattle.tql_spec.specs.Binding.{bind, statement_class, or_bad_moment}
 use Rattle.tql_spec.specs.Run.{respond, statement_faults}
 use Rattle.tql_spec.proofs.FirstFaults.{first_append, sooner, none_first, bound_steps, manner_kept}
 use Rattle.tql_spec.proofs.FaultBags.{first_by_bag}
-use Rattle.tql_spec.proofs.LateNames.{AreLate, none, ◌⊗◌}
+use Rattle.tql_spec.proofs.LateNames.{AreLate, crowded, none, ◌⊗◌}
 use Rattle.tql_spec.proofs.RunKeeps.{no_left}
 use Rattle.std.proofs.lemmas.List.Sums.{sum_by-append}
 use Rattle.tql_bind.specs.Limited.{bind_under}
@@ -34,10 +37,10 @@ use Rattle.tql_bind_table.specs.Binds.{Binds}
 use Rattle.tql_bound.specs.Bounds.{bound_of}
 use Rattle.tql_bound.specs.declared.bound.Bound.{Bound}
 use Rattle.tql_result.specs.declared.reply.Reply.{Reply}
-use Rattle.tql_engine.specs.Allowed.{IsAllowed}
-use Rattle.tql_engine.specs.Stands.{EngineModel, StandsFor}
-use Rattle.tql_engine.specs.Effects.{Does, DoesStep, Refuses, asked_first}
-use Rattle.tql_engine.proofs.StateFaults.{allowed_law}
+use Rattle.tql_engine_state.specs.Allowed.{IsAllowed}
+use Rattle.tql_engine_state.specs.Stands.{EngineModel, StandsFor}
+use Rattle.tql_engine_state.specs.Effects.{Does, DoesStep, Refuses, asked_first}
+use Rattle.tql_engine_state.proofs.StateFaults.{allowed_law}
 
 -- ---- a fault of the state
 
@@ -55,7 +58,9 @@ both_early true u e f h k = (h, if_early u f k)
 both_early false u e f h k = if_early u f k
 
 state_early : (s : State) (m : StatementClass) → AllByRecursion IsEarly (state_faults s m)
-state_early s Defines = if_early (is_some s.transaction) NotInThisTransactionState (omega arith)
+state_early s Defines =
+    both_early (is_some s.transaction) (is_any_open s.readers) NotInThisTransactionState ReadersAreOpen (omega arith)
+    (omega arith)
 state_early s (SetsClock None) = if_early (is_some s.transaction) NotInThisTransactionState (omega arith)
 state_early s (SetsClock (Some m)) =
     both_early (is_some s.transaction) (is_not_later m s.history) NotInThisTransactionState MomentNotAllowed
@@ -66,7 +71,10 @@ state_early s Starts =
 state_early s Ends = if_early (is_none s.transaction) NotInThisTransactionState (omega arith)
 state_early s Changes = if_early (is_none s.transaction && is_clock_at_end s) MomentNotAllowed (omega arith)
 state_early s Queries = tt
-state_early s (Prunes m) = if_early (is_some s.transaction) NotInThisTransactionState (omega arith)
+state_early s (Prunes None) = if_early (is_some s.transaction) NotInThisTransactionState (omega arith)
+state_early s (Prunes (Some m)) =
+    both_early (is_some s.transaction) (passes_some m s.readers) NotInThisTransactionState ReadersAreOpen (omega arith)
+    (omega arith)
 
 either_early : (t : Bool) (a b : spec.Refusal) → IsEarly a → IsEarly b → IsEarly (if t then b else a)
 either_early true a b h k = k
@@ -84,10 +92,14 @@ first_early : (fs : List spec.Refusal) → AllByRecursion IsEarly fs → MayBeEa
 first_early [] h = tt
 first_early (a ∷ fs) h = earlier_early a (first fs) h.0 (first_early fs h.1)
 
--- the faults by the horizon stand behind
+-- the faults by the horizon and by readers stand behind
 if_late : (t : Bool) → AreLate (fault_if t BeforeTheHorizon)
 if_late true = record { each = (refl, tt) }
 if_late false = none
+
+unusable_late : (t : Bool) → AreLate (fault_if t ReaderNotUsable)
+unusable_late true = record { each = (refl, tt) }
+unusable_late false = none
 
 limits_late : (l : Limits) (defs : List TableDef) (b : machine.Bound) → AreLate (bound_faults l defs b)
 limits_late l defs (machine.CreateTable d) = none
@@ -101,18 +113,15 @@ limits_late l defs (machine.ChangeRows (machine.InsertQuery t columns q)) = if_l
 limits_late l defs (machine.ChangeRows (machine.Modify t portion work conds)) = none
 limits_late l defs (machine.AnswerQuery q) = if_late (asks_before l.horizon q)
 limits_late l defs (machine.Prune m) = if_late (int_lt m l.horizon)
+limits_late l defs (machine.OpenReader n) =
+    crowded (nat_le most_readers (length l.names)) ⊗ unusable_late (is_named n l.names)
+limits_late l defs (machine.Read n q) =
+    unusable_late (not (is_named n l.names) || reads_plain defs q) ⊗ if_late (asks_before l.horizon q)
+limits_late l defs (machine.CloseReader n) = unusable_late (not (is_named n l.names))
 
 -- what a statement is bound to under the state's limits
 abbrev pub bound_here : State → Statement → Checked machine.Bound
 bound_here s t = bind_under (limits_of s) s.definitions t
-
--- what was bound under the engine's tables and horizon
-pub under_here : (s : State) (t : Statement) (defs : List TableDef) (n : ℤ) (o : Option spec.Refusal)
-    → defs ≡ s.definitions → n ≡ s.horizon → first (bind_under (record { horizon = n }) defs t).faults ≡ o
-    → first (bound_here s t).faults ≡ o
-under_here s t defs n o d e k =
-    subst (λ (m : ℤ). first (bind_under (record { horizon = m }) s.definitions t).faults ≡ o) e
-    (subst (λ (ds : List TableDef). first (bind_under (record { horizon = n }) ds t).faults ≡ o) d k)
 
 here_late : (s : State) (t : Statement) → AreLate (bound_here s t).faults
 here_late s t =
@@ -227,6 +236,9 @@ all_asked l defs CommitTree e k = absurd (cc)
 all_asked l defs RollbackTree e k = absurd (cc)
 all_asked l defs (AtTree m) e k = unread (read_timestamp m) e k
 all_asked l defs (PruneTree m) e k = refl
+all_asked l defs (OpenTree n) e k = refl
+all_asked l defs (ReadTree n s keys) e k = refl
+all_asked l defs (CloseTree n) e k = refl
 
 fault_does : (h : EngineModel) (s : State) (t : Statement) (e : spec.Refusal) → StandsFor h s
     → None ≡ first (state_faults s (asked_first (statement_class t)))

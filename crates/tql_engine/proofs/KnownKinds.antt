@@ -1,13 +1,13 @@
 -- The output columns of a query without a fault have known kinds.
-use Rattle.std.proofs.Common.{◌≡◌, refl, sym, ap, ◌∙◌, ℕ, ◌+◌, ◌<◌, suc, true, List, [], ◌∷◌, ◌++◌, map}
+use Rattle.std.proofs.Common.{◌≡◌, refl, ap, ℕ, suc, true, List, [], ◌∷◌, ◌++◌, map}
 use Rattle.std.specs.Prelude.{Option, Some, None, is_some, option_map, ℤ}
 use Rattle.std.specs.List.{flat_map}
 use Rattle.tql_spec.specs.Words.{listed}
 use Rattle.tql_spec.specs.Calendar.{read_date, read_timestamp}
-use Rattle.tql_spec.specs.Datum.{Datum, Kind, Ints, Days, Moments, Day, Moment, Plus, Minus, Times}
+use Rattle.tql_spec.specs.Datum.{Datum, Kind, Days, Moments, Day, Moment, Plus, Minus, Times}
 use Rattle.tql_spec.specs.Refusal.{NameUnknownAmbiguousOrRepeated, Refusal}
 use Rattle.tql_spec.specs.Creation.{repeats}
-use Rattle.tql_spec.specs.Expression.{Expr, Function, Count, Sum, Min, Max, Cond}
+use Rattle.tql_spec.specs.Expression.{Function, Count, Sum, Min, Max, Cond}
 use Rattle.tql_spec.specs.Definition as definition
 use Rattle.tql_spec.specs.Definition.{TableDef}
 use Rattle.tql_spec.specs.Syntax as tree

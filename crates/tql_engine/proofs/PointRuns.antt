@@ -10,7 +10,7 @@ use Rattle.tql_run.specs.declared.runner.Summary.{Summary}
 use Rattle.tql_run.specs.declared.runner.Fault.{Fault}
 use Rattle.tql_run.specs.declared.runner.Fault.TheVariants.{Read, Write, Memory}
 use Rattle.tql_engine.specs.Bytes.{RunsBytes}
-use Rattle.tql_engine.specs.Stands.{EngineModel, StandsFor}
+use Rattle.tql_engine_state.specs.Stands.{EngineModel, StandsFor}
 use Rattle.tql_engine.specs.PointRuns.{BytesAgreeAtPoints, Steps, StepsAgreeAtPoints}
 
 -- a run over bytes in memory
@@ -23,12 +23,12 @@ bytes_agree s after script old new (Err Memory) w = w.1
 bytes_agree s after script old new (Err Read) w = w.1
 
 -- steps are a run
-record StepsRun (s : State) (texts : List (List ℕ)) (replies : List Reply) (new : EngineModel) : Type 0 where
-  state : State
-  stands : StandsFor new state
-  ran : Run s (map finished texts) replies state
+pub record StepsRun (s : State) (texts : List (List ℕ)) (replies : List Reply) (new : EngineModel) : Type 0 where
+  pub state : State
+  pub stands : StandsFor new state
+  pub ran : Run s (map finished texts) replies state
 
-steps_run : (texts : List (List ℕ)) (replies : List Reply) (old new : EngineModel) → Steps old texts replies new
+pub steps_run : (texts : List (List ℕ)) (replies : List Reply) (old new : EngineModel) → Steps old texts replies new
     → (s : State) → StandsFor old s → StepsRun s texts replies new
 steps_run [] [] old new e s st =
     record { state = s; stands = subst (λ h. StandsFor h s) (sym e) st; ran = refl }

@@ -11,13 +11,12 @@ use Rattle.tql_lex.specs.Holding.{Holds}
 use Rattle.tql_lex.specs.Pieces.{MayFollow}
 use Rattle.tql_lex.specs.Stream.{Stream}
 use Rattle.tql_result.specs.Replies.{answer_of}
-use Rattle.tql_result.specs.declared.answer.Answer as code
 use Rattle.tql_run.specs.Responding.{Answered}
 use Rattle.tql_engine.proofs.HoldPoints.{step_holds}
 use Rattle.tql_run.specs.Ending.{AllEndSurely, EndsSurely, Responds}
 use Rattle.tql_engine.specs.HoldPoints.{HoldsFor}
 use Rattle.tql_engine.specs.Sessions.{Call, Feed, Finish, Next, Calls, fed, given, SessionsHold}
-use Rattle.tql_engine.specs.Stands.{EngineModel, StandsFor}
+use Rattle.tql_engine_state.specs.Stands.{EngineModel, StandsFor}
 
 -- once the end was told no bytes come
 record IsOver (calls : List Call) (new : Stream) : Type 0 where

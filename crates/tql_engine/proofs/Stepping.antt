@@ -11,8 +11,8 @@ use Rattle.tql_value.specs.declared.refusal.Refusal.{Refusal}
 use Rattle.tql_value.specs.declared.refusal.Refusal.TheVariants as r
 use Rattle.tql_result.specs.Replies.{reply_of}
 use Rattle.tql_result.specs.declared.reply.Reply.{Reply}
-use Rattle.tql_engine.specs.Stands.{EngineModel, StandsFor}
-use Rattle.tql_engine.specs.Effects.{Does, Refuses, DoesStep, reply_by}
+use Rattle.tql_engine_state.specs.Stands.{EngineModel, StandsFor}
+use Rattle.tql_engine_state.specs.Effects.{Does, Refuses, DoesStep, reply_by}
 use Rattle.tql_engine.specs.Sense.{ReadsAs}
 use Rattle.tql_run.specs.Responding as responding
 

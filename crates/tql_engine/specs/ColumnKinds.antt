@@ -2,11 +2,12 @@
 use Rattle.std.specs.Prelude.{◌≡◌, ◌⊎◌, ℕ, Bool, true, false, List, map, Option, Some, None, Result, Ok, Err, ⊤, Vec}
 use Rattle.tql_spec.specs.Binding.{select}
 use Rattle.tql_spec.specs.Datum as datum
+use Rattle.tql_spec.specs.Definition.{Name}
 use Rattle.tql_spec.specs.Machine.{State, limits_of}
 use Rattle.tql_spec.specs.Refusal as spec
 use Rattle.tql_spec.specs.Refusal.{first}
 use Rattle.tql_spec.specs.Run.{Faulty, HasSense, Says, finished, statement_faults}
-use Rattle.tql_spec.specs.Syntax.{OrderTree, QueryTree, SelectTree, Statement}
+use Rattle.tql_spec.specs.Syntax.{OrderTree, QueryTree, ReadTree, SelectTree, Statement}
 use Rattle.tql_bind.specs.Limited.{bind_under}
 use Rattle.tql_value.specs.Refusals.{refusal_of}
 use Rattle.tql_value.specs.Views.{plain_kind}
@@ -14,16 +15,21 @@ use Rattle.tql_value.specs.declared.refusal.Refusal.{Refusal}
 use Rattle.tql_value.specs.declared.refusal.Refusal.TheVariants.{OutOfMemory}
 use Rattle.tql_value.specs.declared.value.Kind.{Kind}
 
--- whether a statement is a query
+-- whether a statement is a query, also of a reader
 abbrev pub is_query : Statement → Bool
 is_query (QueryTree s keys) = true
+is_query (ReadTree n s keys) = true
 is_query _ = false
+
+-- it asks this one
+abbrev pub Asks : Statement → SelectTree → List OrderTree → Type 0
+Asks t tree keys = (t ≡ QueryTree tree keys) ⊎ ((n : Name) × (t ≡ ReadTree n tree keys))
 
 -- the statement is a query without a fault, and its output columns are of these kinds
 pub record HasKinds (s : State) (t : Statement) (told : List datum.Kind) : Type 0 where
   pub tree : SelectTree
   pub keys : List OrderTree
-  pub is : t ≡ QueryTree tree keys
+  pub is : Asks t tree keys
   pub clean : first (statement_faults s t) ≡ None
   pub kinds : map Some told ≡ (select s.definitions tree keys).value.kinds
 
@@ -32,7 +38,7 @@ pub record IsRefusedFor (s : State) (t : Statement) (e : spec.Refusal) : Type 0 
   pub query : is_query t ≡ true
   pub fault : first (statement_faults s t) ≡ Some e
 
--- no fault of names, kinds, forms and literals, nor by the horizon, or the first of these
+-- no fault of names, kinds, forms and literals, nor by the horizon or open readers, or the first of these
 abbrev pub IsBound : State → Statement → Result (Unit {0}) Refusal → Type 0
 IsBound s t (Ok u) = first (bind_under (limits_of s) s.definitions t).faults ≡ None
 IsBound s t (Err OutOfMemory) = ⊤

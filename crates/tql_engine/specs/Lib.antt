@@ -1,16 +1,8 @@
-pub mod Adding
-pub mod Fitting
-pub mod Stands
-pub mod Effects
-pub mod Allowed
-pub mod Committing
 pub mod Sense
 pub mod Bytes
-pub mod Modifying
 pub mod PointRuns
 pub mod Unseen
+pub mod ReaderRuns
 pub mod Sessions
 pub mod HoldPoints
-pub mod Making
-pub mod Dropping
 pub mod ColumnKinds

@@ -9,7 +9,7 @@ use Rattle.tql_run.specs.declared.runner.Summary.{Summary}
 use Rattle.tql_run.specs.declared.runner.Fault.{Fault}
 use Rattle.tql_run.specs.declared.runner.Fault.TheVariants.{Read, Write, Memory}
 use Rattle.tql_engine.specs.Bytes.{WritesWhole, StopsWriting}
-use Rattle.tql_engine.specs.Stands.{EngineModel, StandsFor}
+use Rattle.tql_engine_state.specs.Stands.{EngineModel, StandsFor}
 
 -- ---- a script in memory
 

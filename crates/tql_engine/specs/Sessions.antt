@@ -14,7 +14,7 @@ use Rattle.tql_result.specs.declared.answer.Answer as code
 use Rattle.tql_run.specs.Writing.{AnswersNext}
 use Rattle.tql_run.specs.Ending.{AllEndSurely, Responds}
 use Rattle.tql_engine.specs.HoldPoints.{HoldsFor}
-use Rattle.tql_engine.specs.Stands.{EngineModel, StandsFor}
+use Rattle.tql_engine_state.specs.Stands.{EngineModel, StandsFor}
 
 -- a call of a session, and what came of it: these bytes were taken; the end was told; the next answer, or none
 pub data Call : Type 0 where

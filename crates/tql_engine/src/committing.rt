@@ -5,7 +5,7 @@ ghost use Rattle.tql_store.specs.StoreModel.{has_table, AreRemovable};
 ghost use Rattle.tql_store_rows.specs.Changes.{Under};
 ghost use Rattle.tql_value.specs.Views.{datum_of_value};
 ghost use Rattle.tql_value.specs.declared.refusal.Refusal.TheVariants.{OutOfMemory};
-ghost use Rattle.tql_engine.specs.Committing.{CommitsRows, Undoes, ChangesRows, KeepsRows};
+ghost use Rattle.tql_engine_state.specs.Committing.{CommitsRows, Undoes, ChangesRows, KeepsRows};
 
 use crate::store::Store;
 use tql_store::store::Delta;

@@ -11,6 +11,7 @@ mod faults;
 mod horizon;
 mod plans;
 mod queries;
+mod reading;
 mod transactions;
 
 use crate::sense::read_statement;
@@ -20,6 +21,7 @@ use tql_bind::binder::bind;
 use tql_bind::limits::Limits;
 use tql_bind_fault::told::bind_detail;
 use tql_bound::bound::Bound;
+use tql_bound::reader::Reader;
 use tql_catalog::catalog::{Catalog, Table};
 use tql_detail::detail::Detail;
 use tql_memory::Memory;
@@ -33,13 +35,14 @@ use tql_syntax_tree::statement::Statement;
 use tql_value::calendar::FIRST_MOMENT;
 use tql_value::refusal::Refusal;
 
-/// The engine: its tables in the order of their creation, the store of their rows, and the moment of the next
-/// transaction, in microseconds since 1970-01-01.
+/// The engine: its tables in the order of their creation, the store of their rows, the moment of the next transaction,
+/// in microseconds since 1970-01-01, and the open readers in the order of their opening.
 pub struct Engine {
     memory: Memory,
     tables: Catalog,
     store: Store,
     next: i64,
+    readers: Vec<Reader, Memory>,
 }
 
 impl Drop for Engine {
@@ -49,9 +52,11 @@ impl Drop for Engine {
             tables,
             store,
             next: _,
+            readers,
         } = self;
         drop(tables);
         drop(store);
+        drop(readers);
     }
 }
 
@@ -59,39 +64,53 @@ impl Model for Engine {
     ghost use Rattle.tql_index.specs.contracts.tree_index.TreeIndex.{the_row as tree_row};
     ghost use Rattle.tql_index.specs.contracts.tree_index.TreeIndexIntervalIndex.TheImpl.{ghosts};
     ghost use Rattle.tql_store.specs.contracts.store.Store.{the_row};
-    ghost use Rattle.tql_engine.specs.Stands.{EngineModel, held_code, IsSound};
+    ghost use Rattle.std.specs.Prelude.{map};
+    ghost use Rattle.tql_engine_state.specs.Readers.{reader_of};
+    ghost use Rattle.tql_engine_state.specs.Stands.{EngineModel, held_code, IsSound};
 
     ghost Value = { EngineModel };
 
     ghost coded = { held_code (the_row tree_row ghosts).coded };
 
-    ghost view = { λ e. record { tables = e.tables; store = e.store; next = e.next } };
+    ghost view = { λ e. record {
+      tables = e.tables;
+      store = e.store;
+      next = e.next;
+      readers = map reader_of e.readers.items;
+    } };
 
-    ghost invariant = { λ e. IsSound (record { tables = e.tables; store = e.store; next = e.next }) };
+    ghost invariant = { λ e. IsSound (record {
+      tables = e.tables;
+      store = e.store;
+      next = e.next;
+      readers = map reader_of e.readers.items;
+    }) };
 }
 
 impl Engine {
     ghost use Rattle.std.specs.Prelude.{ℕ};
     ghost use Rattle.std.specs.List.{list_all};
     ghost use Rattle.tql_spec.specs.Definition.{TableDef};
-    ghost use Rattle.tql_spec.specs.Machine.{State, CreateTable, DropTable, new_state, step};
+    ghost use Rattle.tql_spec.specs.Machine.{State, CreateTable, DropTable, limits_of, new_state, step};
     ghost use Rattle.tql_spec.specs.Run.{Answers, finished, respond};
     ghost use Rattle.tql_spec.specs.Syntax.{is_too_wide};
     ghost use Rattle.tql_spec.specs.TypingLaws.{IsTypedBound};
     ghost use Rattle.tql_syntax_tree.specs.Statements.{statement_of};
     ghost use Rattle.tql_run.specs.Responding.{Answered};
+    ghost use Rattle.tql_bind.specs.Limited.{bind_under};
+    ghost use Rattle.tql_bind_table.specs.Binds.{Binds};
     ghost use Rattle.tql_bound.specs.Bounds.{IsSound, bound_of};
     ghost use Rattle.tql_catalog.specs.Tables.{can_have, definitions_of};
     ghost use Rattle.tql_result.specs.Replies.{reply_of, IsPrintableReply};
     ghost use Rattle.tql_engine.specs.HoldPoints.{HoldsFor};
-    ghost use Rattle.tql_engine.specs.Stands.{StandsFor};
-    ghost use Rattle.tql_engine.specs.Allowed.{IsAllowed};
-    ghost use Rattle.tql_engine.specs.Dropping.{IsDropped};
+    ghost use Rattle.tql_engine_state.specs.Stands.{StandsFor};
+    ghost use Rattle.tql_engine_state.specs.Allowed.{IsAllowed};
+    ghost use Rattle.tql_engine_state.specs.Dropping.{IsDropped};
     ghost use Rattle.tql_run.specs.Ending.{EndsTransaction, IsEnded};
-    ghost use Rattle.tql_engine.specs.Effects.{DoesStep, reply_by};
+    ghost use Rattle.tql_engine_state.specs.Effects.{DoesStep, reply_by};
 
     /// An engine without tables, whose clock stands at the first moment.
-    #[tactic(auto, using(crate::proofs::Standing::new_law, crate::proofs::HoldPoints::new_holds))]
+    #[tactic(auto, using(tql_engine_state::proofs::Standing::new_law, crate::proofs::HoldPoints::new_holds))]
     pub fn new(memory: Memory) -> Engine
         ensures stands { StandsFor result new_state }
         ensures holds { HoldsFor result new_state }
@@ -101,6 +120,7 @@ impl Engine {
             tables: Catalog::new(memory),
             store: Store::new(memory),
             next: FIRST_MOMENT,
+            readers: Vec::new(memory),
         }
     }
 
@@ -112,8 +132,8 @@ impl Engine {
         self.tables.table(place)
     }
 
-    /// Runs a statement whose names are bound, where the transaction, the clock and the horizon allow it. A refused
-    /// statement changes nothing.
+    /// Runs a statement whose names are bound, where the transaction, the clock, the horizon and open readers allow it.
+    /// A refused statement changes nothing.
     pub(crate) fn perform(&mut self, bound: Bound) -> Result<Reply, Refusal>
         requires sound { IsSound (definitions_of self.old.tables) bound }
         requires allowed { IsAllowed self.old bound }
@@ -132,10 +152,28 @@ impl Engine {
             Bound::AnswerQuery(query) => self.answer_query(&query),
             Bound::SetClock(moment) => self.at(moment),
             Bound::Prune(moment) => self.prune(moment),
+            Bound::OpenReader(name) => self.open_reader(name),
+            Bound::Read(read) => self.read(&read),
+            Bound::CloseReader(name) => Ok(self.close_reader(&name)),
             Bound::Start => Ok(self.start()),
             Bound::Commit => self.commit(),
             Bound::Rollback => self.rollback(),
         }
+    }
+
+    /// A statement with its names bound, or the first fault of its names, kinds, forms and literals, by the horizon and
+    /// by open readers, or for memory.
+    fn bound(&self, memory: Memory, statement: &Statement<'_>) -> Result<Bound, Refusal>
+        requires narrow { IsFalse (is_too_wide (statement_of statement.now)) }
+        ensures binds { (s : State) → StandsFor self.now s → Binds bound_of
+            (bind_under (limits_of s) s.definitions (statement_of statement.now)) result }
+        ensures sound { IfOk result (IsSound (definitions_of self.now.tables)) }
+    {
+        let limits = Limits {
+            horizon: self.store.horizon(),
+            readers: &self.readers,
+        };
+        bind(memory, &self.tables, statement, &limits)
     }
 
     /// Runs a statement. A refused statement changes nothing.
@@ -145,13 +183,10 @@ impl Engine {
             → DoesStep self.new s result (respond s (statement_of statement.now)) }
         ensures printable { IfOk result (λ reply. IsPrintableReply (reply_of reply)) }
     {
-        if let Some(fault) = self.state_fault(statement) {
+        if let Some(fault) = self.state_fault(statement)? {
             return Err(fault);
         }
-        let limits = Limits {
-            horizon: self.store.horizon(),
-        };
-        match bind(self.memory, &self.tables, statement, &limits) {
+        match self.bound(self.memory, statement) {
             Ok(bound) => self.perform(bound),
             Err(fault) => Err(fault),
         }
@@ -205,7 +240,7 @@ impl Engine {
 
 impl Responder for Engine {
     ghost use Rattle.tql_run.specs.Ending.{Responds};
-    ghost use Rattle.tql_engine.specs.Stands.{StandsFor};
+    ghost use Rattle.tql_engine_state.specs.Stands.{StandsFor};
     ghost use Rattle.tql_run.proofs.Faults.{responds_refuse};
 
     ghost stands = { StandsFor };

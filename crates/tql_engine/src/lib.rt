@@ -4,6 +4,7 @@
 mod committing;
 pub mod engine;
 pub mod points;
+pub mod readers;
 pub mod runner;
 mod sense;
 pub mod sessions;

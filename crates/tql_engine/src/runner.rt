@@ -7,10 +7,12 @@ ghost use Rattle.tql_engine.specs.Bytes.{RunsBytes};
 ghost use Rattle.tql_run.specs.Ending.{Responds};
 ghost use Rattle.tql_engine.specs.HoldPoints.{HoldsFor};
 ghost use Rattle.tql_engine.specs.PointRuns.{BytesAgreeAtPoints};
-ghost use Rattle.tql_engine.specs.Stands.{StandsFor};
+ghost use Rattle.tql_engine.specs.ReaderRuns.{BytesReadStably};
+ghost use Rattle.tql_engine_state.specs.Stands.{StandsFor};
 ghost use Rattle.tql_engine.specs.Unseen.{BytesPruneUnseen};
 
 use crate::engine::Engine;
+use crate::readers::readers_agree;
 use std::mem;
 use tql_memory::Memory;
 use tql_result::sink::Sink;
@@ -59,8 +61,11 @@ pub fn run<I: Source<O>, O: Sink, L: Listener>(
 /// of no shorter script. A refused statement does not stop the run. What ran agrees with the machines of all points
 /// (clause `points`): where its first statements make tables in scope and those behind them are in scope, it is at each
 /// point what a plain machine without periods does. What it prunes is not seen (clause `unseen`): without the
-/// statements that pruned, or were refused for the horizon, all others are answered the same. Where keys and references
-/// hold at every point of time in each copy before it, the working one too, they do behind it (clause `holds`).
+/// statements that pruned, or were refused for the horizon, all others are answered the same. What a READ answers is
+/// what its query would have been answered when the reader was opened, by this run or an earlier one, whatever was
+/// written since (clause `readers`); that is said of each that is not refused for the horizon, the reader or memory.
+/// Where keys and references hold at every point of time in each copy before it, the working one too, they do behind
+/// it (clause `holds`).
 pub fn run_bytes(
     engine: &mut Engine,
     script: &[u8],
@@ -72,10 +77,13 @@ pub fn run_bytes(
         → BytesAgreeAtPoints s (StandsFor engine.new) script.now output.old.items output.new.items result }
     ensures unseen { (s : State) → StandsFor engine.old s → IsInOrder s
         → BytesPruneUnseen s (StandsFor engine.new) script.now output.old.items output.new.items result }
+    ensures readers { (s : State) → StandsFor engine.old s
+        → BytesReadStably s (StandsFor engine.new) script.now output.old.items output.new.items result }
     ensures holds { (s : State) → HoldsFor engine.old s
         → RunsBytes s (HoldsFor engine.new) script.now output.old.items output.new.items result }
 {
     pruned_history();
+    readers_agree();
     if script.len() >= TOO_MANY_BYTES {
         return Err(Fault::Read);
     }

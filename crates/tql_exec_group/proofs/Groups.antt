@@ -5,8 +5,7 @@ use Rattle.std.proofs.Common.{sym, ap, subst, ◌∙◌, take, drop, arith, cond
 use Rattle.std.specs.Ordering.{is_eq, is_gt, is_lt}
 use Rattle.std.specs.declared.cmp.Ordering.TheVariants.{Less, Equal, Greater}
 use Rattle.std.specs.List.Sorted.{IsSorted, IsSortedBy}
-use Rattle.std.proofs.lemmas.List.{get_or-map, length-map, length-take, length-take-le, length-drop, take_all}
-use Rattle.std.proofs.lemmas.List.{drop-drop, take-append-drop}
+use Rattle.std.proofs.lemmas.List.{get_or-map, length-map, take-append-drop}
 use Rattle.std.proofs.lemmas.Cmp.{tied_itself, upto}
 use Rattle.tql_spec.specs.Bag.{In}
 use Rattle.tql_spec.specs.Datum.{Row, same_row}
@@ -15,7 +14,7 @@ use Rattle.tql_spec.proofs.Orders.{Ascends, by_columns-total, by_columns-ties, s
 use Rattle.tql_spec.proofs.Members.{by_bool, same_row-self, same_row-is}
 use Rattle.tql_spec.proofs.MemberLists.{in_map}
 use Rattle.tql_spec.proofs.DistinctBags.{in_distinct}
-use Rattle.tql_exec_group.specs.Runs.{AreSorted, IsRun}
+use Rattle.tql_exec_group.specs.Runs.{IsRun}
 
 -- ---- filters
 
@@ -147,8 +146,8 @@ never_again t u us a n s m e =
     n (neither u t back a.0)
 
 -- sorted by the tuples that rows have: the tuples are sorted
-pub sorted_by_key : (key : Row → Row) (rows : List Row) → IsSortedBy (λ x y. is_lt (by_columns (key x) (key y))) rows
-    → IsSorted by_columns (map key rows)
+pub sorted_by_key : {X : Type 0} (key : X → Row) (rows : List X)
+    → IsSortedBy (λ x y. is_lt (by_columns (key x) (key y))) rows → IsSorted by_columns (map key rows)
 sorted_by_key key [] s k d l h = absurd (omega (arith, h))
 sorted_by_key key (x ∷ xs) s k d l h =
     let n : length (map key (x ∷ xs)) ≡ length (x ∷ xs) = length-map (x ∷ xs) key in
@@ -197,69 +196,36 @@ module _ (columns : List ℕ) where
 
   -- the rows at the places of a list
   in_take : (n : ℕ) (rows : List Row) (q : Row) → In q (take n rows)
-      → (k : ℕ) × (k < n) × (q ≡ slice_index_or rows k [])
+      → (k : ℕ) × (k < n) × (key q ≡ slice_index_or (map key rows) k [])
   in_take zero rows q m = absurd m
   in_take (suc n) [] q m = absurd m
-  in_take (suc n) (r ∷ rows) q (inl e) = (0, omega arith, e)
+  in_take (suc n) (r ∷ rows) q (inl e) = (0, omega arith, ap key e)
   in_take (suc n) (r ∷ rows) q (inr m) = let i =
       in_take n rows q m in (let l : i.0 < n = i.1 in (suc i.0, omega arith, i.2))
 
   at_drop : (n : ℕ) (rows : List Row) (o : Row) (os : List Row) → drop n rows ≡ o ∷ os
-      → (n < length rows) × (slice_index_or rows n [] ≡ o)
+      → (n < length (map key rows)) × (slice_index_or (map key rows) n [] ≡ key o)
   at_drop zero [] o os e = absurd (let f : [] ≡ o ∷ os = e in cc)
-  at_drop zero (r ∷ rows) o os e = (omega arith, let f : r ∷ rows ≡ o ∷ os = e in cc)
+  at_drop zero (r ∷ rows) o os e = (omega arith, let f : r ∷ rows ≡ o ∷ os = e in (let g : r ≡ o = cc in ap key g))
   at_drop (suc n) [] o os e = absurd (let f : [] ≡ o ∷ os = e in cc)
-  at_drop (suc n) (r ∷ rows) o os e = let i = at_drop n rows o os e in let l : n < length rows =
+  at_drop (suc n) (r ∷ rows) o os e = let i = at_drop n rows o os e in let l : n < length (map key rows) =
       i.0 in (omega arith, i.1)
 
   -- the rows of a run, and those behind it
-  pub first_group : (rows : List Row) (n : ℕ) → 0 < length rows → IsRun columns rows n
+  pub first_group : (rows : List Row) (n : ℕ) → 0 < length rows → IsRun (map key rows) n
       → Ascends by_columns (map key rows)
       → groups_by columns rows ≡ take n rows ∷ groups_by columns (drop n rows)
-  first_group [] n some run a = absurd (omega arith)
-  first_group (r ∷ rows) zero some run a = absurd (let l : 0 < 0 = run.some some in omega arith)
+  first_group [] n some run a = absurd (omega (arith, some))
+  first_group (r ∷ rows) zero some run a = absurd (let l : 0 < 0 = run.some (omega arith) in omega arith)
   first_group (r ∷ rows) (suc n) some run a =
       let whole = take-append-drop n rows in
       let e : (r ∷ take n rows) ++ drop n rows ≡ r ∷ rows = ap {B = List Row} (λ rs. r ∷ rs) whole in
       subst (λ rs. groups_by columns rs ≡ (r ∷ take n rows) ∷ groups_by columns (drop n rows)) e
       (run_is_group r (take n rows) (drop n rows)
-      (λ q m. let i = in_take (suc n) (r ∷ rows) q m in ap key i.2 ∙ run.agree i.0 i.1)
+      (λ q m. let i = in_take (suc n) (r ∷ rows) q m in i.2 ∙ run.agree i.0 i.1)
       (subst (λ rs. Ascends by_columns (map key rs)) (sym e) a)
-      (λ o os is k. let i = at_drop n rows o os is in run.ends (let l : n < length rows = i.0 in omega arith)
-      (ap key i.1 ∙ k)))
-
-  -- the first run of what is left, and what is left behind it
-  pub next_group : (rows : List Row) (start n : ℕ) → start < length rows → AreSorted columns rows
-      → IsRun columns (take (length rows - start) (drop start rows)) n
-      → groups_by columns (drop start rows)
-      ≡ take n (take (length rows - start) (drop start rows)) ∷ groups_by columns
-      (drop (start + length (take n (take (length rows - start) (drop start rows)))) rows)
-  next_group rows start n l sorted run =
-      let long : length (drop start rows) ≡ length rows - start = length-drop start rows in
-      let all : take (length rows - start) (drop start rows) ≡ drop start rows =
-      take_all (length rows - start) (drop start rows) (omega (arith, long)) in
-      let of_left : IsRun columns (drop start rows) n = subst (λ rs. IsRun columns rs n) all run in
-      let some : 0 < length (drop start rows) = omega (arith, long) in
-      let up : Ascends by_columns (map key (drop start rows)) =
-      drop_ascends start rows (sorted_ascends by_columns by_columns-total (map key rows) sorted) in
-      let size : length (take n (drop start rows)) ≡ n = length-take-le n (drop start rows) of_left.within in
-      let next : drop n (drop start rows) ≡ drop (start + length (take n (drop start rows))) rows =
-      drop-drop n start rows ∙ ap (λ m. drop (start + m) rows) (sym size) in
-      subst (λ rs. groups_by columns (drop start rows) ≡ take n rs ∷ groups_by columns
-      (drop (start + length (take n rs)) rows)) (sym all)
-      (first_group (drop start rows) n some of_left up
-      ∙ ap (λ rs. take n (drop start rows) ∷ groups_by columns rs) next)
-
-  pub next_within_rows : (rows : List Row) (start n : ℕ) → start < length rows
-      → start + length (take n (take (length rows - start) (drop start rows))) ≤ length rows
-  next_within_rows rows start n l =
-      omega (
-        arith,
-        length-take n (take (length rows - start) (drop start rows)),
-        length-take (length rows - start)
-            (drop start rows),
-        length-drop start rows,
-      )
+      (λ o os is k. let i = at_drop n rows o os is in
+      run.ends (let l : n < length (map key rows) = i.0 in omega arith) (i.1 ∙ k)))
 
 -- ---- tuples that tie
 

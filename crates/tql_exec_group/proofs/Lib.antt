@@ -2,4 +2,5 @@ pub mod Folding
 pub mod Bests
 pub mod Scopes
 pub mod Groups
+pub mod Keys
 pub mod Answered

@@ -43,10 +43,11 @@ pub struct Run<'a> {
 
 impl Columns for Run<'_> {
     ghost use Rattle.std.specs.Prelude.{[], slice_index_or};
+    ghost use Rattle.tql_exec_group.specs.Runs.{rows_in};
 
-    ghost values = { λ g. slice_index_or g.rows.now 0 [] };
+    ghost values = { λ g. slice_index_or (rows_in g.rows.now) 0 [] };
 
-    ghost group = { λ g. g.rows.now };
+    ghost group = { λ g. rows_in g.rows.now };
 
     fn column(&self, place: usize) -> View<'_> {
         match self.rows.first() {

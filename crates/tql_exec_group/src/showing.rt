@@ -6,11 +6,11 @@ ghost use Rattle.tql_expr.specs.Evaluated.{Evaluated, behind};
 ghost use Rattle.tql_expr.specs.Meaning.{cond, expr, HasCond, HasExpr};
 ghost use Rattle.tql_exec_join.specs.Bags.{GivesBag};
 ghost use Rattle.tql_value.specs.Views.{rows_of};
-ghost use Rattle.tql_exec_group.specs.Runs.{AreSorted};
+ghost use Rattle.tql_exec_group.specs.Runs.{AreSorted, HasKey, rows_in};
 
 use crate::group::{Group, Run};
 use crate::keyed::Keyed;
-use crate::runs::{run_length, sorted_rows};
+use crate::runs::{Keys, run_length, sorted_rows};
 use tql_exec_join::joined::Joined;
 use tql_expr::columns::Columns;
 use tql_expr::terms::{CondId, ExprId, Terms};
@@ -83,23 +83,24 @@ fn show_all(
 fn show_runs(
     memory: Memory,
     terms: &Terms,
-    columns: &[usize],
+    keys: Keys<'_>,
     having: &[CondId],
     items: &[ExprId],
     rows: &[Keyed<'_>],
 ) -> Result<Vec<Vec<Value, Memory>, Memory>, Refusal>
     requires having { All (HasCond terms.now) having.now }
     requires items { All (HasExpr terms.now) items.now }
-    requires sorted { AreSorted columns.now rows.now }
+    requires keys { All (HasKey keys.first) rows.now }
+    requires sorted { AreSorted (keys.first ∷ keys.others.now) (rows_in rows.now) }
     ensures { Evaluated (λ v. rows_of v.items)
         (shown (map (cond terms.now) having.now) (map (expr terms.now) items.now)
-        (map of_group (groups_by columns.now rows.now))) result }
+        (map of_group (groups_by (keys.entry.first ∷ keys.entry.others.now) (rows_in rows.now)))) result }
 {
     let mut made = Vec::new(memory);
     let mut start = 0;
     while start < rows.len() {
         let left = &rows[start..];
-        let run = &left[..run_length(columns, left)];
+        let run = &left[..run_length(keys.others, left)];
         add_scope(memory, terms, having, items, &Run { rows: run }, &mut made)?;
         start += run.len();
     }
@@ -130,9 +131,13 @@ pub fn show(
     let Some(columns) = grouping else {
         return show_rows(memory, terms, having, items, rows);
     };
-    if columns.is_empty() {
+    let Some((first, others)) = columns.split_first() else {
         return show_all(memory, terms, having, items, rows);
-    }
-    let sorted = sorted_rows(memory, columns, rows)?;
-    show_runs(memory, terms, columns, having, items, &sorted)
+    };
+    let keys = Keys {
+        first: *first,
+        others,
+    };
+    let sorted = sorted_rows(memory, keys, rows)?;
+    show_runs(memory, terms, keys, having, items, &sorted)
 }

@@ -7,7 +7,6 @@ use Rattle.tql_spec.specs.Bag.{In, SameBag}
 use Rattle.tql_spec.specs.Constraint.{clash, key_holds, shown_rows}
 use Rattle.tql_spec.specs.Datum.{Row}
 use Rattle.tql_spec.specs.Definition.{TableDef, Key, Stamped, shown}
-use Rattle.tql_spec.specs.Words.{all_pairs}
 use Rattle.tql_spec.proofs.AtPoints.{all_in, in_all}
 use Rattle.tql_spec.proofs.Bags.{same-map}
 use Rattle.tql_spec.proofs.Members.{both, by_bool}

@@ -1,11 +1,11 @@
 -- A reference that held holds where the rows that come to one of its tables are like those that go.
-use Rattle.std.proofs.Common.{◌≡◌, refl, sym, ap, subst, ◌∙◌, ℕ, Bool, true, false, List, [], ◌∷◌, ◌++◌, map, filter}
+use Rattle.std.proofs.Common.{◌≡◌, refl, sym, ap, subst, ◌∙◌, ℕ, Bool, true, false, List, [], ◌∷◌, ◌++◌, map}
 use Rattle.std.proofs.Common.{inl, inr}
 use Rattle.std.specs.Prelude.{◌&&◌, ◌||◌, not, ℤ, Some}
-use Rattle.std.specs.List.{list_all, list_any}
+use Rattle.std.specs.List.{list_any}
 use Rattle.std.proofs.lemmas.List.{map-append}
 use Rattle.tql_spec.specs.Bag.{In, SameBag}
-use Rattle.tql_spec.specs.Constraint.{ReferenceTestIsRight, has_null, held_at, is_met, is_met_by, match_on, parents_of}
+use Rattle.tql_spec.specs.Constraint.{ReferenceTestIsRight, has_null, is_met, is_met_by, match_on, parents_of}
 use Rattle.tql_spec.specs.Constraint.{reference_holds, shown_rows}
 use Rattle.tql_spec.specs.Datum.{Row}
 use Rattle.tql_spec.specs.Definition.{TableDef, Reference, Stamped, period_of, shown}
@@ -23,7 +23,7 @@ use Rattle.tql_keys.proofs.Children.{child_after}
 use Rattle.tql_keys.proofs.Covering.{covered_if, covered_says}
 use Rattle.tql_keys.proofs.Freely.{any_kept}
 use Rattle.tql_keys.proofs.KeptRows.{of_id, of_row}
-use Rattle.tql_keys.proofs.NamedRows.{among_in, in_bag, kept_in, store_names}
+use Rattle.tql_keys.proofs.NamedRows.{in_bag, kept_in, store_names}
 
 -- ---- the child table
 

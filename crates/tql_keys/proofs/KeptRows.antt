@@ -1,7 +1,7 @@
 -- Rows that come in the place of others, one by one, and the rows that ids name.
 use Rattle.std.proofs.Common.{◌≡◌, ◌<◌, refl, sym, ap, ◌∙◌, ℕ, zero, suc, Bool, true, false, cond, List, [], ◌∷◌, map}
 use Rattle.std.proofs.Common.{filter, inl, inr, arith, nat_eq, nat_lt}
-use Rattle.std.specs.Prelude.{◌&&◌, not, Option, Some, None, option_map, slice_get, slice_index_or, if◌then◌else◌}
+use Rattle.std.specs.Prelude.{◌&&◌, Option, Some, None, option_map, slice_get, slice_index_or, if◌then◌else◌}
 use Rattle.std.specs.List.{list_all}
 use Rattle.std.proofs.lemmas.Bool.Decides.{nat_tests}
 use Rattle.tql_spec.specs.Bag.{In}
@@ -14,7 +14,7 @@ use Rattle.tql_store.specs.StoreModel.{StoreModel}
 use Rattle.tql_store_rows.specs.Changes.{alive, is_current}
 use Rattle.tql_store_rows.specs.Readings.{where_open}
 use Rattle.tql_keys.specs.Asked.{current_rows, row_named}
-use Rattle.tql_keys.specs.Keeping.{are_alike, are_kept, is_kept}
+use Rattle.tql_keys.specs.Keeping.{are_kept, is_kept}
 use Rattle.tql_keys.proofs.Alikes.{AreAlike, alike_says}
 use Rattle.tql_keys.proofs.NamedRows.{store_names}
 

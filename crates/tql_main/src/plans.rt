@@ -26,7 +26,7 @@ impl<'a, E: Eprint> PlansTold<'a, E> {
 
 impl<E: Eprint> Responder for PlansTold<'_, E> {
     ghost use Rattle.tql_run.specs.Ending.{Responds};
-    ghost use Rattle.tql_engine.specs.Stands.{StandsFor};
+    ghost use Rattle.tql_engine_state.specs.Stands.{StandsFor};
     ghost use Rattle.tql_run.proofs.Faults.{responds_refuse};
 
     ghost stands = { λ p. StandsFor p.engine };

@@ -16,6 +16,7 @@ use Rattle.tql_spec.specs.Machine.{State, Reply, Bound, CreateTable, DropTable, 
 use Rattle.tql_spec.specs.Machine.{ChangeRows, AnswerQuery, Change, InsertTuples, InsertQuery, Modify, Prune}
 use Rattle.tql_spec.specs.Machine.{effect, step, changed, outcome, changed_table, working, with_working, with_commit}
 use Rattle.tql_spec.specs.Machine.{newest_copy, entries}
+use Rattle.tql_spec.specs.Machine.{OpenReader, Read, CloseReader}
 use Rattle.tql_spec.proofs.Members.{by_bool}
 use Rattle.tql_spec.proofs.RunKeeps.{changed_entry, altered_keeps}
 use Rattle.tql_points.specs.Scope.{ArePointTables, is_free_work, is_free_cond, is_change_of, is_in_scope}
@@ -162,6 +163,9 @@ module _ (defs : List TableDef) (all : ArePointTables defs) (p : ℤ) where
   effect_good s other r g (CreateTable d) k z = absurd (cc)
   effect_good s other r g (DropTable t) k z = absurd (cc)
   effect_good s other r g (AnswerQuery q) k z = absurd (cc)
+  effect_good s other r g (OpenReader n) k z = absurd (cc)
+  effect_good s other r g (Read n q) k z = absurd (cc)
+  effect_good s other r g (CloseReader n) k z = absurd (cc)
   effect_good s other r g (SetClock m) k z = record { history = g.history; open_then = g.open_then }
   effect_good s other r g (Prune m) k z =
       record { history = pruned_good m s.history g.history; open_then = g.open_then }

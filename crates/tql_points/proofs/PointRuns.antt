@@ -22,6 +22,8 @@ use Rattle.tql_spec.specs.Syntax.{QueryTree, StartTree, CommitTree, RollbackTree
 use Rattle.tql_spec.specs.Creation.{create, application_parts, constraints_of}
 use Rattle.tql_spec.specs.Binding.{bind, select, statement_class, or_bad_moment}
 use Rattle.tql_spec.specs.Run.{Sense, Says, Faulty, HasSense, Run, Answers, respond, respond_to, statement_faults}
+use Rattle.tql_spec.specs.Machine.{OpenReader, Read, CloseReader}
+use Rattle.tql_spec.specs.Syntax.{OpenTree, ReadTree, CloseTree}
 use Rattle.tql_spec.proofs.FirstFaults.{none_first, bound_steps}
 use Rattle.tql_spec.proofs.Members.{by_bool}
 use Rattle.tql_spec.proofs.RunKeeps.{no_left, no_right, unless_either}
@@ -70,6 +72,9 @@ creations_in_scope defs CommitTree all k z = absurd (cc)
 creations_in_scope defs RollbackTree all k z = absurd (cc)
 creations_in_scope defs (AtTree m) all k z = absurd (cc)
 creations_in_scope defs (PruneTree m) all k z = absurd (cc)
+creations_in_scope defs (OpenTree n) all k z = absurd (cc)
+creations_in_scope defs (ReadTree n s keys) all k z = absurd (cc)
+creations_in_scope defs (CloseTree n) all k z = absurd (cc)
 
 pub statements_in_scope : StatementsAreInScope
 statements_in_scope defs t all k q e =
@@ -91,6 +96,9 @@ module _ (defs : List TableDef) (all : ArePointTables defs) where
   done_of s (CreateTable d) k e = absurd (cc)
   done_of s (DropTable t) k e = absurd (cc)
   done_of s (AnswerQuery q) k e = absurd (cc)
+  done_of s (OpenReader n) k e = absurd (cc)
+  done_of s (Read n q) k e = absurd (cc)
+  done_of s (CloseReader n) k e = absurd (cc)
   done_of s (SetClock m) k e = (_, _, replied _ s _ _ e)
   done_of s (Prune m) k e = (_, _, replied _ s _ _ e)
   done_of s Start k e = (_, _, replied _ s _ _ e)
@@ -137,6 +145,9 @@ module _ (defs : List TableDef) (all : ArePointTables defs) where
     first_refusal (CreateTable d) k z e x = absurd (cc)
     first_refusal (DropTable t) k z e x = absurd (cc)
     first_refusal (AnswerQuery q) k z e x = absurd (cc)
+    first_refusal (OpenReader n) k z e x = absurd (cc)
+    first_refusal (Read n q) k z e x = absurd (cc)
+    first_refusal (CloseReader n) k z e x = absurd (cc)
     first_refusal (SetClock m) k z e x = by_state (SetClock m) (λ p. refl) (λ y. refl) e x
     first_refusal (Prune m) k z e x = by_state (Prune m) (λ p. refl) (λ y. refl) e x
     first_refusal Start k z e x = by_state Start (λ p. refl) (λ y. refl) e x
@@ -210,6 +221,9 @@ module _ (defs : List TableDef) (all : ArePointTables defs) where
     sound_goes x (CreateTree n y es versioned) h k e = absurd (cc)
     sound_goes x (DropTree n) h k e = absurd (cc)
     sound_goes x (InsertSelect n ns y) h k e = absurd (cc)
+    sound_goes x (OpenTree n) h k e = absurd (cc)
+    sound_goes x (ReadTree n y keys) h k e = absurd (cc)
+    sound_goes x (CloseTree n) h k e = absurd (cc)
     sound_goes x (InsertValues n ns y ys) h k e =
         let w = bound_within defs all (InsertValues n ns y ys) refl k e in
         bound_goes x (InsertValues n ns y ys) h w.scope w.periods
@@ -315,6 +329,9 @@ prepared_stays s (InsertSelect n ns y) k h z = absurd (cc)
 prepared_stays s (UpdateTree n p y ss c) k h z = absurd (cc)
 prepared_stays s (DeleteTree n p c) k h z = absurd (cc)
 prepared_stays s (QueryTree y keys) k h z = absurd (cc)
+prepared_stays s (OpenTree n) k h z = absurd (cc)
+prepared_stays s (ReadTree n y keys) k h z = absurd (cc)
+prepared_stays s (CloseTree n) k h z = absurd (cc)
 prepared_stays s StartTree k h z = absurd (cc)
 prepared_stays s CommitTree k h z = absurd (cc)
 prepared_stays s RollbackTree k h z = absurd (cc)
@@ -346,7 +363,8 @@ prepared_run (x ∷ xs) (y ∷ rs) s new h scope run =
     (λ z n. scope z (inr n)) run.2
 
 -- a state without a commit and a transaction is the beginning of its tables
-begins : (s : State) → s.history ≡ [] → s.transaction ≡ None → s ≡ beginning s.definitions s.next s.horizon
+begins : (s : State) → s.history ≡ [] → s.transaction ≡ None
+    → s ≡ record (beginning s.definitions s.next s.horizon) { readers = s.readers }
 begins s e f =
     ap (λ h. record s { history = h }) e ∙ ap (λ o. record s { history = []; transaction = o }) f
 
@@ -398,6 +416,7 @@ runs_agree s pieces rs new run start made others e scope =
             definitions_then = refl;
             clock = refl;
             horizon = refl;
+            readers = refl;
             history = subst (λ (es : List Entry). SameEntries defs p es []) (sym h.uncommitted) tt;
             open_then = subst (λ (o : Option Entry). SameOpen defs p o None) (sym h.idle) tt;
           })

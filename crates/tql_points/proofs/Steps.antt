@@ -2,7 +2,7 @@
 use Rattle.std.proofs.Common.{◌≡◌, ◌<◌, refl, sym, ap, subst, ◌∙◌, ℕ, zero, suc, true, false, cond, List, [], ◌∷◌, ◌++◌}
 use Rattle.std.proofs.Common.{map, get_or, length, arith}
 use Rattle.std.specs.Prelude.{not, ◌&&◌, ◌==◌, nat_lt, ℤ, pos, ◌+ℤ◌, int_le, slice_set, Option, Some, None, is_some}
-use Rattle.std.specs.Prelude.{is_none, Bool, int_lt, if◌then◌else◌}
+use Rattle.std.specs.Prelude.{is_none, Bool, ◌||◌, nat_le, int_lt, if◌then◌else◌}
 use Rattle.std.specs.List.{list_all}
 use Rattle.std.proofs.lemmas.Bool.Decides.{nat_tests}
 use Rattle.std.proofs.lemmas.List.{length-map}
@@ -12,7 +12,7 @@ use Rattle.tql_spec.specs.Calendar.{high}
 use Rattle.tql_spec.specs.Refusal.{Refusal, NotInThisTransactionState, MomentNotAllowed, fault_if, first}
 use Rattle.tql_spec.specs.Refusal.{BeforeTheHorizon}
 use Rattle.tql_spec.specs.Expression.{eval}
-use Rattle.tql_spec.specs.Definition.{TableDef, Stamped, table_at}
+use Rattle.tql_spec.specs.Definition.{Name, TableDef, Stamped, table_at}
 use Rattle.tql_spec.specs.History.{Copy, Entry, rows_in}
 use Rattle.tql_spec.specs.Horizon.{pruned}
 use Rattle.tql_spec.specs.Change.{Outcome, insert, modify}
@@ -23,6 +23,10 @@ use Rattle.tql_spec.specs.Machine.{Defines, SetsClock, Starts, Ends, Changes, Qu
 use Rattle.tql_spec.specs.Machine.{is_not_later, is_clock_at_end, effect, step, replies, unless_refused, changed}
 use Rattle.tql_spec.specs.Machine.{outcome, changed_table, constraint_faults, verb_of, working, with_working}
 use Rattle.tql_spec.specs.Machine.{with_commit, committed, newest_copy, entries}
+use Rattle.tql_spec.specs.Machine.{OpenReader, Read, CloseReader}
+use Rattle.tql_spec.specs.Readers.{Reader, names_of, is_live, is_any_open, passes_some, reads_plain}
+use Rattle.tql_spec.specs.Limits.{most_readers}
+use Rattle.tql_spec.specs.Refusal.{ReadersAreOpen, ReaderNotUsable, TooManyTablesOrReaders}
 use Rattle.tql_spec.proofs.FirstFaults.{none_first}
 use Rattle.tql_spec.proofs.Laws.{unless_keeps, effect_keeps}
 use Rattle.tql_spec.proofs.Members.{by_bool}
@@ -37,6 +41,7 @@ use Rattle.tql_points.proofs.Changes.{modifications_reduce}
 use Rattle.tql_points.proofs.Insertions.{insertions_reduce}
 use Rattle.tql_points.proofs.Numbers.{equal}
 use Rattle.tql_points.proofs.Related.{SameCopy, SameEntry, SameEntries, SameOpen, Related, point_table_at, same_entries}
+use Rattle.tql_points.proofs.Related.{reads_plain_same}
 use Rattle.tql_points.proofs.Tables.{own_sound, reduced_view}
 use Rattle.tql_points.proofs.Views.{both_true}
 
@@ -100,10 +105,19 @@ class_same defs p Rollback = refl
 class_same defs p (ChangeRows c) = refl
 class_same defs p (AnswerQuery q) = refl
 class_same defs p (Prune m) = refl
+class_same defs p (OpenReader n) = refl
+class_same defs p (Read n q) = refl
+class_same defs p (CloseReader n) = refl
 
 -- the faults of a step before its effect: by the horizon, the transaction and the clock
 abbrev pub step_faults : State → Bound → List Refusal
 step_faults s b = limit_faults s b ++ state_faults s (class_of b)
+
+-- the faults of an opening among these readers
+abbrev opening_faults : Name → List Reader → List Refusal
+opening_faults n rs =
+    fault_if (nat_le most_readers (length (names_of rs))) TooManyTablesOrReaders
+    ++ fault_if (is_live n rs) ReaderNotUsable
 
 -- that constraints which hold hold at the point
 abbrev pub ConstraintsThen : List TableDef → ℤ → Type 0
@@ -134,7 +148,10 @@ module _ (defs : List TableDef) (all : ArePointTables defs) (p : ℤ) (constrain
   pub faults_same : (s other : State) → Related defs p s other → (m : StatementClass)
       → state_faults other m ≡ state_faults s m
   faults_same s other r Defines =
-      ap (λ b. fault_if b NotInThisTransactionState) (open_some s.transaction other.transaction r.open_then)
+      ap (λ b. fault_if b NotInThisTransactionState ++ fault_if (is_any_open other.readers) ReadersAreOpen)
+      (open_some s.transaction other.transaction r.open_then)
+      ∙ ap (λ rs. fault_if (is_some s.transaction) NotInThisTransactionState
+      ++ fault_if (is_any_open rs) ReadersAreOpen) r.readers
   faults_same s other r (SetsClock None) =
       ap (λ b. fault_if b NotInThisTransactionState) (open_some s.transaction other.transaction r.open_then)
   faults_same s other r (SetsClock (Some m)) =
@@ -154,10 +171,15 @@ module _ (defs : List TableDef) (all : ArePointTables defs) (p : ℤ) (constrain
       (open_none s.transaction other.transaction r.open_then)
       ∙ ap (λ z. fault_if (is_none s.transaction && int_le high z) MomentNotAllowed) r.clock
   faults_same s other r Queries = refl
-  faults_same s other r (Prunes m) =
+  faults_same s other r (Prunes None) =
       ap (λ b. fault_if b NotInThisTransactionState) (open_some s.transaction other.transaction r.open_then)
+  faults_same s other r (Prunes (Some m)) =
+      ap (λ b. fault_if b NotInThisTransactionState ++ fault_if (passes_some m other.readers) ReadersAreOpen)
+      (open_some s.transaction other.transaction r.open_then)
+      ∙ ap (λ rs. fault_if (is_some s.transaction) NotInThisTransactionState
+      ++ fault_if (passes_some m rs) ReadersAreOpen) r.readers
 
-  -- so do the faults by the horizon
+  -- so do the faults by the horizon and the readers
   limits_same : (s other : State) → Related defs p s other → (b : Bound)
       → limit_faults other (statement_at defs p b) ≡ limit_faults s b
   limits_same s other r (CreateTable d) = refl
@@ -171,6 +193,19 @@ module _ (defs : List TableDef) (all : ArePointTables defs) (p : ℤ) (constrain
   limits_same s other r (ChangeRows (Modify t portion work conds)) = refl
   limits_same s other r (AnswerQuery q) = ap (λ h. query_faults h q) r.horizon
   limits_same s other r (Prune m) = ap (λ h. fault_if (int_lt m h) BeforeTheHorizon) r.horizon
+  limits_same s other r (OpenReader n) = ap (opening_faults n) r.readers
+  limits_same s other r (CloseReader n) = ap (λ rs. fault_if (not (is_live n rs)) ReaderNotUsable) r.readers
+  limits_same s other r (Read n q) =
+      ap (λ rs. fault_if (not (is_live n rs) || reads_plain other.definitions q) ReaderNotUsable
+      ++ query_faults other.horizon q) r.readers
+      ∙ ap (λ h. fault_if (not (is_live n s.readers) || reads_plain other.definitions q) ReaderNotUsable
+      ++ query_faults h q) r.horizon
+      ∙ ap (λ ds. fault_if (not (is_live n s.readers) || reads_plain ds q) ReaderNotUsable
+      ++ query_faults s.horizon q) r.definitions_then
+      ∙ ap (λ b. fault_if (not (is_live n s.readers) || b) ReaderNotUsable ++ query_faults s.horizon q)
+      (reads_plain_same defs q)
+      ∙ ap (λ ds. fault_if (not (is_live n s.readers) || reads_plain ds q) ReaderNotUsable
+      ++ query_faults s.horizon q) (sym r.definitions)
 
   -- and both
   pub step_faults_same : (s other : State) → Related defs p s other → (b : Bound)
@@ -271,6 +306,7 @@ module _ (defs : List TableDef) (all : ArePointTables defs) (p : ℤ) (constrain
     definitions_then = r.definitions_then;
     clock = ap (λ z. z +ℤ pos 1) h.moment;
     horizon = r.horizon;
+    readers = r.readers;
     history = (h, r.history);
     open_then = tt;
   }
@@ -282,6 +318,7 @@ module _ (defs : List TableDef) (all : ArePointTables defs) (p : ℤ) (constrain
     definitions_then = r.definitions_then;
     clock = r.clock;
     horizon = r.horizon;
+    readers = r.readers;
     history = r.history;
     open_then = h;
   }
@@ -293,6 +330,7 @@ module _ (defs : List TableDef) (all : ArePointTables defs) (p : ℤ) (constrain
     definitions_then = r.definitions_then;
     clock = r.clock;
     horizon = r.horizon;
+    readers = r.readers;
     history = r.history;
     open_then = tt;
   }
@@ -485,6 +523,9 @@ module _ (defs : List TableDef) (all : ArePointTables defs) (p : ℤ) (constrain
   effect_same s other r (CreateTable d) k e = absurd (cc)
   effect_same s other r (DropTable t) k e = absurd (cc)
   effect_same s other r (AnswerQuery q) k e = absurd (cc)
+  effect_same s other r (OpenReader n) k e = absurd (cc)
+  effect_same s other r (Read n q) k e = absurd (cc)
+  effect_same s other r (CloseReader n) k e = absurd (cc)
   effect_same s other r (SetClock m) k e = (
     refl,
     record {
@@ -492,6 +533,7 @@ module _ (defs : List TableDef) (all : ArePointTables defs) (p : ℤ) (constrain
       definitions_then = r.definitions_then;
       clock = refl;
       horizon = r.horizon;
+      readers = r.readers;
       history = r.history;
       open_then = r.open_then;
     },
@@ -503,6 +545,7 @@ module _ (defs : List TableDef) (all : ArePointTables defs) (p : ℤ) (constrain
       definitions_then = r.definitions_then;
       clock = r.clock;
       horizon = refl;
+      readers = r.readers;
       history = pruned_same m s.history other.history r.history;
       open_then = r.open_then;
     },

@@ -31,6 +31,7 @@ use Rattle.tql_spec.specs.Creation.{period_columns, application_name, uses_colum
 use Rattle.tql_spec.specs.Binding.{or_no_table, table_number, insert_columns, assigned_columns, all_assignable}
 use Rattle.tql_spec.specs.Binding.{is_generated, generated_columns, insert_values, kinds_for, cell, cells_misfit, tuple}
 use Rattle.tql_spec.specs.Binding.{own_scope, assignment, portion, sets_period, plain_filter, update, delete, bind}
+use Rattle.tql_spec.specs.Syntax.{OpenTree, ReadTree, CloseTree}
 use Rattle.tql_spec.proofs.BoundKinds.{in_checked, none_any}
 use Rattle.tql_spec.proofs.CreateKinds.{or_first_false, or_second_false}
 use Rattle.tql_spec.proofs.InOrder.{no_fault}
@@ -476,3 +477,6 @@ module _ (defs : List TableDef) (all : ArePointTables defs) where
   bound_within RollbackTree q k e = record { scope = refl; periods = refl }
   bound_within (AtTree m) q k e = record { scope = refl; periods = refl }
   bound_within (PruneTree m) q k e = record { scope = refl; periods = refl }
+  bound_within (OpenTree n) q k e = absurd (cc)
+  bound_within (ReadTree n s keys) q k e = absurd (cc)
+  bound_within (CloseTree n) q k e = absurd (cc)

@@ -19,9 +19,10 @@ use Rattle.tql_points.specs.StatementScope.{prepares, is_query, is_statement_in_
 abbrev pub PointMachines : Type 0
 PointMachines = ℤ → State
 
--- as they begin beside a state: with its clock and its horizon, and its tables without their application periods
+-- as they begin beside a state: with its clock, its horizon and its open readers, and its tables without their
+-- application periods
 abbrev pub machines_of : State → PointMachines
-machines_of s p = point_beginning s.definitions s.next s.horizon
+machines_of s p = record (point_beginning s.definitions s.next s.horizon) { readers = s.readers }
 
 -- what the machine of a point replies to the statement as the point is given it
 abbrev pub reply_at : List TableDef → PointMachines → Bound → ℤ → Reply
@@ -86,11 +87,13 @@ AreInScope defs pieces =
     (x : Piece) → In x pieces → (t : Statement) → HasSense x (Says t) → IsTrue (is_statement_in_scope defs t)
 
 -- the law: statements that make tables or set the clock or the horizon keep this, and such a state is the beginning of
--- its tables, its clock and its horizon
+-- its tables, its clock, its horizon and its open readers
 abbrev pub StartsAreKept : Type 0
 StartsAreKept =
     (s : State) (pieces : List Piece) (replies : List Reply) (new : State) → IsAtStart s → ArePreparing pieces
-    → Run s pieces replies new → IsAtStart new × (new ≡ beginning new.definitions new.next new.horizon)
+    → Run s pieces replies new
+    → IsAtStart new
+    × (new ≡ record (beginning new.definitions new.next new.horizon) { readers = new.readers })
 
 -- the first pieces make tables; where those behind them are in scope, they run beside the machines of all points
 pub record RunsAtPoints (s : State) (made others : List Piece) (replies : List Reply) (new : State) : Type 0 where

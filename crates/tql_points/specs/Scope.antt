@@ -10,6 +10,7 @@ use Rattle.tql_spec.specs.Change.{Assignment, Work}
 use Rattle.tql_spec.specs.Machine.{Change, InsertTuples, InsertQuery, Modify, Bound, CreateTable, DropTable}
 use Rattle.tql_spec.specs.Machine.{ChangeRows, AnswerQuery, changed_table}
 use Rattle.tql_spec.specs.AtPoints.{parent_at}
+use Rattle.tql_spec.specs.Machine.{OpenReader, Read, CloseReader}
 use Rattle.tql_points.specs.Slice.{own_columns, payload_columns}
 
 -- ---- what names no period
@@ -71,4 +72,7 @@ is_in_scope defs (DropTable t) = false
 is_in_scope defs (ChangeRows c) =
     nat_lt (changed_table c) (length defs) && is_change_of (table_at defs (changed_table c)) c
 is_in_scope defs (AnswerQuery q) = false
+is_in_scope defs (OpenReader n) = false
+is_in_scope defs (Read n q) = false
+is_in_scope defs (CloseReader n) = false
 is_in_scope defs b = true

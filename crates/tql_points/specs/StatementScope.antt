@@ -12,7 +12,7 @@ use Rattle.tql_spec.specs.Syntax.{Sum, Terms, NoTerm, Factors, NoFactor, Unsigne
 use Rattle.tql_spec.specs.Syntax.{TimestampLiteral, Enclosed, Condition, CellTree, NullCell, ValueCell, Tuple, SetTree}
 use Rattle.tql_spec.specs.Syntax.{Element, Constraint, KeyTree, ForeignTree, CheckTree, Statement, CreateTree, DropTree}
 use Rattle.tql_spec.specs.Syntax.{InsertValues, InsertSelect, UpdateTree, DeleteTree, QueryTree, StartTree, CommitTree}
-use Rattle.tql_spec.specs.Syntax.{RollbackTree, AtTree, PruneTree}
+use Rattle.tql_spec.specs.Syntax.{RollbackTree, AtTree, PruneTree, OpenTree, ReadTree, CloseTree}
 use Rattle.tql_points.specs.Slice.{own_columns}
 use Rattle.tql_points.specs.NamesAvoided.{sum_avoids, condition_avoids, filter_avoids}
 
@@ -125,3 +125,6 @@ is_statement_in_scope defs CommitTree = true
 is_statement_in_scope defs RollbackTree = true
 is_statement_in_scope defs (AtTree m) = true
 is_statement_in_scope defs (PruneTree m) = true
+is_statement_in_scope defs (OpenTree n) = false
+is_statement_in_scope defs (ReadTree n s keys) = false
+is_statement_in_scope defs (CloseTree n) = false

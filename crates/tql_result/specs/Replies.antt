@@ -27,6 +27,8 @@ plain_verb verb.Committed = machine.Committed
 plain_verb verb.RolledBack = machine.RolledBack
 plain_verb verb.ClockSet = machine.ClockSet
 plain_verb verb.Pruned = machine.Pruned
+plain_verb verb.OpenedReader = machine.OpenedReader
+plain_verb verb.ClosedReader = machine.ClosedReader
 
 -- the data of a table's rows
 abbrev pub table_rows : ResultTable → List Row

@@ -25,6 +25,10 @@ pub enum Verb {
     ClockSet,
     /// `PRUNE HISTORY`
     Pruned,
+    /// `OPEN READER`
+    OpenedReader,
+    /// `CLOSE READER`
+    ClosedReader,
 }
 
 /// What a statement is answered.
@@ -66,6 +70,8 @@ impl Verb {
             Verb::RolledBack => "ROLLBACK",
             Verb::ClockSet => "AT",
             Verb::Pruned => "PRUNE HISTORY",
+            Verb::OpenedReader => "OPEN READER",
+            Verb::ClosedReader => "CLOSE READER",
         }
     }
 }

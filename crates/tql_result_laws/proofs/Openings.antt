@@ -6,7 +6,7 @@ use Rattle.std.specs.List.{find, list_all}
 use Rattle.tql_spec.specs.Calendar.{number_of}
 use Rattle.tql_spec.specs.Machine.{Verb}
 use Rattle.tql_spec.specs.Machine.{CreatedTable, DroppedTable, Inserted, Updated, Deleted, Started, Committed}
-use Rattle.tql_spec.specs.Machine.{RolledBack, ClockSet, Pruned}
+use Rattle.tql_spec.specs.Machine.{RolledBack, ClockSet, Pruned, OpenedReader, ClosedReader}
 use Rattle.tql_spec.specs.Refusal.{Refusal}
 use Rattle.tql_spec.specs.Refusal.{StatementTooLong, NotUtf8, UnfinishedStatement, NestedTooDeep, NotAStatement}
 use Rattle.tql_spec.specs.Refusal.{TooManyColumnsOrTables, NotInThisTransactionState, MomentNotAllowed}
@@ -34,7 +34,9 @@ verb_at n =
     if n == 21071 then Some RolledBack else (
     if n == 16724 then Some ClockSet else (
     if n == 20562 then Some Pruned else (
-    None))))))))))
+    if n == 20304 then Some OpenedReader else (
+    if n == 17228 then Some ClosedReader else (
+    None))))))))))))
 
 -- the word behind which anything stands
 pub verb_opens : (v : Verb) (rest : List ℕ) → verb_at (opening (verb_text v ++ rest)) ≡ Some v
@@ -49,6 +51,8 @@ verb_opens Committed rest = refl
 verb_opens RolledBack rest = refl
 verb_opens ClockSet rest = refl
 verb_opens Pruned rest = refl
+verb_opens OpenedReader rest = refl
+verb_opens ClosedReader rest = refl
 
 -- these begin as no such word
 pub refused_opens : verb_at 21061 ≡ None
@@ -74,6 +78,8 @@ verb_plain Committed = refl
 verb_plain RolledBack = refl
 verb_plain ClockSet = refl
 verb_plain Pruned = refl
+verb_plain OpenedReader = refl
+verb_plain ClosedReader = refl
 
 pub wording_plain : (e : Refusal) → list_all is_plain (wording e) ≡ true
 wording_plain StatementTooLong = refl

@@ -13,6 +13,8 @@ use Rattle.tql_spec.specs.Machine.{changed_table, class_of, state_faults, effect
 use Rattle.tql_spec.specs.Syntax.{Statement, CreateTree, DropTree, InsertValues, InsertSelect, UpdateTree, DeleteTree}
 use Rattle.tql_spec.specs.Syntax.{QueryTree, StartTree, CommitTree, RollbackTree, AtTree, PruneTree}
 use Rattle.tql_spec.specs.Horizon.{pruned}
+use Rattle.tql_spec.specs.Machine.{OpenReader, Read, CloseReader}
+use Rattle.tql_spec.specs.Syntax.{OpenTree, ReadTree, CloseTree}
 use Rattle.tql_spec.specs.Binding.{bind, or_no_table, is_referenced}
 use Rattle.tql_spec.specs.Run.{CopyHolds, ConstraintsHold, RunsKeepConstraints}
 use Rattle.tql_spec.proofs.RunKeeps.{no_left, no_right, asked_stays, changed_copy, altered_keeps, EffectKeeps}
@@ -55,6 +57,9 @@ dropped defs CommitTree e t q = absurd (cc)
 dropped defs RollbackTree e t q = absurd (cc)
 dropped defs (AtTree m) e t q = absurd (cc)
 dropped defs (PruneTree m) e t q = absurd (cc)
+dropped defs (OpenTree n) e t q = absurd (cc)
+dropped defs (ReadTree n s keys) e t q = absurd (cc)
+dropped defs (CloseTree n) e t q = absurd (cc)
 
 -- ---- copies
 
@@ -120,6 +125,10 @@ effect_holds base defs history next None (DropTable t) e g h =
     (λ copy. holds_less defs copy k.name t k.there k.free) history h
 effect_holds base defs history next (Some w) (DropTable t) e g h = absurd (cc)
 effect_holds base defs history next begun (SetClock m) e g h = h
+effect_holds base defs history next begun (OpenReader n) e g h = h
+effect_holds base defs history next begun (CloseReader n) e g h = h
+effect_holds base defs history next begun (Read n q) e g h =
+    asked_stays ConstraintsHold (state base defs history next begun) q _ h
 effect_holds base defs history next None (Prune m) e g h = holds_pruned defs m history h
 effect_holds base defs history next (Some w) (Prune m) e g h = absurd (cc)
 effect_holds base defs history next None Start e g h = (newest_holds defs history h, h)

@@ -12,6 +12,7 @@ use Rattle.tql_spec.specs.Machine.{AnswerQuery}
 use Rattle.tql_spec.specs.Machine.{changed_table, class_of, state_faults, effect, newest_copy, Prune}
 use Rattle.tql_spec.specs.Words.{listed}
 use Rattle.tql_spec.specs.Horizon.{pruned}
+use Rattle.tql_spec.specs.Machine.{OpenReader, Read, CloseReader}
 use Rattle.tql_spec.specs.Binding.{bind}
 use Rattle.tql_spec.specs.Reached.{CopiesFit}
 use Rattle.tql_spec.proofs.MemberLists.{in_image, in_left, in_right, in_either}
@@ -122,6 +123,10 @@ effect_fits base defs history next None (DropTable t) e f =
 effect_fits base defs history next (Some w) (DropTable t) e f = absurd (cc)
 effect_fits base defs history next begun (Prune m) e f = λ x i. f x (in_entries m x (listed begun) history i)
 effect_fits base defs history next begun (SetClock m) e f = f
+effect_fits base defs history next begun (OpenReader n) e f = f
+effect_fits base defs history next begun (CloseReader n) e f = f
+effect_fits base defs history next begun (Read n q) e f =
+    asked_stays CopiesFit (state base defs history next begun) q _ f
 effect_fits base defs history next None Start e f = first_fits _ history (length defs) (newest_fits defs history f) f
 effect_fits base defs history next (Some w) Start e f = absurd (cc)
 effect_fits base defs history next None Commit e f = f

@@ -9,6 +9,7 @@ use Rattle.tql_spec.specs.Machine.{State, Reply, Bound, StatementClass, SetsCloc
 use Rattle.tql_spec.specs.Machine.{unless_refused, Prunes, limit_faults}
 use Rattle.tql_spec.specs.Syntax.{Statement, CreateTree, DropTree, InsertValues, InsertSelect, UpdateTree, DeleteTree}
 use Rattle.tql_spec.specs.Syntax.{QueryTree, StartTree, CommitTree, RollbackTree, AtTree, PruneTree}
+use Rattle.tql_spec.specs.Syntax.{OpenTree, ReadTree, CloseTree}
 use Rattle.tql_spec.specs.Binding.{bind, statement_class, or_bad_moment}
 use Rattle.tql_spec.specs.Run.{respond}
 
@@ -116,6 +117,9 @@ manner_kept defs (AtTree m) k =
     read_some (read_timestamp m) (sym (ap first (append-nil (or_bad_moment (read_timestamp m)).faults)) ∙ k)
 manner_kept defs (PruneTree m) k =
     read_prunes (read_timestamp m) (sym (ap first (append-nil (or_bad_moment (read_timestamp m)).faults)) ∙ k)
+manner_kept defs (OpenTree n) k = refl
+manner_kept defs (ReadTree n s keys) k = refl
+manner_kept defs (CloseTree n) k = refl
 
 -- a statement without a fault is a step of what it is bound to
 pub bound_steps : (s : State) (t : Statement) → first (bind s.definitions t).faults ≡ None

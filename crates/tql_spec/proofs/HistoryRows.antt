@@ -1,12 +1,15 @@
--- Worked statements of pruned history, computed by the machine.
-use Rattle.std.specs.Prelude.{◌≡◌, refl, ℕ, List, [], ◌∷◌, ◌++◌, codes, pos, ◌-ℤ◌, None}
+-- Worked statements of pruned history and of readers, computed by the machine.
+use Rattle.std.specs.Prelude.{◌≡◌, refl, ℕ, List, [], ◌∷◌, ◌++◌, codes, pos, ◌-ℤ◌, false, None}
 use Rattle.std.specs.Fmt.{digits}
 use Rattle.tql_spec.specs.Calendar.{high}
 use Rattle.tql_spec.specs.History.{Now, AsOf, FromTo}
+use Rattle.tql_spec.specs.Query.{Query}
 use Rattle.tql_spec.specs.Change.{Remove}
-use Rattle.tql_spec.specs.Machine.{Bound, SetClock, ChangeRows, Modify, InsertTuples, Prune}
+use Rattle.tql_spec.specs.Expression.{Column}
+use Rattle.tql_spec.specs.Machine.{Bound, CreateTable, SetClock, ChangeRows, Modify, InsertTuples, Start, Commit, Prune}
+use Rattle.tql_spec.specs.Machine.{OpenReader, Read, CloseReader}
 use Rattle.tql_spec.proofs.Rows.{printed}
-use Rattle.tql_spec.proofs.Samples.{empty_log, ask, midnight, num, all_log, log_names}
+use Rattle.tql_spec.proofs.Samples.{empty_log, ask, midnight, num, plain, all_log, log_names}
 
 -- 7 stood through January, 8 stands from March on
 abbrev two_months : List Bound
@@ -43,3 +46,29 @@ pub pruned_to_the_end :
     ++ codes "REFUSED E45 before the horizon\n"
 unfolding digits
 pruned_to_the_end = refl
+
+-- the whole log
+abbrev the_log : Query
+the_log = record {
+  chains = record { first = record { table = 0; when = Now; width = 3 }; joins = [] } ∷ [];
+  filter = [];
+  grouping = None;
+  having = [];
+  items = Column 0 ∷ Column 1 ∷ Column 2 ∷ [];
+  headings = log_names;
+  distinct = false;
+  ordering = [];
+}
+
+-- a reader sees what was committed when it was opened, until it is closed
+pub reader_stays :
+    printed (empty_log ++ ChangeRows (InsertTuples 0 (0 ∷ []) ((num (pos 7) ∷ []) ∷ [])) ∷ OpenReader (codes "R")
+    ∷ Start ∷ ChangeRows (Modify 0 None Remove []) ∷ Read (codes "R") the_log ∷ Commit ∷ Read (codes "R") the_log
+    ∷ CreateTable (plain (codes "Z")) ∷ Prune (midnight 2011 1 2) ∷ CloseReader (codes "R")
+    ∷ Read (codes "R") the_log ∷ [])
+    ≡ codes "CREATE TABLE\nAT\nINSERT 1\nOPEN READER\nSTART TRANSACTION\nDELETE 1\nX|S|E\n"
+    ++ codes "7|2011-01-01 00:00:00|9999-12-31 23:59:59.999999\n(1 rows)\nCOMMIT\nX|S|E\n"
+    ++ codes "7|2011-01-01 00:00:00|9999-12-31 23:59:59.999999\n(1 rows)\nREFUSED E47 readers are open\n"
+    ++ codes "REFUSED E47 readers are open\nCLOSE READER\nREFUSED E46 reader not usable\n"
+unfolding digits
+reader_stays = refl

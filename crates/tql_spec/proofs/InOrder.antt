@@ -1,6 +1,6 @@
 -- The moments of commits fall below the clock, and copies fit the definitions.
-use Rattle.std.proofs.Common.{◌≡◌, refl, sym, ap, ◌∙◌, true, false, List, [], ◌∷◌, map, arith}
-use Rattle.std.specs.Prelude.{Bool, ℤ, pos, ◌+ℤ◌, ◌<ℤ◌, ◌≤ℤ◌, int_le, Option, Some, None, if◌then◌else◌}
+use Rattle.std.proofs.Common.{◌≡◌, refl, sym, ap, subst, ◌∙◌, true, false, List, [], ◌∷◌, ◌++◌, map, inl, inr, arith}
+use Rattle.std.specs.Prelude.{Bool, not, ℤ, pos, ◌+ℤ◌, ◌<ℤ◌, ◌≤ℤ◌, int_le, Option, Some, None, if◌then◌else◌}
 use Rattle.std.proofs.lemmas.Int.{ints}
 use Rattle.tql_spec.specs.Calendar.{high}
 use Rattle.tql_spec.specs.Refusal.{Refusal, MomentNotAllowed, fault_if}
@@ -10,8 +10,13 @@ use Rattle.tql_spec.specs.Machine.{State, Bound, CreateTable, DropTable, SetCloc
 use Rattle.tql_spec.specs.Machine.{AnswerQuery}
 use Rattle.tql_spec.specs.Machine.{class_of, state_faults, effect, is_not_later, committed, new_state, Prune}
 use Rattle.tql_spec.specs.Horizon.{pruned}
+use Rattle.tql_spec.specs.Words.{listed, same_text}
+use Rattle.tql_spec.specs.Bag.{In}
+use Rattle.tql_spec.specs.Readers.{Reader}
+use Rattle.tql_spec.specs.Machine.{OpenReader, Read, CloseReader}
 use Rattle.tql_spec.specs.Binding.{bind}
 use Rattle.tql_spec.specs.Reached.{IsReached, IsInOrder}
+use Rattle.tql_spec.proofs.MemberLists.{in_either, in_kept}
 use Rattle.tql_spec.proofs.RunKeeps.{asked_stays, changed_copy, altered_keeps, EffectKeeps, run_keeps}
 
 -- a fault that is not there
@@ -53,21 +58,26 @@ abbrev pub state : State → List TableDef → List Entry → ℤ → Option Ent
 state base defs history next begun =
     record base { definitions = defs; history = history; next = next; transaction = begun }
 
+-- the moments of what readers set aside fall
+abbrev ReadersFall : State → Type 0
+ReadersFall s = (r : Reader) → In r s.readers → Falling r.pinned
+
 -- none open
 closed : (base : State) (defs : List TableDef) (history : List Entry) (next : ℤ) → Falling history
-    → FallingFrom next history
-    → IsInOrder (state base defs history next None)
-closed base defs history next f g = record { falling = f; below_clock = g; opened = λ e q. absurd (cc) }
+    → FallingFrom next history → ReadersFall base → IsInOrder (state base defs history next None)
+closed base defs history next f g p =
+    record { falling = f; below_clock = g; opened = λ e q. absurd (cc); set_aside = p }
 
 -- a transaction at the clock's moment
 opened_at : (base : State) (defs : List TableDef) (history : List Entry) (next : ℤ) (copy : Copy) → next <ℤ high
-    → FallingFrom next history
+    → FallingFrom next history → ReadersFall base
     → IsInOrder (state base defs history next (Some (record { moment = next; copy = copy })))
-opened_at base defs history next copy h f = record {
+opened_at base defs history next copy h f p = record {
   falling = (h, f);
   below_clock = f;
   opened = λ e q. ap
       (λ (o : Option Entry). moment_or o) (sym q);
+  set_aside = p;
 }
   where
     moment_or : Option Entry → ℤ
@@ -76,9 +86,9 @@ opened_at base defs history next copy h f = record {
 
 -- a commit leaves the clock behind its moment
 just_after : (base : State) (defs : List TableDef) (history : List Entry) (next : ℤ) (e : Entry) → e.moment <ℤ high
-    → FallingFrom e.moment history → IsInOrder (committed (state base defs history next None) e)
-just_after base defs history next e h f =
-    closed base defs (e ∷ history) (e.moment +ℤ pos 1) (h, f) (omega (arith, ints), f)
+    → FallingFrom e.moment history → ReadersFall base → IsInOrder (committed (state base defs history next None) e)
+just_after base defs history next e h f p =
+    closed base defs (e ∷ history) (e.moment +ℤ pos 1) (h, f) (omega (arith, ints), f) p
 
 -- another working copy
 still_open : (base : State) (defs : List TableDef) (history : List Entry) (next : ℤ) (w : Entry) (copy : Copy)
@@ -88,6 +98,7 @@ still_open base defs history next w copy o = record {
   falling = o.falling;
   below_clock = o.below_clock;
   opened = λ x p. ap moment_or (sym p) ∙ o.opened w refl;
+  set_aside = o.set_aside;
 }
   where
     moment_or : Option Entry → ℤ
@@ -101,34 +112,62 @@ effect_in_order : (base : State) (defs : List TableDef) (history : List Entry) (
     → IsInOrder (state base defs history next begun) → IsInOrder (effect (state base defs history next begun) b).1
 effect_in_order base defs history next None (CreateTable d) e o =
     closed base _ _ next (falls_in_each _ high history o.falling) (falls_in_each _ next history o.below_clock)
+    o.set_aside
 effect_in_order base defs history next (Some w) (CreateTable d) e o = absurd (cc)
 effect_in_order base defs history next None (DropTable t) e o =
     closed base _ _ next (falls_in_each _ high history o.falling) (falls_in_each _ next history o.below_clock)
+    o.set_aside
 effect_in_order base defs history next (Some w) (DropTable t) e o = absurd (cc)
 effect_in_order base defs history next None (SetClock m) e o =
     closed base defs history m o.falling
-    (falls_later next m history o.below_clock (no_fault (is_not_later m history) MomentNotAllowed e))
+    (falls_later next m history o.below_clock (no_fault (is_not_later m history) MomentNotAllowed e)) o.set_aside
 effect_in_order base defs history next (Some w) (SetClock m) e o = absurd (cc)
 effect_in_order base defs history next None Start e o =
     opened_at base defs history next _ (before_end next (no_fault (int_le high next) MomentNotAllowed e)) o.below_clock
+    o.set_aside
 effect_in_order base defs history next (Some w) Start e o = absurd (cc)
 effect_in_order base defs history next None Commit e o = absurd (cc)
-effect_in_order base defs history next (Some w) Commit e o = just_after base defs history next w o.falling.0 o.falling.1
+effect_in_order base defs history next (Some w) Commit e o =
+    just_after base defs history next w o.falling.0 o.falling.1 o.set_aside
 effect_in_order base defs history next None Rollback e o = absurd (cc)
 effect_in_order base defs history next (Some w) Rollback e o =
     let f = o.falling.0 in closed base defs history next
-    (falls_below w.moment high history (omega (arith, ints)) o.falling.1) o.below_clock
+    (falls_below w.moment high history (omega (arith, ints)) o.falling.1) o.below_clock o.set_aside
 effect_in_order base defs history next None (ChangeRows c) e o =
     altered_keeps IsInOrder (state base defs history next None) c o
     (λ q. just_after base defs history next _
-    (before_end next (no_fault (int_le high next) MomentNotAllowed e)) o.below_clock)
+    (before_end next (no_fault (int_le high next) MomentNotAllowed e)) o.below_clock o.set_aside)
 effect_in_order base defs history next (Some w) (ChangeRows c) e o =
     altered_keeps IsInOrder (state base defs history next (Some w)) c o
     (λ q. still_open base defs history next w (changed_copy (state base defs history next (Some w)) c) o)
 effect_in_order base defs history next None (Prune m) e o =
     closed (record base { horizon = m }) defs (pruned m history) next (falls_pruned m high history o.falling)
-    (falls_pruned m next history o.below_clock)
+    (falls_pruned m next history o.below_clock) o.set_aside
 effect_in_order base defs history next (Some w) (Prune m) e o = absurd (cc)
+effect_in_order base defs history next begun (OpenReader n) e o = record {
+  falling = o.falling;
+  below_clock = o.below_clock;
+  opened = o.opened;
+  set_aside = λ r i. elim (in_either r base.readers (record { name = n; pinned = history } ∷ []) i) [
+    | inl j ↦ o.set_aside r j
+    | inr j ↦ elim j [
+      | inl q ↦ subst (λ (x : Reader). Falling x.pinned) (sym q) (history_falls begun o.falling)
+      | inr z ↦ absurd z
+    ]
+  ];
+}
+  where
+    history_falls : (b : Option Entry) → Falling (listed b ++ history) → Falling history
+    history_falls None f = f
+    history_falls (Some w) f = falls_below w.moment high history (let g = f.0 in omega (arith, ints)) f.1
+effect_in_order base defs history next begun (CloseReader n) e o = record {
+  falling = o.falling;
+  below_clock = o.below_clock;
+  opened = o.opened;
+  set_aside = λ r i. o.set_aside r (in_kept (λ (x : Reader). not (same_text n x.name)) r base.readers i).0;
+}
+effect_in_order base defs history next begun (Read n q) e o =
+    asked_stays IsInOrder (state base defs history next begun) q _ o
 effect_in_order base defs history next begun (AnswerQuery q) e o =
     asked_stays IsInOrder (state base defs history next begun) q _ o
 
@@ -139,7 +178,7 @@ keeps_in_order s t k o =
 
 -- the first state has it
 pub first_in_order : IsInOrder new_state
-first_in_order = closed new_state [] [] _ tt tt
+first_in_order = closed new_state [] [] _ tt tt (λ r m. absurd m)
 
 -- so every state that a run reaches has it
 pub reached_in_order : (s : State) → IsReached s → IsInOrder s

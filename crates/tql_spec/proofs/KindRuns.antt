@@ -15,6 +15,7 @@ use Rattle.tql_spec.specs.Machine.{State, Bound, CreateTable, DropTable, SetCloc
 use Rattle.tql_spec.specs.Machine.{AnswerQuery}
 use Rattle.tql_spec.specs.Machine.{Change, outcome, changed_table, class_of, state_faults, effect, newest_copy}
 use Rattle.tql_spec.specs.Machine.{new_state, bag_of, entries, Prune, limit_faults}
+use Rattle.tql_spec.specs.Machine.{OpenReader, Read, CloseReader}
 use Rattle.tql_spec.specs.Binding.{bind}
 use Rattle.tql_spec.specs.Reached.{CopiesFit}
 use Rattle.tql_spec.specs.Typing.{AreOfKinds, AreTypedDefinitions, IsTypedDefinition, IsTypedState, RowsAreTyped}
@@ -198,6 +199,10 @@ effect_good base defs history next None (DropTable t) e g f h = (
 )
 effect_good base defs history next (Some w) (DropTable t) e g f h = absurd (cc)
 effect_good base defs history next begun (SetClock m) e g f h = h
+effect_good base defs history next begun (OpenReader n) e g f h = h
+effect_good base defs history next begun (CloseReader n) e g f h = h
+effect_good base defs history next begun (Read n q) e g f h =
+    asked_stays Both (state base defs history next begun) q _ h
 effect_good base defs history next begun (Prune m) e g f h =
     (h.0, λ x i. h.1 x (in_entries m x (listed begun) history i))
 effect_good base defs history next None Start e g f h =

@@ -31,6 +31,7 @@ use Rattle.tql_spec.specs.Syntax.{PruneTree}
 use Rattle.tql_spec.proofs.LateNames.{is_late, AreLate, none, ◌⊗◌, unknown, ambiguous, misfit, misplaced, referenced}
 use Rattle.tql_spec.proofs.LateNames.{crowded, outside, falling, each_late, one_column_late, expr_late, condition_late}
 use Rattle.tql_spec.proofs.LateNames.{conjuncts_late, optional_late}
+use Rattle.tql_spec.specs.Syntax.{OpenTree, ReadTree, CloseTree}
 
 -- ---- names in lists
 
@@ -262,6 +263,9 @@ bind_late defs CommitTree = none
 bind_late defs RollbackTree = none
 bind_late defs (AtTree t) = moment_late t ⊗ none
 bind_late defs (PruneTree t) = moment_late t ⊗ none
+bind_late defs (OpenTree n) = none
+bind_late defs (ReadTree n s order) = select_late defs s order ⊗ none
+bind_late defs (CloseTree n) = none
 
 -- ---- the first fault
 

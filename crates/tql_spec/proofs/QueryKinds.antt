@@ -15,6 +15,7 @@ use Rattle.tql_spec.specs.Query.{if_distinct, keep, product, chain_rows, answer}
 use Rattle.tql_spec.specs.Syntax.{Item, Items, AllColumns, TheseItems, SelectTree, CreateTree, DropTree, InsertValues}
 use Rattle.tql_spec.specs.Syntax.{InsertSelect, UpdateTree, DeleteTree, QueryTree, StartTree, CommitTree, RollbackTree}
 use Rattle.tql_spec.specs.Syntax.{AtTree, PruneTree}
+use Rattle.tql_spec.specs.Syntax.{OpenTree, ReadTree, CloseTree}
 use Rattle.tql_spec.specs.Names.{Checked, check_each, Known, Typed, typed, kind_at}
 use Rattle.tql_spec.specs.Creation.{create}
 use Rattle.tql_spec.specs.Binding.{Output, Selected, all_columns_from, item_outputs, outputs, chain, whole_scope}
@@ -220,3 +221,6 @@ bound_typed defs CommitTree e = tt
 bound_typed defs RollbackTree e = tt
 bound_typed defs (AtTree t) e = tt
 bound_typed defs (PruneTree t) e = tt
+bound_typed defs (OpenTree n) e = tt
+bound_typed defs (ReadTree n s keys) e = tt
+bound_typed defs (CloseTree n) e = tt

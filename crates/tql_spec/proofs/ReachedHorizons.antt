@@ -10,6 +10,8 @@ use Rattle.tql_spec.specs.Machine.{State, Bound, CreateTable, DropTable, SetCloc
 use Rattle.tql_spec.specs.Machine.{AnswerQuery, Prune, effect, new_state, with_commit, with_working}
 use Rattle.tql_spec.specs.Syntax.{Statement, CreateTree, DropTree, InsertValues, InsertSelect, UpdateTree, DeleteTree}
 use Rattle.tql_spec.specs.Syntax.{QueryTree, StartTree, CommitTree, RollbackTree, AtTree, PruneTree}
+use Rattle.tql_spec.specs.Machine.{OpenReader, Read, CloseReader}
+use Rattle.tql_spec.specs.Syntax.{OpenTree, ReadTree, CloseTree}
 use Rattle.tql_spec.specs.Binding.{bind, or_bad_moment}
 use Rattle.tql_spec.proofs.MomentLiterals.{moment_read}
 use Rattle.tql_spec.proofs.RunKeeps.{asked_stays, changed_entry, altered_keeps, run_keeps}
@@ -44,6 +46,9 @@ bound_within defs StartTree = tt
 bound_within defs CommitTree = tt
 bound_within defs RollbackTree = tt
 bound_within defs (AtTree m) = tt
+bound_within defs (OpenTree n) = tt
+bound_within defs (ReadTree n s keys) = tt
+bound_within defs (CloseTree n) = tt
 bound_within defs (PruneTree m) = read_within (read_timestamp m) (λ n e. moment_read m n e)
 
 -- each effect keeps it
@@ -65,6 +70,9 @@ effect_within s Rollback k h = record { within = h.within }
 effect_within s (ChangeRows c) k h =
     altered_keeps HasHorizon s c h (λ q. working_within s s.transaction (changed_entry s c) h)
 effect_within s (AnswerQuery q) k h = asked_stays HasHorizon s q _ h
+effect_within s (OpenReader n) k h = record { within = h.within }
+effect_within s (Read n q) k h = asked_stays HasHorizon s q _ h
+effect_within s (CloseReader n) k h = record { within = h.within }
 effect_within s (Prune m) k h = record { within = k }
 
 -- so does a run, from the first horizon on

@@ -76,7 +76,7 @@ pub record IsTaken (s : State) (t : Statement) : Type 0 where
   pub within : limit_faults s (bind s.definitions t).value ≡ []
 
 -- a statement without any fault is taken, for answer_keeps
-taken : (s : State) (t : Statement) → first (statement_faults s t) ≡ None → IsTaken s t
+pub taken : (s : State) (t : Statement) → first (statement_faults s t) ≡ None → IsTaken s t
 taken s t e =
     let b : Checked Bound = bind s.definitions t in
     let limits : List Refusal = limit_faults s b.value in

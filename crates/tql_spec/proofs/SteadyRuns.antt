@@ -13,6 +13,7 @@ use Rattle.tql_spec.specs.Machine.{AnswerQuery}
 use Rattle.tql_spec.specs.Machine.{Change, outcome, changed_table, class_of, state_faults, effect, entries}
 use Rattle.tql_spec.specs.Machine.{newest_copy, new_state, Prune}
 use Rattle.tql_spec.specs.Horizon.{pruned}
+use Rattle.tql_spec.specs.Machine.{OpenReader, Read, CloseReader}
 use Rattle.tql_spec.specs.Binding.{bind}
 use Rattle.tql_spec.specs.Spans.{times, InEach, IsSteady}
 use Rattle.tql_spec.specs.Reached.{IsInOrder, ReachedAreSteady, ReachedReadBySpans}
@@ -229,6 +230,10 @@ effect_chained base defs history next None (DropTable t) e o k =
     chain_in_each (λ copy. remove copy t) (skip t) (λ copy i. removed_at copy t i []) history k
 effect_chained base defs history next (Some w) (DropTable t) e o k = absurd (cc)
 effect_chained base defs history next begun (SetClock m) e o k = k
+effect_chained base defs history next begun (OpenReader n) e o k = k
+effect_chained base defs history next begun (CloseReader n) e o k = k
+effect_chained base defs history next begun (Read n q) e o k =
+    asked_stays (λ x. Chain (entries x)) (state base defs history next begun) q _ k
 effect_chained base defs history next None (Prune m) e o k = chain_pruned m history k
 effect_chained base defs history next (Some w) (Prune m) e o k = absurd (cc)
 effect_chained base defs history next None Start e o k = (leaves_same next defs history k o.below_clock, k)

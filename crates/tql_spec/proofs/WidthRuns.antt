@@ -20,6 +20,8 @@ use Rattle.tql_spec.specs.Machine.{State, Bound, CreateTable, DropTable, SetCloc
 use Rattle.tql_spec.specs.Machine.{AnswerQuery}
 use Rattle.tql_spec.specs.Machine.{Change, outcome, changed_table, class_of, state_faults, effect, newest_copy}
 use Rattle.tql_spec.specs.Machine.{new_state, Prune}
+use Rattle.tql_spec.specs.Machine.{OpenReader, Read, CloseReader}
+use Rattle.tql_spec.specs.Syntax.{OpenTree, ReadTree, CloseTree}
 use Rattle.tql_spec.specs.Binding.{bind}
 use Rattle.tql_spec.specs.Reached.{Fits, CopiesFit, RowsFit, ReachedFit}
 use Rattle.tql_spec.proofs.Members.{by_bool}
@@ -138,6 +140,9 @@ created defs CommitTree e d q = absurd (cc)
 created defs RollbackTree e d q = absurd (cc)
 created defs (AtTree m) e d q = absurd (cc)
 created defs (PruneTree m) e d q = absurd (cc)
+created defs (OpenTree n) e d q = absurd (cc)
+created defs (ReadTree n s keys) e d q = absurd (cc)
+created defs (CloseTree n) e d q = absurd (cc)
 
 -- ---- definitions
 
@@ -250,6 +255,10 @@ effect_rows base defs history next (Some w) (DropTable t) e g f h = absurd (cc)
 effect_rows base defs history next begun (SetClock m) e g f h = h
 effect_rows base defs history next begun (Prune m) e g f h =
     (h.0, λ x i. h.1 x (in_entries m x (listed begun) history i))
+effect_rows base defs history next begun (OpenReader n) e g f h = h
+effect_rows base defs history next begun (CloseReader n) e g f h = h
+effect_rows base defs history next begun (Read n q) e g f h =
+    asked_stays FitBoth (state base defs history next begun) q _ h
 effect_rows base defs history next None Start e g f h =
     (h.0, first_rows defs _ history (newest_rows_fit defs history h.1) h.1)
 effect_rows base defs history next (Some w) Start e g f h = absurd (cc)

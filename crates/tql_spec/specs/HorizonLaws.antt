@@ -6,6 +6,7 @@ use Rattle.tql_spec.specs.Refusal.{BeforeTheHorizon}
 use Rattle.tql_spec.specs.Definition.{TableDef}
 use Rattle.tql_spec.specs.History.{Entry, When, Falling, table_history, found}
 use Rattle.tql_spec.specs.Horizon.{pruned, is_before}
+use Rattle.tql_spec.specs.Readers.{Reader}
 use Rattle.tql_spec.specs.Machine.{State, Reply, Done, Refused, Pruned}
 use Rattle.tql_spec.specs.Reached.{IsInOrder, IsReached}
 use Rattle.tql_spec.specs.Script.{Piece}
@@ -54,13 +55,28 @@ IsLeft h zero (e ∷ es) = ⊥
 IsLeft h (suc n) [] = ⊥
 IsLeft h (suc n) (e ∷ es) = (e.moment ≤ℤ h) ⊎ IsLeft h n es
 
--- a state is another one but for a later horizon and copies that this has let go
+-- a reader is another one but for copies that the horizon has let go
+pub record IsPrunedReader (h : ℤ) (full cut : Reader) : Type 0 where
+  pub left : ℕ
+  pub same : cut ≡ record full { pinned = take left full.pinned }
+  pub enough : IsLeft h left full.pinned
+
+-- so it is with each of the readers
+abbrev pub ArePrunedReaders : ℤ → List Reader → List Reader → Type 0
+ArePrunedReaders h [] [] = Unit {0}
+ArePrunedReaders h [] (c ∷ cs) = ⊥
+ArePrunedReaders h (r ∷ rs) [] = ⊥
+ArePrunedReaders h (r ∷ rs) (c ∷ cs) = IsPrunedReader h r c × ArePrunedReaders h rs cs
+
+-- a state is another one but for a later horizon and copies that this has let go, those of readers too
 pub record IsPruned (full cut : State) : Type 0 where
   pub horizon : ℤ
   pub left : ℕ
-  pub same : cut ≡ record full { history = take left full.history; horizon = horizon }
+  pub readers : List Reader
+  pub same : cut ≡ record full { history = take left full.history; horizon = horizon; readers = readers }
   pub later : full.horizon ≤ℤ horizon
   pub enough : IsLeft horizon left full.history
+  pub pins : ArePrunedReaders horizon full.readers readers
 
 -- a reply that comes of pruning alone: PRUNE HISTORY, and the refusal of what lies before the horizon
 abbrev pub is_of_pruning : Reply → Bool

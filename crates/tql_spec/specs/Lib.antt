@@ -13,6 +13,7 @@ pub mod Spans
 pub mod Query
 pub mod QueryLaws
 pub mod Horizon
+pub mod Readers
 pub mod Change
 pub mod ChangeLaws
 pub mod Constraint
@@ -34,6 +35,7 @@ pub mod Binding
 pub mod Run
 pub mod Reached
 pub mod HorizonLaws
+pub mod ReaderLaws
 pub mod Meaning
 pub mod Typing
 pub mod TypingLaws

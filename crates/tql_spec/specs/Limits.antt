@@ -17,6 +17,10 @@ most_open = 64
 abbrev pub most_tables : ℕ
 most_tables = 1000
 
+-- of the readers that are open at once
+abbrev pub most_readers : ℕ
+most_readers = 256
+
 -- of the bytes of a statement's text
 abbrev pub longest_text : ℕ
 longest_text = 1_048_576

@@ -1,17 +1,20 @@
 -- The machine that copies the whole database at every commit: one statement, its names bound, run whole.
-use Rattle.std.specs.Prelude.{ℕ, Bool, false, not, ◌&&◌, List, [], ◌∷◌, ◌++◌, map, slice_set, remove, ℤ, pos, ◌+ℤ◌}
-use Rattle.std.specs.Prelude.{int_le, Option, Some, None, is_some, is_none, int_lt}
-use Rattle.tql_spec.specs.Words.{listed, map_all}
+use Rattle.std.specs.Prelude.{ℕ, Bool, false, not, ◌&&◌, ◌||◌, nat_le, List, [], ◌∷◌, ◌++◌, map, filter, length}
+use Rattle.std.specs.Prelude.{slice_set, remove, ℤ, pos, ◌+ℤ◌, int_le, Option, Some, None, is_some, is_none, int_lt}
+use Rattle.tql_spec.specs.Words.{listed, map_all, same_text}
+use Rattle.tql_spec.specs.Limits.{most_readers}
 use Rattle.tql_spec.specs.Calendar.{high, first_moment}
 use Rattle.tql_spec.specs.Datum.{Row}
 use Rattle.tql_spec.specs.Period.{Period}
 use Rattle.tql_spec.specs.Refusal.{Refusal, ValueOutOfRange, DuplicateKey, ReferenceNotMet, NotInThisTransactionState}
-use Rattle.tql_spec.specs.Refusal.{MomentNotAllowed, fault_if, first, BeforeTheHorizon}
+use Rattle.tql_spec.specs.Refusal.{MomentNotAllowed, fault_if, first, BeforeTheHorizon, ReadersAreOpen}
+use Rattle.tql_spec.specs.Refusal.{TooManyTablesOrReaders, ReaderNotUsable}
 use Rattle.tql_spec.specs.Expression.{Expr, Cond, eval}
 use Rattle.tql_spec.specs.Definition.{Name, TableDef, table_at}
 use Rattle.tql_spec.specs.History.{Copy, Entry, rows_in, versions}
 use Rattle.tql_spec.specs.Query.{Query, Ref, answer, in_order}
 use Rattle.tql_spec.specs.Horizon.{pruned, asks_before}
+use Rattle.tql_spec.specs.Readers.{Reader, Limits, names_of, is_named, pinned_of, is_any_open, passes_some, reads_plain}
 use Rattle.tql_spec.specs.Change.{Outcome, Work, insert, modify}
 use Rattle.tql_spec.specs.Constraint.{keys_hold, references_hold}
 
@@ -34,6 +37,9 @@ pub data Bound : Type 0 where
   ChangeRows : Change → Bound
   AnswerQuery : Query → Bound
   Prune : ℤ → Bound
+  OpenReader : Name → Bound
+  Read : Name → Query → Bound
+  CloseReader : Name → Bound
 
 -- the words that replies begin with
 pub data Verb : Type 0 where
@@ -47,6 +53,8 @@ pub data Verb : Type 0 where
   RolledBack : Verb
   ClockSet : Verb
   Pruned : Verb
+  OpenedReader : Verb
+  ClosedReader : Verb
 
 -- what a statement is answered: done with a count or none, a table, or a refusal
 pub data Reply : Type 0 where
@@ -57,17 +65,25 @@ pub data Reply : Type 0 where
 -- ---- the state
 
 -- the definitions, the copies of the commits, newest first, the moment of the next transaction, an open transaction
--- with its working copy, and the horizon, before which no query may ask
+-- with its working copy, the horizon, before which no query may ask, and the open readers
 pub record State : Type 0 where
   pub definitions : List TableDef
   pub history : List Entry
   pub next : ℤ
   pub transaction : Option Entry
   pub horizon : ℤ
+  pub readers : List Reader
 
--- no table, no commit, and clock and horizon at the first moment
+-- no table, no commit, no reader, and clock and horizon at the first moment
 abbrev pub new_state : State
-new_state = record { definitions = []; history = []; next = first_moment; transaction = None; horizon = first_moment }
+new_state = record {
+  definitions = [];
+  history = [];
+  next = first_moment;
+  transaction = None;
+  horizon = first_moment;
+  readers = [];
+}
 
 -- what queries see: an open transaction counts as the last commit
 abbrev pub entries : State → List Entry
@@ -87,14 +103,18 @@ abbrev pub working : State → Option Entry → Entry
 working s None = record { moment = s.next; copy = last_copy s }
 working s (Some e) = e
 
--- the bag of a table reference
+-- the bag of a table reference in some copies
+abbrev pub bag_in : List TableDef → List Entry → Ref → List Row
+bag_in defs es r = versions (table_at defs r.table) r.table r.when es
+
+-- and in those that queries see
 abbrev pub bag_of : State → Ref → List Row
-bag_of s r = versions (table_at s.definitions r.table) r.table r.when (entries s)
+bag_of s = bag_in s.definitions (entries s)
 
 -- ---- what a state refuses
 
 -- the classes of statements, by what they do to the transaction, the clock and the history; AT and PRUNE have their
--- moment, where its literal is valid
+-- moment, where its literal is valid; readers are opened, read and closed as queries are asked
 pub data StatementClass : Type 0 where
   Defines : StatementClass
   SetsClock : Option ℤ → StatementClass
@@ -115,6 +135,9 @@ class_of Rollback = Ends
 class_of (ChangeRows c) = Changes
 class_of (AnswerQuery q) = Queries
 class_of (Prune m) = Prunes (Some m)
+class_of (OpenReader n) = Queries
+class_of (Read n q) = Queries
+class_of (CloseReader n) = Queries
 
 -- a moment that is not later than the last commit's
 abbrev pub is_not_later : ℤ → List Entry → Bool
@@ -125,9 +148,10 @@ is_not_later m (e ∷ older) = int_le m e.moment
 abbrev pub is_clock_at_end : State → Bool
 is_clock_at_end s = int_le high s.next
 
--- the faults by the transaction and the clock
+-- the faults by the transaction, the clock and open readers
 abbrev pub state_faults : State → StatementClass → List Refusal
-state_faults s Defines = fault_if (is_some s.transaction) NotInThisTransactionState
+state_faults s Defines =
+    fault_if (is_some s.transaction) NotInThisTransactionState ++ fault_if (is_any_open s.readers) ReadersAreOpen
 state_faults s (SetsClock None) = fault_if (is_some s.transaction) NotInThisTransactionState
 state_faults s (SetsClock (Some m)) =
     fault_if (is_some s.transaction) NotInThisTransactionState ++ fault_if (is_not_later m s.history) MomentNotAllowed
@@ -136,7 +160,9 @@ state_faults s Starts =
 state_faults s Ends = fault_if (is_none s.transaction) NotInThisTransactionState
 state_faults s Changes = fault_if (is_none s.transaction && is_clock_at_end s) MomentNotAllowed
 state_faults s Queries = []
-state_faults s (Prunes m) = fault_if (is_some s.transaction) NotInThisTransactionState
+state_faults s (Prunes None) = fault_if (is_some s.transaction) NotInThisTransactionState
+state_faults s (Prunes (Some m)) =
+    fault_if (is_some s.transaction) NotInThisTransactionState ++ fault_if (passes_some m s.readers) ReadersAreOpen
 
 -- the fault of a query by the horizon
 abbrev pub query_faults : ℤ → Query → List Refusal
@@ -148,20 +174,23 @@ change_faults h (InsertTuples t columns tuples) = []
 change_faults h (InsertQuery t columns q) = query_faults h q
 change_faults h (Modify t portion work conds) = []
 
--- what names are bound under: the horizon
-pub record Limits : Type 0 where
-  pub horizon : ℤ
-
--- the faults of a bound statement by the horizon; the moment that stands for a literal out of range is before none
+-- the faults of a bound statement by the horizon and by the readers that are open; the moment that stands for a literal
+-- out of range is before none
 abbrev pub bound_faults : Limits → List TableDef → Bound → List Refusal
 bound_faults l defs (ChangeRows c) = change_faults l.horizon c
 bound_faults l defs (AnswerQuery q) = query_faults l.horizon q
 bound_faults l defs (Prune m) = fault_if (int_lt m l.horizon) BeforeTheHorizon
+bound_faults l defs (OpenReader n) =
+    fault_if (nat_le most_readers (length l.names)) TooManyTablesOrReaders
+    ++ fault_if (is_named n l.names) ReaderNotUsable
+bound_faults l defs (Read n q) =
+    fault_if (not (is_named n l.names) || reads_plain defs q) ReaderNotUsable ++ query_faults l.horizon q
+bound_faults l defs (CloseReader n) = fault_if (not (is_named n l.names)) ReaderNotUsable
 bound_faults l defs _ = []
 
 -- the limits of a state
 abbrev pub limits_of : State → Limits
-limits_of s = record { horizon = s.horizon }
+limits_of s = record { horizon = s.horizon; names = names_of s.readers }
 
 -- and the faults by these
 abbrev pub limit_faults : State → Bound → List Refusal
@@ -254,6 +283,11 @@ effect s Commit = (Done Committed None, with_commit s s.transaction)
 effect s Rollback = (Done RolledBack None, record s { transaction = None })
 effect s (ChangeRows c) = changed s c
 effect s (AnswerQuery q) = asked s q (answer (bag_of s) q)
+effect s (OpenReader n) =
+    (Done OpenedReader None, record s { readers = s.readers ++ record { name = n; pinned = s.history } ∷ [] })
+effect s (Read n q) = asked s q (answer (bag_in s.definitions (pinned_of n s.readers)) q)
+effect s (CloseReader n) =
+    (Done ClosedReader None, record s { readers = filter (λ (r : Reader). not (same_text n r.name)) s.readers })
 effect s (Prune m) = (Done Pruned None, record s { history = pruned m s.history; horizon = m })
 
 -- one step

@@ -5,6 +5,7 @@ use Rattle.tql_spec.specs.Definition.{TableDef, Stamped, table_at}
 use Rattle.tql_spec.specs.Binding.{generated_columns}
 use Rattle.tql_spec.specs.History.{Entry, FallingFrom, Falling, rows_in}
 use Rattle.tql_spec.specs.Spans.{IsSteady, QuestionsBySpans, AnyCopyMetWill}
+use Rattle.tql_spec.specs.Readers.{Reader}
 use Rattle.tql_spec.specs.Machine.{State, Reply, entries, new_state}
 use Rattle.tql_spec.specs.Script.{Piece}
 use Rattle.tql_spec.specs.Run.{Run}
@@ -18,11 +19,12 @@ pub record IsReached (s : State) : Type 0 where
 -- ---- the order of commits
 
 -- the moments fall from the newest copy to the oldest, below the highest and, of those committed, below the clock; an
--- open transaction has the clock's
+-- open transaction has the clock's; so do those that readers set aside
 pub record IsInOrder (s : State) : Type 0 where
   pub falling : Falling (entries s)
   pub below_clock : FallingFrom s.next s.history
   pub opened : (e : Entry) → s.transaction ≡ Some e → e.moment ≡ s.next
+  pub set_aside : (r : Reader) → In r s.readers → Falling r.pinned
 
 -- each copy has rows for each definition
 abbrev pub CopiesFit : State → Type 0

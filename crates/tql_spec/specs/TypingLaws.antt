@@ -12,6 +12,7 @@ use Rattle.tql_spec.specs.Machine.{State, Change, InsertTuples, InsertQuery, Mod
 use Rattle.tql_spec.specs.Machine.{SetClock, Start, Commit, Rollback, ChangeRows, AnswerQuery, bag_of, class_of}
 use Rattle.tql_spec.specs.Machine.{state_faults}
 use Rattle.tql_spec.specs.Machine.{effect, step, Prune}
+use Rattle.tql_spec.specs.Machine.{OpenReader, Read, CloseReader}
 use Rattle.tql_spec.specs.Syntax.{Sum, Statement}
 use Rattle.tql_spec.specs.Names.{Known, expr, kind_at}
 use Rattle.tql_spec.specs.Binding.{bind, kinds_for}
@@ -70,6 +71,9 @@ IsTypedBound defs Rollback = Unit {0}
 IsTypedBound defs (ChangeRows c) = IsTypedChange defs c
 IsTypedBound defs (AnswerQuery q) = Unit {0}
 IsTypedBound defs (Prune m) = Unit {0}
+IsTypedBound defs (OpenReader n) = Unit {0}
+IsTypedBound defs (Read n q) = Unit {0}
+IsTypedBound defs (CloseReader n) = Unit {0}
 
 -- ---- laws
 

@@ -15,6 +15,8 @@ ghost use Rattle.tql_spec.specs.Token.{HasOneTokenList};
 ghost use Rattle.tql_spec.specs.Spans.{ReadsBySpans, SteadyRangesAgree};
 ghost use Rattle.tql_spec.specs.Reached.{ReachedAreInOrder, ReachedFit, ReachedAreSteady, ReachedReadBySpans};
 ghost use Rattle.tql_spec.specs.HorizonLaws.{PrunedAnswersStay, OnlyMomentsAreBefore, ReachedHorizons, PrunesAreUnseen};
+ghost use Rattle.tql_spec.specs.Grammar.{SpellsOnce};
+ghost use Rattle.tql_spec.specs.ReaderLaws.{ReadersAreStable, ReadsAgree, ReadersReadTheHistory};
 ghost use Rattle.tql_spec.specs.TypingLaws.{ValuesAreOfKind, BoundAreTyped, BagsAreTyped, StepsKeepTypes};
 ghost use Rattle.tql_spec.specs.TypingLaws.{ReachedAreTyped, OwnPeriodsArePoints};
 ghost use Rattle.tql_spec.specs.AtPoints.{CopyTestsAreRight, RunsKeepPoints, ReachedHoldAtPoints};
@@ -98,6 +100,15 @@ pub fn pruned_history()
     ensures literals { OnlyMomentsAreBefore }
     ensures horizons { ReachedHorizons }
     ensures runs { PrunesAreUnseen }
+{}
+
+/// Each READ replies as the machine stopped at the reader's opening would, and so two runs that agree up to the opening
+/// read the same, where a token list spells one statement at most. The copies that a reader set aside answer as those
+/// of the history up to its pin.
+pub fn pinned_readers()
+    ensures stable { ReadersAreStable }
+    ensures agree { SpellsOnce → ReadsAgree }
+    ensures history { ReadersReadTheHistory }
 {}
 
 /// A run keeps keys and references in every copy: by their tests, and at every point.

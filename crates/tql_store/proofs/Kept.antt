@@ -236,7 +236,7 @@ within_kept h m (e ∷ older) l = either (le_tells (oldest e older) h)
     either (inr s) = subst (λ b. Within (if b then Some (oldest e older) else None) m) (sym s.0) tt
 
 -- the copies reach back to each of them
-oldest_in : (horizon : Option ℤ) (rows : List Stamped) (ends : Stamped → ℤ) (until : ℤ) (e : TableEntry)
+pub oldest_in : (horizon : Option ℤ) (rows : List Stamped) (ends : Stamped → ℤ) (until : ℤ) (e : TableEntry)
     (older : List TableEntry) → Told horizon rows ends until (e ∷ older) → (x : TableEntry) → In x (e ∷ older)
     → oldest e older ≤ℤ x.moment
 oldest_in horizon rows ends until e [] told x (inl q) =

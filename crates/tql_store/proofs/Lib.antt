@@ -17,3 +17,8 @@ pub mod Pruned
 pub mod Making
 pub mod Searching
 pub mod Putting
+pub mod Pins
+pub mod Pinning
+pub mod Questions
+pub mod Ends
+pub mod Looking

@@ -19,7 +19,7 @@ use Rattle.tql_store.specs.StoreModel.{StoreModel, is_versioned, live}
 use Rattle.tql_store.specs.Views.{IsFound, Names, NamesOnce}
 
 -- two tests, one after the other
-filter_both : {X : Type 0} (p q : X → Bool) (xs : List X) → filter (λ x. p x && q x) xs ≡ filter q (filter p xs)
+pub filter_both : {X : Type 0} (p q : X → Bool) (xs : List X) → filter (λ x. p x && q x) xs ≡ filter q (filter p xs)
 filter_both p q [] = refl
 filter_both p q (x ∷ xs) = by_bool (p x)
     (λ e. rw e (ap (λ ys. cond (q x) (x ∷ ys) ys) (filter_both p q xs)))
@@ -77,3 +77,20 @@ pub looked_at_all : {X E : Type 0} (h : StoreModel) (t : ℕ) (when : When) (ite
 looked_at_all h t when items (Ok x) versions ids once answers =
     looked_at_each h t when (items x) versions ids once answers
 looked_at_all h t when items (Err e) versions ids once answers = tt
+
+-- and where none are sought, those that are looked at are all that are asked for
+pub all-versions : (h : StoreModel) (t : ℕ) (when : When) (found : List code.Version)
+    → IsFound h t when (is_looked_at None) found
+    → SameBag (map version_shown found) (filter (asked when) (live h t))
+all-versions h t when found is =
+    subst (SameBag (map version_shown found)) (filter_and_true (asked when) (live h t)) is.versions
+
+pub all-once : (h : StoreModel) (t : ℕ) (when : When) (found : List code.Version)
+    → IsFound h t when (is_looked_at None) found → NamesOnce h t (asked when) found
+all-once h t when found is = λ id v e. subst (λ (b : Bool). count_by (λ (s : code.Version). nat_eq s.id id) found
+    ≡ (if alive v && b then 1 else 0)) (and_true (asked when v)) (is.once id v e)
+
+pub all-copies : (h : StoreModel) (t : ℕ) (when : When) (found : List code.Version)
+    → IsFound h t when (is_looked_at None) found → Answers h t (when_of when) (map version_shown found)
+all-copies h t when found is = λ ask copies working r.
+    subst (SameBag (map version_shown found)) (filter_true _) (is.copies ask copies working r)

@@ -98,11 +98,11 @@ add-keeps versioned t old new a = λ copies working r. record {
 
 -- ---- a dropped table
 
-newest-emptied : (entries : List TableEntry) → newest (emptied entries) ≡ newest entries
+pub newest-emptied : (entries : List TableEntry) → newest (emptied entries) ≡ newest entries
 newest-emptied [] = refl
 newest-emptied (e ∷ older) = refl
 
-told-emptied : (horizon : Option ℤ) (rows : List Stamped) (ends : Stamped
+pub told-emptied : (horizon : Option ℤ) (rows : List Stamped) (ends : Stamped
     → ℤ) (until : ℤ) (entries : List TableEntry) → Told horizon rows ends until entries
     → Told None [] still until (emptied entries)
 told-emptied horizon rows ends until [] told = inr (λ r m. absurd m)
@@ -115,11 +115,11 @@ told-emptied horizon rows ends until (e ∷ older) told = (
 )
 
 -- no version stands for copies without rows
-emptied-stands : (horizon : Option ℤ) (k : ℤ) (versions : List Version) (entries : List TableEntry)
-    → StandsFor horizon versions entries → StandsFor (kept_of k (emptied entries)) [] (emptied entries)
-emptied-stands horizon k versions entries s =
+pub none-stands : (k : ℤ) (entries : List TableEntry) → Told None [] still high (emptied entries)
+    → StandsFor (kept_of k (emptied entries)) [] (emptied entries)
+none-stands k entries told =
     stands-later None (kept_of k (emptied entries)) [] (emptied entries) (λ u past. absurd past)
-    (kept_under None k high [] (emptied entries) all (newest-under None [] still high (emptied entries) all.told)) all
+    (kept_under None k high [] (emptied entries) all (newest-under None [] still high (emptied entries) told)) all
   where
     all : StandsFor None [] (emptied entries)
     all = record {
@@ -128,8 +128,13 @@ emptied-stands horizon k versions entries s =
       top = tt;
       made = record { totals = λ w. refl };
       proper = λ r m. absurd m;
-      told = told-emptied horizon s.rows s.ends high entries s.told;
+      told = told;
     }
+
+emptied-stands : (horizon : Option ℤ) (k : ℤ) (versions : List Version) (entries : List TableEntry)
+    → StandsFor horizon versions entries → StandsFor (kept_of k (emptied entries)) [] (emptied entries)
+emptied-stands horizon k versions entries s =
+    none-stands k entries (told-emptied horizon s.rows s.ends high entries s.told)
 
 pub drop-empties : (t : ℕ) (old new : StoreModel) → old.working ≡ None → Takes t Free old.tables new.tables
     → new.working ≡ old.working → new.last ≡ old.last → new.horizon ≡ old.horizon

@@ -129,7 +129,7 @@ undone-none m (v ∷ vs) h = chosen (alive v) (undone-none m vs (λ w i. h w (in
     chosen true e = let s = h v (inl refl) in rw s.0 (rw s.1 (ap (λ us. v ∷ us) e))
     chosen false e = e
 
-in-append : (v : Version) (xs ys : List Version) → In v (xs ++ ys) → In v xs ⊎ In v ys
+pub in-append : (v : Version) (xs ys : List Version) → In v (xs ++ ys) → In v xs ⊎ In v ys
 in-append v [] ys i = inr i
 in-append v (x ∷ xs) ys (inl e) = inl (inl e)
 in-append v (x ∷ xs) ys (inr i) = elim (in-append v xs ys i) [ inl a ↦ inl (inr a) | inr b ↦ inr b ]

@@ -6,3 +6,4 @@ pub mod StoreModel
 pub mod Views
 pub mod Orderly
 pub mod Represents
+pub mod Pinned

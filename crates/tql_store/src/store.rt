@@ -18,6 +18,7 @@ ghost use Rattle.tql_store.specs.StoreModel.{StoreModel, live, named, AreRemovab
 ghost use Rattle.tql_store.specs.StoreModel.{has_table as table_there};
 ghost use Rattle.tql_store.specs.StoreModel.{is_versioned as table_versioned, table_count as tables_there};
 ghost use Rattle.tql_store.specs.Orderly.{table_at, IsNoted, HasTurned};
+ghost use Rattle.tql_store.specs.Pinned.{pinned};
 ghost use Rattle.tql_store.specs.TableSlots.{slot_at, is_brief};
 ghost use Rattle.tql_store_rows.specs.Readings.{version_shown as version_of};
 ghost use Rattle.tql_store.specs.Views.{Names, NamesOnce, IsFound, current_named};
@@ -31,6 +32,7 @@ ghost use Rattle.tql_value.specs.declared.when.When.TheVariants.{Now};
 ghost use Rattle.tql_value.specs.When.{is_now, when_of};
 ghost use Rattle.tql_value.specs.declared.refusal.Refusal.TheVariants.{OutOfMemory};
 
+use crate::asking::{question_at, versions_at};
 use crate::pruning::{prune_each, prunings_of};
 use crate::tables::{TableSlot, clear_place, free_table, place_at, put_table, taken_count};
 use crate::turns::{commit_each, note, put_rows, set_rows, undo_each};
@@ -223,6 +225,13 @@ impl<I: IntervalIndex> Store<I> {
             Some(last) => last < moment,
             None => true,
         }
+    }
+
+    /// The moment of the last commit, in microseconds since 1970-01-01; none before any. Takes no memory.
+    pub fn pin(&self) -> Option<i64>
+        ensures { result ≡ self.now.last }
+    {
+        self.last
     }
 
     /// The moment before which no question is to ask, in microseconds since 1970-01-01: at first that of
@@ -425,6 +434,27 @@ impl<I: IntervalIndex> Store<I> {
             None => self.found(table, when),
             Some(sought) => self.search(table, when, sought),
         }
+    }
+
+    /// What `look` answers of the store as it stood when the commit of the pin, in microseconds since 1970-01-01, was
+    /// the last one; no pin: before any.
+    pub(crate) fn look_at(
+        &self,
+        pin: Option<i64>,
+        table: TableId,
+        when: When,
+        sought: Option<Sought<'_>>,
+    ) -> Result<Vec<Version<'_>, Memory>, AllocError>
+        requires { IsTrue (table_there (pinned pin self.now) table) }
+        ensures { IfOk result (λ found. IsFound (pinned pin self.now) table when
+            (is_looked_at (option_map sought_of sought.entry)) found.items) }
+    {
+        let memory = self.memory;
+        let Some(pin) = pin else {
+            return Ok(Vec::new(memory));
+        };
+        let found = self.look(table, question_at(pin, when), sought)?;
+        versions_at(memory, pin, &found)
     }
 
     /// The current rows of a table with these values in these columns; NULL is no value's equal. Each is a version that

@@ -9,7 +9,7 @@ use tql_syntax_expr::cursor::{Cursor, ParseError};
 use tql_syntax_statement::changes::{delete, insert, update};
 use tql_syntax_statement::clauses::moment;
 use tql_syntax_statement::creates::{create, drop_table};
-use tql_syntax_statement::queries::query;
+use tql_syntax_statement::queries::{query, read_query};
 use tql_syntax_tree::statement::Statement;
 use tql_syntax_tree::tree::Tree;
 
@@ -49,7 +49,44 @@ fn control<'a>(tokens: &mut Cursor<'_, 'a>) -> Result<Statement<'a>, ParseError>
     Ok(Statement::At(text))
 }
 
-/// A statement that changes rows, or one of transactions, of the clock or of the horizon.
+/// What stands behind OPEN.
+#[tactic(auto, unfolding(tql_syntax_grammar::specs::ReadingStatements::open_at))]
+fn open_reader<'a>(tokens: &mut Cursor<'_, 'a>) -> Result<Statement<'a>, ParseError>
+    ensures { Reads statement_of (reading.open_at tokens.old) result tokens.new }
+{
+    tokens.expect_word("READER")?;
+    let reader = tokens.name()?;
+    Ok(Statement::OpenReader(reader))
+}
+
+/// What stands behind CLOSE.
+#[tactic(auto, unfolding(tql_syntax_grammar::specs::ReadingStatements::close_at))]
+fn close_reader<'a>(tokens: &mut Cursor<'_, 'a>) -> Result<Statement<'a>, ParseError>
+    ensures { Reads statement_of (reading.close_at tokens.old) result tokens.new }
+{
+    tokens.expect_word("READER")?;
+    let reader = tokens.name()?;
+    Ok(Statement::CloseReader(reader))
+}
+
+/// A statement of readers, or one of transactions, of the clock or of the horizon.
+#[tactic(auto, unfolding(tql_syntax_grammar::specs::ReadingStatements::reader_at))]
+fn reader<'a>(memory: Memory, tokens: &mut Cursor<'_, 'a>) -> Result<Statement<'a>, ParseError>
+    ensures { Reads statement_of (reading.reader_at tokens.old) result tokens.new }
+{
+    if tokens.eat_word("OPEN") {
+        return open_reader(tokens);
+    }
+    if tokens.eat_word("READ") {
+        return read_query(memory, tokens);
+    }
+    if tokens.eat_word("CLOSE") {
+        return close_reader(tokens);
+    }
+    control(tokens)
+}
+
+/// A statement that changes rows, or one of readers, of transactions, of the clock or of the horizon.
 #[tactic(auto, unfolding(tql_syntax_grammar::specs::ReadingStatements::change_at))]
 fn change<'a>(memory: Memory, tokens: &mut Cursor<'_, 'a>) -> Result<Statement<'a>, ParseError>
     ensures { Reads statement_of (reading.change_at tokens.old) result tokens.new }
@@ -63,7 +100,7 @@ fn change<'a>(memory: Memory, tokens: &mut Cursor<'_, 'a>) -> Result<Statement<'
     if tokens.eat_word("DELETE") {
         return delete(memory, tokens);
     }
-    control(tokens)
+    reader(memory, tokens)
 }
 
 /// A statement.

@@ -236,14 +236,14 @@ pub(crate) fn is_plain(token: &Token<'_>) -> bool {
     matches!(token.kind, TokenKind::Word) && !token.is_reserved()
 }
 
-/// Whether these are the tokens of a query without FROM.
+/// Whether these are the tokens of a query without FROM, a reader's or not.
 fn lacks_from(before: &[Token<'_>]) -> bool {
-    match before {
-        [first, others @ ..] => {
-            first.is_word("SELECT") && !others.iter().any(|token| token.is_word("FROM"))
-        }
+    let is_query = match before {
+        [read, _, select, ..] if read.is_word("READ") => select.is_word("SELECT"),
+        [first, ..] => first.is_word("SELECT"),
         [] => false,
-    }
+    };
+    is_query && !before.iter().any(|token| token.is_word("FROM"))
 }
 
 /// Whether a call of a function that is not there begins with these tokens, behind these.

@@ -60,13 +60,21 @@ fn is_reserved_name(tokens: &[Token<'_>]) -> bool {
     }
 }
 
+/// Whether an operand may stand at the end of these tokens or behind them. Statements of transactions, of the clock, of
+/// the horizon and of readers begin with words that are not reserved, and have no operand before a reserved one.
+fn may_have_operands(tokens: &[Token<'_>]) -> bool {
+    tokens.iter().any(|token| token.is_reserved())
+}
+
 /// The place of the token that is told of, where so many were read.
 fn told_place(tokens: &[Token<'_>], read: usize) -> usize {
     let Some(before) = read.checked_sub(2) else {
         return read;
     };
     let is_meant = is_reserved_name(tokens.get(..read).unwrap_or(&[]));
-    if is_meant || is_late(tokens.get(before..).unwrap_or(&[])) {
+    let is_behind = may_have_operands(tokens.get(..read - 1).unwrap_or(&[]))
+        && is_late(tokens.get(before..).unwrap_or(&[]));
+    if is_meant || is_behind {
         read - 1
     } else {
         read

@@ -4,7 +4,7 @@ use Rattle.std.proofs.Common.{sym, ◌∙◌, ap, subst, inl, inr}
 use Rattle.tql_spec.specs.Definition.{Name}
 use Rattle.tql_spec.specs.Token.{Token, Word, QuotedName, Number, Sign, Comma, Dot, Star}
 use Rattle.tql_spec.specs.Syntax.{Named, Condition, ChainTree, Item, Items, AllColumns, TheseItems, SelectTree}
-use Rattle.tql_spec.specs.Syntax.{KeyName, ByHeading, ByPosition, OrderTree, Statement, QueryTree}
+use Rattle.tql_spec.specs.Syntax.{KeyName, ByHeading, ByPosition, OrderTree, Statement, QueryTree, ReadTree}
 use Rattle.tql_spec.specs.Grammar.{Phrase, key, ◌⨟◌, optional, commas, named, condition, alias, chain, item, items}
 use Rattle.tql_spec.specs.Grammar.{distinct, where_clause, group_by, select, key_name, direction, order_key, order_by}
 use Rattle.tql_spec.specs.Grammar.{statement}
@@ -12,7 +12,7 @@ use Rattle.tql_syntax_grammar.specs.Outcome.{Read, name_at}
 use Rattle.tql_syntax_grammar.specs.ReadingExpressions.{named_at, condition_here}
 use Rattle.tql_syntax_grammar.specs.ReadingStatements.{chain_at, item_at, items_behind, items_at, distinct_at, where_at}
 use Rattle.tql_syntax_grammar.specs.ReadingStatements.{having_at, group_by_at, select_end, select_at, key_name_at}
-use Rattle.tql_syntax_grammar.specs.ReadingStatements.{direction_at, order_key_at, order_by_at, query_at}
+use Rattle.tql_syntax_grammar.specs.ReadingStatements.{direction_at, order_key_at, order_by_at, query_at, read_at}
 use Rattle.tql_syntax_grammar.proofs.Ends.{EndsExpr, EndsCondition}
 use Rattle.tql_syntax_grammar.proofs.ExpressionLaws.{expr_sound, expr_complete, named_sound, named_complete}
 use Rattle.tql_syntax_grammar.proofs.ExpressionLaws.{named_shortens}
@@ -410,6 +410,21 @@ query_sound ts us s rest word e =
     subst (λ (x : Statement). statement x ts rest) keys.2
     (q.1, select_sound ts us q.0 q.1 word q.2, order_by_sound _ _ _ keys.1)
 
+-- READ is in front
+pub read_sound : (ts us : List Token) (s : Statement) (rest : List Token) → ts ≡ Word (codes "READ") ∷ us
+    → read_at us ≡ Read s rest → statement s ts rest
+unfolding read_at
+read_sound ts us s rest word e =
+    let n = and_then e in
+    let front = expected _ n.3 in
+    let q = and_then front.2 in
+    let keys = into_is (ReadTree n.0 q.0) _ s rest q.3 in
+    subst (λ (x : Statement). statement x ts rest) keys.2 (
+      q.1,
+      (n.1, (us, word, name_is _ _ _ n.2), select_sound _ front.0 q.0 q.1 front.1 q.2),
+      order_by_sound _ _ _ keys.1,
+    )
+
 -- a select ends before ORDER
 select_ends_order : (ts us : List Token) → ts ≡ Word (codes "ORDER") ∷ us → EndsSelect ts
 select_ends_order ts us e =
@@ -432,13 +447,30 @@ order_front : (ts : List Token) (ks : List OrderTree) → order_by ks ts [] → 
 order_front ts [] s = subst EndsSelect (sym s) select_ends
 order_front ts (k ∷ ks) s = select_ends_order ts s.1.0 s.1.1
 
+-- [ORDER BY ..] ends where no token is left
+order_ends : EndsOrder []
+order_ends = record {
+  key = record { item = record { down = refl; up = refl }; comma = refl };
+  word = refl;
+}
+
 -- what is read stands behind SELECT
 pub query_complete : (q : SelectTree) (keys : List OrderTree) (ts : List Token)
     (p : statement (QueryTree q keys) ts []) → query_at p.1.1.1.1.1.1.1.0 ≡ Read (QueryTree q keys) []
 unfolding query_at
 query_complete q keys ts p =
-    let ends : EndsOrder [] = record {
-      key = record { item = record { down = refl; up = refl }; comma = refl };
-      word = refl;
-    } in
-    rw (select_complete q ts p.0 p.1 (order_front p.0 keys p.2), order_by_complete p.0 keys [] p.2 ends) refl
+    rw (select_complete q ts p.0 p.1 (order_front p.0 keys p.2), order_by_complete p.0 keys [] p.2 order_ends) refl
+
+-- what is read stands behind READ
+pub read_complete : (n : Name) (q : SelectTree) (keys : List OrderTree) (ts : List Token)
+    (p : statement (ReadTree n q keys) ts []) → read_at p.1.1.0 ≡ Read (ReadTree n q keys) []
+unfolding read_at
+read_complete n q keys ts p =
+    let named = p.1.1 in
+    let word = p.1.2.1.1.1.1.1.1.1 in
+    rw (
+      name_of named.0 n p.1.0 named.2,
+      expected_of word,
+      select_complete q p.1.0 p.0 p.1.2 (order_front p.0 keys p.2),
+      order_by_complete p.0 keys [] p.2 order_ends,
+    ) refl

@@ -3,18 +3,19 @@ use Rattle.std.specs.Prelude.{◌≡◌, refl, List, [], ◌∷◌, codes, Some}
 use Rattle.std.proofs.Common.{ap, subst, inl, inr}
 use Rattle.tql_spec.specs.Token.{Token, Word}
 use Rattle.tql_spec.specs.Syntax.{Statement, CreateTree, DropTree, InsertValues, InsertSelect, UpdateTree, DeleteTree}
-use Rattle.tql_spec.specs.Syntax.{QueryTree, StartTree, CommitTree, RollbackTree, AtTree, PruneTree}
+use Rattle.tql_spec.specs.Syntax.{QueryTree, StartTree, CommitTree, RollbackTree, AtTree, PruneTree, OpenTree, ReadTree}
+use Rattle.tql_spec.specs.Syntax.{CloseTree}
 use Rattle.tql_spec.specs.Grammar.{statement, IsStatement, SpellsOnce}
 use Rattle.tql_syntax_grammar.specs.Outcome.{Read, whole}
 use Rattle.tql_syntax_grammar.specs.ReadingStatements.{prune_at, control_at, change_at, statement_at}
-use Rattle.tql_syntax_grammar.specs.ReadingStatements.{read_statement}
+use Rattle.tql_syntax_grammar.specs.ReadingStatements.{read_statement, open_at, close_at, reader_at}
 use Rattle.tql_syntax_grammar.proofs.WordLaws.{noise_spelled, noise_eaten, moment_sound, moment_complete}
 use Rattle.tql_syntax_grammar.proofs.CreateLaws.{create_sound, create_complete, drop_sound, drop_complete}
-use Rattle.tql_syntax_grammar.proofs.QueryLaws.{query_sound, query_complete}
+use Rattle.tql_syntax_grammar.proofs.QueryLaws.{query_sound, query_complete, read_sound, read_complete}
 use Rattle.tql_syntax_grammar.proofs.ChangeLaws.{insert_sound, values_complete, insert_select_complete, update_sound}
 use Rattle.tql_syntax_grammar.proofs.ChangeLaws.{update_complete, delete_sound, delete_complete}
 use Rattle.tql_syntax_grammar.proofs.Steps.{Sound, into_is, spelled, expected, expected_is, expected_of, front_is}
-use Rattle.tql_syntax_grammar.proofs.Steps.{whole_is}
+use Rattle.tql_syntax_grammar.proofs.Steps.{whole_is, name_is, name_of}
 
 prune_sound : (ts us : List Token) (s : Statement) (rest : List Token) → ts ≡ Word (codes "PRUNE") ∷ us
     → prune_at us ≡ Read s rest → statement s ts rest
@@ -52,6 +53,38 @@ control_sound ts s rest e =
           ]
     ]
 
+open_sound : (ts us : List Token) (s : Statement) (rest : List Token) → ts ≡ Word (codes "OPEN") ∷ us
+    → open_at us ≡ Read s rest → statement s ts rest
+unfolding open_at
+open_sound ts us s rest word e =
+    let reader = expected _ e in
+    let n = into_is OpenTree _ s rest reader.2 in
+    subst (λ (x : Statement). statement x ts rest) n.2 (reader.0, (us, word, reader.1), name_is _ _ _ n.1)
+
+close_sound : (ts us : List Token) (s : Statement) (rest : List Token) → ts ≡ Word (codes "CLOSE") ∷ us
+    → close_at us ≡ Read s rest → statement s ts rest
+unfolding close_at
+close_sound ts us s rest word e =
+    let reader = expected _ e in
+    let n = into_is CloseTree _ s rest reader.2 in
+    subst (λ (x : Statement). statement x ts rest) n.2 (reader.0, (us, word, reader.1), name_is _ _ _ n.1)
+
+reader_sound : Sound statement reader_at
+unfolding reader_at
+reader_sound ts s rest e =
+    elim (front_is (Word (codes "OPEN")) ts e) [
+      | inl a ↦ open_sound ts _ s rest a.0 a.1
+      | inr a ↦
+          elim (front_is (Word (codes "READ")) ts (rw a.0 at a.1)) [
+            | inl b ↦ read_sound ts _ s rest b.0 b.1
+            | inr b ↦
+                elim (front_is (Word (codes "CLOSE")) ts (rw b.0 at b.1)) [
+                  | inl c ↦ close_sound ts _ s rest c.0 c.1
+                  | inr c ↦ control_sound ts s rest (rw c.0 at c.1)
+                ]
+          ]
+    ]
+
 change_sound : Sound statement change_at
 unfolding change_at
 change_sound ts s rest e =
@@ -63,7 +96,7 @@ change_sound ts s rest e =
             | inr b ↦
                 elim (front_is (Word (codes "DELETE")) ts (rw b.0 at b.1)) [
                   | inl c ↦ delete_sound ts _ s rest c.0 c.1
-                  | inr c ↦ control_sound ts s rest (rw c.0 at c.1)
+                  | inr c ↦ reader_sound ts s rest (rw c.0 at c.1)
                 ]
           ]
     ]
@@ -85,7 +118,7 @@ statement_sound ts s rest e =
     ]
 
 statement_complete : (s : Statement) (ts : List Token) → statement s ts [] → statement_at ts ≡ Read s []
-unfolding statement_at change_at control_at prune_at
+unfolding statement_at change_at reader_at control_at prune_at open_at close_at
 statement_complete (CreateTree n e es v) ts p = rw (p.1.1.1.1, create_complete n e es v ts [] p refl) refl
 statement_complete (DropTree n) ts p = rw (p.1.1.1, drop_complete n ts [] p refl) refl
 statement_complete (InsertValues n cs t others) ts p = rw (p.1.1.1.1.1, values_complete n cs t others ts p) refl
@@ -100,6 +133,9 @@ statement_complete (AtTree m) ts p = rw (p.1, expected_of refl, moment_complete 
 statement_complete (PruneTree m) ts p =
     let words = p.1.1 in
     rw (words.1, expected_of words.2, expected_of p.1.2, moment_complete p.0 m [] p.2) refl
+statement_complete (OpenTree n) ts p = rw (p.1.1, expected_of p.1.2, name_of p.0 n [] p.2) refl
+statement_complete (ReadTree n q keys) ts p = rw (p.1.1.1, read_complete n q keys ts p) refl
+statement_complete (CloseTree n) ts p = rw (p.1.1, expected_of p.1.2, name_of p.0 n [] p.2) refl
 
 -- what is read is the statement that the tokens spell
 pub reads_statement : (ts : List Token) (s : Statement) → read_statement ts ≡ Some s → IsStatement s ts

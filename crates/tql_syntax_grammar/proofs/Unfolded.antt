@@ -31,7 +31,8 @@ use Rattle.tql_syntax_grammar.specs.ReadingStatements.{select_end, select_at, ke
 use Rattle.tql_syntax_grammar.specs.ReadingStatements.{order_by_at, query_at, cell_at, tuple_at, portion_behind}
 use Rattle.tql_syntax_grammar.specs.ReadingStatements.{portion_at}
 use Rattle.tql_syntax_grammar.specs.ReadingStatements.{assignment_at, update_at, delete_at, column_list_at, values_at}
-use Rattle.tql_syntax_grammar.specs.ReadingStatements.{insert_at, prune_at, control_at, change_at, statement_at}
+use Rattle.tql_syntax_grammar.specs.ReadingStatements.{insert_at, prune_at, control_at, open_at, read_at, close_at}
+use Rattle.tql_syntax_grammar.specs.ReadingStatements.{reader_at, change_at, statement_at}
 
 -- what a worked script unfolds
 unfoldable pub reading : ⊤
@@ -47,5 +48,5 @@ unfolding digits is_utf8 chars encode expect name_at number_at quote_at repeated
     ref_at joined_on_at inner_at left_at cross_at next_join chain_at item_at items_behind items_at distinct_at
     where_at having_at group_by_at select_end select_at key_name_at direction_at order_key_at order_by_at query_at
     cell_at tuple_at portion_behind portion_at assignment_at update_at delete_at column_list_at values_at insert_at
-    prune_at control_at change_at statement_at
+    prune_at control_at open_at read_at close_at reader_at change_at statement_at
 reading = tt

@@ -457,6 +457,19 @@ pruned :
 unfolding reading
 pruned = refl
 
+-- a reader sees what was committed when it was opened, until it is closed
+reader_stays :
+    prints (empty_log
+    ++ codes "INSERT INTO log VALUES (7); OPEN READER r; START TRANSACTION; DELETE FROM log; READ r SELECT * FROM "
+    ++ codes "log; COMMIT; READ r SELECT * FROM log; CREATE TABLE z (x INTEGER); "
+    ++ codes "PRUNE HISTORY BEFORE TIMESTAMP '2011-01-02 00:00:00'; CLOSE READER r; READ r SELECT * FROM log;")
+    ≡ codes "CREATE TABLE\nAT\nINSERT 1\nOPEN READER\nSTART TRANSACTION\nDELETE 1\nX|S|E\n"
+    ++ codes "7|2011-01-01 00:00:00|9999-12-31 23:59:59.999999\n(1 rows)\nCOMMIT\nX|S|E\n"
+    ++ codes "7|2011-01-01 00:00:00|9999-12-31 23:59:59.999999\n(1 rows)\nREFUSED E47 readers are open\n"
+    ++ codes "REFUSED E47 readers are open\nCLOSE READER\nREFUSED E46 reader not usable\n"
+unfolding reading
+reader_stays = refl
+
 -- a version that began before the horizon and stands there is kept
 pruned_within :
     prints (empty_log

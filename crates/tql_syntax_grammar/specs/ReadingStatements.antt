@@ -11,7 +11,7 @@ use Rattle.tql_spec.specs.Syntax.{CrossJoin, ChainTree, Item, Items, AllColumns,
 use Rattle.tql_spec.specs.Syntax.{ByHeading, ByPosition, OrderTree, CellTree, NullCell, ValueCell, Tuple, SetTree}
 use Rattle.tql_spec.specs.Syntax.{PointTree, DatePoint, MomentPoint, PortionTree, Statement, CreateTree, DropTree}
 use Rattle.tql_spec.specs.Syntax.{InsertValues, InsertSelect, UpdateTree, DeleteTree, QueryTree, StartTree}
-use Rattle.tql_spec.specs.Syntax.{CommitTree, RollbackTree, AtTree, PruneTree}
+use Rattle.tql_spec.specs.Syntax.{CommitTree, RollbackTree, AtTree, PruneTree, OpenTree, ReadTree, CloseTree}
 use Rattle.tql_syntax_grammar.specs.Outcome.{Read, Parser, ◌>>=◌, found, into, eat, keyword, symbol, name_at, number_at}
 use Rattle.tql_syntax_grammar.specs.Outcome.{quote_at, begins, begins_second, begins_third, begins_name, if_front}
 use Rattle.tql_syntax_grammar.specs.Outcome.{behind}
@@ -414,12 +414,33 @@ control_at =
     (if_front (Word (codes "PRUNE")) prune_at
     (λ us. keyword (codes "AT") us >>= λ _ a. into AtTree (moment_at a)))))
 
--- changes, or transactions, the clock and the horizon
+-- OPEN is read
+unfoldable pub open_at : Parser Statement
+open_at ts = keyword (codes "READER") ts >>= λ _ a. into OpenTree (name_at a)
+
+-- READ is read
+unfoldable pub read_at : Parser Statement
+read_at ts =
+    name_at ts >>= λ n a. keyword (codes "SELECT") a >>= λ _ b. select_at b >>= λ s c.
+    into (ReadTree n s) (order_by_at c)
+
+-- CLOSE is read
+unfoldable pub close_at : Parser Statement
+close_at ts = keyword (codes "READER") ts >>= λ _ a. into CloseTree (name_at a)
+
+-- readers, or transactions, the clock and the horizon
+unfoldable pub reader_at : Parser Statement
+reader_at =
+    if_front (Word (codes "OPEN")) open_at
+    (if_front (Word (codes "READ")) read_at
+    (if_front (Word (codes "CLOSE")) close_at control_at))
+
+-- changes, readers, or transactions, the clock and the horizon
 unfoldable pub change_at : Parser Statement
 change_at =
     if_front (Word (codes "INSERT")) insert_at
     (if_front (Word (codes "UPDATE")) update_at
-    (if_front (Word (codes "DELETE")) delete_at control_at))
+    (if_front (Word (codes "DELETE")) delete_at reader_at))
 
 -- a statement
 unfoldable pub statement_at : Parser Statement

@@ -5,9 +5,12 @@
 
 ghost use Rattle.tql_spec.specs.Grammar.{SpellsOnce};
 ghost use Rattle.tql_spec.specs.Meaning.{SensesAreOne, RunsAgree};
+ghost use Rattle.tql_spec.specs.ReaderLaws.{ReadsAgree};
 ghost use Rattle.tql_syntax_grammar.specs.Laws.{ReadsTheGrammar};
 ghost use Rattle.tql_syntax_grammar.specs.ReadingRuns.{ReadsTheTokens, ReadsTheSense, ReadsTheRun};
 ghost use Rattle.tql_syntax_grammar.specs.Texts.{HasOneStatement};
+
+use tql_spec::pinned_readers;
 
 /// The reading functions give a statement exactly where the grammar says that the tokens spell it.
 pub fn reading_is_the_grammar()
@@ -33,6 +36,14 @@ pub fn one_sense()
 pub fn one_meaning()
     ensures { RunsAgree }
 {}
+
+/// Two runs that agree, replies included, up to the opening of a reader give each READ that both ask the same reply,
+/// where neither is refused for the horizon or the reader.
+pub fn one_reading()
+    ensures { ReadsAgree }
+{
+    pinned_readers();
+}
 
 /// The reading functions give a text's tokens and a piece's sense, so each piece has a sense.
 pub fn each_sense()

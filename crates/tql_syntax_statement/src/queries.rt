@@ -464,3 +464,20 @@ pub fn query<'a>(memory: Memory, tokens: &mut Cursor<'_, 'a>) -> Result<Statemen
     let query = boxed_query(memory, query)?;
     Ok(Statement::Query(query))
 }
+
+/// What stands behind READ: a reader's name, and a query.
+#[tactic(auto, unfolding(tql_syntax_grammar::specs::ReadingStatements::read_at))]
+pub fn read_query<'a>(
+    memory: Memory,
+    tokens: &mut Cursor<'_, 'a>,
+) -> Result<Statement<'a>, ParseError>
+    ensures { Reads statement_of (reading.read_at tokens.old) result tokens.new }
+{
+    let reader = tokens.name()?;
+    tokens.expect_word("SELECT")?;
+    let select = select(memory, tokens)?;
+    let ordering = order_by(memory, tokens)?;
+    let query = Query { select, ordering };
+    let query = boxed_query(memory, query)?;
+    Ok(Statement::Read(reader, query))
+}

@@ -192,6 +192,10 @@ orders_of ks = map order_of ks.items
 abbrev pub query_of : Query → tree.Statement
 query_of q = tree.QueryTree (boxed_select_of q.select) (orders_of q.ordering)
 
+-- READ with this name
+abbrev pub read_of : Name → Query → tree.Statement
+read_of n q = tree.ReadTree (name_of n) (boxed_select_of q.select) (orders_of q.ordering)
+
 -- ---- changes
 
 abbrev pub cell_of : CellTree → tree.CellTree
@@ -253,3 +257,6 @@ statement_of statement.Commit = tree.CommitTree
 statement_of statement.Rollback = tree.RollbackTree
 statement_of (statement.At t) = tree.AtTree (content_of t)
 statement_of (statement.Prune t) = tree.PruneTree (content_of t)
+statement_of (statement.OpenReader n) = tree.OpenTree (name_of n)
+statement_of (statement.Read n q) = read_of n q.value
+statement_of (statement.CloseReader n) = tree.CloseTree (name_of n)

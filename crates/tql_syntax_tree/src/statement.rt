@@ -347,6 +347,12 @@ pub enum Statement<'a> {
     At(&'a str),
     /// PRUNE HISTORY, with the quoted text of its moment.
     Prune(&'a str),
+    /// OPEN READER, with the reader's name.
+    OpenReader(Name<'a>),
+    /// READ, with the reader's name.
+    Read(Name<'a>, Box<Query<'a>, Memory>),
+    /// CLOSE READER, with the reader's name.
+    CloseReader(Name<'a>),
 }
 
 /// The joined reference in a box.

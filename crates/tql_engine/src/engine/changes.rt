@@ -36,13 +36,13 @@ impl Engine {
     ghost use Rattle.tql_bound.specs.Changes.{insertion_of, modification_of, query_insertion_of};
     ghost use Rattle.tql_bound.specs.Queries.{bound_query_of};
     ghost use Rattle.tql_catalog.specs.declared.catalog.Table.{Table};
-    ghost use Rattle.tql_engine.specs.Adding.{Adds};
-    ghost use Rattle.tql_engine.specs.Making.{Changes, IsMade};
-    ghost use Rattle.tql_engine.specs.Modifying.{Makes};
+    ghost use Rattle.tql_engine_state.specs.Adding.{Adds};
+    ghost use Rattle.tql_engine_state.specs.Making.{Changes, IsMade};
+    ghost use Rattle.tql_engine_state.specs.Modifying.{Makes};
     ghost use Rattle.tql_catalog.specs.Tables.{definitions_of};
-    ghost use Rattle.tql_engine.specs.Stands.{StandsFor};
-    ghost use Rattle.tql_engine.specs.Allowed.{IsIdle, HasTimeLeft, AsksWithin};
-    ghost use Rattle.tql_engine.specs.Effects.{DoesStep};
+    ghost use Rattle.tql_engine_state.specs.Stands.{StandsFor};
+    ghost use Rattle.tql_engine_state.specs.Allowed.{IsIdle, HasTimeLeft, AsksWithin};
+    ghost use Rattle.tql_engine_state.specs.Effects.{DoesStep};
 
     /// Makes a change of the table at a place, in the open transaction or in one of its own at the clock's moment. It
     /// is refused where a key fails after it, else where a reference does, and where memory is, with nothing changed.

@@ -9,12 +9,12 @@ impl Engine {
     ghost use Rattle.tql_spec.specs.Machine as machine;
     ghost use Rattle.tql_spec.specs.Machine.{State, step};
     ghost use Rattle.tql_value.specs.Points.{IsMoment};
-    ghost use Rattle.tql_engine.specs.Stands.{StandsFor};
-    ghost use Rattle.tql_engine.specs.Allowed.{IsIdle};
-    ghost use Rattle.tql_engine.specs.Effects.{DoesStep, not_later_than};
+    ghost use Rattle.tql_engine_state.specs.Stands.{StandsFor};
+    ghost use Rattle.tql_engine_state.specs.Allowed.{IsIdle};
+    ghost use Rattle.tql_engine_state.specs.Effects.{DoesStep, not_later_than};
 
     /// Whether a moment is not later than the last commit's.
-    #[tactic(auto, using(crate::proofs::LaterLemmas::not_later))]
+    #[tactic(auto, using(tql_engine_state::proofs::LaterLemmas::not_later))]
     fn is_not_later(&self, moment: i64) -> bool
         ensures { result ≡ not_later_than moment self.now.store.last }
     {

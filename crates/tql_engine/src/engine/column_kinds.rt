@@ -7,8 +7,6 @@ ghost use Rattle.tql_value.specs.Views.{plain_kind};
 use crate::engine::Engine;
 use crate::sense::read_statement;
 use std::alloc::AllocError;
-use tql_bind::binder::bind;
-use tql_bind::limits::Limits;
 use tql_bind_expr::faults::Faults;
 use tql_bind_query::query::bound_query;
 use tql_memory::Memory;
@@ -46,8 +44,8 @@ impl Engine {
     ghost use Rattle.tql_spec.specs.Syntax.{is_too_wide};
     ghost use Rattle.tql_catalog.specs.Tables.{definitions_of};
     ghost use Rattle.tql_syntax_tree.specs.Statements.{boxed_select_of, orders_of, query_of, statement_of};
-    ghost use Rattle.tql_engine.specs.ColumnKinds.{IsBound, TellsKinds, TextTellsKinds};
-    ghost use Rattle.tql_engine.specs.Stands.{StandsFor};
+    ghost use Rattle.tql_engine.specs.ColumnKinds.{Asks, IsBound, TellsKinds, TextTellsKinds};
+    ghost use Rattle.tql_engine_state.specs.Stands.{StandsFor};
 
     /// The kinds of the columns of a query that is bound without a fault. The only error is a refused growth.
     fn kinds_of(&self, query: &Query<'_>) -> Result<Vec<Kind, Memory>, AllocError>
@@ -69,44 +67,55 @@ impl Engine {
         Ok(known)
     }
 
-    /// Refuses a statement for the first fault of its names, kinds, forms and literals, by the horizon, or for memory.
+    /// Refuses a statement for the first fault of its names, kinds, forms and literals, by the horizon or open readers,
+    /// or for memory.
     fn is_bound(&self, statement: &Statement<'_>) -> Result<(), Refusal>
         requires narrow { IsFalse (is_too_wide (statement_of statement.now)) }
         ensures { (s : State) → StandsFor self.now s → IsBound s (statement_of statement.now) result }
     {
-        let limits = Limits {
-            horizon: self.store.horizon(),
-        };
-        match bind(self.memory, &self.tables, statement, &limits) {
+        match self.bound(self.memory, statement) {
             Ok(_) => {}
             Err(fault) => return Err(fault),
         }
         Ok(())
     }
 
-    /// The kinds of the columns of a query, where the statement is one that is refused for no fault of its names,
-    /// kinds, forms and literals, nor for the horizon.
+    /// The kinds of the columns of a statement's query, where it is refused for no fault of its names, kinds, forms and
+    /// literals, nor for the horizon or open readers.
+    fn kinds_asked(
+        &self,
+        statement: &Statement<'_>,
+        query: &Query<'_>,
+    ) -> Result<Option<Vec<Kind, Memory>>, Refusal>
+        requires narrow { IsFalse (is_too_wide (statement_of statement.now)) }
+        requires asks { Asks (statement_of statement.now) (boxed_select_of query.now.select)
+            (orders_of query.now.ordering) }
+        ensures { (s : State) → StandsFor self.now s → TellsKinds s (statement_of statement.now) result }
+    {
+        match self.is_bound(statement) {
+            Ok(()) => {}
+            Err(refusal) => return Err(refusal),
+        }
+        let kinds = self.kinds_of(query)?;
+        Ok(Some(kinds))
+    }
+
+    /// The same, where the statement is a query or a READ.
     fn kinds_in(&self, statement: &Statement<'_>) -> Result<Option<Vec<Kind, Memory>>, Refusal>
         requires narrow { IsFalse (is_too_wide (statement_of statement.now)) }
         ensures { (s : State) → StandsFor self.now s → TellsKinds s (statement_of statement.now) result }
     {
         match statement {
-            Statement::Query(query) => {
-                match self.is_bound(statement) {
-                    Ok(()) => {}
-                    Err(refusal) => return Err(refusal),
-                }
-                let kinds = self.kinds_of(query)?;
-                Ok(Some(kinds))
-            }
+            Statement::Query(query) => self.kinds_asked(statement, query),
+            Statement::Read(_, query) => self.kinds_asked(statement, query),
             _ => Ok(None),
         }
     }
 
-    /// The kinds of the columns that the query of this text answers, from the left: integer, text, date, timestamp.
-    /// None where the text is another statement, which answers no rows. Refused for what the text is refused for before
-    /// it runs: what `step` would reply then, out of memory too. A query that is not refused here may still be where it
-    /// runs, as out of range. It changes nothing.
+    /// The kinds of the columns that the query of this text answers, also of a READ, from the left: integer, text,
+    /// date, timestamp. None where the text is another statement, which answers no rows. Refused for what the text is
+    /// refused for before it runs: what `step` would reply then, out of memory too. A query that is not refused here
+    /// may still be where it runs, as out of range. It changes nothing.
     pub fn column_kinds(&self, query: &[u8]) -> Result<Option<Vec<Kind, Memory>>, Refusal>
         ensures { (s : State) → StandsFor self.now s → TextTellsKinds s query.now result }
     {

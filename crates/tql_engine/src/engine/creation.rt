@@ -14,13 +14,14 @@ impl Engine {
     ghost use Rattle.tql_catalog.specs.Tables.{can_have, definitions_of};
     ghost use Rattle.tql_value.specs.declared.refusal.Refusal.TheVariants.{OutOfMemory};
     ghost use Rattle.tql_bound.specs.Bounds.{IsSoundTable};
-    ghost use Rattle.tql_engine.specs.Stands.{StandsFor};
-    ghost use Rattle.tql_engine.specs.Allowed.{IsIdle};
-    ghost use Rattle.tql_engine.specs.Effects.{DoesStep};
+    ghost use Rattle.tql_engine_state.specs.Stands.{StandsFor};
+    ghost use Rattle.tql_engine_state.specs.Allowed.{IsIdle, IsUnread};
+    ghost use Rattle.tql_engine_state.specs.Effects.{DoesStep};
 
     /// Adds an empty table, or changes nothing that shows where memory is refused.
     fn add_table(&mut self, definition: TableDef) -> Result<(), Refusal>
         requires closed { IsIdle self.old }
+        requires unread { IsUnread self.old }
         requires sound { IsSoundTable (definitions_of self.old.tables) definition }
         requires typed { IsTypedDefinition definition }
         requires parents { IsTrue (list_all (can_have (definitions_of self.old.tables)) definition.references) }
@@ -46,6 +47,7 @@ impl Engine {
     /// CREATE TABLE. The only error is a refused growth, with nothing changed that shows.
     pub(super) fn create(&mut self, definition: TableDef) -> Result<Reply, Refusal>
         requires closed { IsIdle self.old }
+        requires unread { IsUnread self.old }
         requires sound { IsSoundTable (definitions_of self.old.tables) definition }
         requires typed { IsTypedDefinition definition }
         requires parents { IsTrue (list_all (can_have (definitions_of self.old.tables)) definition.references) }

@@ -6,10 +6,10 @@ impl Engine {
     ghost use Rattle.std.specs.Prelude.{◌≡◌, length, option_map, slice_get};
     ghost use Rattle.tql_spec.specs.Machine.{State};
     ghost use Rattle.tql_catalog.specs.Tables.{definitions_of};
-    ghost use Rattle.tql_engine.specs.Stands.{StandsFor};
+    ghost use Rattle.tql_engine_state.specs.Stands.{StandsFor};
 
     /// How many tables are there, at most 1,000. It takes no memory.
-    #[tactic(auto, using(crate::proofs::TableLists::count_law, crate::proofs::TableLists::count_is))]
+    #[tactic(auto, using(tql_engine_state::proofs::TableLists::count_law, tql_engine_state::proofs::TableLists::count_is))]
     pub fn table_count(&self) -> usize
         ensures count { result ≡ length (definitions_of self.now.tables) }
         ensures machine { (s : State) → StandsFor self.now s → result ≡ length s.definitions }

@@ -9,15 +9,16 @@ impl Engine {
     ghost use Rattle.tql_spec.specs.Machine.{State, step};
     ghost use Rattle.tql_catalog.specs.Tables.{definitions_of};
     ghost use Rattle.tql_result.specs.Replies.{reply_of};
-    ghost use Rattle.tql_engine.specs.Stands.{StandsFor};
-    ghost use Rattle.tql_engine.specs.Allowed.{IsIdle};
-    ghost use Rattle.tql_engine.specs.Dropping.{IsDropped};
-    ghost use Rattle.tql_engine.specs.Effects.{Does};
+    ghost use Rattle.tql_engine_state.specs.Stands.{StandsFor};
+    ghost use Rattle.tql_engine_state.specs.Allowed.{IsIdle, IsUnread};
+    ghost use Rattle.tql_engine_state.specs.Dropping.{IsDropped};
+    ghost use Rattle.tql_engine_state.specs.Effects.{Does};
 
     /// DROP TABLE: the table at this place is gone, with its rows at every moment (this project's choice). It is no
     /// commit, and the clock stays.
     pub(super) fn drop_table(&mut self, place: usize) -> Reply
         requires closed { IsIdle self.old }
+        requires unread { IsUnread self.old }
         requires there { place < length (definitions_of self.old.tables) }
         requires dropped { IsDropped (definitions_of self.old.tables) place }
         ensures { (s : State) → StandsFor self.old s

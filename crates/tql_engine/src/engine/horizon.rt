@@ -9,9 +9,9 @@ impl Engine {
     ghost use Rattle.tql_spec.specs.Machine as machine;
     ghost use Rattle.tql_spec.specs.Machine.{State, step};
     ghost use Rattle.tql_value.specs.Points.{IsMoment};
-    ghost use Rattle.tql_engine.specs.Stands.{StandsFor};
-    ghost use Rattle.tql_engine.specs.Allowed.{IsIdle};
-    ghost use Rattle.tql_engine.specs.Effects.{DoesStep};
+    ghost use Rattle.tql_engine_state.specs.Stands.{StandsFor};
+    ghost use Rattle.tql_engine_state.specs.Allowed.{IsIdle, PassesNone};
+    ghost use Rattle.tql_engine_state.specs.Effects.{DoesStep};
 
     /// PRUNE HISTORY: makes a moment, in microseconds since 1970-01-01, the horizon, and lets the versions go that no
     /// query from it on can ask for. The only error is a refused growth, and nothing has changed then.
@@ -19,6 +19,7 @@ impl Engine {
         requires closed { IsIdle self.old }
         requires moment { IsMoment moment }
         requires later { self.old.store.horizon ≤ℤ moment }
+        requires passes { PassesNone self.old moment }
         ensures answered { (s : State) → StandsFor self.old s
             → DoesStep self.new s result (step s (machine.Prune moment)) }
         ensures reason { IfErr result (λ e. e ≡ Refusal.OutOfMemory) }

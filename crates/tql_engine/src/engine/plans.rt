@@ -2,8 +2,6 @@
 use crate::engine::Engine;
 use crate::sense::read_statement;
 use std::alloc::AllocError;
-use tql_bind::binder::bind;
-use tql_bind::limits::Limits;
 use tql_bound::bound::Bound;
 use tql_bound::query::BoundQuery;
 use tql_memory::Memory;
@@ -11,10 +9,11 @@ use tql_plan::planner::plan;
 use tql_plan_told::told::plan_words;
 use tql_syntax_tree::statement::{RowSource, SelectTree, Statement};
 
-/// The select of a query, or of an INSERT from one.
+/// The select of a query, also of a READ, or of an INSERT from one.
 fn select_in<'s, 'a>(statement: &'s Statement<'a>) -> Option<&'s SelectTree<'a>> {
     match statement {
         Statement::Query(query) => Some(&query.select),
+        Statement::Read(_, query) => Some(&query.select),
         Statement::Insert(insert) => match &insert.rows {
             RowSource::Select(select) => Some(select),
             RowSource::Values(_, _) => None,
@@ -50,6 +49,7 @@ impl Engine {
     {
         match bound {
             Bound::AnswerQuery(query) => self.query_told(select, query).ok(),
+            Bound::Read(read) => self.query_told(select, &read.query).ok(),
             Bound::InsertFrom(insertion) => self.query_told(select, &insertion.query).ok(),
             _ => None,
         }
@@ -60,13 +60,10 @@ impl Engine {
         requires narrow { IsFalse (is_too_wide (statement_of statement.now)) }
     {
         let select = select_in(statement)?;
-        if self.state_fault(statement).is_some() {
+        if self.state_fault(statement).ok()?.is_some() {
             return None;
         }
-        let limits = Limits {
-            horizon: self.store.horizon(),
-        };
-        match bind(self.memory, &self.tables, statement, &limits) {
+        match self.bound(self.memory, statement) {
             Ok(bound) => self.bound_told(select, &bound),
             Err(_) => None,
         }
@@ -80,9 +77,9 @@ impl Engine {
         }
     }
 
-    /// By what the rows of a query are found, in words: of a SELECT by its text, or of the query of an INSERT. None of
-    /// any other text, of one that is refused before it runs, or where no memory is there for it. The blocks of memory
-    /// that this asks for are counted as granted to no one. It changes nothing.
+    /// By what the rows of a query are found, in words: of a SELECT or a READ by its text, or of the query of an
+    /// INSERT. None of any other text, of one that is refused before it runs, or where no memory is there for it. The
+    /// blocks of memory that this asks for are counted as granted to no one. It changes nothing.
     pub fn plan_told(&self, text: &[u8]) -> Option<String<Memory>> {
         let left = self.memory.left();
         let words = self.text_told(text);

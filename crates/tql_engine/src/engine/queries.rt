@@ -1,10 +1,12 @@
 //! SELECT, and the rows that a query answers.
 use crate::engine::Engine;
+use crate::store::Shown;
 use tql_bound::query::BoundQuery;
 use tql_exec::running::{answer_rows, run};
 use tql_memory::Memory;
 use tql_plan::planner::plan;
 use tql_result::reply::Reply;
+use tql_store::snapshot::Snapshot;
 use tql_value::refusal::Refusal;
 use tql_value::value::{ResultTable, Value};
 
@@ -19,9 +21,10 @@ impl Engine {
     ghost use Rattle.tql_exec.specs.Found.{ordered};
     ghost use Rattle.tql_expr.specs.Evaluated.{Evaluated};
     ghost use Rattle.tql_value.specs.Views.{rows_of};
-    ghost use Rattle.tql_engine.specs.Allowed.{AsksWithin};
-    ghost use Rattle.tql_engine.specs.Stands.{StandsFor};
-    ghost use Rattle.tql_engine.specs.Effects.{DoesStep};
+    ghost use Rattle.tql_engine_state.specs.Allowed.{AsksWithin};
+    ghost use Rattle.tql_engine_state.specs.Showing.{CanAnswer, Shows};
+    ghost use Rattle.tql_engine_state.specs.Stands.{StandsFor};
+    ghost use Rattle.tql_engine_state.specs.Effects.{DoesStep};
 
     /// The rows that a query answers, in the order in which they are printed. Refused where an evaluation that is
     /// reached leaves 64 bits, or for memory.
@@ -35,20 +38,25 @@ impl Engine {
             (ordered (bound_query_of query.now).ordering (answer (bag_of s) (bound_query_of query.now))) result }
     {
         let plan = plan(self.memory, &self.tables, query)?;
-        answer_rows(self.memory, &self.store, &plan)
+        let shown = Snapshot::now(&self.store);
+        answer_rows(self.memory, &shown, &plan)
     }
 
-    /// These rows under their headings.
-    fn answered(&self, query: &BoundQuery) -> Result<ResultTable, Refusal>
+    /// These rows under their headings, of what is shown of the store.
+    pub(super) fn answered(
+        &self,
+        shown: &Shown<'_>,
+        query: &BoundQuery,
+    ) -> Result<ResultTable, Refusal>
         requires placed { IsPlacedQuery (definitions_of self.now.tables) (bound_query_of query.now) }
-        requires within { AsksWithin self.now (bound_query_of query.now) }
-        ensures rows { (s : State) → StandsFor self.now s → Evaluated (λ rows. rows_of rows.rows.items)
+        requires can { CanAnswer self.now.tables shown.now (bound_query_of query.now) }
+        ensures rows { (s : State) → Shows self.now.tables shown.now s → Evaluated (λ rows. rows_of rows.rows.items)
             (ordered (bound_query_of query.now).ordering (answer (bag_of s) (bound_query_of query.now))) result }
         ensures headings { IfOk result
             (λ rows. map string_bytes rows.headings.items ≡ (bound_query_of query.now).headings) }
     {
         let plan = plan(self.memory, &self.tables, query)?;
-        run(self.memory, &self.store, &plan)
+        run(self.memory, shown, &plan)
     }
 
     /// SELECT.
@@ -58,7 +66,8 @@ impl Engine {
         ensures { (s : State) → StandsFor self.now s
             → DoesStep self.now s result (step s (machine.AnswerQuery (bound_query_of query.now))) }
     {
-        match self.answered(query) {
+        let shown = Snapshot::now(&self.store);
+        match self.answered(&shown, query) {
             Ok(rows) => Ok(Reply::Table(rows)),
             Err(refusal) => Err(refusal),
         }

@@ -9,10 +9,10 @@ impl Engine {
     ghost use Rattle.tql_spec.specs.Machine as machine;
     ghost use Rattle.tql_spec.specs.Machine.{State, step};
     ghost use Rattle.tql_engine.specs.HoldPoints.{HoldsFor};
-    ghost use Rattle.tql_engine.specs.Stands.{StandsFor};
+    ghost use Rattle.tql_engine_state.specs.Stands.{StandsFor};
     ghost use Rattle.tql_result.specs.Replies.{reply_of};
-    ghost use Rattle.tql_engine.specs.Allowed.{IsIdle, HasTimeLeft};
-    ghost use Rattle.tql_engine.specs.Effects.{Does, DoesStep};
+    ghost use Rattle.tql_engine_state.specs.Allowed.{IsIdle, HasTimeLeft};
+    ghost use Rattle.tql_engine_state.specs.Effects.{Does, DoesStep};
 
     /// START TRANSACTION, at the clock's moment.
     pub(super) fn start(&mut self) -> Reply

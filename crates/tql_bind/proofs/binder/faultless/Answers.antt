@@ -17,8 +17,8 @@ returns-in-Some-clause-binds c =
     let defs = definitions_of c.args.tables.now in
     let s = statement_of c.args.statement.now in
     told bound_of (bind_under l defs s) c.in-Some.refusal
-    (first_under l defs s _ _ _ (bound_of c.in_ok-bound.bound) _ c.none-faults.ensures c.in_ok-bound.ensures.bound
-    (c.is_before_horizon.ensures defs) c.refuse_if.ensures
+    (first_under l defs s _ _ _ (bound_of c.in_ok-bound.bound) c.none-faults.ensures c.in_ok-bound.ensures.bound
+    c.refuse_by_limits.ensures
     ∙ sym c.least.ensures ∙ ap (option_map refusal_of) c.in-Some.is)
 
 pub returns-in-None-clause-binds : goal.returns-in-None-clause-binds
@@ -26,8 +26,8 @@ returns-in-None-clause-binds c =
     let l = limits_of c.args.limits.now in
     let defs = definitions_of c.args.tables.now in
     let s = statement_of c.args.statement.now in (
-      first_under l defs s _ _ _ (bound_of c.in_ok-bound.bound) _ c.none-faults.ensures c.in_ok-bound.ensures.bound
-          (c.is_before_horizon.ensures defs) c.refuse_if.ensures
+      first_under l defs s _ _ _ (bound_of c.in_ok-bound.bound) c.none-faults.ensures c.in_ok-bound.ensures.bound
+          c.refuse_by_limits.ensures
           ∙ sym c.least.ensures ∙ ap (option_map refusal_of) c.in-None.is,
       sym c.in_ok-bound.ensures.bound.value,
     )
@@ -38,8 +38,8 @@ returns-in-None-clause-sound c =
     let defs = definitions_of c.args.tables.now in
     let s = statement_of c.args.statement.now in
     let none : first (bind_under l defs s).faults ≡ None =
-    first_under l defs s _ _ _ (bound_of c.in_ok-bound.bound) _ c.none-faults.ensures c.in_ok-bound.ensures.bound
-    (c.is_before_horizon.ensures defs) c.refuse_if.ensures
+    first_under l defs s _ _ _ (bound_of c.in_ok-bound.bound) c.none-faults.ensures c.in_ok-bound.ensures.bound
+    c.refuse_by_limits.ensures
     ∙ sym c.least.ensures ∙ ap (option_map refusal_of) c.in-None.is in
     sound_where_clean defs s c.in_ok-bound.bound c.requires.other (names_clean l defs s none)
     (sym c.in_ok-bound.ensures.bound.value) c.in_ok-bound.ensures.within

@@ -11,4 +11,4 @@ returns c =
     let joins = c.args.joins.now in
     let h = c.args.limits.now.horizon in
     any_from_yields_List (λ (j : Join). asks h j.reference) c.any.new.self _ c.any.result c.any.ensures.ran
-    (YieldsList-from_slice joins cc) (λ x b q k. search (rules, tests)) ∙ joins_asked h joins
+    (YieldsList-from_slice joins cc) (λ x b q k. search (rules, tests)) ∙ joins_asked (asks h) joins

@@ -1,8 +1,9 @@
 use Rattle.std.proofs.Common.{refl, ◌∙◌, ap, ◌<◌, length, arith, Some}
-use Rattle.tql_engine.specs.Stands.{StandsFor}
+use Rattle.tql_engine_state.specs.Stands.{StandsFor}
 use Rattle.tql_engine.proofs.Bytes.{runs_bytes}
 use Rattle.tql_engine.proofs.HoldPoints.{bytes_hold}
 use Rattle.tql_engine.proofs.PointRuns.{bytes_agree}
+use Rattle.tql_engine.proofs.ReaderRuns.{bytes_stable}
 use Rattle.tql_engine.proofs.Unseen.{bytes_unseen}
 use Rattle.tql_engine.proofs.runner.run_bytes.Goals as goal
 
@@ -24,6 +25,11 @@ pub returns-clause-unseen : goal.returns-clause-unseen
 returns-clause-unseen c s st ordered =
     bytes_unseen c.pruned_history.ensures.runs s (StandsFor c.run-end.new.engine) c.args.script.now
     c.args.output.now.items c.into_bytes.result.items c.run-end.result ordered (returns-clause-written c s st)
+
+pub returns-clause-readers : goal.returns-clause-readers
+returns-clause-readers c s st =
+    bytes_stable c.readers_agree.ensures.runs s (StandsFor c.run-end.new.engine) c.args.script.now
+    c.args.output.now.items c.into_bytes.result.items c.run-end.result (returns-clause-written c s st)
 
 pub returns-clause-holds : goal.returns-clause-holds
 returns-clause-holds c s h =

@@ -15,6 +15,6 @@ returns-clause-rows g c copies working r =
     (map version_of c.in_ok-versions.versions.items) =
     c.in_ok-rows.ensures
     ∙ ap (λ vs. map (completed (generated c.args.source.system)) (map version_of vs)) c.deref.ensures.value in
-    subst (λ (xs : List Row). SameBag xs (bags_in c.args.store.now copies working (source_of c.args.source))) (sym e)
+    subst (λ (xs : List Row). SameBag xs (bags_in c.args.snapshot.now copies working (source_of c.args.source))) (sym e)
     (same-map (completed (generated c.args.source.system))
     (c.in_ok-versions.ensures.copies c.requires.within copies working r))

@@ -19,12 +19,13 @@ returns g c copies working r wide =
     let s : Scan = source_of c.args.source in
     let found : List Version = map version_of c.in_ok-versions.versions.items in
     let rows = map (completed (generated c.args.source.system)) found in
-    let all = bags_in c.args.store.now copies working s in
+    let all = bags_in c.args.snapshot.now copies working s in
     regiven (λ v. v.items) (keep conds rows) (keep conds all) c.passing_rows.result
-    (looked_same c.joins_keep_no_order.ensures c.safe_conjuncts_filter.ensures.filter c.args.store.now copies working s
+    (looked_same c.joins_keep_no_order.ensures c.safe_conjuncts_filter.ensures.filter c.args.snapshot.now copies
+    working s
     conds c.args.access.now c.requires.served wide found
     (subst (λ o. SameBag found (filter (λ (v : Version). is_looked_at o v.row.cells)
-    (versions_for c.args.store.now copies working s)))
+    (versions_for c.args.snapshot.now copies working s)))
     c.sought.ensures (c.in_ok-versions.ensures.copies c.requires.readable.within copies working r)))
     (given (λ v. v.items) (keep conds rows) c.passing_rows.result
     (rw c.deref.ensures.value at c.passing_rows.ensures))

@@ -22,12 +22,12 @@ returns-clause-rows g c copies working place r wide stored =
     let s : Scan = source_of c.args.source in
     let d = datum_of_view c.args.value in
     let found : List Version = map version_of c.in_ok-found.found.items in
-    let all = versions_for c.args.store.now copies working s in
+    let all = versions_for c.args.snapshot.now copies working s in
     let e : c.in_ok-rows.rows.items ≡ map (completed s.system) found =
     c.in_ok-rows.ensures
     ∙ ap (λ vs. map (completed (generated c.args.source.system)) (map version_of vs)) c.deref.ensures.value in
-    subst (λ (xs : List Row). SameBag xs (agreeing place d (bags_in c.args.store.now copies working s))) (sym e)
+    subst (λ (xs : List Row). SameBag xs (agreeing place d (bags_in c.args.snapshot.now copies working s))) (sym e)
     (agreeing_found s.system s.period s.width place c.args.column stored d found all
     (values_all (IsRow s.period s.width) (completed s.system) all
-    (All-head (λ (t : Scan). All (IsRow t.period t.width) (bags_in c.args.store.now copies working t)) s [] wide))
+    (All-head (λ (t : Scan). All (IsRow t.period t.width) (bags_in c.args.snapshot.now copies working t)) s [] wide))
     (c.in_ok-found.ensures.copies c.requires.within copies working r))

@@ -1,9 +1,10 @@
-use Rattle.std.proofs.Common.{◌≡◌, ◌≤◌, ◌-◌, drop, map, length}
+use Rattle.std.proofs.Common.{◌≡◌, ◌≤◌, ◌-◌, ◌∷◌, drop, map, length}
 use Rattle.tql_spec.specs.Query.{groups_by, of_group}
 use Rattle.tql_spec.specs.QueryLaws.{shown}
 use Rattle.tql_expr.specs.Evaluated.{behind}
 use Rattle.tql_expr.specs.Meaning.{cond, expr}
 use Rattle.tql_value.specs.Views.{rows_of}
+use Rattle.tql_exec_group.specs.Runs.{rows_in}
 use Rattle.tql_exec_group.proofs.showing.show_runs.Given as goal
 
 -- the rows so far, before those of the groups that are left, are those of all
@@ -11,8 +12,10 @@ abbrev pub invariant-loop-start : goal.invariant-loop-start
 invariant-loop-start l =
     let conds = map (cond l.terms) l.having in
     let exprs = map (expr l.terms) l.items in
-    (behind (rows_of l.made.items) (shown conds exprs (map of_group (groups_by l.columns (drop l.start l.rows))))
-    ≡ shown conds exprs (map of_group (groups_by l.columns l.rows)))
+    let columns = l.keys.first ∷ l.keys.others.now in
+    (behind (rows_of l.made.items)
+    (shown conds exprs (map of_group (groups_by columns (rows_in (drop l.start l.rows)))))
+    ≡ shown conds exprs (map of_group (groups_by columns (rows_in l.rows))))
     × (l.start ≤ length l.rows)
 
 abbrev pub decreases-loop-start : goal.decreases-loop-start

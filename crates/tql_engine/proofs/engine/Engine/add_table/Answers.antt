@@ -1,4 +1,4 @@
-use Rattle.std.proofs.Common.{◌<◌, ℕ, Bool, ◌∙◌, sym, subst, List, Err}
+use Rattle.std.proofs.Common.{◌<◌, ℕ, Bool, ◌∙◌, sym, subst, List, Err, map}
 use Rattle.std.specs.List.{list_all}
 use Rattle.std.specs.Prelude.{ℤ, IsNone, IsTrue, Option}
 use Rattle.std.proofs.lemmas.List.{length-map}
@@ -8,10 +8,12 @@ use Rattle.tql_store.specs.Represents.{AddsTable}
 use Rattle.tql_catalog.specs.Tables.{can_have, definitions_of, Tells}
 use Rattle.tql_catalog.specs.declared.catalog.Table.{Table}
 use Rattle.tql_bound.specs.Bounds.{IsSoundTable}
-use Rattle.tql_engine.specs.Stands.{EngineModel, StandsFor}
-use Rattle.tql_engine.proofs.Creating.{no_fault, made_law, free_number, there_now, given_up_law}
-use Rattle.tql_engine.proofs.Doing.{create_does}
-use Rattle.tql_engine.proofs.Typed.{sound_after}
+use Rattle.tql_engine_state.specs.Allowed.{IsUnread}
+use Rattle.tql_engine_state.specs.Readers.{reader_of}
+use Rattle.tql_engine_state.specs.Stands.{EngineModel, StandsFor}
+use Rattle.tql_engine_state.proofs.Creating.{no_fault, made_law, free_number, there_now, given_up_law}
+use Rattle.tql_engine_state.proofs.Doing.{create_does}
+use Rattle.tql_engine_state.proofs.Typed.{sound_after}
 use Rattle.tql_engine.proofs.engine.Engine.add_table.Goals as goal
 
 pub add_table-requires : goal.add_table-requires
@@ -51,10 +53,11 @@ invariant_of-self-in-Ok c =
     let d = c.args.definition in
     let table : Table = record { definition = d; id = c.in_ok-id.id } in
     let closed = subst (λ (h : EngineModel). IsNone h.store.working) (sym c.self.view_is) c.requires.closed in
+    let unread = subst IsUnread (sym c.self.view_is) c.requires.unread in
     sound_after _ _ c.self.invariant (CreateTable d) _ c.requires.typed (λ t e. absurd (cc))
-    (create_does _ _ c.self.invariant.state d c.self.invariant.stands closed
-    (made_law c.self.invariant.state c.self.inside.tables _ table c.self.inside.store _ _ _ c.self.invariant.stands
-    closed c.is_versioned.ensures.right c.requires.sound.narrow c.in_ok-id.ensures.ok c.in_ok-id.ensures.copies
+    (create_does _ _ c.self.invariant.state d c.self.invariant.stands closed unread
+    (made_law c.self.invariant.state c.self.inside.tables _ table c.self.inside.store _ _ _ _ c.self.invariant.stands
+    closed unread c.is_versioned.ensures.right c.requires.sound.narrow c.in_ok-id.ensures.ok c.in_ok-id.ensures.copies
     c.is_versioned.ensures.versioned c.in-Ok.ensures.created))
 
 pub invariant_of-self-in-Err : goal.invariant_of-self-in-Err
@@ -69,11 +72,12 @@ invariant_of-self-in-Err c =
         tables = ts;
         store = c.drop_table.new.self;
         next = c.self.inside.next;
+        readers = map reader_of c.self.inside.readers.items;
       }) c.self.invariant.state) (sym c.in-Err.ensures.kept)
           (given_up_law c.self.inside.store c.add_table.new.self c.drop_table.new.self table adds
           c.drop_table.ensures.places c.drop_table.ensures.count c.drop_table.ensures.working
           c.drop_table.ensures.horizon c.drop_table.ensures.copies c.self.invariant.state c.self.inside.tables
-          c.self.inside.next
+          c.self.inside.next _
           c.self.invariant.stands c.in_ok-id.ensures.copies);
       typed = c.self.invariant.typed;
       holds = c.self.invariant.holds;
@@ -83,10 +87,11 @@ pub returns-in-Ok-clause-ok : goal.returns-in-Ok-clause-ok
 returns-in-Ok-clause-ok c s st =
     let d = c.args.definition in
     let table : Table = record { definition = d; id = c.in_ok-id.id } in
-    made_law s c.self.inside.tables _ table c.self.inside.store _ _ _
+    made_law s c.self.inside.tables _ table c.self.inside.store _ _ _ _
     (subst (λ (h : EngineModel). StandsFor h s) (sym c.self.view_is) st)
     (subst (λ (h : EngineModel). IsNone h.store.working)
-    (sym c.self.view_is) c.requires.closed) c.is_versioned.ensures.right
+    (sym c.self.view_is) c.requires.closed) (subst IsUnread (sym c.self.view_is) c.requires.unread)
+    c.is_versioned.ensures.right
     c.requires.sound.narrow c.in_ok-id.ensures.ok c.in_ok-id.ensures.copies
     c.is_versioned.ensures.versioned c.in-Ok.ensures.created
 
@@ -100,11 +105,12 @@ returns-in-Err-clause-err c s st =
       tables = ts;
       store = c.drop_table.new.self;
       next = c.self.inside.next;
+      readers = map reader_of c.self.inside.readers.items;
     }) s) (sym c.in-Err.ensures.kept)
     (given_up_law c.self.inside.store c.add_table.new.self c.drop_table.new.self table adds
     c.drop_table.ensures.places c.drop_table.ensures.count c.drop_table.ensures.working c.drop_table.ensures.horizon
     c.drop_table.ensures.copies s
-    c.self.inside.tables c.self.inside.next (subst (λ (h : EngineModel). StandsFor h s) (sym c.self.view_is) st)
+    c.self.inside.tables c.self.inside.next _ (subst (λ (h : EngineModel). StandsFor h s) (sym c.self.view_is) st)
     c.in_ok-id.ensures.copies)
 
 pub returns-in-Err-clause-memory : goal.returns-in-Err-clause-memory

@@ -5,11 +5,15 @@ use Rattle.tql_bound.specs.Queries.{bound_query_of, references_of}
 use Rattle.tql_catalog.specs.Tables.{definitions_of}
 use Rattle.tql_exec.specs.Found.{ordered}
 use Rattle.tql_expr.specs.Evaluated.{Evaluated}
+use Rattle.tql_store.specs.StoreModel.{StoreModel}
 use Rattle.tql_value.specs.Views.{rows_of}
-use Rattle.tql_engine.specs.Allowed.{AsksWithin}
-use Rattle.tql_engine.specs.Stands.{EngineModel, StandsFor, copies_of, working_of}
-use Rattle.tql_engine.proofs.Finding.{IsThere, meaning_is, references_there, sources_readable, sources_rows}
-use Rattle.tql_engine.proofs.Standing.{place_law}
+use Rattle.tql_engine_state.specs.Allowed.{AsksWithin}
+use Rattle.tql_engine_state.specs.Showing.{CanAnswer, Shows}
+use Rattle.tql_engine_state.specs.Stands.{EngineModel, StandsFor}
+use Rattle.tql_engine_state.proofs.Asked.{shows_now}
+use Rattle.tql_engine_state.proofs.Finding.{IsThere, meaning_is, references_there, sources_readable, sources_rows}
+use Rattle.tql_engine_state.proofs.ReadersShow.{can_now}
+use Rattle.tql_engine_state.proofs.Standing.{place_law}
 use Rattle.tql_engine.proofs.engine.Engine.answer_rows.Goals as goal
 
 pub plan-requires : goal.plan-requires
@@ -28,25 +32,29 @@ plan-requires c =
 pub answer_rows-requires-clause-readable : goal.answer_rows-requires-clause-readable
 answer_rows-requires-clause-readable c =
     let x = c.args.query.now in
-    let placed = subst (λ (h : EngineModel). IsPlacedQuery (definitions_of h.tables) (bound_query_of x))
-    (sym c.self.view_is)
+    let q = bound_query_of x in
+    let placed = subst (λ (h : EngineModel). IsPlacedQuery (definitions_of h.tables) q) (sym c.self.view_is)
     c.requires.placed in
-    let within = subst (λ (h : EngineModel). AsksWithin h (bound_query_of x)) (sym c.self.view_is) c.requires.within in
-    sources_readable _ c.self.invariant.state x c.in_ok-plan.plan c.self.invariant.stands placed within
+    let within = subst (λ (h : EngineModel). AsksWithin h q) (sym c.self.view_is) c.requires.within in
+    let can = can_now _ c.self.invariant.state q c.self.invariant.stands c.self.invariant.typed placed within in
+    sources_readable c.self.inside.tables _ x c.in_ok-plan.plan placed
+    (subst (λ (r : StoreModel). CanAnswer c.self.inside.tables r q) (sym c.now-shown.ensures) can)
     c.in_ok-plan.ensures.sources
 
 pub returns : goal.returns
 returns c s st =
     let x = c.args.query.now in
-    let placed = subst (λ (h : EngineModel). IsPlacedQuery (definitions_of h.tables) (bound_query_of x))
-    (sym c.self.view_is)
+    let q = bound_query_of x in
+    let tables = c.self.inside.tables in
+    let placed = subst (λ (h : EngineModel). IsPlacedQuery (definitions_of h.tables) q) (sym c.self.view_is)
     c.requires.placed in
-    let within = subst (λ (h : EngineModel). AsksWithin h (bound_query_of x)) (sym c.self.view_is) c.requires.within in
-    let back = subst (λ h. StandsFor h s) (sym c.self.view_is) st in
-    let means = meaning_is _ s x c.in_ok-plan.plan back placed c.in_ok-plan.ensures.means in
-    let given = c.answer_rows.ensures (copies_of c.self.inside.tables s.history)
-    (working_of c.self.inside.tables s.transaction) back.stands
-    (sources_rows _ s c.self.invariant.state back c.self.invariant.stands c.self.invariant.typed x c.in_ok-plan.plan
-    placed within c.in_ok-plan.ensures.sources) in
+    let within = subst (λ (h : EngineModel). AsksWithin h q) (sym c.self.view_is) c.requires.within in
+    let can = subst (λ (r : StoreModel). CanAnswer tables r q) (sym c.now-shown.ensures)
+    (can_now _ c.self.invariant.state q c.self.invariant.stands c.self.invariant.typed placed within) in
+    let shows = subst (λ (r : StoreModel). Shows tables r s) (sym c.now-shown.ensures)
+    (shows_now _ s (subst (λ h. StandsFor h s) (sym c.self.view_is) st)) in
+    let means = meaning_is tables _ s shows x c.in_ok-plan.plan placed can.there c.in_ok-plan.ensures.means in
+    let given = c.answer_rows.ensures shows.copies shows.working shows.stands
+    (sources_rows tables _ x c.in_ok-plan.plan placed can c.in_ok-plan.ensures.sources s shows) in
     subst (λ o. Evaluated (λ rows. rows_of rows.items) o c.answer_rows.result)
     (λ i. ordered (bound_query_of (c.in_ok-plan.ensures.query i)).ordering (means i)) given

@@ -2,9 +2,9 @@ use Rattle.std.proofs.Common.{rules, sym, subst}
 use Rattle.std.specs.Prelude.{IsNone}
 use Rattle.std.proofs.Math.Facts.{to_z-of_z}
 use Rattle.tql_spec.specs.Machine.{State, SetClock}
-use Rattle.tql_engine.specs.Stands.{EngineModel, StandsFor}
-use Rattle.tql_engine.proofs.Doing.{clock_refused, clock_set}
-use Rattle.tql_engine.proofs.Typed.{sound_after}
+use Rattle.tql_engine_state.specs.Stands.{EngineModel, StandsFor}
+use Rattle.tql_engine_state.proofs.Doing.{clock_refused, clock_set}
+use Rattle.tql_engine_state.proofs.Typed.{sound_after}
 use Rattle.tql_engine.proofs.engine.Engine.at.Goals as goal
 
 pub returns-then-is_not_later-clause-answered : goal.returns-then-is_not_later-clause-answered

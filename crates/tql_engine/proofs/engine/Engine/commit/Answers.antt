@@ -1,11 +1,11 @@
 use Rattle.std.proofs.Common.{◌∙◌, ap, sym, subst}
 use Rattle.tql_spec.specs.Machine.{State, Commit}
 use Rattle.std.specs.Prelude.{is_some}
-use Rattle.tql_engine.specs.Stands.{EngineModel, StandsFor}
-use Rattle.tql_engine.proofs.MomentFits.{clock_steps}
-use Rattle.tql_engine.proofs.TransactionKeeps.{dated_below}
-use Rattle.tql_engine.proofs.Doing.{open_entry, commit_refused, commit_does}
-use Rattle.tql_engine.proofs.Typed.{sound_after}
+use Rattle.tql_engine_state.specs.Stands.{EngineModel, StandsFor}
+use Rattle.tql_engine_state.proofs.MomentFits.{clock_steps}
+use Rattle.tql_engine_state.proofs.TransactionKeeps.{dated_below}
+use Rattle.tql_engine_state.proofs.Doing.{open_entry, commit_refused, commit_does}
+use Rattle.tql_engine_state.proofs.Typed.{sound_after}
 use Rattle.tql_engine.proofs.HoldPoints.{commit_holds}
 use Rattle.tql_engine.proofs.engine.Engine.commit.Goals as goal
 

@@ -15,12 +15,12 @@ use Rattle.tql_store_index.specs.Basis.{Sought, is_looked_at}
 use Rattle.tql_store_rows.specs.declared.version.Version.{Version}
 use Rattle.tql_value.specs.Views.{datum_of_value}
 use Rattle.tql_value.specs.declared.when.When.TheVariants.{Now}
-use Rattle.tql_engine.specs.Modifying.{Makes, Made}
-use Rattle.tql_engine.specs.Stands.{EngineModel, StandsFor}
-use Rattle.tql_engine.proofs.Looking.{read_fit}
-use Rattle.tql_engine.proofs.Modifying.{makes_of}
-use Rattle.tql_engine.proofs.Shown.{current_shown}
-use Rattle.tql_engine.proofs.Standing.{some_is, there_law}
+use Rattle.tql_engine_state.specs.Modifying.{Makes, Made}
+use Rattle.tql_engine_state.specs.Stands.{EngineModel, StandsFor}
+use Rattle.tql_engine_state.proofs.Looking.{read_fit}
+use Rattle.tql_engine_state.proofs.Modifying.{makes_of}
+use Rattle.tql_engine_state.proofs.Shown.{current_shown}
+use Rattle.tql_engine_state.proofs.Standing.{some_is, there_law}
 use Rattle.tql_engine.proofs.engine.Engine.delta_of.Goals as goal
 
 pub look-requires-clause-there : goal.look-requires-clause-there

@@ -2,14 +2,15 @@ use Rattle.std.proofs.Common.{◌≡◌, ◌<◌, ℕ, false, length, sym, subst
 use Rattle.std.specs.Prelude.{IsNone}
 use Rattle.tql_spec.specs.Machine.{State, DropTable}
 use Rattle.tql_catalog.specs.Tables.{definitions_of}
-use Rattle.tql_engine.specs.Dropping.{IsDropped}
-use Rattle.tql_engine.specs.Stands.{EngineModel, StandsFor}
+use Rattle.tql_engine_state.specs.Dropping.{IsDropped}
+use Rattle.tql_engine_state.specs.Allowed.{IsUnread}
+use Rattle.tql_engine_state.specs.Stands.{EngineModel, StandsFor}
 use Rattle.tql_spec.specs.Binding.{is_referenced}
-use Rattle.tql_engine.proofs.Holding.{name_there}
-use Rattle.tql_engine.proofs.Standing.{place_law, there_law}
-use Rattle.tql_engine.proofs.DropKeeps.{drop_law}
-use Rattle.tql_engine.proofs.Doing.{drop_does}
-use Rattle.tql_engine.proofs.Typed.{sound_after}
+use Rattle.tql_engine_state.proofs.Holding.{name_there}
+use Rattle.tql_engine_state.proofs.Standing.{place_law, there_law}
+use Rattle.tql_engine_state.proofs.DropKeeps.{drop_law}
+use Rattle.tql_engine_state.proofs.Doing.{drop_does}
+use Rattle.tql_engine_state.proofs.Typed.{sound_after}
 use Rattle.tql_engine.proofs.engine.Engine.drop_table.Goals as goal
 
 the_place : (i t : ℕ) → DropTable i ≡ DropTable t → i ≡ t
@@ -41,12 +42,14 @@ pub invariant_of-self : goal.invariant_of-self
 invariant_of-self c =
     let s : State = c.self.invariant.state in
     let closed = subst (λ (h : EngineModel). IsNone h.store.working) (sym c.self.view_is) c.requires.closed in
+    let unread = subst IsUnread (sym c.self.view_is) c.requires.unread in
     sound_after _ _ c.self.invariant (DropTable c.args.place) _ tt
     (λ t e. subst (IsDropped (definitions_of c.self.inside.tables)) (the_place c.args.place t e)
     (subst (λ (h : EngineModel). IsDropped (definitions_of h.tables) c.args.place) (sym c.self.view_is)
     c.requires.dropped))
-    (drop_does _ _ s c.args.place c.self.invariant.stands closed
-    (drop_law _ s c.args.place c.remove-table.result _ _ c.self.invariant.stands closed c.remove-table.ensures.taken
+    (drop_does _ _ s c.args.place c.self.invariant.stands closed unread
+    (drop_law _ s c.args.place c.remove-table.result _ _ c.self.invariant.stands closed unread
+    c.remove-table.ensures.taken
     c.remove-table.ensures.others
     c.drop_table.ensures.places c.drop_table.ensures.count c.drop_table.ensures.working c.drop_table.ensures.horizon
     c.drop_table.ensures.copies))
@@ -55,8 +58,9 @@ pub returns : goal.returns
 returns c s st =
     let inside = subst (λ (h : EngineModel). StandsFor h s) (sym c.self.view_is) st in
     let closed = subst (λ (h : EngineModel). IsNone h.store.working) (sym c.self.view_is) c.requires.closed in
-    drop_does _ _ s c.args.place inside closed
-    (drop_law _ s c.args.place c.remove-table.result _ _ inside closed c.remove-table.ensures.taken
+    let unread = subst IsUnread (sym c.self.view_is) c.requires.unread in
+    drop_does _ _ s c.args.place inside closed unread
+    (drop_law _ s c.args.place c.remove-table.result _ _ inside closed unread c.remove-table.ensures.taken
     c.remove-table.ensures.others
     c.drop_table.ensures.places c.drop_table.ensures.count c.drop_table.ensures.working c.drop_table.ensures.horizon
     c.drop_table.ensures.copies)

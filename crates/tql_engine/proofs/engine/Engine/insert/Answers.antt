@@ -5,9 +5,9 @@ use Rattle.tql_catalog.specs.Rows.{IsRowOf}
 use Rattle.tql_catalog.specs.declared.catalog.Table.{Table}
 use Rattle.tql_store.proofs.Judging.{none-removable}
 use Rattle.tql_value.specs.Views.{rows_of}
-use Rattle.tql_engine.proofs.Doing.{insert_makes}
-use Rattle.tql_engine.proofs.Inserting.{insert_errs}
-use Rattle.tql_engine.proofs.Standing.{place_law, some_is}
+use Rattle.tql_engine_state.proofs.Doing.{insert_makes}
+use Rattle.tql_engine_state.proofs.Inserting.{insert_errs}
+use Rattle.tql_engine_state.proofs.Standing.{place_law, some_is}
 use Rattle.tql_engine.proofs.engine.Engine.insert.Goals as goal
 
 pub table_at-requires : goal.table_at-requires

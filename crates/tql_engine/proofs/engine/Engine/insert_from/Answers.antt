@@ -6,12 +6,12 @@ use Rattle.tql_catalog.specs.Rows.{IsRowOf}
 use Rattle.tql_catalog.specs.declared.catalog.Table.{Table}
 use Rattle.tql_store.proofs.Judging.{none-removable}
 use Rattle.tql_value.specs.Views.{rows_of}
-use Rattle.tql_engine.specs.Adding.{Adds}
+use Rattle.tql_engine_state.specs.Adding.{Adds}
 use Rattle.tql_bound.specs.Queries.{bound_query_of}
-use Rattle.tql_engine.proofs.Doing.{within_law}
-use Rattle.tql_engine.proofs.Modifying.{table_there}
-use Rattle.tql_engine.proofs.QueryInserting.{query_errs, query_makes}
-use Rattle.tql_engine.proofs.Standing.{place_law, some_is}
+use Rattle.tql_engine_state.proofs.Doing.{within_law}
+use Rattle.tql_engine_state.proofs.Modifying.{table_there}
+use Rattle.tql_engine_state.proofs.QueryInserting.{query_errs, query_makes}
+use Rattle.tql_engine_state.proofs.Standing.{place_law, some_is}
 use Rattle.tql_engine.proofs.engine.Engine.insert_from.Goals as goal
 
 pub make-requires-clause-within : goal.make-requires-clause-within

@@ -1,4 +1,4 @@
-use Rattle.std.proofs.Common.{[], ◌≡◌, ◌∙◌, sym, ap, subst, List, map}
+use Rattle.std.proofs.Common.{[], ◌≡◌, ◌∙◌, ap, subst, List, map}
 use Rattle.std.specs.Prelude.{Option, Some, option_map}
 use Rattle.std.specs.List.{flat_map}
 use Rattle.std.proofs.lemmas.List.Elements.{All-from_recursion}
@@ -8,15 +8,13 @@ use Rattle.tql_spec.specs.Definition.{TableDef}
 use Rattle.tql_spec.specs.Machine.{State}
 use Rattle.tql_spec.specs.Words.{listed}
 use Rattle.tql_catalog.specs.Tables.{definitions_of}
-use Rattle.tql_bind_expr.specs.Gathered.{Gathers}
-use Rattle.tql_bind_query.specs.Selecting.{typed_query_of}
 use Rattle.tql_syntax_tree.specs.Statements.{boxed_select_of, order_of, orders_of, select_of}
 use Rattle.tql_syntax_tree.specs.declared.statement.OrderTree.{OrderTree}
 use Rattle.tql_syntax_tree.specs.declared.statement.SelectTree.{SelectTree}
 use Rattle.tql_value.specs.Views.{plain_kind}
 use Rattle.tql_value.specs.declared.value.Kind.{Kind}
-use Rattle.tql_engine.specs.Fitting.{IsNarrow}
-use Rattle.tql_engine.specs.Stands.{EngineModel, StandsFor}
+use Rattle.tql_engine_state.specs.Fitting.{IsNarrow}
+use Rattle.tql_engine_state.specs.Stands.{EngineModel, StandsFor}
 use Rattle.tql_engine.proofs.KnownKinds.{kinds_told}
 use Rattle.tql_engine.proofs.engine.Engine.kinds_of.Goals as goal
 

@@ -1,4 +1,4 @@
-use Rattle.std.proofs.Common.{◌≡◌, ◌<◌, ℕ, List, Ok, Err, None, sym, subst, length}
+use Rattle.std.proofs.Common.{◌≡◌, ◌<◌, ℕ, List, Ok, Err, None, sym, subst, length, map}
 use Rattle.std.specs.Prelude.{IsNone, IsTrue, ◌<ℤ◌}
 use Rattle.std.proofs.lemmas.List.Elements.{recursion_from_All}
 use Rattle.tql_spec.specs.Bag.{SameBag}
@@ -12,17 +12,18 @@ use Rattle.tql_catalog.specs.declared.catalog.Table.{Table}
 use Rattle.tql_store.specs.Changes.{rows_after}
 use Rattle.tql_store.specs.StoreModel.{has_table}
 use Rattle.tql_value.specs.Views.{rows_of}
-use Rattle.tql_engine.specs.Committing.{ChangesRows, KeepsRows}
-use Rattle.tql_engine.specs.Effects.{Refuses}
-use Rattle.tql_engine.specs.Making.{Changes, IsMade}
-use Rattle.tql_engine.specs.Stands.{EngineModel, StandsFor}
-use Rattle.tql_engine.proofs.Added.{after_faults}
-use Rattle.tql_engine.proofs.ChangeKeeps.{kept_law, working_now, working_rows}
-use Rattle.tql_engine.proofs.Making.{check_refuses, copy_is, held_before, made_so, told_for}
-use Rattle.tql_engine.proofs.Modifying.{table_there}
-use Rattle.tql_engine.proofs.MomentFits.{after_reads, clock_reads, clock_under}
-use Rattle.tql_engine.proofs.Standing.{there_law}
-use Rattle.tql_engine.proofs.Typed.{sound_after}
+use Rattle.tql_engine_state.specs.Committing.{ChangesRows, KeepsRows}
+use Rattle.tql_engine_state.specs.Effects.{Refuses}
+use Rattle.tql_engine_state.specs.Making.{Changes, IsMade}
+use Rattle.tql_engine_state.specs.Readers.{reader_of}
+use Rattle.tql_engine_state.specs.Stands.{EngineModel, StandsFor}
+use Rattle.tql_engine_state.proofs.Added.{after_faults}
+use Rattle.tql_engine_state.proofs.ChangeKeeps.{kept_law, working_now, working_rows}
+use Rattle.tql_engine_state.proofs.Making.{check_refuses, copy_is, held_before, made_so, told_for}
+use Rattle.tql_engine_state.proofs.Modifying.{table_there}
+use Rattle.tql_engine_state.proofs.MomentFits.{after_reads, clock_reads, clock_under}
+use Rattle.tql_engine_state.proofs.Standing.{there_law}
+use Rattle.tql_engine_state.proofs.Typed.{sound_after}
 use Rattle.tql_engine.proofs.engine.Engine.make.Goals as goal
 
 pub check-tested-requires-clause-there : goal.check-tested-requires-clause-there
@@ -34,6 +35,7 @@ returns-in-Err c = λ s change st k.
       tables = c.self.inside.tables;
       store = c.self.inside.store;
       next = c.self.inside.next;
+      readers = map reader_of c.self.inside.readers.items;
     } in
     let own : State = c.self.invariant.state in
     let ot = c.self.invariant.stands in
@@ -72,6 +74,7 @@ invariant_of-self c =
       tables = c.self.inside.tables;
       store = c.self.inside.store;
       next = c.self.inside.next;
+      readers = map reader_of c.self.inside.readers.items;
     } in
     let own : State = c.self.invariant.state in
     let ot = c.self.invariant.stands in
@@ -123,6 +126,7 @@ returns-in-Ok c = λ s change st k.
       tables = c.self.inside.tables;
       store = c.self.inside.store;
       next = c.self.inside.next;
+      readers = map reader_of c.self.inside.readers.items;
     } in
     let own : State = c.self.invariant.state in
     let ot = c.self.invariant.stands in

@@ -9,11 +9,11 @@ use Rattle.tql_dml.specs.Alters.{conds_in, portion_in}
 use Rattle.tql_store.specs.Represents.{Judged}
 use Rattle.tql_store.specs.StoreModel.{AreRemovable}
 use Rattle.tql_value.specs.Views.{rows_of}
-use Rattle.tql_engine.specs.Modifying.{Made}
-use Rattle.tql_engine.proofs.Looking.{read_fit}
-use Rattle.tql_engine.proofs.Modifying.{modify_errs, modify_makes, table_there, gone_removable, gone_judged}
-use Rattle.tql_engine.proofs.Standing.{place_law, some_is}
-use Rattle.tql_engine.proofs.Typed.{read_typed}
+use Rattle.tql_engine_state.specs.Modifying.{Made}
+use Rattle.tql_engine_state.proofs.Looking.{read_fit}
+use Rattle.tql_engine_state.proofs.Modifying.{modify_errs, modify_makes, table_there, gone_removable, gone_judged}
+use Rattle.tql_engine_state.proofs.Standing.{place_law, some_is}
+use Rattle.tql_engine_state.proofs.Typed.{read_typed}
 use Rattle.tql_engine.proofs.engine.Engine.modify.Goals as goal
 
 pub delta_of-requires : goal.delta_of-requires

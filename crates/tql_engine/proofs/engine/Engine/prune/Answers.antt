@@ -3,10 +3,11 @@ use Rattle.std.specs.Prelude.{ℤ, IsNone, ◌≤ℤ◌}
 use Rattle.std.proofs.Math.Facts.{to_z-of_z}
 use Rattle.tql_spec.specs.Machine.{State, Prune}
 use Rattle.tql_store.specs.Represents.{PrunesCopies}
-use Rattle.tql_engine.specs.Stands.{EngineModel, StandsFor}
-use Rattle.tql_engine.proofs.Doing.{prune_does}
-use Rattle.tql_engine.proofs.Pruning.{prune_law}
-use Rattle.tql_engine.proofs.Typed.{sound_after}
+use Rattle.tql_engine_state.specs.Allowed.{PassesNone}
+use Rattle.tql_engine_state.specs.Stands.{EngineModel, StandsFor}
+use Rattle.tql_engine_state.proofs.Doing.{prune_does}
+use Rattle.tql_engine_state.proofs.Pruning.{prune_law}
+use Rattle.tql_engine_state.proofs.Typed.{sound_after}
 use Rattle.tql_engine.proofs.engine.Engine.prune.Goals as goal
 
 pub prune-requires-clause-closed : goal.prune-requires-clause-closed
@@ -25,8 +26,10 @@ returns-clause-answered c s st =
     let later = subst (λ (h : EngineModel). h.store.horizon ≤ℤ c.args.moment) (sym c.self.view_is) c.requires.later in
     let copies = subst (λ (m : ℤ). PrunesCopies m c.self.inside.store c.prune.new.self) (to_z-of_z c.ranges.moment)
     c.in_ok-prune.ensures.copies in
-    prune_does _ s c.args.moment c.prune.new.self inside closed later
-    (prune_law _ s c.args.moment c.prune.new.self inside copies c.prune.ensures.working c.prune.ensures.tables
+    let passes = subst (λ (h : EngineModel). PassesNone h c.args.moment) (sym c.self.view_is) c.requires.passes in
+    prune_does _ s c.args.moment c.prune.new.self inside closed later passes
+    (prune_law _ s c.args.moment c.prune.new.self inside later passes copies c.prune.ensures.working
+    c.prune.ensures.tables
     (c.in_ok-prune.ensures.horizon ∙ to_z-of_z c.ranges.moment))
 
 pub invariant_of-self-2 : goal.invariant_of-self-2
@@ -37,7 +40,8 @@ invariant_of-self-2 c =
     let later = subst (λ (h : EngineModel). h.store.horizon ≤ℤ c.args.moment) (sym c.self.view_is) c.requires.later in
     let copies = subst (λ (m : ℤ). PrunesCopies m c.self.inside.store c.prune.new.self) (to_z-of_z c.ranges.moment)
     c.in_ok-prune.ensures.copies in
+    let passes = subst (λ (h : EngineModel). PassesNone h c.args.moment) (sym c.self.view_is) c.requires.passes in
     sound_after _ _ c.self.invariant (Prune c.args.moment) _ tt (λ t e. absurd (cc))
-    (prune_does _ s c.args.moment c.prune.new.self st closed later
-    (prune_law _ s c.args.moment c.prune.new.self st copies c.prune.ensures.working c.prune.ensures.tables
+    (prune_does _ s c.args.moment c.prune.new.self st closed later passes
+    (prune_law _ s c.args.moment c.prune.new.self st later passes copies c.prune.ensures.working c.prune.ensures.tables
     (c.in_ok-prune.ensures.horizon ∙ to_z-of_z c.ranges.moment)))

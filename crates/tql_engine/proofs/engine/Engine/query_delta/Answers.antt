@@ -6,11 +6,12 @@ use Rattle.tql_bound.specs.declared.change.QueryInsertion.{QueryInsertion}
 use Rattle.tql_catalog.specs.declared.catalog.Table.{Table}
 use Rattle.tql_dml.specs.Alters.{Alters, added_rows}
 use Rattle.tql_value.specs.Views.{rows_of}
-use Rattle.tql_engine.specs.Adding.{Adds}
-use Rattle.tql_engine.specs.Stands.{StandsFor}
-use Rattle.tql_engine.proofs.Printing.{answer_prints, rows_print}
-use Rattle.tql_engine.proofs.QueryInserting.{adds_of, not_answered}
-use Rattle.tql_engine.proofs.Standing.{place_law, some_is}
+use Rattle.tql_engine_state.specs.Adding.{Adds}
+use Rattle.tql_engine_state.specs.Stands.{StandsFor}
+use Rattle.tql_engine_state.proofs.Asked.{fits_now}
+use Rattle.tql_engine_state.proofs.Printing.{answer_prints, rows_print}
+use Rattle.tql_engine_state.proofs.QueryInserting.{adds_of, not_answered}
+use Rattle.tql_engine_state.proofs.Standing.{place_law, some_is}
 use Rattle.tql_engine.proofs.engine.Engine.query_delta.Goals as goal
 
 pub table_at-table-requires : goal.table_at-table-requires
@@ -22,7 +23,8 @@ insert_rows-requires c =
     let x = c.args.insertion.now.query in
     let stands = subst (λ h. StandsFor h s) c.self.view_is c.self.invariant.stands in
     rows_print (bound_query_of x).ordering _ (rows_of c.in-Ok.rows.items)
-    (answer_prints c.args.self.now s x stands c.requires.placed) (c.in-Ok.ensures s stands)
+    (answer_prints c.args.self.now.tables s x (fits_now c.args.self.now s stands) c.requires.placed)
+    (c.in-Ok.ensures s stands)
 
 pub returns : goal.returns
 returns c s q st there =

@@ -3,9 +3,9 @@ use Rattle.std.proofs.lemmas.List.Elements.{All-weaker}
 use Rattle.tql_bound.specs.Placed.{IsPlacedQuery}
 use Rattle.tql_bound.specs.Queries.{bound_query_of, references_of}
 use Rattle.tql_catalog.specs.Tables.{definitions_of}
-use Rattle.tql_engine.specs.Stands.{EngineModel}
-use Rattle.tql_engine.proofs.Finding.{IsThere, references_there}
-use Rattle.tql_engine.proofs.Standing.{place_law}
+use Rattle.tql_engine_state.specs.Stands.{EngineModel}
+use Rattle.tql_engine_state.proofs.Finding.{IsThere, references_there}
+use Rattle.tql_engine_state.proofs.Standing.{place_law}
 use Rattle.tql_engine.proofs.engine.Engine.query_told.Goals as goal
 
 pub plan-requires : goal.plan-requires

@@ -1,9 +1,9 @@
 use Rattle.std.proofs.Common.{◌∙◌, ap, sym, subst}
 use Rattle.tql_spec.specs.Machine.{State, Rollback}
 use Rattle.std.specs.Prelude.{is_some}
-use Rattle.tql_engine.specs.Stands.{EngineModel, StandsFor}
-use Rattle.tql_engine.proofs.Doing.{rollback_refused, rollback_does}
-use Rattle.tql_engine.proofs.Typed.{sound_after}
+use Rattle.tql_engine_state.specs.Stands.{EngineModel, StandsFor}
+use Rattle.tql_engine_state.proofs.Doing.{rollback_refused, rollback_does}
+use Rattle.tql_engine_state.proofs.Typed.{sound_after}
 use Rattle.tql_engine.proofs.HoldPoints.{rollback_holds}
 use Rattle.tql_engine.proofs.engine.Engine.rollback.Goals as goal
 

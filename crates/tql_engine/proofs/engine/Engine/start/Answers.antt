@@ -2,10 +2,10 @@ use Rattle.std.proofs.Common.{◌∙◌, ap, sym, subst, Some}
 use Rattle.std.specs.Prelude.{IsNone, ◌<ℤ◌}
 use Rattle.tql_spec.specs.Calendar.{high}
 use Rattle.tql_spec.specs.Machine.{State, Start}
-use Rattle.tql_engine.specs.Stands.{EngineModel, StandsFor}
-use Rattle.tql_engine.proofs.MomentFits.{clock_reads, clock_under}
-use Rattle.tql_engine.proofs.Doing.{start_does}
-use Rattle.tql_engine.proofs.Typed.{sound_after}
+use Rattle.tql_engine_state.specs.Stands.{EngineModel, StandsFor}
+use Rattle.tql_engine_state.proofs.MomentFits.{clock_reads, clock_under}
+use Rattle.tql_engine_state.proofs.Doing.{start_does}
+use Rattle.tql_engine_state.proofs.Typed.{sound_after}
 use Rattle.tql_engine.proofs.engine.Engine.start.Goals as goal
 
 pub begin-requires-clause-closed : goal.begin-requires-clause-closed

@@ -3,7 +3,7 @@ use Rattle.tql_spec.specs.Run.{Answers, finished}
 use Rattle.tql_value.specs.declared.refusal.Refusal.{Refusal}
 use Rattle.tql_result.specs.declared.reply.Reply.{Reply}
 use Rattle.tql_run.specs.Responding.{Answered}
-use Rattle.tql_engine.specs.Effects.{reply_by}
+use Rattle.tql_engine_state.specs.Effects.{reply_by}
 use Rattle.tql_engine.specs.HoldPoints.{HoldsFor}
 use Rattle.tql_engine.proofs.HoldPoints.{step_holds}
 use Rattle.tql_engine.proofs.engine.Engine.step.Goals as goal

@@ -1,0 +1,29 @@
+-- A reader finds rows by a key, by a period and through joins as everybody does, and none that came behind its pin. By hand.
+CREATE TABLE emp (eno INTEGER, dept VARCHAR(10), es DATE, ee DATE, s TIMESTAMP GENERATED ALWAYS AS ROW START,
+  e TIMESTAMP GENERATED ALWAYS AS ROW END, PERIOD FOR ep (es, ee), PERIOD FOR SYSTEM_TIME (s, e),
+  PRIMARY KEY (eno, ep WITHOUT OVERLAPS)) WITH SYSTEM VERSIONING;
+CREATE TABLE job (jno INTEGER, eno INTEGER, s TIMESTAMP GENERATED ALWAYS AS ROW START, e TIMESTAMP GENERATED ALWAYS AS ROW END,
+  PERIOD FOR SYSTEM_TIME (s, e), PRIMARY KEY (jno)) WITH SYSTEM VERSIONING;
+AT TIMESTAMP '2011-01-01 00:00:00';
+INSERT INTO emp VALUES (1, 'A', DATE '2011-01-01', DATE '2012-01-01'), (2, 'B', DATE '2011-01-01', DATE '2011-07-01'),
+  (2, 'C', DATE '2011-07-01', DATE '2012-01-01');
+INSERT INTO job VALUES (10, 1), (20, 2), (30, NULL);
+OPEN READER r;
+AT TIMESTAMP '2011-02-01 00:00:00';
+UPDATE emp FOR PORTION OF ep FROM DATE '2011-03-01' TO DATE '2011-04-01' SET dept = 'Z' WHERE eno = 1;
+DELETE FROM emp WHERE eno = 2;
+INSERT INTO emp VALUES (3, 'D', DATE '2011-01-01', DATE '2012-01-01');
+UPDATE job SET eno = 3 WHERE jno = 10; DELETE FROM job WHERE jno = 20; INSERT INTO job VALUES (40, 2);
+READ r SELECT dept, es, ee, e FROM emp WHERE eno = 1;
+READ r SELECT dept FROM emp WHERE eno = 2;
+READ r SELECT dept FROM emp WHERE eno = 3;
+READ r SELECT eno, dept FROM emp WHERE ep CONTAINS DATE '2011-03-15';
+READ r SELECT eno, dept FROM emp WHERE ep OVERLAPS PERIOD (DATE '2011-06-30', DATE '2011-07-02');
+READ r SELECT dept FROM emp FOR SYSTEM_TIME AS OF TIMESTAMP '2011-06-01 00:00:00' WHERE eno = 2;
+READ r SELECT jno, dept FROM job JOIN emp ON job.eno = emp.eno;
+READ r SELECT jno, dept FROM job LEFT JOIN emp ON job.eno = emp.eno WHERE jno = 10;
+READ r SELECT jno, dept FROM job, emp WHERE job.eno = emp.eno AND jno = 20;
+READ r SELECT a.jno, b.jno FROM job a, job b WHERE a.jno = 10 AND b.eno > a.eno;
+READ r SELECT dept, COUNT(*) FROM emp GROUP BY dept HAVING COUNT(*) > 0 ORDER BY dept DESC;
+READ r SELECT DISTINCT eno FROM emp;
+SELECT jno, dept FROM job JOIN emp ON job.eno = emp.eno;

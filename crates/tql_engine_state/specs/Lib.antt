@@ -1,0 +1,12 @@
+pub mod Adding
+pub mod Allowed
+pub mod Committing
+pub mod Dropping
+pub mod Effects
+pub mod Fitting
+pub mod Making
+pub mod Modifying
+pub mod Readers
+pub mod Showing
+pub mod Stands
+pub mod Steps

@@ -1,0 +1,49 @@
+-- The readers that an engine keeps open: for each its name and its pin, in place of the copies that the machine sets
+-- aside.
+use Rattle.std.specs.Prelude.{◌≡◌, refl, ℕ, ℤ, Bool, true, int_lt, List, [], ◌∷◌, map, Option, Some, None, string_bytes}
+use Rattle.std.specs.Prelude.{if◌then◌else◌}
+use Rattle.std.specs.Coded.{Coded, code_by, coded×, coded_list, coded_option, coded_ℕ, coded_ℤ}
+use Rattle.tql_spec.specs.Bag.{In}
+use Rattle.tql_spec.specs.Definition.{Name}
+use Rattle.tql_spec.specs.Machine.{State}
+use Rattle.tql_spec.specs.ReaderLaws as laws
+use Rattle.tql_spec.specs.ReaderLaws.{ReadsTheHistory}
+use Rattle.tql_spec.specs.Readers as machine
+use Rattle.tql_spec.specs.Words.{same_text}
+use Rattle.tql_bound.specs.declared.reader.Reader.{Reader}
+
+-- a reader: its name, and the moment of the last commit when it was opened, none where there was no commit
+pub record KeptReader : Type 0 where
+  pub name : Name
+  pub pin : Option ℤ
+
+-- how the logic stores readers
+abbrev pub readers_code : Coded (List KeptReader)
+readers_code =
+    coded_list (code_by (Name × Option ℤ) (coded× (coded_list coded_ℕ) (coded_option coded_ℤ))
+    (λ r. (r.name, r.pin)) (λ p. record { name = p.0; pin = p.1 }) (λ _. refl))
+
+-- what a reader of the code is
+abbrev pub reader_of : Reader → KeptReader
+reader_of r = record { name = string_bytes r.name; pin = r.pin }
+
+-- what a reader of the machine is kept as
+abbrev pub told : machine.Reader → KeptReader
+told r = record { name = r.name; pin = laws.pin r.pinned }
+
+-- they are the machine's readers, and what each of these set aside the history answers still
+pub record AreReaders (kept : List KeptReader) (s : State) : Type 0 where
+  pub same : kept ≡ map told s.readers
+  pub read : (r : machine.Reader) → In r s.readers → ReadsTheHistory s r
+
+-- ---- what is asked of them
+
+-- the pin of the reader of this name
+abbrev pub pin_of : Name → List KeptReader → Option ℤ
+pin_of n [] = None
+pin_of n (r ∷ rs) = if same_text n r.name then r.pin else pin_of n rs
+
+-- whether a horizon would pass a pin
+abbrev pub is_passed : ℤ → Option ℤ → Bool
+is_passed h None = true
+is_passed h (Some p) = int_lt p h

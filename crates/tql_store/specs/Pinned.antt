@@ -1,0 +1,103 @@
+-- What a store shows at a pin: what stood when the commit of that moment was the last one.
+use Rattle.std.specs.Prelude.{◌≡◌, ℕ, List, [], ◌∷◌, map, ℤ, ◌≤ℤ◌, int_le, int_lt, Option, Some, None}
+use Rattle.std.specs.Prelude.{if◌then◌else◌}
+use Rattle.tql_spec.specs.Bag.{In}
+use Rattle.tql_spec.specs.Calendar.{high}
+use Rattle.tql_spec.specs.Definition.{Version}
+use Rattle.tql_spec.specs.History.{TableEntry}
+use Rattle.tql_store_rows.specs.Changes.{nothing}
+use Rattle.tql_store_rows.specs.Readings.{is_answer}
+use Rattle.tql_store_rows.specs.declared.version.Version as answer
+use Rattle.tql_value.specs.declared.when.When.{When}
+use Rattle.tql_store.specs.Changes.{emptied}
+use Rattle.tql_store.specs.Represents.{Copies, Working, Represents}
+use Rattle.tql_store.specs.StoreModel.{StoreModel}
+use Rattle.tql_store.specs.TableSlots.{slot_at, is_kept, is_brief}
+use Rattle.tql_store.specs.declared.snapshot.Position.{Position}
+use Rattle.tql_store.specs.declared.snapshot.Position.TheVariants.{Now, At}
+use Rattle.tql_store.specs.declared.tables.TableSlot.{TableSlot}
+use Rattle.tql_store.specs.declared.tables.TableSlot.TheVariants.{Free}
+
+-- ---- versions
+
+-- an end as far as it was told when the commit of a moment was the last one: what came later had not come
+abbrev pub end_told : ℤ → ℤ → ℤ
+end_told p end = if int_lt p end then high else end
+
+-- a version as it was then
+abbrev pub capped : ℤ → Version → Version
+capped p v = record { row = v.row; end = end_told p v.end }
+
+-- what is shown at a pin in the place of a version: nothing where it had not begun; before any commit none had
+abbrev pub shown_at : Option ℤ → Version → Version
+shown_at None v = nothing
+shown_at (Some p) v = if int_le v.row.start p then capped p v else nothing
+
+-- ---- tables
+
+-- what is shown in the place of a slot: no table that keeps its last copy alone
+abbrev pub slot_pinned : TableSlot → TableSlot
+slot_pinned s = if is_brief s then Free else s
+
+-- what is shown in the place of a table's versions: none of one that does not keep its history
+abbrev pub versions_of_slot : Option ℤ → TableSlot → List Version → List Version
+versions_of_slot pin s vs = if is_kept s then map (shown_at pin) vs else []
+
+-- of each table by its number
+abbrev pub versions_pinned : Option ℤ → List TableSlot → List (List Version) → List (List Version)
+versions_pinned pin (s ∷ slots) (vs ∷ tables) = versions_of_slot pin s vs ∷ versions_pinned pin slots tables
+versions_pinned pin _ _ = []
+
+-- a store as it stood when the commit of a pin was the last one: of the tables that are there, those that keep their
+-- history; places, and with them ids, stay
+abbrev pub pinned : Option ℤ → StoreModel → StoreModel
+pinned pin h = record {
+  tables = map slot_pinned h.tables;
+  versions = versions_pinned pin h.tables h.versions;
+  working = None;
+  last = pin;
+  horizon = h.horizon;
+}
+
+-- a store as it is shown at a position
+abbrev pub store_at : Position → StoreModel → StoreModel
+store_at Now h = h
+store_at (At pin) h = pinned pin h
+
+-- ---- questions
+
+-- a question that finds of the versions of a store, which end by the highest moment, what another one finds of what is
+-- shown at a pin
+pub record AsksAt (p : ℤ) (when other : When) : Type 0 where
+  pub tells : (v : Version) → v.end ≤ℤ high → is_answer when (shown_at (Some p) v) ≡ is_answer other v
+
+-- an answer as it was at a pin
+abbrev pub answer_capped : ℤ → answer.Version → answer.Version
+answer_capped p s = record { id = s.id; row = s.row; start = s.start; end = end_told p s.end }
+
+-- ---- copies
+
+-- the copies of the commits that are not after a moment
+abbrev pub not_after : ℤ → List TableEntry → List TableEntry
+not_after p [] = []
+not_after p (e ∷ older) = if int_le e.moment p then e ∷ older else not_after p older
+
+-- the copies up to a pin; before any commit there was none
+abbrev pub until_pin : Option ℤ → List TableEntry → List TableEntry
+until_pin None entries = []
+until_pin (Some p) entries = not_after p entries
+
+-- a pin is none, or the moment of one of the copies
+abbrev pub IsPin : Option ℤ → List TableEntry → Type 0
+IsPin None entries = Unit {0}
+IsPin (Some p) entries = (e : TableEntry) × In e entries × (e.moment ≡ p)
+
+-- the copies of each table up to a pin; a number at which no table is shown has copies without rows
+abbrev pub copies_until : Option ℤ → List TableSlot → Copies → Copies
+copies_until pin slots copies t =
+    if is_kept (slot_at slots t) then until_pin pin (copies t) else emptied (until_pin pin (copies t))
+
+-- what is shown at a pin stands for the copies up to it, where it is the moment of one of them
+abbrev pub PinCopies : Option ℤ → StoreModel → StoreModel → Type 0
+PinCopies pin old shown = (copies : Copies) (working any : Working) → ((t : ℕ) → IsPin pin (copies t))
+    → Represents old copies working → Represents shown (copies_until pin old.tables copies) any
