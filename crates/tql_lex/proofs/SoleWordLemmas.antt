@@ -1,15 +1,15 @@
 -- What texts that are one word or two say, and those that are not.
-use Rattle.std.proofs.Common.{◌≡◌, ℕ, ◌+◌, ◌<◌, ◌≤◌, Bool, true, false, List, [], ◌∷◌, ◌++◌, length, take, drop}
-use Rattle.std.proofs.Common.{Option, Some, None, refl, sym, ap, ◌∙◌, subst, arith, length-drop}
+use Rattle.std.proofs.Common.{◌≡◌, ℕ, ◌+◌, Bool, true, false, List, [], ◌∷◌, ◌++◌, length, drop}
+use Rattle.std.proofs.Common.{Some, None, refl, sym, ap, ◌∙◌, subst, arith, length-drop}
 use Rattle.std.specs.Prelude.{map, ◌&&◌}
 use Rattle.tql_spec.specs.Script.{without_lead}
-use Rattle.tql_spec.specs.Token.{Token, AreTokens, Word, QuotedName, Number, Quote, Sign, upper}
+use Rattle.tql_spec.specs.Token.{Token, AreTokens, Word, upper}
 use Rattle.tql_spec.specs.FirstToken.{Sort, WordSort, NameSort, NumberSort, QuoteSort, SignSort, token_with}
 use Rattle.tql_spec.specs.FirstToken.{first_token}
 use Rattle.tql_spec.proofs.TokenLaws.{IsRead, first_token_complete, token_stands, end_skipped, one_list}
 use Rattle.tql_lex.specs.declared.token.Token as code
 use Rattle.tql_lex.specs.Tokens.{token_of, sort_of}
-use Rattle.tql_lex.specs.Reading.{IsNextStart, IsTokenAt}
+use Rattle.tql_lex.specs.Reading.{IsNextStart}
 use Rattle.tql_lex.specs.SoleWords.{IsWordAt, is_any_word, are_words, word_tokens}
 use Rattle.tql_lex.proofs.TokensLemmas.{SoFar, begin_tokens, end_tokens}
 use Rattle.tql_lex.proofs.PlaceLemmas.{found_more}

@@ -1,7 +1,9 @@
 -- What the tests of words say.
-use Rattle.std.proofs.Common.{◌≡◌, ℕ, List, Bool, true, refl, sym, ap, ◌∙◌}
+use Rattle.std.proofs.Common.{◌≡◌, ◌≢◌, ◌≤◌, ℕ, List, [], ◌∷◌, length, drop, get_or, Bool, true, false, refl, sym, ap}
+use Rattle.std.proofs.Common.{◌∙◌, arith}
 use Rattle.std.specs.Prelude.{◌↔◌, map}
 use Rattle.std.specs.Str.{bytes_eq}
+use Rattle.std.proofs.lemmas.List.{length-map}
 use Rattle.std.proofs.lemmas.Map.Text.{is_eq-slice_cmp}
 use Rattle.std.proofs.lemmas.Slice.Eq.{bytes_eq-Decides}
 use Rattle.tql_spec.specs.Words.{same_text}
@@ -18,6 +20,19 @@ text_is xs ys e = (bytes_eq-Decides xs ys).0 (sym (same_bytes xs ys) ∙ e)
 
 text_self : (xs : List ℕ) → same_text xs xs ≡ true
 text_self xs = same_bytes xs xs ∙ (bytes_eq-Decides xs xs).1 refl
+
+-- texts of which one is longer
+pub other_length : (xs ys : List ℕ) → length xs ≢ length ys → false ≡ same_text (map upper xs) ys
+other_length xs ys apart = by (same_text (map upper xs) ys) refl where
+  by : (t : Bool) → same_text (map upper xs) ys ≡ t → false ≡ t
+  by true e = absurd (apart (sym (length-map xs upper) ∙ ap length (text_is (map upper xs) ys e)))
+  by false e = refl
+
+-- a text in upper case, by its first letter
+pub first_folded : (xs : List ℕ) (letter : ℕ) → 1 ≤ length xs → letter ≡ upper (get_or xs 0 0)
+    → map upper xs ≡ letter ∷ map upper (drop 1 xs)
+first_folded [] letter some is = absurd (omega (arith, some))
+first_folded (x ∷ xs) letter some is = ap (λ (y : ℕ). y ∷ map upper xs) (sym is)
 
 word_is : (v w : List ℕ) → Token.Word v ≡ Token.Word w → v ≡ w
 word_is v w e = cc

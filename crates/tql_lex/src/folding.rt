@@ -8,7 +8,7 @@ use std::alloc::AllocError;
 use tql_memory::Memory;
 
 /// A letter in upper case, any other byte as it is.
-fn upper(byte: u8) -> u8
+pub(crate) fn upper(byte: u8) -> u8
     ensures { result ≡ token.upper byte }
 {
     if b'a' <= byte && byte <= b'z' {
@@ -23,6 +23,9 @@ fn upper(byte: u8) -> u8
 pub fn is_folded(bytes: &[u8], wanted: &[u8]) -> bool
     ensures { result ≡ same_text (map token.upper bytes.now) wanted.now }
 {
+    if bytes.len() != wanted.len() {
+        return false;
+    }
     let mut left = bytes;
     let mut others = wanted;
     while let [byte, behind @ ..] = left {
