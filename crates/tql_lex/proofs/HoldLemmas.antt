@@ -25,7 +25,7 @@ use Rattle.tql_lex.proofs.LookLemmas.{state_more, none_more, ends_at, looked_mor
 
 -- ---- line feeds
 
-feeds_on : (xs ys : List ℕ) → line_feeds (xs ++ ys) ≡ line_feeds xs + line_feeds ys
+pub feeds_on : (xs ys : List ℕ) → line_feeds (xs ++ ys) ≡ line_feeds xs + line_feeds ys
 feeds_on xs ys = sum_by-append (λ (b : ℕ). cond (b == 10) 1 0) xs ys
 
 capped_on : (n : ℕ) → capped (capped n + 1) ≡ capped (n + 1)
@@ -67,7 +67,7 @@ no_text Overlong text shows e = let no : true ≡ false = e in absurd cc
 no_text Lost text shows e = let no : true ≡ false = e in absurd cc
 
 -- what is not given out is kept
-kept_still : (given : Bool) (kept : Kept) → given ≡ false → kept_now given kept ≡ kept
+pub kept_still : (given : Bool) (kept : Kept) → given ≡ false → kept_now given kept ≡ kept
 kept_still true kept e = let no : true ≡ false = e in absurd cc
 kept_still false kept e = refl
 
@@ -125,15 +125,14 @@ looked_on b old new l still goes passed left h = record {
   reads = reads_more b old new (passed ++ h.skipped) h.looked h.reads l still goes;
 }
 
+pub one_at_most : (t : Bool) → one_if t ≤ 1
+one_at_most true = omega arith
+one_at_most false = omega arith
+
 -- how much is left to do is no more
 pub looked_less : (b : ℕ) (old new : Stream) → LooksAt b old new → to_do new ≤ to_do (with_byte b old)
 looked_less b old new l =
-    let few = one_at_most (is_begun (kept_now new.given new.kept)) in
-    omega (arith, few, ap length l.ready)
-  where
-    one_at_most : (t : Bool) → one_if t ≤ 1
-    one_at_most true = omega arith
-    one_at_most false = omega arith
+    let few = one_at_most (is_begun (kept_now new.given new.kept)) in omega (arith, few, ap length l.ready)
 
 -- ---- the end of a piece
 

@@ -187,7 +187,7 @@ pub record LookedMore (b : ℕ) (looked ahead text : List ℕ) (was new : Kept) 
       ((is_begun was ≡ false) × (ahead_now ≡ looked))
 
 -- a text is kept as it has begun
-shows_kept : (text : List ℕ) (new : Kept) → HasBegun text → Keeps text new → Shows new text
+pub shows_kept : (text : List ℕ) (new : Kept) → HasBegun text → Keeps text new → Shows new text
 shows_kept text Nothing h k = absurd k
 shows_kept text Dash h k = absurd k
 shows_kept text (Whole t) h k = (k.0, h, k.1)

@@ -1,11 +1,11 @@
 -- What the parts of a splitter's work do to it.
 use Rattle.std.specs.Prelude.{◌≡◌, ℕ, ◌+◌, ◌<◌, ◌≤◌, ◌==◌, length, Bool, true, false, List, ◌∷◌, ◌++◌, Option, Some}
-use Rattle.std.specs.Prelude.{None}
-use Rattle.std.specs.Prelude.{IsTrue, IsFalse, if◌then◌else◌}
+use Rattle.std.specs.Prelude.{None, drop, ◌&&◌, IsTrue, IsFalse, MatchBool, if◌then◌else◌}
 use Rattle.tql_spec.specs.Script as script
-use Rattle.tql_lex.specs.Stream.{Stream, is_begun, kept_now, to_do, capped}
+use Rattle.tql_lex.specs.Stream.{Stream, is_begun, is_text, kept_now, to_do, capped}
 use Rattle.tql_lex.specs.Cutting.{is_comment}
-use Rattle.tql_lex.specs.Pending.{Looks, Ends}
+use Rattle.tql_lex.specs.Plain.{plain_front, is_steady}
+use Rattle.tql_lex.specs.Pending.{PutsAll, Looks, Ends}
 use Rattle.tql_lex.specs.Holding.{Holds}
 use Rattle.tql_lex.specs.Pieces.{GivesOne, GivesNone, Says}
 
@@ -51,6 +51,21 @@ pub record LooksAt (b : ℕ) (old new : Stream) : Type 0 where
   pub feeds : new.feeds ≡ (if b == 10 then capped (old.feeds + 1) else old.feeds)
   pub begun : new.begun ≡ (if is_begun old.kept then old.begun else old.feeds)
   pub line : new.line ≡ old.line
+
+-- the plain bytes that came next were looked at, all of which go on a text
+pub record RunsOn (old new : Stream) : Type 0 where
+  pub kept : PutsAll (plain_front old.ready) old.kept new.kept
+  pub ready : new.ready ≡ drop (length (plain_front old.ready)) old.ready
+  pub given : new.given ≡ old.given
+  pub place : new.place ≡ old.place
+  pub ended : new.ended ≡ old.ended
+  pub feeds : new.feeds ≡ old.feeds
+  pub begun : new.begun ≡ old.begun
+  pub line : new.line ≡ old.line
+
+-- where a text has begun and the state is steady, the plain bytes that came next were looked at; else nothing was done
+abbrev pub LooksOn : (old new : Stream) → Type 0
+LooksOn old new = MatchBool (is_text old.kept && is_steady old.place) (RunsOn old new) (new ≡ old)
 
 -- the piece ends: where a text has begun, it is given out
 pub record Closes (answer : Bool) (old new : Stream) : Type 0 where

@@ -1,5 +1,6 @@
 pub mod Stream
 pub mod Cutting
+pub mod Plain
 pub mod Pending
 pub mod Ready
 pub mod Holding

@@ -45,6 +45,14 @@ Puts b (Whole t) new = Keeps (t ++ b ∷ []) new
 Puts b Overlong new = new ≡ Overlong
 Puts b Lost new = new ≡ Lost
 
+-- bytes that go on a text are put behind what is kept of it; where none has begun, nothing is done
+abbrev pub PutsAll : List ℕ → (old new : Kept) → Type 0
+PutsAll bytes Nothing new = new ≡ Nothing
+PutsAll bytes Dash new = new ≡ Dash
+PutsAll bytes (Whole t) new = Keeps (t ++ bytes) new
+PutsAll bytes Overlong new = new ≡ Overlong
+PutsAll bytes Lost new = new ≡ Lost
+
 -- a byte is looked at: blanks and comments before the text are passed over, and two `-` there begin a comment
 abbrev pub Looks : (in_comment : Bool) → ℕ → (old new : Kept) → Type 0
 Looks in_comment b Nothing new =

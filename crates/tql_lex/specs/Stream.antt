@@ -37,6 +37,14 @@ is_begun (Whole text) = true
 is_begun Overlong = true
 is_begun Lost = true
 
+-- whether a text has begun, and not only with a `-` that may yet begin a comment
+abbrev pub is_text : Kept → Bool
+is_text Nothing = false
+is_text Dash = false
+is_text (Whole text) = true
+is_text Overlong = true
+is_text Lost = true
+
 abbrev pub one_if : Bool → ℕ
 one_if true = 1
 one_if false = 0

@@ -47,4 +47,9 @@ impl Columns {
             self.passed = self.passed.saturating_add(1);
         }
     }
+
+    /// Goes past so many bytes of ASCII among which is no line feed.
+    pub(crate) fn pass_ascii(&mut self, count: usize) {
+        self.passed = self.passed.saturating_add(count as u64);
+    }
 }

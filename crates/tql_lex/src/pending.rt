@@ -1,8 +1,8 @@
 //! What is kept of a text that was begun.
 ghost use Rattle.std.specs.Prelude.{◌≡◌, List, IsTrue, IfOk};
 ghost use Rattle.tql_spec.specs.Script as script;
-ghost use Rattle.tql_lex.specs.Stream.{Nothing, is_begun};
-ghost use Rattle.tql_lex.specs.Pending.{Puts, Looks, Ends};
+ghost use Rattle.tql_lex.specs.Stream.{Nothing, is_begun, is_text};
+ghost use Rattle.tql_lex.specs.Pending.{Puts, PutsAll, Looks, Ends};
 ghost use Rattle.tql_lex.specs.Pieces.{StandsFor, Says};
 
 use crate::piece::Piece;
@@ -93,6 +93,29 @@ impl PendingText {
                     self.bytes.clear();
                     self.holding = Holding::Lost;
                 }
+            }
+        }
+    }
+
+    /// Whether a text has begun, and not only with a `-` that may begin a comment.
+    pub(crate) fn is_text(&self) -> bool
+        ensures { result ≡ is_text self.now }
+    {
+        !matches!(self.holding, Holding::Nothing | Holding::Dash)
+    }
+
+    /// Puts bytes that go on a text behind what is kept of it, as `put` does with each. Where none has begun it does
+    /// nothing.
+    pub(crate) fn put_all(&mut self, bytes: &[u8])
+        ensures { PutsAll bytes.now self.old self.new }
+    {
+        if let Holding::Whole = self.holding {
+            if bytes.len() > LONGEST - self.bytes.len() {
+                self.bytes.clear();
+                self.holding = Holding::Overlong;
+            } else if self.bytes.extend_from_slice(bytes).is_err() {
+                self.bytes.clear();
+                self.holding = Holding::Lost;
             }
         }
     }

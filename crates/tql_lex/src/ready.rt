@@ -1,8 +1,10 @@
 //! The part of a stream that is still to be looked at.
-ghost use Rattle.std.specs.Prelude.{◌≡◌, ◌≤◌, length, IfOk, [], List};
+ghost use Rattle.std.specs.Prelude.{◌≡◌, ◌≤◌, length, drop, IfOk, [], List};
 ghost use Rattle.tql_spec.specs.Words.{is_empty};
+ghost use Rattle.tql_lex.specs.Plain.{plain_front};
 ghost use Rattle.tql_lex.specs.Ready.{TakesByte};
 
+use crate::scan_state::plain_length;
 use crate::splitter::LONGEST_PART;
 use std::alloc::AllocError;
 use std::marker::Model;
@@ -51,6 +53,23 @@ impl Ready {
         let byte = *self.bytes.get(self.next)?;
         self.next += 1;
         Some(byte)
+    }
+
+    /// The plain bytes that it begins with.
+    pub(crate) fn plain(&self) -> &[u8]
+        ensures { result.now ≡ plain_front self.now }
+    {
+        let (_, left) = self.bytes.as_slice().split_at(self.next);
+        let (run, _) = left.split_at(plain_length(left));
+        run
+    }
+
+    /// Passes over so many bytes.
+    pub(crate) fn skip(&mut self, count: usize)
+        requires { count ≤ length self.old }
+        ensures { self.new ≡ drop count self.old }
+    {
+        self.next += count;
     }
 
     /// Whether no byte is left.

@@ -1,7 +1,9 @@
 //! Where in a script a byte stands.
-ghost use Rattle.std.specs.Prelude.{◌≡◌};
+ghost use Rattle.std.specs.Prelude.{◌≡◌, ◌≤◌, length};
+ghost use Rattle.std.specs.List.{prefix_len};
 ghost use Rattle.tql_spec.specs.Script as script;
 ghost use Rattle.tql_lex.specs.Cutting.{state_of, is_comment};
+ghost use Rattle.tql_lex.specs.Plain as spec;
 
 /// Where a byte stands, told by the bytes before it.
 #[derive(Clone, Copy)]
@@ -43,6 +45,28 @@ pub(crate) fn is_comment(place: ScanState) -> bool
     ensures { result ≡ is_comment (state_of place) }
 {
     matches!(place, ScanState::InComment)
+}
+
+/// Whether a byte is one of ASCII that opens and closes nothing, and ends no line and no statement.
+fn is_plain(byte: u8) -> bool
+    ensures { result ≡ spec.is_plain byte }
+{
+    byte < 128 && !matches!(byte, b';' | b'\'' | b'"' | b'-' | b'\n')
+}
+
+/// How many plain bytes these begin with.
+pub(crate) fn plain_length(bytes: &[u8]) -> usize
+    ensures value { result ≡ prefix_len spec.is_plain bytes.now }
+    ensures within { result ≤ length bytes.now }
+{
+    bytes.iter().take_while(|byte| is_plain(**byte)).count()
+}
+
+/// Whether no plain byte changes this state.
+pub(crate) fn is_steady(place: ScanState) -> bool
+    ensures { result ≡ spec.is_steady (state_of place) }
+{
+    !matches!(place, ScanState::AfterDash)
 }
 
 /// Whether a `;` in this state ends a statement.

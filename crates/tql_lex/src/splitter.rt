@@ -1,13 +1,13 @@
 //! The statements of a stream of bytes.
 ghost use Rattle.std.specs.Prelude.{◌≡◌, ◌≤◌, length, List, IsFalse, IfOk};
 ghost use Rattle.tql_spec.specs.Words.{is_empty};
-ghost use Rattle.tql_lex.specs.Feeding.{Feeds, Finishes, LooksAt, Closes, TakesOn, Advances, forgotten};
+ghost use Rattle.tql_lex.specs.Feeding.{Feeds, Finishes, LooksAt, LooksOn, Closes, TakesOn, Advances, forgotten};
 
 use crate::columns::Columns;
 use crate::pending::PendingText;
 use crate::piece::Piece;
 use crate::ready::Ready;
-use crate::scan_state::{ScanState, can_end, is_comment, state_after};
+use crate::scan_state::{ScanState, can_end, is_comment, is_steady, state_after};
 use std::alloc::AllocError;
 use std::marker::Model;
 use tql_memory::Memory;
@@ -157,6 +157,19 @@ impl Splitter {
         }
     }
 
+    /// Looks at the plain bytes that come next, at once, where they go on a text.
+    fn look_on(&mut self)
+        ensures { LooksOn self.old self.new }
+    {
+        if self.pending.is_text() && is_steady(self.place) {
+            let run = self.ready.plain();
+            let count = run.len();
+            self.pending.put_all(run);
+            self.columns.pass_ascii(count);
+            self.ready.skip(count);
+        }
+    }
+
     /// Ends a piece, and gives its text out, if it has one.
     fn close(&mut self) -> bool
         ensures { Closes result self.old self.new }
@@ -181,6 +194,7 @@ impl Splitter {
             self.close()
         } else {
             self.look(byte);
+            self.look_on();
             false
         }
     }

@@ -3,6 +3,7 @@ use Rattle.tql_spec.specs.Script.{can_end}
 use Rattle.tql_lex.specs.Stream.{Stream}
 use Rattle.tql_lex.proofs.CuttingLemmas.{ends}
 use Rattle.tql_lex.proofs.HoldLemmas.{end_here, no_end_here, other_byte, taken_end, taken_on}
+use Rattle.tql_lex.proofs.RunLemmas.{taken_with}
 use Rattle.tql_lex.proofs.splitter.Splitter.take.Goals as goal
 use Rattle.tql_lex.proofs.splitter.Splitter.take.Goals.{else-byte-eq59-via-then-byte-eq59+else-can_end}
 use Rattle.tql_lex.proofs.splitter.Splitter.take.Goals.{else-byte-eq59-via-else-byte-eq59}
@@ -20,4 +21,5 @@ returns-else-byte-eq59 c =
           (ap (λ (s : Stream). can_end s.place) (sym w.self.view_is) ∙ sym w.can_end.ensures ∙ w.if-can_end.false)
       | else-byte-eq59-via-else-byte-eq59 w ↦ other_byte c.args.self.now.place c.args.byte w.if-byte-eq59.false
     ] in
-    taken_on c.args.byte c.args.self.now c.look.new.self c.look.ensures c.requires goes
+    taken_with _ c.look.new.self c.look_on.new.self
+    (taken_on c.args.byte c.args.self.now c.look.new.self c.look.ensures c.requires goes) c.look_on.ensures
