@@ -80,11 +80,18 @@ def references(size: int) -> tuple[str, str]:
     return MADE + f"SELECT COUNT(*) AS x FROM {names};\n" * 2000, ONE + ROW * 2000
 
 
+def updates(size: int) -> tuple[str, str]:
+    """So many UPDATEs of one row in one transaction, by its key."""
+    made = "CREATE TABLE k (x INTEGER, y INTEGER, PRIMARY KEY (x));\nINSERT INTO k VALUES (1, 0);\nSTART TRANSACTION;\n"
+    return (made + "UPDATE k SET y = y + 1 WHERE x = 1;\n" * size + "COMMIT;\nSELECT y AS x FROM k;\n",
+            ONE + "START TRANSACTION\n" + "UPDATE 1\n" * size + f"COMMIT\nX\n{size}\n(1 rows)\n")
+
+
 FORMS = (
     ("a text literal, bytes", 125000, literal), ("a text literal that is too long, bytes", 1250000, literal), ("empty statements", 1250000, empty),
     ("a condition, terms", 12500, terms), ("IN, members", 12500, members), ("a sum, terms", 31250, sums), ("64 parentheses, statements", 1250, nested),
     ("a quote that never closes, bytes", 125000, quote), ("a quote that never closes, too long, bytes", 1250000, quote), ("tables", 125, tables),
-    ("table references, 2,000 queries", 1, references),
+    ("table references, 2,000 queries", 1, references), ("UPDATEs of one row in a transaction", 2500, updates),
 )
 
 

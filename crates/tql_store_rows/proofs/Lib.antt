@@ -17,3 +17,4 @@ pub mod Choosing
 pub mod Ending
 pub mod PastRows
 pub mod Leaving
+pub mod Burying

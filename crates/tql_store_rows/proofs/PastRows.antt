@@ -2,9 +2,10 @@
 use Rattle.std.proofs.Common.{◌≡◌, ℕ, zero, suc, ◌+◌, ◌<◌, ◌≤◌, Bool, true, false, List, [], ◌∷◌, ◌++◌, map, get_or}
 use Rattle.std.proofs.Common.{length, length-append, append-nil, append_assoc, refl, sym, ap, subst, ◌∙◌, arith}
 use Rattle.std.proofs.Common.{inl, inr, take}
-use Rattle.std.specs.Prelude.{◌⊎◌, All, ℤ, Vec, max, nat_lt, if◌then◌else◌}
+use Rattle.std.specs.Prelude.{◌⊎◌, All, ℤ, Vec, max, nat_lt, not, if◌then◌else◌}
 use Rattle.std.proofs.lemmas.List.{map-append, length-map, get_or_append_left, get_or-map}
-use Rattle.std.proofs.lemmas.List.Elements.{All-append, All-filter}
+use Rattle.std.proofs.lemmas.List.Elements.{All-append, All-filter, All-nil, filter_passes}
+use Rattle.std.proofs.lemmas.Bool.Decides.{nat_tests}
 use Rattle.tql_spec.specs.Datum.{Row}
 use Rattle.tql_spec.specs.Definition.{Version}
 use Rattle.tql_value.specs.Views.{datum_of_value}
@@ -18,7 +19,7 @@ use Rattle.tql_store_rows.proofs.Numbering.{taken-is}
 use Rattle.tql_store_rows.proofs.RowsStanding.{rows-length, standing_back, standing_less, standing_longer}
 use Rattle.tql_store_rows.proofs.RowsStanding.{standing_more, standing_nil, standing_none}
 use Rattle.tql_store_rows.specs.Changes.{closing, fresh, nothing, taken}
-use Rattle.tql_store_rows.specs.Marks.{below}
+use Rattle.tql_store_rows.specs.Marks.{below, from}
 use Rattle.tql_store_rows.specs.RowsStanding.{AllStand, AreStanding, IsComing, IsFilled, past_rows, rows_at, rows_of}
 use Rattle.tql_store_rows.specs.TableModel.{TableModel, InTurn}
 use Rattle.tql_store_rows.specs.Views.{version_of, versions_of}
@@ -181,18 +182,24 @@ past-most false current ended closed =
 count_of : (ks : List Kept) → length (versions_of ks) ≡ length ks
 count_of ks = length-map ks version_of
 
+-- no place is noted
+pub none_behind : (base : ℕ) (dead : List ℕ) → dead ≡ [] → All (λ k. base ≤ k) dead
+none_behind base dead e = subst (All (λ k. base ≤ k)) (sym e) (All-nil (λ k. base ≤ k))
+
 -- a table without rows
 pub none_stand : (keeps : Bool) (s t : Seating) (indexes past : List ValueIndex) (current closed : List Kept)
-    (ended : List ℕ) → s ≡ record { seats = []; places = [] } → t ≡ record { seats = []; places = [] }
+    (ended : List ℕ) (base : ℕ) (dead : List ℕ) → s ≡ record { seats = []; places = [] }
+    → t ≡ record { seats = []; places = [] }
     → All (λ (k : ValueIndex). k.standing ≡ []) indexes → All (λ (k : ValueIndex). k.standing ≡ []) past
-    → current ≡ [] → ended ≡ [] → closed ≡ []
-    → AllStand keeps s indexes t past (versions_of current) ended (versions_of closed)
-none_stand keeps s t indexes past current closed ended e f all all' none nil gone = record {
+    → current ≡ [] → ended ≡ [] → closed ≡ [] → dead ≡ []
+    → AllStand keeps s indexes t past (versions_of current) ended (versions_of closed) base dead
+none_stand keeps s t indexes past current closed ended base dead e f all all' none nil gone empty = record {
   current_ones = subst (AreStanding s indexes) (sym (ap (λ ks. rows_of (versions_of ks)) none))
       (standing_none s indexes e all);
   past_ones = subst (AreStanding t past) (sym (ap (λ is. past_rows keeps (versions_of current) is (versions_of closed))
       nil ∙ ap (λ ks. past_rows keeps (versions_of current) [] (versions_of ks)) gone
       ∙ sym (past_alone_rows keeps (versions_of current) []))) (standing_none t past f all');
+  behind = none_behind base dead empty;
 }
 
 -- what a change ends stands behind what was ended before, in the versions as they were
@@ -232,6 +239,16 @@ change_past keeps m n h t past before old new removed base ended all closed rows
     (All-filter (λ i. nat_lt i base) (λ i. i < length h.current) removed within))))
     (made ∙ ap (λ (ks : List Kept). closing n removed (versions_of ks)
     ++ map (λ row. fresh n (map datum_of_value row.items)) rows) same))) stand
+
+-- what it notes as dead lies behind the rows that were there before
+pub change_behind : (base : ℕ) (old removed dead : List ℕ) → dead ≡ old ++ from base removed
+    → All (λ k. base ≤ k) old → All (λ k. base ≤ k) dead
+change_behind base old removed dead e low = subst (All (λ k. base ≤ k)) (sym e)
+    (All-append (λ k. base ≤ k) old (from base removed) low
+    (λ k d l. not_low (get_or (from base removed) k d) (filter_passes (λ i. not (nat_lt i base)) removed k d l)))
+  where
+    not_low : (k : ℕ) → not (nat_lt k base) ≡ true → base ≤ k
+    not_low k h = grind (arith, nat_tests)
 
 -- a commit keeps what it closes where it stands
 pub commit_past : (keeps : Bool) (m n : ℤ) (h : TableModel) (t : Seating) (past : List ValueIndex)
@@ -289,11 +306,14 @@ past_filled keeps t past current ended closed number e h k = record {
 
 -- a change that is refused leaves what stood
 pub refused_stand : (keeps : Bool) (s t : Seating) (indexes past : List ValueIndex)
-    (before current closed later : List Kept) (ended cut : List ℕ) → current ≡ before → later ≡ closed → cut ≡ ended
+    (before current closed later : List Kept) (ended cut : List ℕ) (base : ℕ) (dead left : List ℕ)
+    → current ≡ before → later ≡ closed → cut ≡ ended → left ≡ dead
     → AreStanding s indexes (rows_of (versions_of current))
     → AreStanding t past (past_rows keeps (versions_of before) ended (versions_of closed))
-    → AllStand keeps s indexes t past (versions_of current) cut (versions_of later)
-refused_stand keeps s t indexes past before current closed later ended cut e f g h i = record {
+    → All (λ k. base ≤ k) dead
+    → AllStand keeps s indexes t past (versions_of current) cut (versions_of later) base left
+refused_stand keeps s t indexes past before current closed later ended cut base dead left e f g same h i low = record {
+  behind = subst (All (λ k. base ≤ k)) (sym same) low;
   current_ones = h;
   past_ones = subst (AreStanding t past)
       (sym (ap (λ ks. past_rows keeps (versions_of ks) cut (versions_of later)) e

@@ -8,8 +8,7 @@ use Rattle.std.proofs.lemmas.List.{map-append, length-map, get_or_append_left, g
 use Rattle.std.specs.List.{swap_remove}
 use Rattle.std.proofs.lemmas.List.{get_or_default, get_or-take, take_more, length-take, length-set}
 use Rattle.std.proofs.lemmas.List.{get_or-set_same, get_or-set_other}
-use Rattle.std.proofs.lemmas.List.Elements.{Contains-append_cases}
-use Rattle.tql_spec.proofs.Members.{by_bool}
+use Rattle.std.proofs.lemmas.List.Elements.{Contains-append_cases, Contains-append_left, Contains-append_right}
 use Rattle.tql_spec.specs.Datum.{Row}
 use Rattle.tql_spec.specs.Definition.{Version}
 use Rattle.tql_spec.specs.Period.{Period}
@@ -22,10 +21,9 @@ use Rattle.tql_store_index.specs.ValueIndexes.{IsTurned, nowhere}
 use Rattle.tql_store_index.specs.Basis.{Basis, stands_by}
 use Rattle.tql_store_index.specs.Seating.{Seating, seat_at, AreGrown, AreSwapped}
 use Rattle.tql_store_index.specs.Standing.{stands}
-use Rattle.tql_store_rows.specs.RowsStanding.{AreStanding, AreOpenStanding, IsShut, IsShutAt, version_at, rows_of}
-use Rattle.tql_store_rows.specs.RowsStanding.{all_of, open_in}
+use Rattle.tql_store_rows.specs.RowsStanding.{AreStanding, AreHeld, IsShut, IsShutAt, version_at, rows_of}
+use Rattle.tql_store_rows.specs.RowsStanding.{all_of, held_in, held_of}
 use Rattle.tql_store_rows.specs.RowsStanding.{IsComing, cells_of}
-use Rattle.tql_store_rows.specs.RowsStanding.{open_of}
 use Rattle.tql_store_rows.specs.Changes.{is_current, emptied, moved_out, nothing}
 use Rattle.tql_store_rows.specs.Views.{version_of, versions_of}
 use Rattle.tql_store_rows.specs.declared.kept.Kept.{Kept}
@@ -428,7 +426,10 @@ shut_one vs s p old new h t gone = record {
     | inl a ↦ inl (t.differs.others k l (inl a))
     | inr a ↦ elim (cases_lt p k) [
       | inl b ↦ inl (t.differs.others k l (inr (omega (arith, b))))
-      | inr b ↦ inr (subst (IsShutAt vs) (here k a b) h, gone k a (omega (arith, b)))
+      | inr b ↦ inr (
+        (0, omega arith, here k a b),
+        (subst (IsShutAt vs) (here k a b) h, gone k a (omega (arith, b))),
+      )
     ]
   ];
   gone = λ k c x. let e = only c in gone k (omega (arith, e)) (omega (arith, e));
@@ -462,22 +463,26 @@ shut_both vs s is js a b c room h g = record {
   even = g.even ∙ h.even;
   beyond = λ seat l. g.beyond seat l ∙ h.beyond seat l;
   kept = λ k l. elim (g.kept k l) [
-    | inl x ↦ elim (h.kept k l) [ inl y ↦ inl (x ∙ y) | inr y ↦ inr (y.0, x ∙ y.1) ]
-    | inr x ↦ inr x
+    | inl x ↦ elim (h.kept k l) [
+      | inl y ↦ inl (x ∙ y)
+      | inr y ↦ inr (Contains-append_left is js k y.0, (y.1.0, x ∙ y.1.1))
+    ]
+    | inr x ↦ inr (Contains-append_right is js k x.0, x.1)
   ];
   gone = λ k m x. elim (Contains-append_cases is js k m) [
     | inl n ↦ elim (g.kept k (let w = x.0 in omega (arith, w, room)))
-        [ inl y ↦ y ∙ h.gone k n x | inr y ↦ y.1 ]
+        [ inl y ↦ y ∙ h.gone k n x | inr y ↦ y.1.1 ]
     | inr n ↦ g.gone k n x
   ];
 }
 
 pub shut_each : (vs : List Version) (s : Seating) (is js : List ℕ) (a b c : List ValueIndex)
-    → length vs ≤ length s.seats
+    → (0 < length a → length vs ≤ length s.seats)
     → Each (IsShut vs s is) a b → Each (IsShut vs s js) b c → Each (IsShut vs s (is ++ js)) a c
 shut_each vs s is js a b c room h g = (
   g.0 ∙ h.0,
-  λ i l. shut_both vs s is js (index_at a i) (index_at b i) (index_at c i) room (h.1 i l) (g.1 i (let e =
+  λ i l. shut_both vs s is js (index_at a i) (index_at b i) (index_at c i) (room (omega (arith, l)))
+      (h.1 i l) (g.1 i (let e =
       h.0 in omega (arith, e, l))),
 )
 
@@ -497,7 +502,7 @@ pub shut_step : (vs : List Version) (s : Seating) (places : List ℕ) (j : ℕ) 
     → Each (IsShut vs s (get_or places j 0 ∷ [])) b c → Each (IsShut vs s (take (j + 1) places)) a c
 shut_step vs s places j a b c room l h g =
     subst (λ (is : List ℕ). Each (IsShut vs s is) a c) (sym (take_more places j 0 l))
-    (shut_each vs s (take j places) (get_or places j 0 ∷ []) a b c room h g)
+    (shut_each vs s (take j places) (get_or places j 0 ∷ []) a b c (λ m. room) h g)
 
 -- the next place, as it is read
 pub shut_stepped : (ks ls : List Kept) (s : Seating) (places ps : List ℕ) (j p : ℕ) (a b c : List ValueIndex)
@@ -510,10 +515,10 @@ shut_stepped ks ls s places ps j p a b c room l e f g h i =
     (subst (λ (q : ℕ). Each (IsShut (versions_of ks) s (q ∷ [])) b c) (g ∙ ap (λ (qs : List ℕ). get_or qs j 0) e)
     (subst (λ (ms : List Kept). Each (IsShut (versions_of ms) s (p ∷ [])) b c) f i))
 
--- ---- what stands is open
+-- ---- only what passes a test stands
 
-open-length : (basis : Basis) (vs : List Version) → length (open_of basis vs) ≡ length vs
-open-length basis vs = length-map vs (open_in basis)
+held-length : (test : Version → Bool) (basis : Basis) (vs : List Version) → length (held_of test basis vs) ≡ length vs
+held-length test basis vs = length-map vs (held_in test basis)
 
 at_all : (basis : Basis) (vs : List Version) (k : ℕ) → k < length vs
     → stands (all_of basis (rows_of vs)) k ≡ stands_by basis (version_at vs k).row.cells
@@ -521,80 +526,63 @@ at_all basis [] k l = absurd (omega (arith, l))
 at_all basis (v ∷ vs) zero l = refl
 at_all basis (v ∷ vs) (suc k) l = at_all basis vs k (omega (arith, l))
 
-at_open : (basis : Basis) (vs : List Version) (k : ℕ) → k < length vs
-    → stands (open_of basis vs) k ≡ open_in basis (version_at vs k)
-at_open basis [] k l = absurd (omega (arith, l))
-at_open basis (v ∷ vs) zero l = refl
-at_open basis (v ∷ vs) (suc k) l = at_open basis vs k (omega (arith, l))
+at_held : (test : Version → Bool) (basis : Basis) (vs : List Version) (k : ℕ) → k < length vs
+    → stands (held_of test basis vs) k ≡ held_in test basis (version_at vs k)
+at_held test basis [] k l = absurd (omega (arith, l))
+at_held test basis (v ∷ vs) zero l = refl
+at_held test basis (v ∷ vs) (suc k) l = at_held test basis vs k (omega (arith, l))
 
--- the seats of all closed versions have been left
-pub standing_open : (s : Seating) (indexes one two : List ValueIndex) (vs : List Version) (is js : List ℕ)
-    → Each (IsShut vs s is) indexes one → Each (IsShut vs s js) one two
-    → ((k : ℕ) → IsShutAt vs k → Contains is k ⊎ Contains js k) → AreStanding s indexes (rows_of vs)
-    → AreOpenStanding s two vs
-standing_open s indexes one two vs is js first second noted h = record {
+all_held : (test : Version → Bool) (basis : Basis) (v : Version) → test v ≡ true
+    → held_in test basis v ≡ stands_by basis v.row.cells
+all_held test basis v t = ap (λ (b : Bool). if b then stands_by basis v.row.cells else None) t
+
+none_held : (test : Version → Bool) (basis : Basis) (v : Version) → test v ≡ false → held_in test basis v ≡ None
+none_held test basis v f = ap (λ (b : Bool). if b then stands_by basis v.row.cells else None) f
+
+-- a version passes the test and is left alone, or it does not and is closed and listed
+abbrev pub IsTold : (Version → Bool) → List Version → List ℕ → ℕ → Type 0
+IsTold test vs is k = ((test (version_at vs k) ≡ true) × (Contains is k → is_current (version_at vs k) ≡ true))
+    ⊎ ((test (version_at vs k) ≡ false) × (IsShutAt vs k × Contains is k))
+
+-- the seats of those that do not pass have been left
+pub standing_left : (test : Version → Bool) (s : Seating) (indexes new : List ValueIndex) (vs : List Version)
+    (is : List ℕ) → Each (IsShut vs s is) indexes new → ((k : ℕ) → k < length vs → IsTold test vs is k)
+    → AreStanding s indexes (rows_of vs) → AreHeld test s new vs
+standing_left test s indexes new vs is shut told h = record {
   each = λ i l.
-      let m : i < length one = let e = second.0 in omega (arith, e, l) in
-      let n : i < length indexes = let e = first.0 in omega (arith, e, m) in
+      let n : i < length indexes = let e = shut.0 in omega (arith, e, l) in
       let basis = (index_at indexes i).basis in
-      let x = first.1 i n in
-      let y = second.1 i m in
+      let x = shut.1 i n in
       let g = h.each i n in
-      subst (λ (b : Basis). IsLinked (open_of b vs) s (index_at two i).standing) (sym (y.basis ∙ x.basis))
+      subst (λ (b : Basis). IsLinked (held_of test b vs) s (index_at new i).standing) (sym x.basis)
       (record {
-        room = let r = g.room in omega (arith, r, all-length basis (rows_of vs), rows-length vs, open-length basis vs);
-        wide = let a = g.wide in let b = x.even in let c = y.even in omega (arith, a, b, c);
+        room = let r = g.room in omega
+            (arith, r, all-length basis (rows_of vs), rows-length vs, held-length test basis vs);
+        wide = let a = g.wide in let b = x.even in omega (arith, a, b);
         each = λ k o. elim (cases_lt k (length vs)) [
-          | inl a ↦ by_bool (is_current (version_at vs k))
-              (λ t. still i k x y g o a t ∙ sym (at_open basis vs k a
-              ∙ ap (λ (b : Bool). if b then stands_by basis (version_at vs k).row.cells else None) t))
-              (λ f. left i k x y o (a, f) (noted k (a, f)) ∙ sym (at_open basis vs k a
-              ∙ ap (λ (b : Bool). if b then stands_by basis (version_at vs k).row.cells else None) f))
-          | inr a ↦ behind i k x y g o a ∙ sym (past_end (open_of basis vs) k (omega (
-            arith,
-            a,
-            open-length basis vs,
-          )))
+          | inl a ↦ elim (told k a) [
+            | inl t ↦ same i k x o (λ c z. both (is_current (version_at vs k)) (t.1 c) z.1) ∙ g.each k o
+                ∙ at_all basis vs k a
+                ∙ sym (at_held test basis vs k a ∙ all_held test basis (version_at vs k) t.0)
+            | inr t ↦ x.gone k t.1.1 t.1.0
+                ∙ sym (at_held test basis vs k a ∙ none_held test basis (version_at vs k) t.0)
+          ]
+          | inr a ↦ same i k x o (λ c z. let w = z.0 in omega (arith, w, a)) ∙ g.each k o
+              ∙ past_end (all_of basis (rows_of vs)) k (omega
+              (arith, a, all-length basis (rows_of vs), rows-length vs))
+              ∙ sym (past_end (held_of test basis vs) k (omega (arith, a, held-length test basis vs)))
         ];
-        beyond = λ seat o. y.beyond seat o ∙ x.beyond seat o ∙ g.beyond seat o;
+        beyond = λ seat o. x.beyond seat o ∙ g.beyond seat o;
       });
 }
   where
     both : (b : Bool) → b ≡ true → b ≡ false → ⊥
     both b p q = absurd (cc)
 
-    same : (i k : ℕ) (a b : ValueIndex) (is : List ℕ) → IsShut vs s is a b → k < length s.seats → (IsShutAt vs k → ⊥)
-        → stands b.standing (seat_at s k) ≡ stands a.standing (seat_at s k)
-    same i k a b is x o f = elim (x.kept k o) [ inl e ↦ e | inr e ↦ absurd (f e.0) ]
-
-    still : (i k : ℕ) → IsShut vs s is (index_at indexes i) (index_at one i)
-        → IsShut vs s js (index_at one i) (index_at two i)
-        → IsLinked (all_of (index_at indexes i).basis (rows_of vs)) s (index_at indexes i).standing → k < length s.seats
-        → k < length vs → is_current (version_at vs k) ≡ true
-        → stands (index_at two i).standing (seat_at s k) ≡ stands_by (index_at indexes i).basis
-        (version_at vs k).row.cells
-    still i k x y g o a t =
-        same i k (index_at one i) (index_at two i) js y o (λ z. both (is_current (version_at vs k)) t z.1)
-        ∙ same i k (index_at indexes i) (index_at one i) is x o (λ z. both (is_current (version_at vs k)) t z.1)
-        ∙ g.each k o ∙ at_all (index_at indexes i).basis vs k a
-
-    left : (i k : ℕ) → IsShut vs s is (index_at indexes i) (index_at one i)
-        → IsShut vs s js (index_at one i) (index_at two i) → k < length s.seats → IsShutAt vs k
-        → Contains is k ⊎ Contains js k → stands (index_at two i).standing (seat_at s k) ≡ None
-    left i k x y o z c = elim c [
-      | inl a ↦ elim (y.kept k o) [ inl e ↦ e ∙ x.gone k a z | inr e ↦ e.1 ]
-      | inr a ↦ y.gone k a z
-    ]
-
-    behind : (i k : ℕ) → IsShut vs s is (index_at indexes i) (index_at one i)
-        → IsShut vs s js (index_at one i) (index_at two i)
-        → IsLinked (all_of (index_at indexes i).basis (rows_of vs)) s (index_at indexes i).standing → k < length s.seats
-        → length vs ≤ k → stands (index_at two i).standing (seat_at s k) ≡ None
-    behind i k x y g o a =
-        same i k (index_at one i) (index_at two i) js y o (λ z. let w = z.0 in omega (arith, w, a))
-        ∙ same i k (index_at indexes i) (index_at one i) is x o (λ z. let w = z.0 in omega (arith, w, a))
-        ∙ g.each k o ∙ past_end (all_of (index_at indexes i).basis (rows_of vs)) k
-        (omega (arith, a, all-length (index_at indexes i).basis (rows_of vs), rows-length vs))
+    same : (i k : ℕ) → IsShut vs s is (index_at indexes i) (index_at new i) → k < length s.seats
+        → (Contains is k → IsShutAt vs k → ⊥)
+        → stands (index_at new i).standing (seat_at s k) ≡ stands (index_at indexes i).standing (seat_at s k)
+    same i k x o f = elim (x.kept k o) [ inl e ↦ e | inr e ↦ absurd (f e.0 e.1.0) ]
 
 -- ---- closed versions are taken out of their places
 
@@ -603,28 +591,26 @@ set_none [] k h = refl
 set_none (x ∷ xs) zero h = ap (λ y. y ∷ xs) (sym h)
 set_none (x ∷ xs) (suc k) h = ap (λ ys. x ∷ ys) (set_none xs k h)
 
-emptied_same : (basis : Basis) (m : ℤ) (is : List ℕ) (vs : List Version) → open_in basis (moved_out m) ≡ None
-    → ((j : ℕ) → Contains is j → stands (open_of basis vs) j ≡ None)
-    → open_of basis (emptied m is vs) ≡ open_of basis vs
+emptied_same : (basis : Basis) (m : ℤ) (is : List ℕ) (vs : List Version) → held_in is_current basis (moved_out m) ≡ None
+    → ((j : ℕ) → Contains is j → stands (held_of is_current basis vs) j ≡ None)
+    → held_of is_current basis (emptied m is vs) ≡ held_of is_current basis vs
 emptied_same basis m [] vs e h = refl
 emptied_same basis m (i ∷ is) vs e h =
-    let same : open_of basis (set vs i (moved_out m)) ≡ open_of basis vs =
-    map_set vs i ∙ ap (set (open_of basis vs) i) e
-    ∙ set_none (open_of basis vs) i (h i (0, omega arith, refl)) in
+    let same : held_of is_current basis (set vs i (moved_out m)) ≡ held_of is_current basis vs =
+    map_set vs i ∙ ap (set (held_of is_current basis vs) i) e
+    ∙ set_none (held_of is_current basis vs) i (h i (0, omega arith, refl)) in
     emptied_same basis m is (set vs i (moved_out m)) e
     (λ j c. ap (λ xs. stands xs j) same ∙ h j (later c)) ∙ same
   where
     map_set : (us : List Version) (k : ℕ)
-        → open_of basis (set us k (moved_out m)) ≡ set (open_of basis us) k (open_in basis (moved_out m))
+        → held_of is_current basis (set us k (moved_out m))
+        ≡ set (held_of is_current basis us) k (held_in is_current basis (moved_out m))
     map_set [] k = refl
     map_set (u ∷ us) zero = refl
-    map_set (u ∷ us) (suc k) = ap (λ xs. open_in basis u ∷ xs) (map_set us k)
+    map_set (u ∷ us) (suc k) = ap (λ xs. held_in is_current basis u ∷ xs) (map_set us k)
 
     later : {j : ℕ} → Contains is j → Contains (i ∷ is) j
     later (k, l, g) = (suc k, omega (arith, l), g)
-
-closed_none : (basis : Basis) (v : Version) → is_current v ≡ false → open_in basis v ≡ None
-closed_none basis v f = ap (λ (b : Bool). if b then stands_by basis v.row.cells else None) f
 
 pub emptied-length : (m : ℤ) (is : List ℕ) (vs : List Version) → length (emptied m is vs) ≡ length vs
 emptied-length m [] vs = refl
@@ -639,27 +625,29 @@ pub standing_emptied : (s : Seating) (indexes : List ValueIndex) (keeps : Bool) 
     (vs us : List Version)
     → is_current (moved_out m) ≡ false
     → ((j : ℕ) → Contains is j → (j < length vs) × (is_current (version_at vs j) ≡ false))
-    → us ≡ (if keeps then emptied m is vs else vs) → AreOpenStanding s indexes vs → AreOpenStanding s indexes us
+    → us ≡ (if keeps then emptied m is vs else vs) → AreHeld is_current s indexes vs → AreHeld is_current s indexes us
 standing_emptied s indexes true m is vs us f shut e h = rw e (record {
   each = λ i l. subst (λ (xs : List (Option Period)). IsLinked xs s (index_at indexes i).standing)
-      (sym (emptied_same (index_at indexes i).basis m is vs (closed_none (index_at indexes i).basis (moved_out m) f)
-      (λ j c. let x = shut j c in at_open (index_at indexes i).basis vs j x.0
-      ∙ closed_none (index_at indexes i).basis (version_at vs j) x.1)))
+      (sym (emptied_same (index_at indexes i).basis m is vs
+      (none_held is_current (index_at indexes i).basis (moved_out m) f)
+      (λ j c. let x = shut j c in at_held is_current (index_at indexes i).basis vs j x.0
+      ∙ none_held is_current (index_at indexes i).basis (version_at vs j) x.1)))
       (h.each i l);
 })
 standing_emptied s indexes false m is vs us f shut e h = rw e h
 
 -- ---- a closed version gives its place to the last one
 
-open_here : (basis : Basis) (ks : List Kept) (k : ℕ) (d : Kept) → k < length ks
-    → stands (open_of basis (versions_of ks)) k ≡ open_in basis (version_of (get_or ks k d))
-open_here basis [] k d l = absurd (omega (arith, l))
-open_here basis (x ∷ ks) zero d l = refl
-open_here basis (x ∷ ks) (suc k) d l = open_here basis ks k d (omega (arith, l))
+held_here : (test : Version → Bool) (basis : Basis) (ks : List Kept) (k : ℕ) (d : Kept) → k < length ks
+    → stands (held_of test basis (versions_of ks)) k ≡ held_in test basis (version_of (get_or ks k d))
+held_here test basis [] k d l = absurd (omega (arith, l))
+held_here test basis (x ∷ ks) zero d l = refl
+held_here test basis (x ∷ ks) (suc k) d l = held_here test basis ks k d (omega (arith, l))
 
-kept-length : (basis : Basis) (ks : List Kept) → length (open_of basis (versions_of ks)) ≡ length ks
-kept-length basis [] = refl
-kept-length basis (k ∷ ks) = ap suc (kept-length basis ks)
+kept-length : (test : Version → Bool) (basis : Basis) (ks : List Kept)
+    → length (held_of test basis (versions_of ks)) ≡ length ks
+kept-length test basis [] = refl
+kept-length test basis (k ∷ ks) = ap suc (kept-length test basis ks)
 
 -- what a list without a place is
 pub record IsDropped (old new : List Kept) (p : ℕ) : Type 0 where
@@ -680,17 +668,17 @@ dropped old new p r l e =
           ∙ get_or-set_other old p k last d f;
     })
 
-pub linked_dropped : (basis : Basis) (standing : List (Option Period)) (s t : Seating) (old new : List Kept)
-    (p last : ℕ) (r : Kept) → p < length old → last + 1 ≡ length old
+pub linked_dropped : (test : Version → Bool) (basis : Basis) (standing : List (Option Period)) (s t : Seating)
+    (old new : List Kept) (p last : ℕ) (r : Kept) → p < length old → last + 1 ≡ length old
     → (p < length s.seats → last < length s.seats → AreSwapped p last s t) → length new + 1 ≡ length old
     → r ≡ get_or old p r
     → ((d : Kept) → p + 1 < length old → get_or new p d ≡ get_or old (length old - 1) d)
     → ((k : ℕ) (d : Kept) → k ≢ p → k + 1 < length old → get_or new k d ≡ get_or old k d)
-    → is_current (version_of r) ≡ false
-    → IsLinked (open_of basis (versions_of old)) s standing
-    → IsLinked (open_of basis (versions_of new)) t standing
-linked_dropped basis standing s t old new p last r within is swaps size read there others shut h = record {
-  room = let e = swapped.even in omega (arith, e, room, size, kept-length basis new);
+    → test (version_of r) ≡ false
+    → IsLinked (held_of test basis (versions_of old)) s standing
+    → IsLinked (held_of test basis (versions_of new)) t standing
+linked_dropped test basis standing s t old new p last r within is swaps size read there others shut h = record {
+  room = let e = swapped.even in omega (arith, e, room, size, kept-length test basis new);
   wide = let e = swapped.even in let w = h.wide in omega (arith, e, w);
   each = λ k l.
       let m : k < length s.seats = let e = swapped.even in omega (arith, e, l) in
@@ -700,26 +688,28 @@ linked_dropped basis standing s t old new p last r within is swaps size read the
               let q : length old - 1 ≡ last = omega (arith, is) in
               ap (λ j. stands standing (seat_at t j)) e ∙ ap (λ j. stands standing j) swapped.first
               ∙ h.each last (omega (arith, is, room))
-              ∙ open_here basis old last r (omega (arith, is))
-              ∙ ap (λ j. open_in basis (version_of (get_or old j r))) (sym q)
-              ∙ ap (λ x. open_in basis (version_of x)) (sym (there r a))
-              ∙ sym (open_here basis new p r (omega (arith, a, size)))
-              ∙ ap (λ j. stands (open_of basis (versions_of new)) j) (sym e)
+              ∙ held_here test basis old last r (omega (arith, is))
+              ∙ ap (λ j. held_in test basis (version_of (get_or old j r))) (sym q)
+              ∙ ap (λ x. held_in test basis (version_of x)) (sym (there r a))
+              ∙ sym (held_here test basis new p r (omega (arith, a, size)))
+              ∙ ap (λ j. stands (held_of test basis (versions_of new)) j) (sym e)
           | inr a ↦
               let q : last ≡ p = omega (arith, a, is, within) in
               ap (λ j. stands standing (seat_at t j)) e ∙ ap (λ j. stands standing j) swapped.first
               ∙ ap (λ j. stands standing (seat_at s j)) q ∙ gone
-              ∙ sym (past_end (open_of basis (versions_of new)) k (omega (arith, a, e, size, kept-length basis new)))
+              ∙ sym (past_end (held_of test basis (versions_of new)) k
+              (omega (arith, a, e, size, kept-length test basis new)))
         ]
         | inr f ↦ elim (apart k last) [
           | inl e ↦ ap (λ j. stands standing (seat_at t j)) e ∙ ap (λ j. stands standing j) swapped.second ∙ gone
-              ∙ sym (past_end (open_of basis (versions_of new)) k (omega (arith, e, is, size, kept-length basis new)))
+              ∙ sym (past_end (held_of test basis (versions_of new)) k
+              (omega (arith, e, is, size, kept-length test basis new)))
           | inr g ↦ ap (λ j. stands standing j) (swapped.others k f g) ∙ h.each k m ∙ elim (cases_lt k last) [
-            | inl a ↦ open_here basis old k r (omega (arith, a, is))
-                ∙ ap (λ x. open_in basis (version_of x)) (sym (others k r f (omega (arith, a, is))))
-                ∙ sym (open_here basis new k r (omega (arith, a, is, size)))
-            | inr a ↦ past_end (open_of basis (versions_of old)) k (beyond k g a)
-                ∙ sym (past_end (open_of basis (versions_of new)) k (beyond_new k g a))
+            | inl a ↦ held_here test basis old k r (omega (arith, a, is))
+                ∙ ap (λ x. held_in test basis (version_of x)) (sym (others k r f (omega (arith, a, is))))
+                ∙ sym (held_here test basis new k r (omega (arith, a, is, size)))
+            | inr a ↦ past_end (held_of test basis (versions_of old)) k (beyond k g a)
+                ∙ sym (past_end (held_of test basis (versions_of new)) k (beyond_new k g a))
           ]
         ]
       ];
@@ -727,23 +717,23 @@ linked_dropped basis standing s t old new p last r within is swaps size read the
 }
   where
     room : length old ≤ length s.seats
-    room = let r = h.room in omega (arith, r, kept-length basis old)
+    room = let r = h.room in omega (arith, r, kept-length test basis old)
 
     swapped : AreSwapped p last s t
     swapped = swaps (omega (arith, within, room)) (omega (arith, is, room))
 
     gone : stands standing (seat_at s p) ≡ None
-    gone = h.each p (omega (arith, within, room)) ∙ open_here basis old p r within
-        ∙ ap (λ x. open_in basis (version_of x)) (sym read) ∙ closed_none basis (version_of r) shut
+    gone = h.each p (omega (arith, within, room)) ∙ held_here test basis old p r within
+        ∙ ap (λ x. held_in test basis (version_of x)) (sym read) ∙ none_held test basis (version_of r) shut
 
-    beyond : (k : ℕ) → k ≢ last → last ≤ k → length (open_of basis (versions_of old)) ≤ k
+    beyond : (k : ℕ) → k ≢ last → last ≤ k → length (held_of test basis (versions_of old)) ≤ k
     beyond k g a = elim (cases_lt last k) [
-      | inl b ↦ omega (arith, b, is, kept-length basis old)
+      | inl b ↦ omega (arith, b, is, kept-length test basis old)
       | inr b ↦ absurd (g (omega (arith, a, b)))
     ]
 
-    beyond_new : (k : ℕ) → k ≢ last → last ≤ k → length (open_of basis (versions_of new)) ≤ k
-    beyond_new k g a = omega (arith, a, is, size, kept-length basis new)
+    beyond_new : (k : ℕ) → k ≢ last → last ≤ k → length (held_of test basis (versions_of new)) ≤ k
+    beyond_new k g a = omega (arith, a, is, size, kept-length test basis new)
 
 -- a closed version that is read twice
 pub shut_read : (ks : List Kept) (p : ℕ) (r v : Kept) → p < length ks → v ≡ get_or ks p v
@@ -762,18 +752,18 @@ read_at ks p v l read shut = (
 
 -- ---- and so all that is left stands
 
-open_all : (basis : Basis) (vs : List Version)
-    → ((k : ℕ) → k < length vs → is_current (version_at vs k) ≡ true)
-    → open_of basis vs ≡ all_of basis (rows_of vs)
-open_all basis [] h = refl
-open_all basis (v ∷ vs) h =
-    ap (λ (b : Bool). (if b then stands_by basis v.row.cells else None) ∷ open_of basis vs) (h 0 (omega arith))
-    ∙ ap (λ xs. stands_by basis v.row.cells ∷ xs) (open_all basis vs (λ k l. h (suc k) (omega (arith, l))))
+held_all : (test : Version → Bool) (basis : Basis) (vs : List Version)
+    → ((k : ℕ) → k < length vs → test (version_at vs k) ≡ true)
+    → held_of test basis vs ≡ all_of basis (rows_of vs)
+held_all test basis [] h = refl
+held_all test basis (v ∷ vs) h =
+    ap (λ (b : Bool). (if b then stands_by basis v.row.cells else None) ∷ held_of test basis vs) (h 0 (omega arith))
+    ∙ ap (λ xs. stands_by basis v.row.cells ∷ xs) (held_all test basis vs (λ k l. h (suc k) (omega (arith, l))))
 
-pub standing_all : (s : Seating) (indexes : List ValueIndex) (vs : List Version)
-    → ((k : ℕ) → k < length vs → is_current (version_at vs k) ≡ true) → AreOpenStanding s indexes vs
+pub standing_all : (test : Version → Bool) (s : Seating) (indexes : List ValueIndex) (vs : List Version)
+    → ((k : ℕ) → k < length vs → test (version_at vs k) ≡ true) → AreHeld test s indexes vs
     → AreStanding s indexes (rows_of vs)
-standing_all s indexes vs all h = record {
+standing_all test s indexes vs all h = record {
   each = λ i l. subst (λ (xs : List (Option Period)). IsLinked xs s (index_at indexes i).standing)
-      (open_all (index_at indexes i).basis vs all) (h.each i l);
+      (held_all test (index_at indexes i).basis vs all) (h.each i l);
 }

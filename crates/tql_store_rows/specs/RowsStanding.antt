@@ -1,7 +1,8 @@
 -- Where the rows of a table stand by each of its bases.
 use Rattle.std.specs.Prelude.{◌≡◌, ℕ, ◌+◌, ◌<◌, ◌≤◌, ◌⊎◌, false, if◌then◌else◌, List, [], ◌++◌, map, length}
-use Rattle.std.specs.Prelude.{Bool, Option, None}
+use Rattle.std.specs.Prelude.{All, Bool, Option, None, filter}
 use Rattle.std.specs.Prelude.{Contains, Vec, slice_index_or}
+use Rattle.tql_spec.specs.Bag.{SameBag}
 use Rattle.tql_spec.specs.Datum.{Row}
 use Rattle.tql_spec.specs.Definition.{Version}
 use Rattle.tql_spec.specs.Period.{Period}
@@ -29,13 +30,13 @@ rows_at is rows = map (λ i. slice_index_or rows i []) is
 abbrev pub all_of : Basis → List Row → List (Option Period)
 all_of basis rows = map (stands_by basis) rows
 
--- under what a version stands that is not closed
-abbrev pub open_in : Basis → Version → Option Period
-open_in basis v = if is_current v then stands_by basis v.row.cells else None
+-- under what a version stands that passes a test
+abbrev pub held_in : (Version → Bool) → Basis → Version → Option Period
+held_in test basis v = if test v then stands_by basis v.row.cells else None
 
--- under what those stand that are not closed
-abbrev pub open_of : Basis → List Version → List (Option Period)
-open_of basis vs = map (open_in basis) vs
+-- under what those stand that pass it
+abbrev pub held_of : (Version → Bool) → Basis → List Version → List (Option Period)
+held_of test basis vs = map (held_in test basis) vs
 
 -- each row stands, in its seat, where each basis puts it
 pub record AreStanding (s : Seating) (indexes : List ValueIndex) (rows : List Row) : Type 0 where
@@ -52,16 +53,18 @@ pub record IsFilled (n : ℕ) (s : Seating) (indexes : List ValueIndex) : Type 0
 abbrev pub past_rows : Bool → List Version → List ℕ → List Version → List Row
 past_rows keeps current ended closed = rows_of closed ++ (if keeps then rows_at ended (rows_of current) else [])
 
--- each current row stands, and each past one
+-- each current row stands, and each past one; what the open transaction added and ended is none of the rows that were
+-- there before
 pub record AllStand (keeps : Bool) (s : Seating) (indexes : List ValueIndex) (t : Seating) (past : List ValueIndex)
-    (current : List Version) (ended : List ℕ) (closed : List Version) : Type 0 where
+    (current : List Version) (ended : List ℕ) (closed : List Version) (base : ℕ) (dead : List ℕ) : Type 0 where
   pub current_ones : AreStanding s indexes (rows_of current)
   pub past_ones : AreStanding t past (past_rows keeps current ended closed)
+  pub behind : All (λ k. base ≤ k) dead
 
--- only those that are not closed do
-pub record AreOpenStanding (s : Seating) (indexes : List ValueIndex) (vs : List Version) : Type 0 where
+-- only those that pass a test do
+pub record AreHeld (test : Version → Bool) (s : Seating) (indexes : List ValueIndex) (vs : List Version) : Type 0 where
   pub each : (i : ℕ) → i < length indexes
-      → IsLinked (open_of (index_at indexes i).basis vs) s (index_at indexes i).standing
+      → IsLinked (held_of test (index_at indexes i).basis vs) s (index_at indexes i).standing
 
 -- so many of the rows have come, the first to a place
 pub record IsComing (from j : ℕ) (rows : List Row) (s : Seating) (old new : ValueIndex) : Type 0 where
@@ -76,12 +79,34 @@ version_at vs k = slice_index_or vs k nothing
 abbrev pub IsShutAt : List Version → ℕ → Type 0
 IsShutAt vs k = (k < length vs) × (is_current (version_at vs k) ≡ false)
 
--- the seats of closed versions have been left under nothing, those at the places listed among them
+-- the seats of the closed versions at the places listed have been left under nothing
 pub record IsShut (vs : List Version) (s : Seating) (places : List ℕ) (old new : ValueIndex) : Type 0 where
   pub basis : new.basis ≡ old.basis
   pub even : length new.standing ≡ length old.standing
   pub beyond : (seat : ℕ) → length s.seats ≤ seat → stands new.standing seat ≡ stands old.standing seat
   pub kept : (k : ℕ) → k < length s.seats
       → (stands new.standing (seat_at s k) ≡ stands old.standing (seat_at s k))
-      ⊎ (IsShutAt vs k × (stands new.standing (seat_at s k) ≡ None))
+      ⊎ (Contains places k × (IsShutAt vs k × (stands new.standing (seat_at s k) ≡ None)))
   pub gone : (k : ℕ) → Contains places k → IsShutAt vs k → stands new.standing (seat_at s k) ≡ None
+
+-- a version stands at a place from a number on
+pub record StandsFrom (n : ℕ) (vs : List Version) (v : Version) : Type 0 where
+  pub place : ℕ
+  pub from : n ≤ place
+  pub within : place < length vs
+  pub here : v ≡ version_at vs place
+
+-- no version that is closed passes a test, from a place on
+abbrev pub FailsShut : ℕ → (Version → Bool) → List Version → Type 0
+FailsShut n test vs = (k : ℕ) → n ≤ k → IsShutAt vs k → test (version_at vs k) ≡ false
+
+-- closed versions have gone from places from a number on, and others of these have come there with their seats; what
+-- passes a test that no closed one passes is all there, and stands where it did
+pub record IsLess (n : ℕ) (old new : List Version) (s t : Seating) : Type 0 where
+  pub shorter : length new ≤ length old
+  pub based : n ≤ length old → n ≤ length new
+  pub front : (k : ℕ) → k < n → version_at new k ≡ version_at old k
+  pub back : (k : ℕ) → n ≤ k → k < length new → StandsFrom n old (version_at new k)
+  pub bag : (test : Version → Bool) → FailsShut n test old → SameBag (filter test new) (filter test old)
+  pub linked : (test : Version → Bool) → FailsShut n test old → (basis : Basis) (standing : List (Option Period))
+      → IsLinked (held_of test basis old) s standing → IsLinked (held_of test basis new) t standing

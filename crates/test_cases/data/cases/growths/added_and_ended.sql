@@ -1,0 +1,23 @@
+-- cases: growths
+-- Each growth is refused in turn: a row that is updated three times in a transaction, and one that comes and goes in it; undone, and then
+-- committed. By hand from docs/LANGUAGE.md.
+CREATE TABLE h (k INTEGER, v INTEGER, s TIMESTAMP GENERATED ALWAYS AS ROW START, e TIMESTAMP GENERATED ALWAYS AS ROW END,
+  PERIOD FOR SYSTEM_TIME (s, e), PRIMARY KEY (k)) WITH SYSTEM VERSIONING;
+AT TIMESTAMP '2011-01-01 00:00:00';
+INSERT INTO h VALUES (1, 10);
+AT TIMESTAMP '2011-01-02 00:00:00';
+START TRANSACTION;
+INSERT INTO h VALUES (2, 20);
+UPDATE h SET v = v + 1 WHERE k = 1;
+UPDATE h SET v = v + 1 WHERE k = 1;
+UPDATE h SET v = v + 1 WHERE k = 1;
+DELETE FROM h WHERE k = 2;
+ROLLBACK;
+START TRANSACTION;
+INSERT INTO h VALUES (2, 20);
+UPDATE h SET v = v + 1 WHERE k = 1;
+UPDATE h SET v = v + 1 WHERE k = 1;
+UPDATE h SET v = v + 1 WHERE k = 1;
+DELETE FROM h WHERE k = 2;
+COMMIT;
+SELECT * FROM h FOR SYSTEM_TIME FROM TIMESTAMP '2011-01-01 00:00:00' TO TIMESTAMP '2012-01-01 00:00:00';
