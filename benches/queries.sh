@@ -1,6 +1,6 @@
 #!/bin/sh
 # How long queries take that join, group and order: a join of 300 by 300, of 1,000 by 1,000 and of 10,000 by 10,000 rows on an equality, each
-# asked 10 times, and one of the largest by LEFT JOIN, by a comma, and of three tables by commas; COUNT(*) and one row of 100,000 by a
+# asked 10 times, and one of the largest by LEFT JOIN, by a comma, of three tables by commas, and on two columns of which the first has one value; COUNT(*) and one row of 100,000 by a
 # condition without a key;
 # GROUP BY over 100,000 rows in 100 groups with COUNT and SUM; ORDER BY of 100,000 rows; 20 questions AS OF with GROUP BY over a table of
 # 10,000 rows in 40,000 versions. In tql, and the equivalent in sqlite3 over a database in memory, where history is kept by hand with an
@@ -57,10 +57,14 @@ for name in tql sqlite; do
     { cat "$folder/join.$name"; echo "SELECT COUNT(*) FROM a LEFT JOIN b ON a.x = b.x;"; } > "$folder/left.$name"
     { cat "$folder/join.$name"; echo "SELECT COUNT(*) FROM a, b WHERE a.x = b.x;"; } > "$folder/comma.$name"
     { cat "$folder/join.$name"; echo "SELECT COUNT(*) FROM a, b, a c WHERE a.x = b.x AND b.x = c.x;"; } > "$folder/three.$name"
+    begin=$(test $name = tql && echo "START TRANSACTION;" || echo "BEGIN;")
+    { echo "$tables $begin"; pairs a $count 1 1; pairs b $count 7 1; echo "COMMIT;"; } > "$folder/two.$name"
+    echo "SELECT COUNT(*) FROM a JOIN b ON a.y = b.z AND a.x = b.x;" >> "$folder/two.$name"
 done
 both left "and once by LEFT JOIN"
 both comma "and, without it, once by a comma"
 both three "and, without these, once three tables by commas"
+both two "two tables of $count rows made, and joined once on two columns, of which the first has one value"
 
 # ---- groups and orders
 

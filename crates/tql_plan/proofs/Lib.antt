@@ -7,4 +7,5 @@ pub mod Served
 pub mod Keyed
 pub mod Steps
 pub mod LastKey
+pub mod ProductKeys
 pub mod DemandedPeriods

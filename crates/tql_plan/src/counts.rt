@@ -1,7 +1,7 @@
 //! In how many places a plan finds rows otherwise than by reading and comparing all.
 ghost use Rattle.std.specs.Prelude.{◌≡◌, if◌then◌else◌, option_map};
-ghost use Rattle.tql_plan.specs.Maps.{chains_keys, chains_maps, intervals_of, keys_of, maps_of, products_maps};
-ghost use Rattle.tql_plan.specs.Maps.{steps_keys, steps_maps, with_map};
+ghost use Rattle.tql_plan.specs.Maps.{chains_keys, chains_maps, intervals_of, keys_of, maps_of, products_keys};
+ghost use Rattle.tql_plan.specs.Maps.{products_maps, steps_keys, steps_maps, with_map};
 ghost use Rattle.tql_plan_access.specs.Access.{is_by_key, is_by_period};
 ghost use Rattle.tql_store_index.specs.Basis.{sought_of};
 
@@ -95,6 +95,17 @@ fn with_products(count: usize, products: &[Product]) -> usize
     maps
 }
 
+/// So many, and the products whose partners are found by a key.
+fn with_products_keys(count: usize, products: &[Product]) -> usize
+    ensures { result ≡ products_keys count products.now }
+{
+    let mut keys = count;
+    for product in products {
+        keys = with_key(keys, product.key);
+    }
+    keys
+}
+
 /// One where rows are found by their values.
 fn key_count(sought: Option<Sought<'_>>) -> usize
     ensures { result ≡ (if is_by_key (option_map sought_of sought.entry) then 1 else 0) }
@@ -125,6 +136,7 @@ impl<'a> Plan<'a> {
         let maps = with_products(chain_maps(&self.chains), &self.products);
         let maps = with_equality(maps, self.equality);
         let keys = with_chains_keys(key_count(self.access.sought()), &self.chains);
+        let keys = with_products_keys(keys, &self.products);
         Counts {
             maps,
             keys: with_key(keys, self.key),

@@ -185,7 +185,7 @@ impl Told<'_, '_, '_, '_> {
         if place.saturating_add(1) >= self.plan.query.chains.len() {
             self.plan.key
         } else {
-            None
+            self.plan.products.get(place)?.key
         }
     }
 
