@@ -1,6 +1,6 @@
 # make run      runs crates/test_cases/data/cases/examples/march.sql, or SCRIPT=path, in a minute or two and without a proof (or by ./tql, where it is there and new); ends with 0 where tql ends with 0 or 1
 # make build    proves what the program needs, and leaves it as ./tql
-# make install  puts ./tql, its manual page and the licences below PREFIX (/usr/local)
+# make install  puts ./tql (or TQL=path), its manual page and the licences below PREFIX (/usr/local)
 # make test     the gate: tools/earned.py, the program's command lines (make lines), and then every proof and every test, from nothing
 # make edits    tries the edits that the prover must refuse: all, or CRATE=name, or EDIT=name too
 # make lines    tries the program's command lines, in a minute or two and without a proof
@@ -20,6 +20,7 @@
 .NOTPARALLEL:
 SECONDS ?= 60
 PREFIX ?= /usr/local
+TQL ?= tql
 SCRIPT ?= crates/test_cases/data/cases/examples/march.sql
 
 run:
@@ -29,8 +30,8 @@ build:
 	@tools/build.sh
 
 install:
-	@[ -x tql ] || { echo "make install: there is no ./tql yet, which make build leaves" >&2; exit 2; }
-	install -D -m 755 tql "$(DESTDIR)$(PREFIX)/bin/tql"
+	@[ -x "$(TQL)" ] || { echo "make install: there is no $(TQL) yet; make build leaves ./tql" >&2; exit 2; }
+	install -D -m 755 "$(TQL)" "$(DESTDIR)$(PREFIX)/bin/tql"
 	install -D -m 644 docs/tql.1 "$(DESTDIR)$(PREFIX)/share/man/man1/tql.1"
 	install -D -m 644 -t "$(DESTDIR)$(PREFIX)/share/doc/tql" LICENSE-APACHE LICENSE-MIT
 

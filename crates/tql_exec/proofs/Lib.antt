@@ -2,6 +2,5 @@ pub mod OverBags
 pub mod Printed
 pub mod Begun
 pub mod Early
-pub mod Products
 pub mod Looked
 pub mod ByKey

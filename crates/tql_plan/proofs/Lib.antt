@@ -5,7 +5,7 @@ pub mod DemandedKeys
 pub mod Asked
 pub mod Served
 pub mod Keyed
+pub mod Named
+pub mod StoredColumns
 pub mod Steps
-pub mod LastKey
-pub mod ProductKeys
 pub mod DemandedPeriods

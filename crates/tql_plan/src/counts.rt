@@ -53,8 +53,8 @@ fn chain_maps(chains: &[ChainPlan<'_>]) -> usize
 }
 
 /// One more where a key is named.
-fn with_key(count: usize, key: Option<usize>) -> usize
-    ensures { result ≡ with_map count key }
+fn with_key(count: usize, key: Option<&[usize]>) -> usize
+    ensures { result ≡ with_map count key.entry }
 {
     match key {
         Some(_) => count.saturating_add(1),
@@ -85,7 +85,7 @@ fn with_chains_keys(count: usize, chains: &[ChainPlan<'_>]) -> usize
 }
 
 /// So many, and the products that name an equality.
-fn with_products(count: usize, products: &[Product]) -> usize
+fn with_products(count: usize, products: &[Product<'_>]) -> usize
     ensures { result ≡ products_maps count products.now }
 {
     let mut maps = count;
@@ -96,7 +96,7 @@ fn with_products(count: usize, products: &[Product]) -> usize
 }
 
 /// So many, and the products whose partners are found by a key.
-fn with_products_keys(count: usize, products: &[Product]) -> usize
+fn with_products_keys(count: usize, products: &[Product<'_>]) -> usize
     ensures { result ≡ products_keys count products.now }
 {
     let mut keys = count;

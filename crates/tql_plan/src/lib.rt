@@ -7,4 +7,5 @@ mod keys;
 pub mod plan;
 pub mod planner;
 mod products;
+pub mod stored;
 mod widths;

@@ -129,37 +129,78 @@ fn say_sought(
     }
 }
 
-/// Says by what partners are found: by a map of the rows by a column that is equal to one before, or by comparing all
-/// pairs.
-fn say_partners(
-    near: Option<&str>,
-    far: Option<&str>,
+/// Two columns that are said to be equal: the name of one of the rows before, and the number and the name of one of the
+/// partners.
+#[derive(Clone, Copy)]
+struct Equal<'t> {
+    near: &'t str,
+    number: usize,
+    far: &'t str,
+}
+
+/// Says two such columns, and by which means partners are found by them.
+fn say_equal(means: &str, equal: Equal<'_>, words: &mut Words) -> Result<(), AllocError> {
+    words.show(means, equal.near)?;
+    if equal.near == equal.far {
+        Ok(())
+    } else {
+        words.show(" = ", equal.far)
+    }
+}
+
+/// Says the columns of a table by whose index partners are found, in parentheses where they are several.
+fn say_index(
+    definition: &TableDef,
+    columns: &[usize],
     words: &mut Words,
 ) -> Result<(), AllocError> {
-    match (near, far) {
-        (Some(near), Some(far)) => {
-            words.show(" by map on ", near)?;
-            if near == far {
-                Ok(())
+    let is_one = columns.len() == 1;
+    let mut mark = if is_one {
+        " by index on "
+    } else {
+        " by index on ("
+    };
+    for number in columns {
+        if let Some(name) = column_name(definition, *number) {
+            words.show(mark, name)?;
+            mark = ", ";
+        }
+    }
+    if is_one { Ok(()) } else { words.say(")") }
+}
+
+/// Whether a list of columns is this one alone.
+fn is_alone(columns: &[usize], number: usize) -> bool {
+    match columns {
+        [column] => *column == number,
+        _ => false,
+    }
+}
+
+/// Says by what partners in a table are found: by an index of columns that are equal to some before, by a map of one
+/// such column, or by comparing all pairs.
+fn say_partners(
+    definition: Option<&TableDef>,
+    key: Option<&[usize]>,
+    equal: Option<Equal<'_>>,
+    words: &mut Words,
+) -> Result<(), AllocError> {
+    match (definition, key, equal) {
+        (Some(definition), Some(columns), Some(equal)) => {
+            if is_alone(columns, equal.number) {
+                say_equal(" by index on ", equal, words)
             } else {
-                words.show(" = ", far)
+                say_index(definition, columns, words)
             }
         }
-        _ => words.say(" by pairs"),
+        (_, _, Some(equal)) => say_equal(" by map on ", equal, words),
+        (_, _, None) => words.say(" by pairs"),
     }
 }
 
-/// Says that partners of few rows are found by an index, where a column has one.
-fn say_index(key: Option<usize>, words: &mut Words) -> Result<(), AllocError> {
-    match key {
-        Some(_) => words.say(" (of few rows by its index)"),
-        None => Ok(()),
-    }
-}
-
-impl Told<'_, '_, '_, '_> {
-    /// What is equal between the chain at this place and those before it.
-    fn equality_at(self, place: usize) -> Option<Equality> {
+impl<'t, 'p> Told<'t, '_, '_, 'p> {
+    /// By which equality the rows of the chain at this place are found behind those before it.
+    fn chain_equality(self, place: usize) -> Option<Equality> {
         if place.saturating_add(1) >= self.plan.query.chains.len() {
             self.plan.equality
         } else {
@@ -167,26 +208,33 @@ impl Told<'_, '_, '_, '_> {
         }
     }
 
-    /// Says by what the rows of a chain are found behind those of the chains before it.
-    fn say_product(self, place: usize, chain: &Chain, words: &mut Words) -> Result<(), AllocError> {
-        match self.equality_at(place) {
-            Some(equality) => {
-                let near = chains_column(self.catalog, &self.plan.query.chains, equality.near);
-                let far = chain_column(self.catalog, chain, equality.far);
-                say_partners(near, far, words)?;
-            }
-            None => words.say(" by pairs")?,
-        }
-        say_index(self.chain_key(place), words)
-    }
-
-    /// Which column of a chain behind others has an index, by which the partners of few rows are found.
-    fn chain_key(self, place: usize) -> Option<usize> {
+    /// By the index of which columns they are found.
+    fn chain_key(self, place: usize) -> Option<&'p [usize]> {
         if place.saturating_add(1) >= self.plan.query.chains.len() {
             self.plan.key
         } else {
             self.plan.products.get(place)?.key
         }
+    }
+
+    /// Which columns are equal there.
+    fn chain_equal(self, place: usize, chain: &Chain) -> Option<Equal<'t>> {
+        let equality = self.chain_equality(place)?;
+        Some(Equal {
+            near: chains_column(self.catalog, &self.plan.query.chains, equality.near)?,
+            number: equality.far,
+            far: chain_column(self.catalog, chain, equality.far)?,
+        })
+    }
+
+    /// Says by what the rows of a chain are found behind those of the chains before it.
+    fn say_product(self, place: usize, chain: &Chain, words: &mut Words) -> Result<(), AllocError> {
+        say_partners(
+            definition_of(self.catalog, chain.first),
+            self.chain_key(place),
+            self.chain_equal(place, chain),
+            words,
+        )
     }
 
     /// Says the joins of a chain, each behind a comma.
@@ -201,14 +249,30 @@ impl Told<'_, '_, '_, '_> {
         Ok(())
     }
 
-    /// What is equal between the reference of a join and those before it in its chain.
+    /// By which equality the rows of the reference of a join are found behind those before it in its chain.
     fn step_equality(self, place: usize, at: usize) -> Option<Equality> {
         self.plan.chains.get(place)?.joins.get(at)?.equality
     }
 
-    /// Which column of the reference of a join has an index, by which the partners of few rows are found.
-    fn step_key(self, place: usize, at: usize) -> Option<usize> {
+    /// By the index of which columns they are found.
+    fn step_key(self, place: usize, at: usize) -> Option<&'p [usize]> {
         self.plan.chains.get(place)?.joins.get(at)?.key
+    }
+
+    /// Which columns are equal there.
+    fn step_equal(
+        self,
+        place: usize,
+        at: usize,
+        chain: &Chain,
+        reference: Reference,
+    ) -> Option<Equal<'t>> {
+        let equality = self.step_equality(place, at)?;
+        Some(Equal {
+            near: chain_column(self.catalog, chain, equality.near)?,
+            number: equality.far,
+            far: column_of(self.catalog, reference, equality.far)?,
+        })
     }
 
     /// Says by what the partners of a join are found.
@@ -220,15 +284,12 @@ impl Told<'_, '_, '_, '_> {
         reference: Reference,
         words: &mut Words,
     ) -> Result<(), AllocError> {
-        match self.step_equality(place, at) {
-            Some(equality) => {
-                let near = chain_column(self.catalog, chain, equality.near);
-                let far = column_of(self.catalog, reference, equality.far);
-                say_partners(near, far, words)?;
-            }
-            None => words.say(" by pairs")?,
-        }
-        say_index(self.step_key(place, at), words)
+        say_partners(
+            definition_of(self.catalog, reference),
+            self.step_key(place, at),
+            self.step_equal(place, at, chain, reference),
+            words,
+        )
     }
 
     /// Says the first reference of the first chain, and by what its rows are found.
@@ -285,9 +346,9 @@ fn column_of(catalog: &Catalog, reference: Reference, number: usize) -> Option<&
 
 /// A plan in words, of a select over these tables: for each table reference, from the left, by what its rows are found.
 /// The first one's are found by a key, a reference or the application period of its table, or it is read whole; the
-/// others' by a map of their rows by a column that ON or WHERE says to be equal to one before, or by comparing all
-/// pairs. Where a calculation of ON or WHERE may be out of range, the first one is told, since for it nothing is
-/// sought. The only error is a refused growth.
+/// others' by an index of columns, or by a map of their rows by a column, that ON or WHERE says to be equal to some
+/// before, or by comparing all pairs. Where a calculation of ON or WHERE may be out of range, the first one is told,
+/// since for it nothing is sought. The only error is a refused growth.
 pub fn plan_words(
     memory: Memory,
     catalog: &Catalog,

@@ -1,5 +1,5 @@
 -- cases: short
--- More than few rows, and as many again and again as a sixteenth of a table's, joined with the table by its key, and multiplied with it in the middle. By hand from docs/LANGUAGE.md.
+-- 64 to 200 rows, joined with a table of 2,000 by its key, and multiplied with it in the middle. By hand from docs/LANGUAGE.md.
 CREATE TABLE a (x INTEGER, y INTEGER, UNIQUE (x));
 CREATE TABLE b (y INTEGER, z INTEGER, UNIQUE (y));
 CREATE TABLE c (z INTEGER, UNIQUE (z));

@@ -1,0 +1,30 @@
+-- cases: in-turn
+-- Rows joined by a key, or a reference, of two columns: INNER and LEFT, by commas, in the middle, in another order, by half of it, by more than it, with NULL. By hand from docs/LANGUAGE.md.
+CREATE TABLE contract (company INTEGER, no INTEGER, rate INTEGER, PRIMARY KEY (company, no));
+CREATE TABLE emp (eno INTEGER, company INTEGER, cno INTEGER, FOREIGN KEY (company, cno) REFERENCES contract (company, no));
+CREATE TABLE firm (company INTEGER, PRIMARY KEY (company));
+INSERT INTO contract VALUES (1, 1, 10), (1, 2, 20), (2, 1, 30), (2, 2, 40);
+INSERT INTO emp VALUES (1, 1, 1), (2, 1, 2), (3, 2, 1), (4, 2, NULL), (5, NULL, 1), (6, 1, 1);
+INSERT INTO firm VALUES (1), (2);
+SELECT eno, rate FROM emp JOIN contract ON emp.company = contract.company AND emp.cno = contract.no;
+SELECT eno, rate FROM emp LEFT JOIN contract ON contract.no = emp.cno AND emp.company = contract.company;
+SELECT eno, rate FROM emp JOIN contract ON emp.company = contract.company;
+SELECT eno, rate FROM emp JOIN contract ON emp.company = contract.company AND emp.cno = contract.no AND rate > 10;
+SELECT eno, rate FROM emp LEFT JOIN contract ON rate > 10 AND emp.cno = contract.no AND contract.company = emp.company WHERE eno < 4;
+SELECT rate, eno FROM contract LEFT JOIN emp ON emp.company = contract.company AND emp.cno = contract.no;
+SELECT eno, rate FROM emp, contract WHERE emp.company = contract.company AND contract.no = emp.cno;
+SELECT eno, rate FROM emp, contract WHERE contract.no = emp.cno AND eno > 1 AND emp.company = contract.company AND rate < 30;
+SELECT a.eno AS x, rate, b.eno AS y FROM emp a, contract, emp b WHERE contract.company = a.company AND contract.no = a.cno AND b.company = contract.company AND b.cno = contract.no AND a.eno < b.eno;
+SELECT eno, firm.company, rate FROM emp JOIN firm ON emp.eno = firm.company JOIN contract ON contract.company = firm.company AND contract.no = emp.cno;
+SELECT eno, firm.company, rate FROM emp, firm, contract WHERE emp.eno = firm.company AND contract.company = firm.company AND contract.no = emp.cno;
+SELECT eno, rate FROM emp JOIN contract ON contract.company = emp.company AND contract.no = emp.cno AND contract.no = emp.eno;
+SELECT eno, rate FROM emp JOIN contract ON contract.no = emp.eno AND contract.company = emp.company AND contract.no = emp.cno;
+SELECT eno, rate FROM emp JOIN contract ON contract.company = emp.company AND contract.no = emp.company;
+SELECT eno, rate FROM emp JOIN contract ON contract.company = 2 AND contract.no = emp.cno;
+SELECT eno, rate FROM emp JOIN contract ON emp.company = contract.company AND emp.cno = contract.no WHERE eno = 2;
+SELECT eno, rate FROM emp CROSS JOIN contract WHERE emp.company = contract.company AND emp.cno = contract.no;
+SELECT eno, rate FROM emp JOIN contract ON emp.company = contract.company AND emp.cno = contract.no AND rate + 9223372036854775807 > 0;
+DELETE FROM emp WHERE eno = 3;
+UPDATE contract SET no = 3 WHERE rate = 30;
+UPDATE emp SET cno = 3 WHERE eno = 4;
+SELECT eno, rate FROM emp LEFT JOIN contract ON emp.company = contract.company AND emp.cno = contract.no;
