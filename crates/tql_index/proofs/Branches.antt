@@ -10,7 +10,7 @@ use Rattle.std.proofs.lemmas.Bool.{cases_lt}
 use Rattle.tql_index.specs.Entry.{Entry}
 use Rattle.tql_index.specs.Tree.{Contents, greatest_end, IsAround, IsBranch, IsShallow, DifferByAtMost}
 
-least_below : (es : List Entry) → neg_ℤ (pos (2 ^ 63)) ≤ℤ greatest_end es
+pub least_below : (es : List Entry) → neg_ℤ (pos (2 ^ 63)) ≤ℤ greatest_end es
 least_below [] = omega (arith, ints)
 least_below (e ∷ es) = let h = least_below es in omega (arith, ints, clamps, h)
 
@@ -37,24 +37,27 @@ deep_more l r a b h k =
     let p : 2 ^ (max l r + 1) ≡ 2 ^ max l r * 2 = ap (λ e. 2 ^ e) (add-one (max l r)) ∙ pow-suc 2 (max l r) in
     rw p (omega (arith, h, k, m, n))
 
-pub made : (l : Contents) (e f : Entry) (r : Contents) (h : ℕ) (g : ℤ) → IsAround e l.entries r.entries
+-- the greatest end, told by the greatest of the parts
+pub greatest_of_parts : (l : List Entry) (e : Entry) (r : List Entry) (g : ℤ)
+    → g ≡ int_max (int_max (greatest_end l) e.period.end) (greatest_end r) → g ≡ greatest_end (l ++ e ∷ r)
+greatest_of_parts l e r g t = let b = greatest_end-append l (e ∷ r) in omega (arith, ints, clamps, t, b)
+
+pub made : (l : Contents) (e : Entry) (r : Contents) (h : ℕ) (g : ℤ) → IsAround e l.entries r.entries
     → DifferByAtMost 1 l.height r.height → IsShallow l.height (length l.entries)
     → IsShallow r.height (length r.entries) → length l.entries < 2 ^ l.height → length r.entries < 2 ^ r.height
-    → f ≡ e → h ≡ max l.height r.height + 1
-    → g ≡ int_max (int_max (greatest_end l.entries) e.period.end) (greatest_end r.entries) → IsBranch l f h g r
-made l e f r h g a d m n i j p q t =
+    → h ≡ max l.height r.height + 1 → g ≡ greatest_end (l.entries ++ e ∷ r.entries) → IsBranch l e h g r
+made l e r h g a d m n i j q t =
     let m' = shallow_more l.height r.height (length l.entries) (length r.entries) m n d in
     let c : length (l.entries ++ e ∷ r.entries) ≡ length l.entries + (length r.entries + 1) =
     omega (arith, length-append l.entries (e ∷ r.entries)) in
-    let b = greatest_end-append l.entries (e ∷ r.entries) in
-    rw p (record {
+    record {
       around = a;
       balanced = d;
       height_is = q;
-      greatest_is = omega (arith, ints, clamps, t, b);
+      greatest_is = t;
       shallow = rw (q, c) m';
       deep = rw (q, c) (deep_more l.height r.height (length l.entries) (length r.entries) i j);
-    })
+    }
 
 -- the greater of two, told by what they are
 pub greater_of : (r s a b a' b' : ℤ) → r ≡ int_max a' b' → s ≡ r → a' ≡ a → b' ≡ b → s ≡ int_max a b

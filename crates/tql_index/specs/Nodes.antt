@@ -5,7 +5,6 @@ use Rattle.tql_index.specs.Entry.{Entry}
 use Rattle.tql_index.specs.Tree.{Contents, IsBranch, IsAround, DifferByAtMost}
 use Rattle.tql_index.specs.declared.tree.Branch.{Branch}
 use Rattle.tql_index.specs.declared.tree.Parts.{Parts}
-use Rattle.tql_index.specs.declared.edit.Least.{Least}
 use Rattle.tql_index.specs.declared.tree.Root.{Root}
 use Rattle.tql_index.specs.declared.tree.Root.TheVariants.{Empty, At}
 
@@ -16,15 +15,15 @@ entry_of b = record { period = points_of b.period; id = b.id }
 -- the entries and the height that a branch stands for
 abbrev pub contents_of : {A : Type 0} → Root A → Contents
 contents_of Empty = record { entries = []; height = 0 }
-contents_of (At b) = record {
+contents_of (At h b) = record {
   entries = b.value.left.entries ++ entry_of b.value ∷ b.value.right.entries;
-  height = b.value.height;
+  height = h;
 }
 
 -- what holds at the top of a tree
 abbrev pub IsTree : {A : Type 0} → Root A → Type 0
 IsTree Empty = Unit {0}
-IsTree (At b) = IsBranch b.value.left (entry_of b.value) b.value.height b.value.greatest b.value.right
+IsTree (At h b) = IsBranch b.value.left (entry_of b.value) h b.value.greatest b.value.right
 
 -- the parts of a tree
 pub record IsParted {A : Type 0} (tree : Contents) (parts : Parts A) : Type 0 where
@@ -36,11 +35,11 @@ pub record IsParted {A : Type 0} (tree : Contents) (parts : Parts A) : Type 0 wh
 -- the top of a tree
 pub record IsTop {A : Type 0} (tree : Contents) (top : Branch A) : Type 0 where
   pub entries : tree.entries ≡ top.left.entries ++ entry_of top ∷ top.right.entries
-  pub branch : IsBranch top.left (entry_of top) top.height top.greatest top.right
+  pub branch : IsBranch top.left (entry_of top) tree.height top.greatest top.right
 
 -- a tree without its first entry, which stands before none of the others
-pub record IsWithoutLeast {A : Type 0} (tree : Contents) (parts : Least A) : Type 0 where
-  pub entries : tree.entries ≡ entry_of parts.least.value ∷ parts.rest.entries
-  pub around : IsAround (entry_of parts.least.value) [] parts.rest.entries
-  pub not_higher : parts.rest.height ≤ tree.height
-  pub at_most_one_lower : tree.height ≤ parts.rest.height + 1
+pub record IsWithoutLeast (tree : Contents) (least : Entry) (rest : Contents) : Type 0 where
+  pub entries : tree.entries ≡ least ∷ rest.entries
+  pub around : IsAround least [] rest.entries
+  pub not_higher : rest.height ≤ tree.height
+  pub at_most_one_lower : tree.height ≤ rest.height + 1

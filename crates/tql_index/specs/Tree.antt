@@ -1,5 +1,5 @@
 -- What a tree of entries is seen as, and what holds at each of its branches.
-use Rattle.std.specs.Prelude.{◌≡◌, ℕ, ◌+◌, ◌*◌, ◌^◌, ◌<◌, ◌≤◌, max, Bool, List, [], ◌∷◌, ◌++◌, length, count_by, ℤ}
+use Rattle.std.specs.Prelude.{◌≡◌, ℕ, ◌+◌, ◌*◌, ◌^◌, ◌<◌, ◌≤◌, max, Bool, true, false, List, [], ◌∷◌, ◌++◌, length, count_by, ℤ}
 use Rattle.std.specs.Prelude.{pos, neg_ℤ}
 use Rattle.std.specs.Int.{int_max}
 use Rattle.std.specs.declared.cmp.Ordering.{Ordering}
@@ -29,6 +29,11 @@ pub record IsAround (e : Entry) (left right : List Entry) : Type 0 where
 abbrev pub greatest_end : List Entry → ℤ
 greatest_end [] = neg_ℤ (pos (2 ^ 63))
 greatest_end (e ∷ es) = int_max e.period.end (greatest_end es)
+
+-- what the greatest end was before an entry that ends here was taken, if one was
+abbrev pub WasGreatest : Bool → ℤ → ℤ → List Entry → Type 0
+WasGreatest true end g es = g ≡ int_max end (greatest_end es)
+WasGreatest false end g es = g ≡ greatest_end es
 
 -- neither height is more than this above the other
 abbrev pub DifferByAtMost : ℕ → ℕ → ℕ → Type 0

@@ -1,16 +1,55 @@
 //! Trees from sides whose heights differ by at most two.
-ghost use Rattle.std.specs.Prelude.{◌≡◌, ◌+◌, ◌^◌, ◌≤◌, max, ◌∷◌, ◌++◌};
-ghost use Rattle.tql_index.specs.Tree.{DifferByAtMost, IsAround, IsHeightAfterBalance};
+ghost use Rattle.std.specs.Prelude.{◌≡◌, ◌+◌, ◌≤◌, max, ◌∷◌, ◌++◌};
+ghost use Rattle.tql_index.specs.Tree.{greatest_end, DifferByAtMost, IsAround, IsHeightAfterBalance, WasGreatest};
 ghost use Rattle.tql_index.specs.Nodes.{entry_of};
 
-use crate::tree::{Branch, Parts, Tree, link};
+use crate::tree::{Branch, Parts, Tree, hold, link};
 use std::alloc::Allocator;
+use std::mem;
+
+// A balanced tree of a branch whose sides were changed in place, and which knows the greatest end.
+pub fn settle<A: Allocator>(mut top: Box<Branch<A>, A>) -> Tree<A>
+    requires around { IsAround (entry_of top.value) top.value.left.entries top.value.right.entries }
+    requires near { DifferByAtMost 2 top.value.left.height top.value.right.height }
+    requires room { max top.value.left.height top.value.right.height ≤ 200 }
+    requires greatest { top.value.greatest ≡ greatest_end
+        (top.value.left.entries ++ entry_of top.value ∷ top.value.right.entries) }
+    ensures entries { result.entries
+        ≡ top.value.left.entries ++ entry_of top.value ∷ top.value.right.entries }
+    ensures height { IsHeightAfterBalance top.value.left.height top.value.right.height result.height }
+{
+    let (left, right) = (top.left.height(), top.right.height());
+    if left <= right + 1 && right <= left + 1 {
+        return hold(top, left.max(right) + 1);
+    }
+    let left = mem::replace(&mut top.left, Tree::new());
+    let right = mem::replace(&mut top.right, Tree::new());
+    balance(left, top, right)
+}
+
+// As `settle`, where an entry that ends here was taken from a side, if one was found. The branch knows the
+// greatest end from before, which is found anew only where that entry may have been the last to end.
+pub fn settle_less<A: Allocator>(mut top: Box<Branch<A>, A>, found: bool, end: i64) -> Tree<A>
+    requires around { IsAround (entry_of top.value) top.value.left.entries top.value.right.entries }
+    requires near { DifferByAtMost 2 top.value.left.height top.value.right.height }
+    requires room { max top.value.left.height top.value.right.height ≤ 200 }
+    requires greatest { WasGreatest found end top.value.greatest
+        (top.value.left.entries ++ entry_of top.value ∷ top.value.right.entries) }
+    ensures entries { result.entries
+        ≡ top.value.left.entries ++ entry_of top.value ∷ top.value.right.entries }
+    ensures height { IsHeightAfterBalance top.value.left.height top.value.right.height result.height }
+{
+    if found && end >= top.greatest {
+        top.greatest = top.greatest_end();
+    }
+    settle(top)
+}
 
 // A balanced tree of two sides and the entry between them.
 pub fn balance<A: Allocator>(left: Tree<A>, top: Box<Branch<A>, A>, right: Tree<A>) -> Tree<A>
     requires around { IsAround (entry_of top.value) left.entries right.entries }
     requires near { DifferByAtMost 2 left.height right.height }
-    requires room { max left.height right.height ≤ 2 ^ 63 }
+    requires room { max left.height right.height ≤ 200 }
     ensures entries { result.entries ≡ left.entries ++ entry_of top.value ∷ right.entries }
     ensures height { IsHeightAfterBalance left.height right.height result.height }
 {
@@ -28,7 +67,7 @@ pub fn balance<A: Allocator>(left: Tree<A>, top: Box<Branch<A>, A>, right: Tree<
 fn lean_right<A: Allocator>(left: Tree<A>, top: Box<Branch<A>, A>, right: Tree<A>) -> Tree<A>
     requires around { IsAround (entry_of top.value) left.entries right.entries }
     requires two_higher { left.height ≡ right.height + 2 }
-    requires room { left.height ≤ 2 ^ 63 }
+    requires room { left.height ≤ 200 }
     ensures entries { result.entries ≡ left.entries ++ entry_of top.value ∷ right.entries }
     ensures not_lower { left.height ≤ result.height }
     ensures at_most_one_higher { result.height ≤ left.height + 1 }
@@ -63,7 +102,7 @@ fn lean_right<A: Allocator>(left: Tree<A>, top: Box<Branch<A>, A>, right: Tree<A
 fn lean_left<A: Allocator>(left: Tree<A>, top: Box<Branch<A>, A>, right: Tree<A>) -> Tree<A>
     requires around { IsAround (entry_of top.value) left.entries right.entries }
     requires two_higher { right.height ≡ left.height + 2 }
-    requires room { right.height ≤ 2 ^ 63 }
+    requires room { right.height ≤ 200 }
     ensures entries { result.entries ≡ left.entries ++ entry_of top.value ∷ right.entries }
     ensures not_lower { right.height ≤ result.height }
     ensures at_most_one_higher { result.height ≤ right.height + 1 }

@@ -1,5 +1,5 @@
-//! A balanced tree of entries, seen as its entries in order and its height. Only `link` and `unlink` put a
-//! branch together and take one apart.
+//! A balanced tree of entries, seen as its entries in order and its height. Only `hold` puts a branch into a
+//! tree; `take` takes it out, to be changed in place, and `unlink` takes it apart.
 ghost use Rattle.std.specs.Prelude.{◌≡◌, ◌+◌, ◌^◌, ◌<◌, max, [], ◌∷◌, ◌++◌, length, IfSome, IfNone};
 ghost use Rattle.tql_period.specs.Points.{points_of};
 ghost use Rattle.tql_index.specs.Tree.{entry_cmp, greatest_end, DifferByAtMost, IsAround, IsShallow};
@@ -21,17 +21,17 @@ pub struct Tree<A: Allocator> {
 #[derive(Drop)]
 pub enum Root<A: Allocator> {
     Empty,
-    At(Box<Branch<A>, A>),
+    // The height stands beside the box, so that it is read without a look at the branch.
+    At { height: u8, top: Box<Branch<A>, A> },
 }
 
-// An entry with what lies to its left and its right, and what it knows of them.
+// An entry with what lies to its left and its right, and the greatest end of all of them.
 #[cycle(tree)]
 #[derive(Drop)]
 pub struct Branch<A: Allocator> {
     pub left: Tree<A>,
     pub period: Period,
     pub id: usize,
-    pub height: usize,
     pub greatest: i64,
     pub right: Tree<A>,
 }
@@ -72,7 +72,6 @@ impl<A: Allocator> Branch<A> {
             left: Tree::new(),
             period,
             id,
-            height: 1,
             greatest: period.end,
             right: Tree::new(),
         }
@@ -86,6 +85,14 @@ impl<A: Allocator> Branch<A> {
         let ends = period.end.cmp(&self.period.end);
         starts.then(ends.then(id.cmp(&self.id)))
     }
+
+    // The greatest end of its entry and of those at its sides, found anew.
+    pub fn greatest_end(&self) -> i64
+        ensures { result ≡ greatest_end
+            (self.now.left.entries ++ entry_of self.now ∷ self.now.right.entries) }
+    {
+        self.left.greatest().max(self.period.end).max(self.right.greatest())
+    }
 }
 
 impl<A: Allocator> Tree<A> {
@@ -96,15 +103,21 @@ impl<A: Allocator> Tree<A> {
     }
 
     // How many branches lie on the longest way down.
-    pub fn height(&self) -> usize
+    pub fn height(&self) -> u8
         ensures height { result ≡ self.now.height }
-        ensures shallow { IsShallow self.now.height (length self.now.entries) }
-        ensures deep { length self.now.entries < 2 ^ self.now.height }
     {
         match &self.root {
             Root::Empty => 0,
-            Root::At(top) => top.height,
+            Root::At { height, .. } => *height,
         }
+    }
+
+    // What its height says of the number of its entries. It does nothing.
+    pub fn know(&self)
+        ensures shallow { IsShallow self.now.height (length self.now.entries) }
+        ensures deep { length self.now.entries < 2 ^ self.now.height }
+    {
+        let _root = &self.root;
     }
 
     // The greatest end of its entries, and the least number where it has none.
@@ -113,7 +126,7 @@ impl<A: Allocator> Tree<A> {
     {
         match &self.root {
             Root::Empty => i64::MIN,
-            Root::At(top) => top.greatest,
+            Root::At { top, .. } => top.greatest,
         }
     }
 
@@ -124,7 +137,19 @@ impl<A: Allocator> Tree<A> {
     {
         match &self.root {
             Root::Empty => None,
-            Root::At(top) => Some(top),
+            Root::At { top, .. } => Some(top),
+        }
+    }
+
+    // Takes its top out, with all that lies at its sides: it leaves an empty tree.
+    pub fn take(&mut self) -> Option<Box<Branch<A>, A>>
+        ensures some { IfSome result (λ b. IsTop self.old b.value) }
+        ensures none { IfNone result (self.old ≡ record { entries = []; height = 0 }) }
+        ensures left { self.new ≡ record { entries = []; height = 0 } }
+    {
+        match mem::replace(&mut self.root, Root::Empty) {
+            Root::Empty => None,
+            Root::At { top, .. } => Some(top),
         }
     }
 
@@ -135,7 +160,7 @@ impl<A: Allocator> Tree<A> {
     {
         match self.root {
             Root::Empty => None,
-            Root::At(mut top) => {
+            Root::At { mut top, .. } => {
                 let left = mem::replace(&mut top.left, Tree::new());
                 let right = mem::replace(&mut top.right, Tree::new());
                 Some(Parts { left, top, right })
@@ -144,28 +169,38 @@ impl<A: Allocator> Tree<A> {
     }
 }
 
+// Puts a branch with what lies at its sides into a tree: it knows the greatest end, and this is its height.
+pub fn hold<A: Allocator>(top: Box<Branch<A>, A>, height: u8) -> Tree<A>
+    requires around { IsAround (entry_of top.value) top.value.left.entries top.value.right.entries }
+    requires balanced { DifferByAtMost 1 top.value.left.height top.value.right.height }
+    requires height { height ≡ max top.value.left.height top.value.right.height + 1 }
+    requires greatest { top.value.greatest ≡ greatest_end
+        (top.value.left.entries ++ entry_of top.value ∷ top.value.right.entries) }
+    ensures { result ≡ record {
+      entries = top.value.left.entries ++ entry_of top.value ∷ top.value.right.entries;
+      height = height;
+    } }
+{
+    top.left.know();
+    top.right.know();
+    Tree {
+        root: Root::At { height, top },
+    }
+}
+
 // Puts a tree together; the branch brings its entry and its memory.
 pub fn link<A: Allocator>(left: Tree<A>, mut top: Box<Branch<A>, A>, right: Tree<A>) -> Tree<A>
     requires around { IsAround (entry_of top.value) left.entries right.entries }
     requires balanced { DifferByAtMost 1 left.height right.height }
-    requires room { max left.height right.height + 1 < 2 ^ 64 }
+    requires room { max left.height right.height + 1 < 256 }
     ensures { result ≡ record {
       entries = left.entries ++ entry_of top.value ∷ right.entries;
       height = max left.height right.height + 1;
     } }
 {
     let height = left.height().max(right.height()) + 1;
-    let greatest = left.greatest().max(top.period.end).max(right.greatest());
-    let (period, id) = (top.period, top.id);
-    *top = Branch {
-        left,
-        period,
-        id,
-        height,
-        greatest,
-        right,
-    };
-    Tree {
-        root: Root::At(top),
-    }
+    top.left = left;
+    top.right = right;
+    top.greatest = top.greatest_end();
+    hold(top, height)
 }

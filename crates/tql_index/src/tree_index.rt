@@ -2,13 +2,12 @@
 ghost use Rattle.std.specs.Prelude.{◌≡◌, ◌↔◌, ◌^◌, ◌<◌, ◌≤◌, [], length, IsTrue};
 ghost use Rattle.tql_index.specs.Tree.{IsShallow};
 
-use crate::edit::{Removed, insert, remove};
+use crate::edit::{insert, remove};
 use crate::index::{Id, IntervalIndex};
 use crate::search::{overlapping, stab};
 use crate::tree::{Branch, Tree};
-use std::alloc::{AllocError, Allocator};
+use std::alloc::AllocError;
 use std::marker::Model;
-use std::mem;
 use tql_memory::{Memory, one_more};
 use tql_period::period::Period;
 
@@ -57,19 +56,9 @@ impl TreeIndex {
         // No tree of fewer levels has room for its entries.
         ensures deep { length self.now < 2 ^ result }
     {
-        self.tree.height()
+        self.tree.know();
+        usize::from(self.tree.height())
     }
-}
-
-// Takes the tree out, to be changed: it leaves an empty one. A count of 64 bits keeps the tree low.
-fn take<A: Allocator>(tree: &mut Tree<A>) -> Tree<A>
-    requires { length tree.old.entries < 2 ^ 64 }
-    ensures whole { result ≡ tree.old }
-    ensures low { result.height ≤ 128 }
-{
-    let height = tree.height();
-    prove!(height <= 128);
-    mem::replace(tree, Tree::new())
 }
 
 impl IntervalIndex for TreeIndex {
@@ -91,7 +80,8 @@ impl IntervalIndex for TreeIndex {
         } = self;
         let counted = one_more(*count)?;
         let entry = Box::new(*memory, Branch::new(period, id))?;
-        *tree = insert(take(tree), entry);
+        tree.know();
+        insert(tree, entry);
         *count = counted;
         Ok(())
     }
@@ -101,8 +91,8 @@ impl IntervalIndex for TreeIndex {
         if *count == 0 {
             return false;
         }
-        let Removed { tree: rest, found } = remove(take(tree), period, id);
-        *tree = rest;
+        tree.know();
+        let found = remove(tree, period, id);
         if found {
             *count -= 1;
         }

@@ -3,20 +3,22 @@ use Rattle.tql_index.proofs.Bags.{length_of_one_more}
 use Rattle.tql_index.proofs.tree_index.TreeIndexIntervalIndex.remove.Goals.{then-found, else-found}
 use Rattle.tql_index.proofs.tree_index.TreeIndexIntervalIndex.remove.Goals as goal
 
-pub take-requires : goal.take-requires
-take-requires c = omega (arith, c.self.invariant)
+pub remove-found-requires : goal.remove-found-requires
+remove-found-requires c =
+    let h = c.know.ensures.shallow 64 (omega (arith, c.self.invariant)) in
+    omega (arith, h)
 
 pub overflow_sub-count : goal.overflow_sub-count
 overflow_sub-count c =
-    let e = rw (c.if-found.true, c.take.ensures.whole) at c.remove-rest.ensures.entries in
+    let e = rw c.if-found.true at c.remove-found.ensures.entries in
     omega (arith, length_of_one_more _ _ _ e, c.self.invariant)
 
 pub invariant_of-self-2 : goal.invariant_of-self-2
 invariant_of-self-2 c = elim c.if-found.branch [
   | then-found w ↦
-      let e = rw (w.if-found.true, c.take.ensures.whole) at c.remove-rest.ensures.entries in
+      let e = rw w.if-found.true at c.remove-found.ensures.entries in
       rw w.self-inside-is (omega (arith, length_of_one_more _ _ _ e, c.self.invariant))
   | else-found w ↦
-      let e = rw (w.if-found.false, c.take.ensures.whole) at c.remove-rest.ensures.entries in
+      let e = rw w.if-found.false at c.remove-found.ensures.entries in
       rw w.self-inside-is (c.self.invariant ∙ ap length (sym e.0))
 ]
