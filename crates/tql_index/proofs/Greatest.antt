@@ -1,5 +1,5 @@
 -- The greatest end of the same bag.
-use Rattle.std.specs.Prelude.{◌≡◌, refl, ◌+◌, ◌^◌, Bool, true, false, List, [], ◌∷◌, ◌++◌, count_by, ℤ, pos, neg_ℤ, ◌≤ℤ◌, ◌<ℤ◌}
+use Rattle.std.specs.Prelude.{◌≡◌, refl, ◌^◌, Bool, true, false, List, [], ◌∷◌, ◌++◌, count_by, ℤ, pos, neg_ℤ, ◌≤ℤ◌}
 use Rattle.std.specs.Prelude.{int_lt}
 use Rattle.std.specs.Int.{int_max}
 use Rattle.std.proofs.Common.{arith, cond, sym, ap, ◌∙◌}
@@ -24,8 +24,12 @@ none_ends_after : (g : ℤ) (es : List Entry) → greatest_end es ≤ℤ g → c
 none_ends_after g [] h = refl
 none_ends_after g (e ∷ es) h =
     let b = not_after g e (omega (arith, ints, clamps, h)) in
-    omega (arith, count-cons (ends_after g) e es, bit_of_none (ends_after g e) b,
-    none_ends_after g es (omega (arith, ints, clamps, h)))
+    omega (
+      arith,
+      count-cons (ends_after g) e es,
+      bit_of_none (ends_after g e) b,
+      none_ends_after g es (omega (arith, ints, clamps, h)),
+    )
 
 at_most : (g : ℤ) (es : List Entry) → neg_ℤ (pos (2 ^ 63)) ≤ℤ g → count_by (ends_after g) es ≡ 0 → greatest_end es ≤ℤ g
 at_most g [] l h = l

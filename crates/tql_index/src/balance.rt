@@ -8,7 +8,7 @@ use std::alloc::Allocator;
 use std::mem;
 
 // A balanced tree of a branch whose sides were changed in place, and which knows the greatest end.
-pub fn settle<A: Allocator>(mut top: Box<Branch<A>, A>) -> Tree<A>
+pub fn settle<A: Allocator>(top: Box<Branch<A>, A>) -> Tree<A>
     requires around { IsAround (entry_of top.value) top.value.left.entries top.value.right.entries }
     requires near { DifferByAtMost 2 top.value.left.height top.value.right.height }
     requires room { max top.value.left.height top.value.right.height ≤ 200 }
@@ -20,8 +20,22 @@ pub fn settle<A: Allocator>(mut top: Box<Branch<A>, A>) -> Tree<A>
 {
     let (left, right) = (top.left.height(), top.right.height());
     if left <= right + 1 && right <= left + 1 {
-        return hold(top, left.max(right) + 1);
+        hold(top, left.max(right) + 1)
+    } else {
+        turn(top)
     }
+}
+
+// As `settle`, by the sides. It is seldom called, and stands apart to keep the others short.
+#[inline(never)]
+fn turn<A: Allocator>(mut top: Box<Branch<A>, A>) -> Tree<A>
+    requires around { IsAround (entry_of top.value) top.value.left.entries top.value.right.entries }
+    requires near { DifferByAtMost 2 top.value.left.height top.value.right.height }
+    requires room { max top.value.left.height top.value.right.height ≤ 200 }
+    ensures entries { result.entries
+        ≡ top.value.left.entries ++ entry_of top.value ∷ top.value.right.entries }
+    ensures height { IsHeightAfterBalance top.value.left.height top.value.right.height result.height }
+{
     let left = mem::replace(&mut top.left, Tree::new());
     let right = mem::replace(&mut top.right, Tree::new());
     balance(left, top, right)

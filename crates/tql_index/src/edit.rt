@@ -13,6 +13,14 @@ use std::cmp::Ordering;
 use std::mem;
 use tql_period::period::Period;
 
+// The tree of one entry.
+#[inline(never)]
+fn alone<A: Allocator>(entry: Box<Branch<A>, A>) -> Tree<A>
+    ensures { result ≡ record { entries = entry_of entry.value ∷ []; height = 1 } }
+{
+    link(Tree::new(), entry, Tree::new())
+}
+
 // One entry more, which the branch brings with its memory.
 pub fn insert<A: Allocator>(tree: &mut Tree<A>, entry: Box<Branch<A>, A>)
     requires room { tree.old.height ≤ 199 }
@@ -21,7 +29,7 @@ pub fn insert<A: Allocator>(tree: &mut Tree<A>, entry: Box<Branch<A>, A>)
     ensures at_most_one_higher { tree.new.height ≤ tree.old.height + 1 }
 {
     let Some(mut top) = tree.take() else {
-        *tree = link(Tree::new(), entry, Tree::new());
+        *tree = alone(entry);
         return;
     };
     top.greatest = top.greatest.max(entry.period.end);
@@ -50,6 +58,7 @@ fn take_least<A: Allocator>(tree: &mut Tree<A>) -> Option<Box<Branch<A>, A>>
 }
 
 // The tree of a branch's sides, without the entry between them.
+#[inline(never)]
 fn without_top<A: Allocator>(mut top: Box<Branch<A>, A>) -> Tree<A>
     requires around { IsAround (entry_of top.value) top.value.left.entries top.value.right.entries }
     requires balanced { DifferByAtMost 1 top.value.left.height top.value.right.height }

@@ -82,8 +82,10 @@ impl<A: Allocator> Branch<A> {
         ensures { result ≡ entry_cmp (record { period = points_of period; id = id }) (entry_of self.now) }
     {
         let starts = period.start.cmp(&self.period.start);
-        let ends = period.end.cmp(&self.period.end);
-        starts.then(ends.then(id.cmp(&self.id)))
+        if starts.is_ne() {
+            return starts;
+        }
+        period.end.cmp(&self.period.end).then(id.cmp(&self.id))
     }
 
     // The greatest end of its entry and of those at its sides, found anew.
@@ -91,7 +93,10 @@ impl<A: Allocator> Branch<A> {
         ensures { result ≡ greatest_end
             (self.now.left.entries ++ entry_of self.now ∷ self.now.right.entries) }
     {
-        self.left.greatest().max(self.period.end).max(self.right.greatest())
+        self.left
+            .greatest()
+            .max(self.period.end)
+            .max(self.right.greatest())
     }
 }
 

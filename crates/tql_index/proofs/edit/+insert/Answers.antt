@@ -1,8 +1,7 @@
-use Rattle.std.proofs.Common.{refl, arith, ap, sym, subst, to_z, of_z, w64, ◌∙◌, ◌≡◌, ℤ, false}
+use Rattle.std.proofs.Common.{arith, ap, sym, subst, to_z, of_z, w64, ◌∙◌, ◌≡◌, ℤ}
 use Rattle.std.specs.Int.{int_max}
 use Rattle.std.proofs.lemmas.Int.{ints}
-use Rattle.tql_index.specs.Entry.{Entry}
-use Rattle.tql_index.specs.Tree.{is_before, entry_cmp}
+use Rattle.tql_index.specs.Tree.{entry_cmp}
 use Rattle.tql_index.specs.Nodes.{entry_of}
 use Rattle.tql_index.specs.declared.tree.Branch.{Branch}
 use Rattle.tql_index.proofs.Adding.{around_more_left, around_more_right, left_more, right_more}

@@ -29,9 +29,15 @@ returns-clause-some g t c =
     let d = c.deref_mut.result.now in
     record {
       entries = p.entries ∙ ap (λ z. z ++ entry_of d ∷ d.right.entries) q.entries
-      ∙ ap (λ z. entry_of c.in-Some.least.value ∷ z) (sym b.entries);
+          ∙ ap (λ z. entry_of c.in-Some.least.value ∷ z) (sym b.entries);
       around = to_right _ [] _ _ _ _ _ q.entries b.entries q.around p.branch.around;
       not_higher = grind (arith, p.branch.height_is, p.branch.balanced, q.not_higher, q.at_most_one_lower, b.height);
-      at_most_one_lower = grind (arith, p.branch.height_is, p.branch.balanced, q.not_higher, q.at_most_one_lower,
-      b.height);
+      at_most_one_lower = grind (
+        arith,
+        p.branch.height_is,
+        p.branch.balanced,
+        q.not_higher,
+        q.at_most_one_lower,
+        b.height,
+      );
     }
