@@ -1,6 +1,6 @@
 -- Rows that are found by what conjuncts say of their application period.
-use Rattle.std.proofs.Common.{◌≡◌, refl, sym, ap, subst, ◌∙◌, ℕ, true, false, List, length}
-use Rattle.std.specs.Prelude.{ℤ, ◌||◌, Option, Some, None, is_some, option_map}
+use Rattle.std.proofs.Common.{◌≡◌, refl, sym, ap, subst, ℕ, true, List, length}
+use Rattle.std.specs.Prelude.{ℤ, Option, Some, None, option_map}
 use Rattle.tql_spec.specs.Datum.{Row}
 use Rattle.tql_spec.specs.Definition.{Application, TableDef, period_between, point_of, with_generated}
 use Rattle.tql_spec.specs.Expression.{Cond}
@@ -10,8 +10,7 @@ use Rattle.tql_catalog.specs.Rows.{IsStoredAt}
 use Rattle.tql_plan_laws.specs.Conjuncts.{AreSafe, meets}
 use Rattle.tql_plan_laws.specs.Constants.{PointsAreMet, StretchesAreMet, point_in, stretch_in}
 use Rattle.tql_store_index.specs.Basis.{Sought, is_looked_at}
-use Rattle.tql_plan_access.specs.Access.{IsRow, Lasts, ServesTable, is_by_key, is_by_period, period_columns, say_of}
-use Rattle.tql_plan_access.specs.Access.{sought_between}
+use Rattle.tql_plan_access.specs.Access.{IsRow, Lasts, ServesTable, period_columns, sought_between}
 use Rattle.tql_plan_access.specs.Said.{IsSaid, IsSaidBy}
 use Rattle.tql_plan_access.proofs.ByKey.{stored_long}
 use Rattle.tql_plan_access.proofs.Looked.{whole_serves}
@@ -64,28 +63,3 @@ serves_period points stretches d conds o safe said = by_period d.application ref
     by_period (Some a) e s =
         subst (ServesTable d conds) (sym s.is)
         (between_serves points stretches d said.right a e s.stored s.start s.end conds safe)
-
--- what is sought so is sought by no key
-between_key : (stored : ℕ × ℕ) (o : Option ℤ) (p : Option Period) → is_by_key (sought_between stored o p) ≡ false
-between_key stored (Some x) p = refl
-between_key stored None (Some x) = refl
-between_key stored None None = refl
-
-pub said_key : (d : TableDef) (b : Option Application) (conds : List Cond) (o : Option Sought) → IsSaidBy d b conds o
-    → is_by_key o ≡ false
-said_key d None conds o s = ap is_by_key s
-said_key d (Some a) conds o s =
-    ap is_by_key s.is ∙ between_key s.stored (point_in a.start a.end conds) (stretch_in a.start a.end conds)
-
--- and by a period where the conjuncts say something of it
-between_period : (stored : ℕ × ℕ) (o : Option ℤ) (p : Option Period)
-    → is_by_period (sought_between stored o p) ≡ is_some o || is_some p
-between_period stored (Some x) p = refl
-between_period stored None (Some x) = refl
-between_period stored None None = refl
-
-pub said_period : (d : TableDef) (b : Option Application) (conds : List Cond) (o : Option Sought)
-    → IsSaidBy d b conds o → is_by_period o ≡ say_of conds b
-said_period d None conds o s = ap is_by_period s
-said_period d (Some a) conds o s =
-    ap is_by_period s.is ∙ between_period s.stored (point_in a.start a.end conds) (stretch_in a.start a.end conds)

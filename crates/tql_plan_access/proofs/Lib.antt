@@ -1,5 +1,6 @@
 -- Proofs of tql_plan_access.
 pub mod ByKey
+pub mod Chosen
 pub mod GivenLists
 pub mod Looked
 pub mod Untouched

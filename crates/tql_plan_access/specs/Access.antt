@@ -1,13 +1,11 @@
 -- Which rows of a table are looked at, and that no other passes the conjuncts that are asked of each.
 use Rattle.std.specs.Prelude.{◌≡◌, ℕ, ℤ, Bool, true, false, ◌&&◌, List, length, IsTrue, Option, Some, None, is_some}
-use Rattle.std.specs.Prelude.{unwrap_or, option_map, not, ◌||◌}
+use Rattle.std.specs.Prelude.{unwrap_or, option_map, not, ◌||◌, if◌then◌else◌, [], ◌∷◌}
 use Rattle.std.specs.List.{list_all, list_any}
 use Rattle.tql_spec.specs.Datum.{Datum, Null, Row}
 use Rattle.tql_spec.specs.Definition.{Application, Stamped, System, TableDef, period_between, shown, with_generated}
 use Rattle.tql_spec.specs.Expression.{Cond, is_safe}
 use Rattle.tql_spec.specs.Period.{Period, rises}
-use Rattle.tql_catalog.specs.Defined.{IsDefinition}
-use Rattle.tql_catalog.specs.Rows.{are_assignable}
 use Rattle.tql_catalog.specs.Sought.{sought_columns}
 use Rattle.tql_plan_laws.specs.Conjuncts.{AreSafe, meets}
 use Rattle.tql_plan_laws.specs.Constants.{ArePoints, point_in, stretch_in, value_in, tuple_in}
@@ -73,18 +71,26 @@ are_given conds columns = is_some (tuple_in conds columns)
 abbrev pub value_or_null : List Cond → ℕ → Datum
 value_or_null conds column = unwrap_or (value_in column conds) Null
 
+-- the first list of columns each of which they give a value
+abbrev pub first_given : List Cond → List (List ℕ) → Option (List ℕ)
+first_given conds [] = None
+first_given conds (is ∷ lists) = if are_given conds is then Some is else first_given conds lists
+
+-- of the keys of a table, and then of its references, each in the order of their declaration; none where a conjunct can
+-- be out of range
+abbrev pub key_given : TableDef → List Cond → Option (List ℕ)
+key_given d conds = if list_all is_safe conds then first_given conds (sought_columns d) else None
+
 -- whether no conjunct can be out of range, and they give a value to each column of some key or of some reference
 abbrev pub names_key : TableDef → List Cond → Bool
 names_key d conds = list_all is_safe conds && list_any (are_given conds) (sought_columns d)
 
--- a list of columns of the table, none generated, that are given values, as one of these lists is
-pub record IsGivenList (d : TableDef) (conds : List Cond) (lists : List (List ℕ)) (columns : List ℕ) : Type 0 where
-  pub right : IsDefinition d
-  pub stored : IsTrue (are_assignable d columns)
-  pub given : IsTrue (are_given conds columns)
-  pub one : IsTrue (list_any (are_given conds) lists)
-
 -- ---- a period
+
+-- the application period of a table by which rows are found, where they are current ones and no conjunct can be out of
+-- range
+abbrev pub period_given : TableDef → List Cond → Bool → Option Application
+period_given d conds is_current = if list_all is_safe conds && is_current then d.application else None
 
 -- what is sought of the period between two stored columns, where conjuncts say something of it; a point before a period
 abbrev pub sought_between : ℕ × ℕ → Option ℤ → Option Period → Option Sought

@@ -1,7 +1,8 @@
 //! Which rows of a table have to be looked at.
-ghost use Rattle.std.specs.Prelude.{◌≡◌, ◌&&◌, All, IfOk, map};
+ghost use Rattle.std.specs.Prelude.{All, IfOk, map};
 ghost use Rattle.tql_expr.specs.Meaning.{cond, HasCond};
-ghost use Rattle.tql_plan_access.specs.Access.{ServesTable, is_by_key, is_by_period, names_key, names_period};
+ghost use Rattle.tql_plan_access.specs.Access.{ServesTable};
+ghost use Rattle.tql_plan_access.specs.Said.{IsSoughtFor};
 
 use crate::access::Access;
 use crate::given::{are_safe, given_columns};
@@ -11,9 +12,10 @@ use tql_expr::terms::{CondId, Terms};
 use tql_memory::Memory;
 
 /// Which rows of a table have to be looked at where these conjuncts are asked of each row: no other row passes them.
-/// Where none can be out of range: where they give a value to each column of a key or of a reference, those with these
-/// values; else, of current rows, where they say that the application period contains a point, or overlaps with a
-/// period, that is written out, those whose period does. Else all. The only error is a refused growth.
+/// Where none can be out of range: where they give a value to each column of a key, or else of a reference, those with
+/// these values, of the first such; else, of current rows, where they say that the application period contains a point,
+/// or else overlaps with a period, that is written out, those whose period does. Else all. The only error is a refused
+/// growth.
 pub fn access<'a>(
     memory: Memory,
     definition: &TableDef,
@@ -23,10 +25,8 @@ pub fn access<'a>(
 ) -> Result<Access<'a>, AllocError>
     requires { All (HasCond terms.now) conjuncts.now }
     ensures serves { IfOk result (λ a. ServesTable definition.now (map (cond terms.now) conjuncts.now) a) }
-    ensures key { IfOk result (λ a. is_by_key a
-        ≡ names_key definition.now (map (cond terms.now) conjuncts.now)) }
-    ensures period { IfOk result (λ a. is_by_period a
-        ≡ (is_current && names_period definition.now (map (cond terms.now) conjuncts.now))) }
+    ensures sought { IfOk result (λ a. IsSoughtFor definition.now (map (cond terms.now) conjuncts.now)
+        is_current a) }
 {
     if !are_safe(terms, conjuncts) {
         return Ok(Access::whole(memory));

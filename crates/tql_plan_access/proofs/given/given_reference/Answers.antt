@@ -1,34 +1,21 @@
-use Rattle.std.proofs.Common.{◌≡◌, ◌<◌, ◌∙◌, true, rules, sym, subst, length, map, List, ℕ}
-use Rattle.std.specs.List.{list_all}
+use Rattle.std.proofs.Common.{◌≡◌, ◌<◌, ◌∙◌, true, rules, ap, sym, subst, length, map, List, ℕ}
+use Rattle.std.specs.Prelude.{Option, Some}
 use Rattle.tql_spec.specs.Definition.{Reference}
-use Rattle.tql_catalog.specs.Defined.{is_reference}
 use Rattle.tql_catalog.specs.Definitions.{reference_of}
-use Rattle.tql_catalog.specs.Rows.{are_assignable}
-use Rattle.tql_catalog.proofs.SoughtLists.{test_of}
 use Rattle.tql_expr.specs.Meaning.{cond}
 use Rattle.tql_plan_access.specs.Access.{are_given}
-use Rattle.tql_plan_access.proofs.GivenLists.{one_here}
+use Rattle.tql_plan_access.proofs.GivenLists.{first_here}
 use Rattle.tql_plan_access.proofs.given.given_reference.Goals as goal
 
 pub returns-then-are_given : goal.returns-then-are_given
 returns-then-are_given c =
-    let d = c.args.definition.now in
     let conds = map (cond c.args.terms.now) c.args.conjuncts.now in
-    let got = c.references-reference-items in
-    let items = got.result.now in
+    let items = c.references-reference-items.result.now in
     let i = c.loop-reference.reference-index in
     let inside : i < length items = search rules in
     let listed : Reference → List ℕ = λ p. p.columns in
-    let right = subst (λ parts. list_all (is_reference d) parts ≡ true)
-    (sym got.ensures.references) got.ensures.right.references in
     let given : are_given conds (listed (reference_of c.reference-item.result)) ≡ true =
     subst (λ is. are_given conds is ≡ true) c.deref.ensures.value (sym c.if-are_given.ensures) in
-    record {
-      right = got.ensures.right;
-      stored = subst (λ is. are_assignable d is ≡ true) (sym c.deref-then-are_given.ensures.value)
-          (test_of (is_reference d) reference_of items i c.reference-item.result inside c.reference-item.is right);
-      given = subst (λ is. are_given conds is ≡ true) (sym c.deref-then-are_given.ensures.value) given;
-      one = sym c.loop-reference.invariant
-          ∙ one_here reference_of listed (are_given conds) items i c.reference-item.result inside
-          c.reference-item.is given;
-    }
+    ap {B = Option (List ℕ)} (λ l. Some l) c.deref-then-are_given.ensures.value
+    ∙ sym (first_here conds reference_of listed items i c.reference-item.result inside c.reference-item.is given)
+    ∙ c.loop-reference.invariant
