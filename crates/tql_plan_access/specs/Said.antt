@@ -1,5 +1,5 @@
--- What is sought of a table's rows: by the values that conjuncts give to the columns of a key or of a reference, else by
--- what they say of its application period.
+-- What is sought of a table's rows: by the values that conjuncts give to the columns of a key or of a reference, else
+-- for what they say of its application period.
 use Rattle.std.specs.Prelude.{◌≡◌, ℕ, Bool, List, map, Option, Some, None}
 use Rattle.tql_spec.specs.Definition.{Application, TableDef}
 use Rattle.tql_spec.specs.Expression.{Cond}
@@ -33,8 +33,8 @@ pub record IsGivenOf (d : TableDef) (conds : List Cond) (columns : List ℕ) (o 
   pub there : AreStoredAt d columns stored
   pub is : o ≡ Some (With stored (map (value_or_null conds) columns))
 
--- so rows are sought by these columns, where there are such; else by this period, where there is one; else all are looked
--- at
+-- so rows are sought by these columns, where there are such; else for what is said of this period, where there is one;
+-- else all are looked at
 abbrev pub IsSoughtBy : TableDef → List Cond → Option (List ℕ) → Option Application → Option Sought → Type 0
 IsSoughtBy d conds (Some columns) period o = IsGivenOf d conds columns o
 IsSoughtBy d conds None period o = IsSaidBy d period conds o
