@@ -1,7 +1,7 @@
 -- The first list of columns that conjuncts give values.
 use Rattle.std.proofs.Common.{◌≡◌, ap, refl, sym, subst, ◌∙◌, ℕ, ◌+◌, ◌<◌, Bool, true, false, ◌&&◌, cond, List, []}
 use Rattle.std.proofs.Common.{◌∷◌, ◌++◌, map, drop, length, get_or}
-use Rattle.std.specs.Prelude.{◌||◌, Option, Some, None, is_some}
+use Rattle.std.specs.Prelude.{◌||◌, Some, is_some}
 use Rattle.std.specs.List.{list_all, list_any}
 use Rattle.std.proofs.lemmas.List.{drop_more}
 use Rattle.std.proofs.lemmas.Bool.{and_parts}
