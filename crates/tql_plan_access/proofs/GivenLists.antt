@@ -4,7 +4,7 @@ use Rattle.std.proofs.Common.{◌∷◌, ◌++◌, map, drop, length, get_or}
 use Rattle.std.specs.Prelude.{◌||◌, Some, is_some}
 use Rattle.std.specs.List.{list_all, list_any}
 use Rattle.std.proofs.lemmas.List.{drop_more}
-use Rattle.std.proofs.lemmas.Bool.{and_parts}
+use Rattle.std.proofs.lemmas.Bool.{and_from, and_parts}
 use Rattle.tql_spec.specs.Definition.{Key, Reference, TableDef}
 use Rattle.tql_spec.specs.Expression.{Cond}
 use Rattle.tql_catalog.specs.Defined.{IsDefinition}
@@ -15,26 +15,22 @@ use Rattle.tql_plan_access.specs.Access.{are_given, first_given}
 
 -- ---- what all lists are
 
-both_are : (a b : Bool) → a ≡ true → b ≡ true → a && b ≡ true
-both_are true b h k = k
-both_are false b h k = absurd (cc)
-
 -- the lists of parts that pass a test, before lists that do
 all_before : {A : Type 0} (p : List ℕ → Bool) (columns : A → List ℕ) (xs : List A) (ys : List (List ℕ))
     → list_all (λ x. p (columns x)) xs ≡ true → list_all p ys ≡ true → list_all p (map columns xs ++ ys) ≡ true
 all_before p columns [] ys h k = k
 all_before p columns (x ∷ xs) ys h k =
     let parts = and_parts (p (columns x)) (list_all (λ y. p (columns y)) xs) h in
-    both_are (p (columns x)) (list_all p (map columns xs ++ ys)) parts.0 (all_before p columns xs ys parts.1 k)
+    and_from (p (columns x)) (list_all p (map columns xs ++ ys)) parts.0 (all_before p columns xs ys parts.1 k)
 
 all_listed : {A : Type 0} (p : List ℕ → Bool) (columns : A → List ℕ) (xs : List A)
     → list_all (λ x. p (columns x)) xs ≡ true → list_all p (map columns xs) ≡ true
 all_listed p columns [] h = refl
 all_listed p columns (x ∷ xs) h =
     let parts = and_parts (p (columns x)) (list_all (λ y. p (columns y)) xs) h in
-    both_are (p (columns x)) (list_all p (map columns xs)) parts.0 (all_listed p columns xs parts.1)
+    and_from (p (columns x)) (list_all p (map columns xs)) parts.0 (all_listed p columns xs parts.1)
 
--- by which rows of a table are sought are columns of the table, none generated
+-- those by which rows of a table are sought are of columns of the table, none generated
 all_assignable : (d : TableDef) → IsDefinition d → list_all (are_assignable d) (sought_columns d) ≡ true
 all_assignable d right =
     all_before (are_assignable d) (λ (k : Key). k.columns) d.keys (reference_columns d) right.keys
@@ -43,7 +39,7 @@ all_assignable d right =
 module _ (conds : List Cond) where
   -- ---- the first that is given values
 
-  -- where the list at a place is, it is the first from there on
+  -- where the list at a place is given them, it is the first from there on
   pub first_here : {A B : Type 0} (f : B → A) (columns : A → List ℕ) (xs : List B) (i : ℕ) (x : B)
       → i < length xs → x ≡ get_or xs i x → are_given conds (columns (f x)) ≡ true
       → first_given conds (map columns (map f (drop i xs))) ≡ Some (columns (f x))
@@ -94,7 +90,7 @@ module _ (conds : List Cond) where
           (subst (λ is. p is ≡ true) same here, subst (λ is. are_given conds is ≡ true) same g)
       either false g here later e = later e
 
-  -- those of a table
+  -- of a table's lists the first is of such columns, and is given values
   pub assignable_first : (d : TableDef) → IsDefinition d → (columns : List ℕ)
       → first_given conds (sought_columns d) ≡ Some columns → are_assignable d columns ≡ true
   assignable_first d right columns e =
