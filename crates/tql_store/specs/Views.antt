@@ -1,14 +1,16 @@
 -- What the answers of a reading stand for.
 use Rattle.std.specs.Prelude.{◌≡◌, ℕ, Bool, ◌&&◌, List, map, filter, count_by, nat_eq, Option, Some, if◌then◌else◌, All}
+use Rattle.std.specs.Prelude.{slice_get}
 use Rattle.tql_spec.specs.Bag.{SameBag}
 use Rattle.tql_spec.specs.Datum.{Row}
 use Rattle.tql_spec.specs.Definition as definition
 use Rattle.tql_store_rows.specs.Changes.{alive}
-use Rattle.tql_store_rows.specs.Readings.{asked, where_open, version_shown as version_of}
+use Rattle.tql_store_rows.specs.Readings.{asked, open_ones, where_open, version_shown as version_of}
 use Rattle.tql_store_rows.specs.declared.version.Version.{Version}
 use Rattle.tql_value.specs.When.{when_of}
 use Rattle.tql_value.specs.declared.when.When.{When}
-use Rattle.tql_store.specs.Represents.{AnswersBy}
+use Rattle.tql_value.specs.declared.when.When.TheVariants.{Now}
+use Rattle.tql_store.specs.Represents.{Answers, AnswersBy}
 use Rattle.tql_store.specs.StoreModel.{StoreModel, live, named}
 
 -- an answer's id names its version
@@ -31,3 +33,10 @@ pub record IsFound (h : StoreModel) (table : ℕ) (when : When) (test : Row → 
 -- the current version that an id names
 abbrev pub current_named : StoreModel → ℕ → ℕ → Option definition.Version
 current_named h table id = where_open (named h table id)
+
+-- versions of a table that stand as current ones: those that are open are the rows now, so many as the definitions find
+-- in the copies; each is named by its place
+pub record AreRowsNow (h : StoreModel) (table : ℕ) (vs : List definition.Version) : Type 0 where
+  pub versions : SameBag (open_ones vs) (filter (asked Now) (live h table))
+  pub ids : (id : ℕ) (v : definition.Version) → slice_get vs id ≡ Some v → named h table id ≡ Some v
+  pub copies : Answers h table (when_of Now) (open_ones vs)

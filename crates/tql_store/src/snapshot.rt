@@ -1,5 +1,5 @@
 //! A store as it is read: as it stands now, or as it stood when an earlier commit was the last one.
-ghost use Rattle.std.specs.Prelude.{◌≡◌, ◌||◌, IfOk, IsTrue, All, map, filter, option_map};
+ghost use Rattle.std.specs.Prelude.{◌≡◌, ◌||◌, IfOk, IfSome, IsTrue, All, map, filter, option_map};
 ghost use Rattle.tql_spec.specs.Bag.{SameBag};
 ghost use Rattle.tql_store_index.specs.Basis.{is_looked_at, sought_of};
 ghost use Rattle.tql_store_rows.specs.Readings.{asked, version_shown as version_of};
@@ -9,7 +9,8 @@ ghost use Rattle.tql_store.specs.Represents.{Answers};
 ghost use Rattle.tql_store.specs.StoreModel.{live};
 ghost use Rattle.tql_store.specs.StoreModel.{has_table as table_there};
 ghost use Rattle.tql_store.specs.StoreModel.{is_versioned as table_versioned};
-ghost use Rattle.tql_store.specs.Views.{Names, NamesOnce, IsFound};
+ghost use Rattle.tql_store_rows.specs.Views.{versions_of};
+ghost use Rattle.tql_store.specs.Views.{AreRowsNow, Names, NamesOnce, IsFound};
 ghost use Rattle.tql_value.specs.When.{is_now, when_of};
 
 use crate::store::Store;
@@ -18,6 +19,7 @@ use std::marker::Model;
 use tql_index::index::IntervalIndex;
 use tql_memory::Memory;
 use tql_store_index::basis::Sought;
+use tql_store_rows::current::Kept;
 use tql_store_rows::version::Version;
 use tql_value::table::TableId;
 use tql_value::when::When;
@@ -103,6 +105,18 @@ impl<'a, I: IntervalIndex> Snapshot<'a, I> {
         match self.position {
             Position::Now => self.store.look(table, when, sought),
             Position::At(pin) => self.store.look_at(pin, table, when, sought),
+        }
+    }
+    /// The versions of a table that stand as current ones, each at the place that is its id: those that are open
+    /// (`if_open` of `tql_store_rows`) are the rows now. None at a pin, where what stood then is found by `found` alone.
+    /// Takes no memory.
+    pub fn current(&self, table: TableId) -> Option<&'a [Kept]>
+        requires { IsTrue (table_there self.now table) }
+        ensures { IfSome result (λ versions. AreRowsNow self.now table (versions_of versions.now)) }
+    {
+        match self.position {
+            Position::Now => Some(self.store.current(table)),
+            Position::At(_) => None,
         }
     }
 }

@@ -21,7 +21,8 @@ ghost use Rattle.tql_store.specs.Orderly.{table_at, IsNoted, HasTurned};
 ghost use Rattle.tql_store.specs.Pinned.{pinned};
 ghost use Rattle.tql_store.specs.TableSlots.{slot_at, is_brief};
 ghost use Rattle.tql_store_rows.specs.Readings.{version_shown as version_of};
-ghost use Rattle.tql_store.specs.Views.{Names, NamesOnce, IsFound, current_named};
+ghost use Rattle.tql_store_rows.specs.Views.{versions_of};
+ghost use Rattle.tql_store.specs.Views.{AreRowsNow, Names, NamesOnce, IsFound, current_named};
 ghost use Rattle.tql_store.specs.Represents.{Represents, BeginCopies, ChangeReplaces, CommitAppends, ReplacesVersions};
 ghost use Rattle.tql_store.specs.Represents.{RollbackRestores, AddsTable, AddKeepsCopies, DropEmpties, Takes};
 ghost use Rattle.tql_store.specs.Represents.{Answers, PrunesCopies};
@@ -42,6 +43,7 @@ use tql_index::index::IntervalIndex;
 use tql_memory::Memory;
 use tql_period::period::Period;
 use tql_store_index::basis::Sought;
+use tql_store_rows::current::Kept;
 use tql_store_rows::version::Version;
 use tql_store_rows::versions::Versions;
 use tql_value::calendar::FIRST_MOMENT;
@@ -400,6 +402,15 @@ impl<I: IntervalIndex> Store<I> {
     {
         let found = self.rows[usize::from(table.number())].found(self.memory, when)?;
         Ok(found)
+    }
+
+    /// The versions of a table that stand as current ones, each at the place that is its id: those that are open
+    /// (`if_open` of `tql_store_rows`) are the rows now. Takes no memory.
+    pub fn current(&self, table: TableId) -> &[Kept]
+        requires { IsTrue (table_there self.now table) }
+        ensures { AreRowsNow self.now table (versions_of result.now) }
+    {
+        self.rows[usize::from(table.number())].current()
     }
 
     /// The versions of a table that are asked for and whose rows are sought.

@@ -1,0 +1,54 @@
+use Rattle.std.proofs.Common.{◌≡◌, true, [], List, filter, rules, refl, arith, sym, ap, subst, ◌∙◌}
+use Rattle.std.specs.Prelude.{slice_get, slice_index_or, Some}
+use Rattle.std.proofs.lemmas.Grind.{common_steps}
+use Rattle.tql_spec.specs.Bag.{SameBag}
+use Rattle.tql_spec.specs.Definition.{Version}
+use Rattle.tql_store_rows.specs.Changes.{alive}
+use Rattle.tql_store_rows.specs.Readings.{asked, open_ones}
+use Rattle.tql_store_rows.specs.Views.{versions_of}
+use Rattle.tql_value.specs.declared.when.When.TheVariants.{Now}
+use Rattle.tql_store.specs.StoreModel.{StoreModel}
+use Rattle.tql_store.specs.TableSlots.{slot_at, is_taken}
+use Rattle.tql_store.specs.Orderly.{table_at}
+use Rattle.tql_store.proofs.Numbers.{element-at, taken-within}
+use Rattle.tql_store.proofs.Storing.{IsRead, IsReadable, readable-at, shows, versions-of}
+use Rattle.tql_store.proofs.StoreLaws.{answers-found}
+use Rattle.tql_store.proofs.store.Store.current.Given as given
+use Rattle.tql_store.proofs.store.Store.current.Goals as goal
+
+-- the table that is asked
+read : (g : given.Over) (c : goal.After-current g) → IsRead c.args.self.now c.args.table c.index.result.now
+read g c =
+    let there : is_taken (slot_at c.self.inside.places.items c.args.table) ≡ true =
+    ap (λ (h : StoreModel). is_taken (slot_at h.tables c.args.table)) c.self.view_is ∙ c.requires in
+    let element : c.index.result.now ≡ slice_index_or c.self.inside.rows.items c.args.table c.index.result.now =
+    first_of (search rules, grind (arith, common_steps)) in
+    let at : c.index.result.now ≡ table_at c.self.inside.rows.items c.args.table =
+    element-at c.self.inside.rows.items c.args.table c.args.table c.index.result.now element refl
+    (taken-within c.self.inside.places.items c.self.inside.rows.items c.args.table c.self.invariant.even there) in
+    record {
+      shown = versions-of c.self.inside.rows.items c.args.self.now c.args.table c.index.result.now
+          (shows c.self.inside.places.items c.self.inside.rows.items c.self.inside.working c.self.inside.last
+          c.self.inside.horizon c.args.self.now c.self.view_is) at;
+      readable = subst IsReadable (sym at)
+          (readable-at c.self.inside.places.items c.self.inside.rows.items c.self.inside.touched.items
+          c.self.inside.working c.self.inside.last c.self.invariant c.args.table);
+    }
+
+bag : (g : given.Over) (c : goal.After-current g) → SameBag (open_ones (versions_of c.current.result.now))
+    (filter (asked Now) (filter alive (slice_index_or c.args.self.now.versions c.args.table [])))
+bag g c =
+    let r = read g c in
+    subst (λ (vs : List Version). SameBag (open_ones (versions_of c.current.result.now))
+    (filter (asked Now) (filter alive vs))) (sym r.shown) (c.current.ensures.bag r.readable.ended)
+
+pub returns : goal.returns
+returns g c =
+    let r = read g c in
+    record {
+      versions = bag g c;
+      ids = λ id v at. subst (λ (vs : List Version). slice_get vs id ≡ Some v) (sym r.shown)
+          (c.current.ensures.ids id v at);
+      copies = answers-found c.args.self.now c.args.table Now (open_ones (versions_of c.current.result.now)) refl
+          (bag g c);
+    }
