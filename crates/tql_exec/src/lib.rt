@@ -1,6 +1,7 @@
 //! Plans run over the store.
 #![tactic(auto)]
 
+mod finding;
 mod headings;
 mod joining;
 mod multiplying;

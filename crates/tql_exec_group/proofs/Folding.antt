@@ -1,5 +1,5 @@
 -- Values taken one after another: what is met so far, and what is left.
-use Rattle.std.specs.Prelude.{◌≡◌, refl, ℕ, ◌+◌, ◌<◌, List, [], ◌∷◌, map, length, slice_index_or, Option, Some}
+use Rattle.std.specs.Prelude.{◌≡◌, refl, ℕ, ◌+◌, ◌<◌, List, [], ◌∷◌, length, slice_index_or, Option, Some}
 use Rattle.std.specs.Prelude.{None}
 use Rattle.std.proofs.Common.{sym, ap, ◌∙◌, drop}
 use Rattle.std.proofs.lemmas.List.{drop_more}
@@ -22,39 +22,38 @@ by_each None h k e = refl
 by_each (Some x) h k e = e x
 
 -- what is left at an index
-left_at : {X Y A : Type 0} (f : Y → Option A) (k : X → Y) (xs : List X) (i : ℕ) (x : X) → i < length xs
-    → x ≡ slice_index_or xs i x
-    → map_all f (map k (drop i xs)) ≡ with_front (f (k x)) (map_all f (map k (drop (i + 1) xs)))
-left_at f k xs i x l is = ap (λ ys. map_all f (map k ys)) (drop_more xs i x l)
-    ∙ ap (λ y. with_front (f (k y)) (map_all f (map k (drop (i + 1) xs)))) (sym is)
+left_at : {X A : Type 0} (f : X → Option A) (xs : List X) (i : ℕ) (d x : X) → i < length xs
+    → x ≡ slice_index_or xs i d
+    → map_all f (drop i xs) ≡ with_front (f x) (map_all f (drop (i + 1) xs))
+left_at f xs i d x l is = ap (map_all f) (drop_more xs i d l)
+    ∙ ap (λ y. with_front (f y) (map_all f (drop (i + 1) xs))) (sym is)
 
-module _ {X Y A B : Type 0} (f : Y → Option A) (k : X → Y) where
+module _ {X A B : Type 0} (f : X → Option A) where
   -- one more has its value
-  pub one_more : (h h' : List A → Option B) (xs : List X) (i : ℕ) (x : X) (v : A) (all : Option B) → i < length xs
-      → x ≡ slice_index_or xs i x
-      → f (k x) ≡ Some v → ((vs : List A) → h' vs ≡ h (v ∷ vs))
-      → map_all f (map k (drop i xs)) >>= h ≡ all → map_all f (map k (drop (i + 1) xs)) >>= h' ≡ all
-  one_more h h' xs i x v all l is value next so_far =
-      let rest = map_all f (map k (drop (i + 1) xs)) in
+  pub one_more : (h h' : List A → Option B) (xs : List X) (i : ℕ) (d x : X) (v : A) (all : Option B) → i < length xs
+      → x ≡ slice_index_or xs i d
+      → f x ≡ Some v → ((vs : List A) → h' vs ≡ h (v ∷ vs))
+      → map_all f (drop i xs) >>= h ≡ all → map_all f (drop (i + 1) xs) >>= h' ≡ all
+  one_more h h' xs i d x v all l is value next so_far =
+      let rest = map_all f (drop (i + 1) xs) in
       by_each rest h' (λ vs. h (v ∷ vs)) next ∙ sym (front_first v rest h) ∙ (λ j. with_front (sym value j) rest >>= h)
-      ∙ sym (ap (λ o. o >>= h) (left_at f k xs i x l is)) ∙ so_far
+      ∙ sym (ap (λ o. o >>= h) (left_at f xs i d x l is)) ∙ so_far
 
   -- one has no value
-  pub one_lacks : (h : List A → Option B) (xs : List X) (i : ℕ) (x : X) (all : Option B) → i < length xs
-      → x ≡ slice_index_or xs i x
-      → f (k x) ≡ None → map_all f (map k (drop i xs)) >>= h ≡ all → all ≡ None
-  one_lacks h xs i x all l is none so_far =
-      let rest = map_all f (map k (drop (i + 1) xs)) in
-      sym so_far ∙ ap (λ o. o >>= h) (left_at f k xs i x l is) ∙ (λ j. with_front (none j) rest >>= h)
+  pub one_lacks : (h : List A → Option B) (xs : List X) (i : ℕ) (d x : X) (all : Option B) → i < length xs
+      → x ≡ slice_index_or xs i d
+      → f x ≡ None → map_all f (drop i xs) >>= h ≡ all → all ≡ None
+  one_lacks h xs i d x all l is none so_far =
+      let rest = map_all f (drop (i + 1) xs) in
+      sym so_far ∙ ap (λ o. o >>= h) (left_at f xs i d x l is) ∙ (λ j. with_front (none j) rest >>= h)
       ∙ none_first rest h
 
 -- ---- the values of an expression on rows
 
-module _ {X A : Type 0} (values : X → Row) (e : Expr) where
-  pub more_present : (h h' : List Datum → Option A) (xs : List X) (i : ℕ) (x : X) (v : Datum) (all : Option A)
-      → i < length xs → x ≡ slice_index_or xs i x
-      → Some v ≡ eval [] (values x) e → ((vs : List Datum) → h' (present vs) ≡ h (present (v ∷ vs)))
-      → of_present h e (map values (drop i xs)) ≡ all → of_present h' e (map values (drop (i + 1) xs)) ≡ all
-  more_present h h' xs i x v all l is value next so_far =
-      one_more (λ r. eval [] r e) values (λ vs. h (present vs)) (λ vs. h' (present vs)) xs i x v all l is (sym value)
-      next so_far
+pub more_present : {A : Type 0} (e : Expr) (h h' : List Datum → Option A) (xs : List Row) (i : ℕ) (d x : Row) (v : Datum)
+    (all : Option A) → i < length xs → x ≡ slice_index_or xs i d
+    → Some v ≡ eval [] x e → ((vs : List Datum) → h' (present vs) ≡ h (present (v ∷ vs)))
+    → of_present h e (drop i xs) ≡ all → of_present h' e (drop (i + 1) xs) ≡ all
+more_present e h h' xs i d x v all l is value next so_far =
+    one_more (λ r. eval [] r e) (λ vs. h (present vs)) (λ vs. h' (present vs)) xs i d x v all l is (sym value)
+    next so_far

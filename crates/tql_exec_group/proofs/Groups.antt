@@ -1,16 +1,15 @@
 -- The runs of sorted rows are their groups.
-use Rattle.std.specs.Prelude.{◌≡◌, refl, ℕ, zero, suc, ◌+◌, ◌-◌, ◌<◌, ◌≤◌, Bool, true, false, not, List, [], ◌∷◌}
+use Rattle.std.specs.Prelude.{◌≡◌, refl, ℕ, zero, suc, ◌<◌, Bool, true, false, not, List, [], ◌∷◌}
 use Rattle.std.specs.Prelude.{◌++◌, map, filter, length, slice_index_or}
 use Rattle.std.proofs.Common.{sym, ap, subst, ◌∙◌, take, drop, arith, cond, inl, inr}
-use Rattle.std.specs.Ordering.{is_eq, is_gt, is_lt}
+use Rattle.std.specs.Ordering.{is_eq, is_gt}
 use Rattle.std.specs.declared.cmp.Ordering.TheVariants.{Less, Equal, Greater}
-use Rattle.std.specs.List.Sorted.{IsSorted, IsSortedBy}
-use Rattle.std.proofs.lemmas.List.{get_or-map, length-map, take-append-drop}
+use Rattle.std.proofs.lemmas.List.{take-append-drop}
 use Rattle.std.proofs.lemmas.Cmp.{tied_itself, upto}
 use Rattle.tql_spec.specs.Bag.{In}
 use Rattle.tql_spec.specs.Datum.{Row, same_row}
 use Rattle.tql_spec.specs.Query.{by_columns, cells_at, distinct_rows, groups_by}
-use Rattle.tql_spec.proofs.Orders.{Ascends, by_columns-total, by_columns-ties, sorted_ascends}
+use Rattle.tql_spec.proofs.Orders.{Ascends, by_columns-total, by_columns-ties}
 use Rattle.tql_spec.proofs.Members.{by_bool, same_row-self, same_row-is}
 use Rattle.tql_spec.proofs.MemberLists.{in_map}
 use Rattle.tql_spec.proofs.DistinctBags.{in_distinct}
@@ -144,16 +143,6 @@ never_again t u us a n s m e =
     let back : is_gt (by_columns u t) ≡ false =
     subst (λ z. is_gt (by_columns u z) ≡ false) (sym e) (above_rest u u us self a.1 s m) in
     n (neither u t back a.0)
-
--- sorted by the tuples that rows have: the tuples are sorted
-pub sorted_by_key : {X : Type 0} (key : X → Row) (rows : List X)
-    → IsSortedBy (λ x y. is_lt (by_columns (key x) (key y))) rows → IsSorted by_columns (map key rows)
-sorted_by_key key [] s k d l h = absurd (omega (arith, h))
-sorted_by_key key (x ∷ xs) s k d l h =
-    let n : length (map key (x ∷ xs)) ≡ length (x ∷ xs) = length-map (x ∷ xs) key in
-    let p : k + 1 < length (x ∷ xs) = omega (arith, h, n) in
-    let q : k < length (x ∷ xs) = omega (arith, p) in
-    rw (get_or-map key (x ∷ xs) (k + 1) x d p, get_or-map key (x ∷ xs) k x d q) (s k x l p)
 
 -- ---- a run of sorted rows
 

@@ -1,17 +1,16 @@
--- Rows with a key at hand: their tuples are those of the rows, and their runs are groups.
-use Rattle.std.specs.Prelude.{◌≡◌, refl, ℕ, ◌+◌, ◌-◌, ◌<◌, ◌≤◌, List, [], ◌∷◌, All, map, length, slice_index_or}
+-- The runs of sorted rows with a key at hand are groups.
+use Rattle.std.specs.Prelude.{◌≡◌, ℕ, ◌+◌, ◌-◌, ◌<◌, ◌≤◌, List, [], ◌∷◌, All, map, length, slice_index_or}
 use Rattle.std.proofs.Common.{sym, ap, subst, ◌∙◌, take, drop, arith, below_more}
 use Rattle.std.proofs.lemmas.List.{drop-drop, drop-map, get_or-map, length-map, length-take, length-take-le}
 use Rattle.std.proofs.lemmas.List.{length-drop, take_all}
 use Rattle.std.proofs.lemmas.List.{take-map}
-use Rattle.std.proofs.lemmas.List.Elements.{All-drop, All-head, All-tail}
-use Rattle.std.specs.Ordering.{ordering_then}
-use Rattle.std.specs.declared.cmp.Ordering.{Ordering}
-use Rattle.std.specs.declared.cmp.Ordering.TheVariants.{Less, Equal, Greater}
-use Rattle.tql_spec.specs.Datum.{Datum, Row, order}
+use Rattle.std.proofs.lemmas.List.Elements.{All-drop}
+use Rattle.tql_spec.specs.Datum.{Row}
 use Rattle.tql_spec.specs.Query.{by_columns, cells_at, groups_by}
 use Rattle.tql_spec.proofs.Orders.{Ascends, by_columns-total, sorted_ascends}
-use Rattle.tql_exec_group.specs.Runs.{AreSorted, HasKey, IsRun, key_and_cells, rows_in, WithKey}
+use Rattle.tql_exec_join.specs.Keyed.{AreSorted, HasKey, key_and_cells, rows_in, WithKey}
+use Rattle.tql_exec_join.proofs.Keys.{tuples_of_keyed}
+use Rattle.tql_exec_group.specs.Runs.{IsRun}
 use Rattle.tql_exec_group.proofs.Groups.{drop_ascends, first_group}
 
 -- one more row whose tuple is that of the first
@@ -24,26 +23,9 @@ one_more_agrees key xs i first x l is at agree so_far =
     below_more (λ k. slice_index_or (map key xs) k [] ≡ slice_index_or (map key xs) 0 []) i so_far
     (get_or-map key xs i x [] l ∙ ap key (sym at) ∙ sym agree ∙ ap key is ∙ sym (get_or-map key xs 0 first [] some))
 
--- tuples of one value
-pub alone_in_tuple : (a b : Datum) → order a b ≡ by_columns (a ∷ []) (b ∷ [])
-alone_in_tuple a b = then_equal (order a b)
-  where
-    then_equal : (o : Ordering) → o ≡ ordering_then o Equal
-    then_equal Less = refl
-    then_equal Equal = refl
-    then_equal Greater = refl
-
 module _ (first : ℕ) (others : List ℕ) where
   abbrev columns : List ℕ
   columns = first ∷ others
-
-  -- the keys and the cells in the other columns are the tuples of the rows
-  pub tuples_of_keyed : (ks : List WithKey) → All (HasKey first) ks
-      → map (key_and_cells others) ks ≡ map (cells_at columns) (rows_in ks)
-  tuples_of_keyed [] h = refl
-  tuples_of_keyed (k ∷ ks) h =
-      ap (λ d. (d ∷ cells_at others k.row) ∷ map (key_and_cells others) ks) (All-head (HasKey first) k ks h)
-      ∙ ap {B = List Row} (λ ts. cells_at columns k.row ∷ ts) (tuples_of_keyed ks (All-tail (HasKey first) k ks h))
 
   module _ (ks : List WithKey) (start n : ℕ) (more : start < length ks) where
     -- the rows that are left
@@ -64,7 +46,7 @@ module _ (first : ℕ) (others : List ℕ) where
         let size : length rows ≡ length tail = length-map tail (λ k. k.row) in
         let tuples : map (key_and_cells others) left ≡ map (cells_at columns) rows =
         ap (map (key_and_cells others)) all_left
-        ∙ tuples_of_keyed tail (All-drop (HasKey first) start ks keyed) in
+        ∙ tuples_of_keyed first others tail (All-drop (HasKey first) start ks keyed) in
         let of_rows : IsRun (map (cells_at columns) rows) n = subst (λ ts. IsRun ts n) tuples run in
         let up : Ascends by_columns (map (cells_at columns) rows) =
         subst (λ rs. Ascends by_columns (map (cells_at columns) rs)) (drop-map (λ k. k.row) start ks)

@@ -1,13 +1,15 @@
 //! Aggregates over the rows of a group: ISO/IEC 9075-2:2011, 10.9 `<aggregate function>`.
-ghost use Rattle.std.specs.Prelude.{◌≡◌, ℕ, ◌<◌, ◌^◌, ◌+◌, [], All, length, map, Some};
+ghost use Rattle.std.specs.Prelude.{◌≡◌, ℕ, ◌<◌, ◌^◌, ◌+◌, [], length, Some};
 ghost use Rattle.tql_spec.specs.Datum as pure;
 ghost use Rattle.tql_spec.specs.Expression as bound;
 ghost use Rattle.tql_value.specs.Views.{datum_of_view, outcome};
 ghost use Rattle.tql_expr.specs.Meaning.{expr, HasExpr, HasOperand, aggregate as tree_of};
 ghost use Rattle.tql_expr.specs.Trees.{plain_function};
+ghost use Rattle.tql_exec_group.specs.Members.{members};
 ghost use Rattle.tql_exec_group.specs.Folds.{added, is_better, IsWithin, of_present, the_better};
 
-use tql_expr::columns::Columns;
+use crate::group::Group;
+use tql_exec_join::joined::Joined;
 use tql_expr::node::Function;
 use tql_expr::terms::{Aggregate, ExprId, Terms};
 use tql_value::arithmetic::Range;
@@ -15,24 +17,22 @@ use tql_value::comparison::order;
 use tql_value::value::View;
 
 /// The value of an expression on a row that is in no group.
-fn value_alone<'a, C: Columns>(terms: &'a Terms, x: ExprId, row: &'a C) -> Result<View<'a>, Range>
-    requires there { HasExpr terms.now x }
-    requires alone { C.group row.now ≡ [] }
-    ensures { outcome result ≡ bound.eval [] (C.values row.now) (expr terms.now x) }
+fn value_alone<'a>(terms: &'a Terms, x: ExprId, row: &'a Joined<'_>) -> Result<View<'a>, Range>
+    requires { HasExpr terms.now x }
+    ensures { outcome result ≡ bound.eval [] row.now (expr terms.now x) }
 {
     terms.eval(x, row)
 }
 
 /// How many rows give a value that is not NULL.
-fn count<'a, C: Columns>(terms: &'a Terms, x: ExprId, rows: &'a [C]) -> Result<View<'a>, Range>
+fn count<'a>(terms: &'a Terms, x: ExprId, rows: &'a Group<'_>) -> Result<View<'a>, Range>
     requires there { HasExpr terms.now x }
-    requires alone { All (λ r. C.group r ≡ []) rows.now }
-    requires countable { length rows.now < 2 ^ 63 }
-    ensures { outcome result ≡ of_present (bound.aggregate bound.Count) (expr terms.now x) (map C.values rows.now) }
+    requires countable { length (members rows.now) < 2 ^ 63 }
+    ensures { outcome result ≡ of_present (bound.aggregate bound.Count) (expr terms.now x) (members rows.now) }
 {
     let mut found: usize = 0;
-    for row in rows {
-        if !value_alone(terms, x, row)?.is_null() {
+    for place in 0..rows.len() {
+        if !value_alone(terms, x, rows.row(place))?.is_null() {
             found += 1;
         }
     }
@@ -54,15 +54,14 @@ fn with_value(sum: Option<i128>, value: View<'_>) -> Option<i128>
 }
 
 /// The exact sum, `Range` where it leaves 64 bits; NULL where there are no values.
-fn sum<'a, C: Columns>(terms: &'a Terms, x: ExprId, rows: &'a [C]) -> Result<View<'a>, Range>
+fn sum<'a>(terms: &'a Terms, x: ExprId, rows: &'a Group<'_>) -> Result<View<'a>, Range>
     requires there { HasExpr terms.now x }
-    requires alone { All (λ r. C.group r ≡ []) rows.now }
-    requires countable { length rows.now < 2 ^ 63 }
-    ensures { outcome result ≡ of_present (bound.aggregate bound.Sum) (expr terms.now x) (map C.values rows.now) }
+    requires countable { length (members rows.now) < 2 ^ 63 }
+    ensures { outcome result ≡ of_present (bound.aggregate bound.Sum) (expr terms.now x) (members rows.now) }
 {
     let mut sum = None;
-    for row in rows {
-        sum = with_value(sum, value_alone(terms, x, row)?);
+    for place in 0..rows.len() {
+        sum = with_value(sum, value_alone(terms, x, rows.row(place))?);
     }
     match sum {
         None => Ok(View::Null),
@@ -100,36 +99,34 @@ fn better<'a>(greatest: bool, a: View<'a>, b: View<'a>) -> View<'a>
 }
 
 /// The least value or the greatest one; NULL where there is none.
-fn best<'a, C: Columns>(
+fn best<'a>(
     terms: &'a Terms,
     x: ExprId,
     greatest: bool,
-    rows: &'a [C],
+    rows: &'a Group<'_>,
 ) -> Result<View<'a>, Range>
     requires there { HasExpr terms.now x }
-    requires alone { All (λ r. C.group r ≡ []) rows.now }
     ensures { outcome result ≡ of_present (λ vs. Some (bound.best (is_better greatest) vs))
-        (expr terms.now x) (map C.values rows.now) }
+        (expr terms.now x) (members rows.now) }
 {
     let mut found = View::Null;
-    for row in rows {
-        found = better(greatest, found, value_alone(terms, x, row)?);
+    for place in 0..rows.len() {
+        found = better(greatest, found, value_alone(terms, x, rows.row(place))?);
     }
     Ok(found)
 }
 
 /// What a function gives of the values of an expression on these rows.
-fn over_values<'a, C: Columns>(
+fn over_values<'a>(
     terms: &'a Terms,
     function: Function,
     x: ExprId,
-    rows: &'a [C],
+    rows: &'a Group<'_>,
 ) -> Result<View<'a>, Range>
     requires there { HasExpr terms.now x }
-    requires alone { All (λ r. C.group r ≡ []) rows.now }
-    requires countable { length rows.now < 2 ^ 63 }
+    requires countable { length (members rows.now) < 2 ^ 63 }
     ensures { outcome result ≡ of_present (bound.aggregate (plain_function function))
-        (expr terms.now x) (map C.values rows.now) }
+        (expr terms.now x) (members rows.now) }
 {
     match function {
         Function::Count => count(terms, x, rows),
@@ -142,14 +139,13 @@ fn over_values<'a, C: Columns>(
 /// What an aggregate of the terms gives over these rows: COUNT(*) counts them, the others take the values of their
 /// operand that are not NULL (ISO/IEC 9075-2:2011, 10.9). `Range` where a sum, the count of the rows or a number
 /// inside an operand leaves 64 bits. It takes no memory.
-pub fn over_rows<'a, C: Columns>(
+pub fn over_rows<'a>(
     terms: &'a Terms,
     which: Aggregate,
-    rows: &'a [C],
+    rows: &'a Group<'_>,
 ) -> Result<View<'a>, Range>
     requires there { HasOperand terms.now which }
-    requires alone { All (λ r. C.group r ≡ []) rows.now }
-    ensures { (row : pure.Row) → outcome result ≡ bound.eval (map C.values rows.now) row (tree_of terms.now which) }
+    ensures { (row : pure.Row) → outcome result ≡ bound.eval (members rows.now) row (tree_of terms.now which) }
 {
     let Ok(all) = i64::try_from(rows.len()) else {
         return Err(Range);

@@ -1,8 +1,11 @@
 //! Groups of joined rows.
+ghost use Rattle.std.specs.Prelude.{◌≡◌, ◌<◌, [], length, slice_index_or};
+ghost use Rattle.tql_exec_join.specs.Keyed.{rows_in};
+ghost use Rattle.tql_exec_group.specs.Members.{members};
 
 use crate::aggregates::over_rows;
-use crate::keyed::Keyed;
 use tql_exec_join::joined::Joined;
+use tql_exec_join::keyed::Keyed;
 use tql_expr::columns::Columns;
 use tql_expr::terms::{Aggregate, Terms};
 use tql_value::arithmetic::Range;
@@ -10,53 +13,68 @@ use tql_value::value::View;
 
 /// The rows of a group, side by side in one slice. Its columns are those of the first row; a group of no rows has none.
 #[derive(Clone, Copy)]
-pub struct Group<'a> {
-    /// The rows.
-    pub rows: &'a [Joined<'a>],
+pub enum Group<'a> {
+    /// Rows as they are.
+    Rows(&'a [Joined<'a>]),
+    /// Rows that have a column at hand.
+    Run(&'a [Keyed<'a, 'a>]),
+}
+
+/// One of these rows.
+fn row_of<'a>(rows: &'a [Joined<'a>], place: usize) -> &'a Joined<'a>
+    requires { place < length rows.now }
+    ensures { result.now ≡ slice_index_or rows.now place [] }
+{
+    &rows[place]
+}
+
+/// One of these rows, which have a column at hand.
+fn row_of_run<'a>(rows: &'a [Keyed<'a, 'a>], place: usize) -> &'a Joined<'a>
+    requires { place < length rows.now }
+    ensures { result.now ≡ slice_index_or (rows_in rows.now) place [] }
+{
+    rows[place].row()
+}
+
+impl<'a> Group<'a> {
+    /// How many rows it has.
+    pub(crate) fn len(&self) -> usize
+        ensures { result ≡ length (members self.now) }
+    {
+        match self {
+            Group::Rows(rows) => rows.len(),
+            Group::Run(rows) => rows.len(),
+        }
+    }
+
+    /// One of its rows.
+    pub(crate) fn row(&self, place: usize) -> &'a Joined<'a>
+        requires { place < length (members self.now) }
+        ensures { result.now ≡ slice_index_or (members self.now) place [] }
+    {
+        match self {
+            Group::Rows(rows) => row_of(rows, place),
+            Group::Run(rows) => row_of_run(rows, place),
+        }
+    }
 }
 
 impl Columns for Group<'_> {
     ghost use Rattle.std.specs.Prelude.{[], slice_index_or};
+    ghost use Rattle.tql_exec_group.specs.Members.{members};
 
-    ghost values = { λ g. slice_index_or g.rows.now 0 [] };
+    ghost values = { λ g. slice_index_or (members g) 0 [] };
 
-    ghost group = { λ g. g.rows.now };
+    ghost group = { λ g. members g };
 
     fn column(&self, place: usize) -> View<'_> {
-        match self.rows.first() {
-            Some(row) => row.column(place),
-            None => View::Null,
+        if self.len() == 0 {
+            return View::Null;
         }
+        self.row(0).column(place)
     }
 
     fn aggregate<'c>(&'c self, terms: &'c Terms, which: Aggregate) -> Result<View<'c>, Range> {
-        over_rows(terms, which, self.rows)
-    }
-}
-
-/// The rows of a group, side by side in one slice, each with a column at hand. Its columns are those of the first row.
-#[derive(Clone, Copy)]
-pub struct Run<'a> {
-    /// The rows.
-    pub rows: &'a [Keyed<'a>],
-}
-
-impl Columns for Run<'_> {
-    ghost use Rattle.std.specs.Prelude.{[], slice_index_or};
-    ghost use Rattle.tql_exec_group.specs.Runs.{rows_in};
-
-    ghost values = { λ g. slice_index_or (rows_in g.rows.now) 0 [] };
-
-    ghost group = { λ g. rows_in g.rows.now };
-
-    fn column(&self, place: usize) -> View<'_> {
-        match self.rows.first() {
-            Some(row) => row.column(place),
-            None => View::Null,
-        }
-    }
-
-    fn aggregate<'c>(&'c self, terms: &'c Terms, which: Aggregate) -> Result<View<'c>, Range> {
-        over_rows(terms, which, self.rows)
+        over_rows(terms, which, self)
     }
 }

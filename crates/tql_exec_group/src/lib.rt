@@ -3,6 +3,5 @@
 
 mod aggregates;
 mod group;
-mod keyed;
 mod runs;
 pub mod showing;

@@ -6,12 +6,13 @@ ghost use Rattle.tql_expr.specs.Evaluated.{Evaluated, behind};
 ghost use Rattle.tql_expr.specs.Meaning.{cond, expr, HasCond, HasExpr};
 ghost use Rattle.tql_exec_join.specs.Bags.{GivesBag};
 ghost use Rattle.tql_value.specs.Views.{rows_of};
-ghost use Rattle.tql_exec_group.specs.Runs.{AreSorted, HasKey, rows_in};
+ghost use Rattle.tql_exec_join.specs.Keyed.{AreSorted, HasKey, rows_in};
 
-use crate::group::{Group, Run};
-use crate::keyed::Keyed;
-use crate::runs::{Keys, run_length, sorted_rows};
+use crate::group::Group;
+use crate::runs::run_length;
 use tql_exec_join::joined::Joined;
+use tql_exec_join::keyed::Keyed;
+use tql_exec_join::sorting::{Keys, sorted_rows};
 use tql_expr::columns::Columns;
 use tql_expr::terms::{CondId, ExprId, Terms};
 use tql_expr::values::values_on;
@@ -75,7 +76,7 @@ fn show_all(
         (shown (map (cond terms.now) having.now) (map (expr terms.now) items.now) (of_group rows.now ∷ [])) result }
 {
     let mut made: Vec<Vec<Value, Memory>, Memory> = Vec::new(memory);
-    add_scope(memory, terms, having, items, &Group { rows }, &mut made)?;
+    add_scope(memory, terms, having, items, &Group::Rows(rows), &mut made)?;
     Ok(made)
 }
 
@@ -86,7 +87,7 @@ fn show_runs(
     keys: Keys<'_>,
     having: &[CondId],
     items: &[ExprId],
-    rows: &[Keyed<'_>],
+    rows: &[Keyed<'_, '_>],
 ) -> Result<Vec<Vec<Value, Memory>, Memory>, Refusal>
     requires having { All (HasCond terms.now) having.now }
     requires items { All (HasExpr terms.now) items.now }
@@ -101,7 +102,7 @@ fn show_runs(
     while start < rows.len() {
         let left = &rows[start..];
         let run = &left[..run_length(keys.others, left)];
-        add_scope(memory, terms, having, items, &Run { rows: run }, &mut made)?;
+        add_scope(memory, terms, having, items, &Group::Run(run), &mut made)?;
         start += run.len();
     }
     Ok(made)

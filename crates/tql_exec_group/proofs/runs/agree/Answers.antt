@@ -2,7 +2,7 @@
 use Rattle.std.proofs.Common.{ap, ◌∙◌, sym, ◌≡◌}
 use Rattle.std.specs.Ordering.{is_eq}
 use Rattle.tql_spec.specs.Query.{by_columns}
-use Rattle.tql_exec_group.specs.Runs.{key_and_cells}
+use Rattle.tql_exec_join.specs.Keyed.{key_and_cells}
 use Rattle.tql_exec_group.proofs.Groups.{ties, ties_itself}
 use Rattle.tql_exec_group.proofs.runs.agree.Goals as goal
 

@@ -1,6 +1,6 @@
 -- One more row that agrees with the first.
 use Rattle.std.proofs.Common.{rules}
-use Rattle.tql_exec_group.specs.Runs.{key_and_cells}
+use Rattle.tql_exec_join.specs.Keyed.{key_and_cells}
 use Rattle.tql_exec_group.proofs.Keys.{one_more_agrees}
 use Rattle.tql_exec_group.proofs.runs.run_length.Goals as goal
 

@@ -1,5 +1,5 @@
 use Rattle.std.proofs.Common.{◌≡◌, ℕ, ◌<◌, [], map, slice_index_or}
-use Rattle.tql_exec_group.specs.Runs.{key_and_cells}
+use Rattle.tql_exec_join.specs.Keyed.{key_and_cells}
 use Rattle.tql_exec_group.proofs.runs.run_length.Given as goal
 
 -- the rows so far agree

@@ -7,7 +7,7 @@ use Rattle.tql_spec.specs.QueryLaws.{NamesGroups, shown}
 use Rattle.tql_expr.specs.Meaning.{cond, expr}
 use Rattle.tql_exec_join.specs.Bags.{GivesBag}
 use Rattle.tql_value.specs.Views.{rows_of}
-use Rattle.tql_exec_group.specs.Runs.{rows_in}
+use Rattle.tql_exec_join.specs.Keyed.{rows_in}
 use Rattle.tql_exec_group.proofs.Answered.{gives_bag}
 use Rattle.tql_exec_group.proofs.showing.show.Goals as goal
 

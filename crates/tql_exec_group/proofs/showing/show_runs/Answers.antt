@@ -7,7 +7,7 @@ use Rattle.tql_expr.specs.Evaluated.{Fails, behind}
 use Rattle.tql_expr.specs.Meaning.{cond, expr}
 use Rattle.tql_expr.proofs.Evaluations.{fails_with}
 use Rattle.tql_value.specs.Views.{rows_of}
-use Rattle.tql_exec_group.specs.Runs.{rows_in}
+use Rattle.tql_exec_join.specs.Keyed.{rows_in}
 use Rattle.tql_exec_group.proofs.Keys.{next_group, next_within_rows}
 use Rattle.tql_exec_group.proofs.Scopes.{one_more_shown, one_not_shown}
 use Rattle.tql_exec_group.proofs.showing.show_runs.Goals as goal

@@ -4,7 +4,7 @@ use Rattle.tql_spec.specs.QueryLaws.{shown}
 use Rattle.tql_expr.specs.Evaluated.{behind}
 use Rattle.tql_expr.specs.Meaning.{cond, expr}
 use Rattle.tql_value.specs.Views.{rows_of}
-use Rattle.tql_exec_group.specs.Runs.{rows_in}
+use Rattle.tql_exec_join.specs.Keyed.{rows_in}
 use Rattle.tql_exec_group.proofs.showing.show_runs.Given as goal
 
 -- the rows so far, before those of the groups that are left, are those of all
