@@ -4,3 +4,4 @@ pub mod Begun
 pub mod Early
 pub mod Looked
 pub mod ByKey
+pub mod Open

@@ -11,9 +11,9 @@ use Rattle.tql_exec.proofs.reading.read.Goals as goal
 
 pub returns-clause-rows : goal.returns-clause-rows
 returns-clause-rows g c copies working r =
-    let e : c.in_ok-rows.rows.items ≡ map (completed (generated c.args.source.system))
+    let e : c.in_ok-rows-2.rows.items ≡ map (completed (generated c.args.source.system))
     (map version_of c.in_ok-versions.versions.items) =
-    c.in_ok-rows.ensures
+    c.in_ok-rows-2.ensures
     ∙ ap (λ vs. map (completed (generated c.args.source.system)) (map version_of vs)) c.deref.ensures.value in
     subst (λ (xs : List Row). SameBag xs (bags_in c.args.snapshot.now copies working (source_of c.args.source))) (sym e)
     (same-map (completed (generated c.args.source.system))

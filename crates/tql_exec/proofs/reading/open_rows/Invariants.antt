@@ -1,0 +1,12 @@
+use Rattle.std.proofs.Common.{◌≡◌, ◌++◌, drop, map}
+use Rattle.tql_expr.specs.Generated.{generated}
+use Rattle.tql_store_rows.specs.Readings.{open_ones}
+use Rattle.tql_store_rows.specs.Views.{versions_of}
+use Rattle.tql_exec.specs.Found.{completed}
+use Rattle.tql_exec.proofs.reading.open_rows.Given as goal
+
+-- the rows so far, before those of the versions that are left, are all rows
+abbrev pub invariant-loop-id : goal.invariant-loop-id
+invariant-loop-id l =
+    l.rows.items ++ map (completed (generated l.system)) (open_ones (versions_of (drop l.id l.versions)))
+    ≡ map (completed (generated l.system)) (open_ones (versions_of l.versions))

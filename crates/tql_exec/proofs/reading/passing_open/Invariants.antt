@@ -1,0 +1,17 @@
+use Rattle.std.proofs.Common.{◌≡◌, drop, map}
+use Rattle.tql_spec.specs.Query.{keep}
+use Rattle.tql_expr.specs.Evaluated.{behind}
+use Rattle.tql_expr.specs.Generated.{generated}
+use Rattle.tql_expr.specs.Meaning.{cond}
+use Rattle.tql_store_rows.specs.Readings.{open_ones}
+use Rattle.tql_store_rows.specs.Views.{versions_of}
+use Rattle.tql_exec.specs.Found.{completed}
+use Rattle.tql_exec.proofs.reading.passing_open.Given as goal
+
+-- the rows so far, before those that pass of the versions that are left, are all that pass
+abbrev pub invariant-loop-id : goal.invariant-loop-id
+invariant-loop-id l =
+    let conds = map (cond l.terms) l.filter in
+    let shown = completed (generated l.system) in
+    behind l.rows.items (keep conds (map shown (open_ones (versions_of (drop l.id l.versions)))))
+    ≡ keep conds (map shown (open_ones (versions_of l.versions)))
