@@ -5,3 +5,5 @@ pub mod Early
 pub mod Looked
 pub mod ByKey
 pub mod Open
+pub mod Ranked
+pub mod RankedRows

@@ -1,7 +1,7 @@
 -- The rows of the versions that are open, where a table is read as it stands.
 use Rattle.std.proofs.Common.{◌≡◌, ℕ, ◌+◌, ◌<◌, Bool, true, false, cond, List, [], ◌∷◌, ◌++◌, map, drop, length}
 use Rattle.std.proofs.Common.{append_assoc, refl, sym, ap, subst, ◌∙◌}
-use Rattle.std.specs.Prelude.{Option, Some, None, option_map, slice_index_or}
+use Rattle.std.specs.Prelude.{Option, Some, None, slice_index_or}
 use Rattle.std.proofs.lemmas.List.{append-nil, drop_more}
 use Rattle.tql_spec.specs.Bag.{SameBag}
 use Rattle.tql_spec.specs.Datum.{Row}
@@ -11,15 +11,13 @@ use Rattle.tql_spec.specs.History.{When, found}
 use Rattle.tql_spec.specs.History as history
 use Rattle.tql_spec.specs.Horizon.{is_before}
 use Rattle.tql_spec.specs.Query.{keep}
-use Rattle.tql_spec.specs.Words.{kept_if, listed}
+use Rattle.tql_spec.specs.Words.{kept_if}
 use Rattle.tql_spec.proofs.Bags.{same-map}
-use Rattle.tql_spec.proofs.Members.{by_bool}
 use Rattle.tql_value.specs.declared.when.When.TheVariants.{Now}
 use Rattle.tql_expr.specs.Evaluated.{behind}
-use Rattle.tql_store_rows.specs.Readings.{is_answer, open_ones, version_shown, where_open}
+use Rattle.tql_store_rows.specs.Readings.{is_answer, open_ones}
 use Rattle.tql_store_rows.specs.Views.{version_of, versions_of}
 use Rattle.tql_store_rows.specs.declared.kept.Kept.{Kept}
-use Rattle.tql_store_rows.specs.declared.version.Version as code
 use Rattle.tql_store.specs.Represents.{Copies, Working, Represents, seen_by}
 use Rattle.tql_store.specs.StoreModel.{StoreModel}
 use Rattle.tql_store.specs.Views.{AreRowsNow}

@@ -1,3 +1,4 @@
 pub mod Found
 pub mod Steps
 pub mod Keys
+pub mod Rank

@@ -5,6 +5,7 @@ mod finding;
 mod headings;
 mod joining;
 mod multiplying;
+mod rank;
 mod reading;
 pub mod running;
 mod sorting;

@@ -1,7 +1,8 @@
 //! The order in which rows are printed, and rows without their repeats.
-ghost use Rattle.std.specs.Prelude.{◌≡◌, map, List};
+ghost use Rattle.std.specs.Prelude.{◌≡◌, ◌++◌, [], map, All, IfOk, List};
+ghost use Rattle.std.specs.Ordering.{is_lt, ordering_then};
 ghost use Rattle.std.specs.List.{dedup};
-ghost use Rattle.std.specs.List.Sorted.{IsSorted};
+ghost use Rattle.std.specs.List.Sorted.{IsPermutation, IsSorted, IsSortedBy};
 ghost use Rattle.tql_spec.specs.Bag.{SameBag};
 ghost use Rattle.tql_spec.specs.Datum.{Row, same_row};
 ghost use Rattle.tql_spec.specs.Definition.{cell};
@@ -9,7 +10,10 @@ ghost use Rattle.tql_spec.specs.Query.{by_columns, by_keys, row_order, if_distin
 ghost use Rattle.tql_spec.specs.Datum.{order as value_order};
 ghost use Rattle.tql_bound.specs.Queries.{order_of};
 ghost use Rattle.tql_value.specs.Views.{row_of, rows_of};
+ghost use Rattle.tql_exec.specs.Rank.{by_rest, first_of, row_in, HasRank, ranked_order};
 
+use crate::rank::Rank;
+use std::alloc::AllocError;
 use std::cmp::Ordering;
 use tql_bound::query::OrderKey;
 use tql_expr::row::cell_at;
@@ -18,13 +22,20 @@ use tql_spec::order_is_one;
 use tql_value::comparison::order;
 use tql_value::value::Value;
 
+/// The order, turned round where it falls.
+fn turned(falls: bool, rising: Ordering) -> Ordering
+    ensures { result ≡ directed falls rising }
+{
+    if falls { rising.reverse() } else { rising }
+}
+
 /// The order of two rows by one key.
 fn compare_by(key: OrderKey, a: &[Value], b: &[Value]) -> Ordering
     ensures { result ≡ directed key.falls
         (value_order (cell (row_of a.now) key.column) (cell (row_of b.now) key.column)) }
 {
     let rising = order(cell_at(a, key.column), cell_at(b, key.column));
-    if key.falls { rising.reverse() } else { rising }
+    turned(key.falls, rising)
 }
 
 /// The order of two rows by the keys, the first of them first.
@@ -65,12 +76,110 @@ fn compare_rows(keys: &[OrderKey], a: &[Value], b: &[Value]) -> Ordering
     }
 }
 
-/// Puts rows into the order in which they are printed: by the keys, and then by all columns from the left, NULL first.
-fn sort_rows(rows: &mut Vec<Vec<Value, Memory>, Memory>, keys: &[OrderKey])
-    ensures sorted { IsSorted (row_order (map order_of keys.now)) (rows_of rows.new.items) }
-    ensures same { SameBag (rows_of rows.new.items) (rows_of rows.old.items) }
+/// A row, and at hand the rank of its value in the column by which rows are printed first.
+#[derive(Drop)]
+struct Ranked {
+    rank: Rank,
+    row: Vec<Value, Memory>,
+}
+
+/// The key by which rows are printed first: the first column where there is none.
+fn first_key(keys: &[OrderKey]) -> OrderKey
+    ensures { order_of result ≡ first_of (map order_of keys.now) }
 {
-    rows.sort_unstable_by(|a, b| compare_rows(keys, a, b));
+    match keys.first() {
+        Some(key) => *key,
+        None => OrderKey {
+            column: 0,
+            falls: false,
+        },
+    }
+}
+
+/// The order in which two rows are printed whose ranks tie by kind and number.
+#[inline(never)]
+fn compare_tied(keys: &[OrderKey], falls: bool, a: &Ranked, b: &Ranked) -> Ordering
+    ensures { result ≡ ordering_then (directed falls (by_rest a.now.rank b.now.rank))
+        (row_order (map order_of keys.now) (row_in a.now) (row_in b.now)) }
+{
+    match turned(falls, a.rank.order_rest(b.rank)) {
+        Ordering::Equal => compare_rows(keys, &a.row, &b.row),
+        other => other,
+    }
+}
+
+/// The order in which two rows are printed, by their ranks where these differ.
+#[inline(always)]
+fn compare_ranked(keys: &[OrderKey], falls: bool, a: &Ranked, b: &Ranked) -> Ordering
+    ensures { result ≡ ranked_order falls (map order_of keys.now) a.now b.now }
+{
+    match turned(falls, a.rank.order(b.rank)) {
+        Ordering::Equal => compare_tied(keys, falls, a, b),
+        other => other,
+    }
+}
+
+/// The rows, taken out of their list, each with the rank of its value in a column. The only error is a refused growth.
+fn ranked_rows(
+    memory: Memory,
+    column: usize,
+    rows: &mut Vec<Vec<Value, Memory>, Memory>,
+) -> Result<Vec<Ranked, Memory>, AllocError>
+    ensures ranks { IfOk result (λ v. All (HasRank column) v.items) }
+    ensures same { IfOk result (λ v. SameBag (map row_in v.items) (rows_of rows.old.items)) }
+    ensures taken { IfOk result (λ v. rows.new.items ≡ []) }
+{
+    let mut ranked = Vec::with_capacity(memory, rows.len())?;
+    while let Some(row) = rows.pop() {
+        let rank = Rank::of(cell_at(&row, column));
+        ranked.push(Ranked { rank, row })?;
+    }
+    Ok(ranked)
+}
+
+/// Puts rows with their ranks behind the rows of a list. The only error is a refused growth.
+fn put_back(
+    ranked: Vec<Ranked, Memory>,
+    rows: &mut Vec<Vec<Value, Memory>, Memory>,
+) -> Result<(), AllocError>
+    ensures { IfOk result (λ _. rows_of rows.new.items ≡ rows_of rows.old.items ++ map row_in ranked.entry.items) }
+{
+    for it in ranked {
+        rows.push(it.row)?;
+    }
+    Ok(())
+}
+
+/// Sorts rows with their ranks. Whether these fall is asked once, and not where two of them are compared.
+fn sort_ranked(keys: &[OrderKey], falls: bool, ranked: &mut Vec<Ranked, Memory>)
+    ensures sorted { IsSortedBy (λ x y. is_lt (ranked_order falls (map order_of keys.now) x y)) ranked.new.items }
+    ensures same { IsPermutation ranked.old.items ranked.new.items }
+{
+    if falls {
+        ranked.sort_unstable_by(|a, b| compare_ranked(keys, true, a, b));
+    } else {
+        ranked.sort_unstable_by(|a, b| compare_ranked(keys, false, a, b));
+    }
+}
+
+/// Puts rows into the order in which they are printed: by the keys, and then by all columns from the left, NULL first.
+/// The only error is a refused growth.
+fn sort_rows(
+    memory: Memory,
+    rows: &mut Vec<Vec<Value, Memory>, Memory>,
+    keys: &[OrderKey],
+) -> Result<(), AllocError>
+    ensures sorted { IfOk result (λ _. IsSorted (row_order (map order_of keys.now)) (rows_of rows.new.items)) }
+    ensures same { IfOk result (λ _. SameBag (rows_of rows.new.items) (rows_of rows.old.items)) }
+{
+    if rows.len() < 2 {
+        return Ok(());
+    }
+    let first = first_key(keys);
+    let mut ranked = ranked_rows(memory, first.column, rows)?;
+    sort_ranked(keys, first.falls, &mut ranked);
+    put_back(ranked, rows)?;
+    Ok(())
 }
 
 /// Of rows that are equal and stand side by side the first stays.
@@ -82,14 +191,20 @@ fn drop_repeats(rows: &mut Vec<Vec<Value, Memory>, Memory>)
 
 /// Puts rows into the order in which they are printed: by the keys, and then by all columns from the left, NULL first;
 /// under DISTINCT each of them once, NULL like NULL (ISO/IEC 9075-2:2011, 7.12, 14.3; the order beyond the keys is this
-/// project's choice).
-pub fn arrange(rows: &mut Vec<Vec<Value, Memory>, Memory>, is_distinct: bool, keys: &[OrderKey])
-    ensures { (bag : List Row) → SameBag (rows_of rows.old.items) bag
-        → rows_of rows.new.items ≡ in_order (map order_of keys.now) (if_distinct is_distinct bag) }
+/// project's choice). The only error is a refused growth.
+pub fn arrange(
+    memory: Memory,
+    rows: &mut Vec<Vec<Value, Memory>, Memory>,
+    is_distinct: bool,
+    keys: &[OrderKey],
+) -> Result<(), AllocError>
+    ensures { IfOk result (λ _. (bag : List Row) → SameBag (rows_of rows.old.items) bag
+        → rows_of rows.new.items ≡ in_order (map order_of keys.now) (if_distinct is_distinct bag)) }
 {
     order_is_one();
-    sort_rows(rows, keys);
+    sort_rows(memory, rows, keys)?;
     if is_distinct {
         drop_repeats(rows);
     }
+    Ok(())
 }

@@ -1,0 +1,9 @@
+use Rattle.std.proofs.Common.{◌≡◌, ◌+◌, ◌-◌, ◌*◌, ◌^◌, ◌<◌, drop}
+use Rattle.tql_exec.specs.Rank.{start_of}
+use Rattle.tql_exec.proofs.rank.start.Given as goal
+
+-- what is read so far, before what stands for the places that are left, is the whole number
+abbrev pub invariant-loop-place : goal.invariant-loop-place
+invariant-loop-place l =
+    (l.number < 256 ^ l.place)
+    × (l.number * 256 ^ (8 - l.place) + start_of (8 - l.place) (drop l.place l.text) ≡ start_of 8 l.text)
