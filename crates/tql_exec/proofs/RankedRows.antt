@@ -1,5 +1,6 @@
 -- Rows that are sorted by the ranks of values, and then by what is printed first.
-use Rattle.std.proofs.Common.{◌≡◌, ◌+◌, ◌<◌, Bool, true, false, List, [], ◌∷◌, ◌++◌, map, length, get_or, sym, ap, subst, ◌∙◌, arith}
+use Rattle.std.proofs.Common.{◌≡◌, ◌+◌, ◌<◌, Bool, true, false, List, [], ◌∷◌, ◌++◌, map, length, get_or, sym, ap}
+use Rattle.std.proofs.Common.{subst, ◌∙◌, arith}
 use Rattle.std.specs.Prelude.{All}
 use Rattle.std.specs.Cmp.{IsTotalOrder}
 use Rattle.std.specs.List.Sorted.{IsSorted, IsSortedBy}
@@ -20,12 +21,14 @@ use Rattle.tql_exec.proofs.Printed.{sorted_rows}
 use Rattle.tql_exec.proofs.Ranked.{directed_then, rank_told, row_told, then_joins}
 
 rank_total : IsTotalOrder by_rank
-rank_total = then_total (on_total (λ (r : Rank). r.kind) nat_cmp_total) (on_total (λ (r : Rank). r.number) int_cmp_total)
+rank_total = then_total (on_total (λ (r : Rank). r.kind) nat_cmp_total)
+    (on_total (λ (r : Rank). r.number) int_cmp_total)
 
 rest_total : IsTotalOrder by_rest
 rest_total = on_total (λ (r : Rank). r.rest) nat_cmp_total
 
-turned_total : {A : Type 0} (falls : Bool) (R : A → A → Ordering) → IsTotalOrder R → IsTotalOrder (λ a b. directed falls (R a b))
+turned_total : {A : Type 0} (falls : Bool) (R : A → A → Ordering) → IsTotalOrder R
+    → IsTotalOrder (λ a b. directed falls (R a b))
 turned_total false R o = o
 turned_total true R o =
     total_along (λ a b. R b a) (λ a b. ordering_reverse (R a b)) (λ a b. sym (o.antisymm b a)) (back_total o)
@@ -39,7 +42,8 @@ ranked_total falls keys =
 
 -- where the ranks are those of the values in the first column, it is the order of the rows
 ranked_rows : (keys : List OrderKey) (a b : Ranked) → HasRank (first_of keys).column a
-    → HasRank (first_of keys).column b → ranked_order (first_of keys).falls keys a b ≡ row_order keys (row_in a) (row_in b)
+    → HasRank (first_of keys).column b → ranked_order (first_of keys).falls keys a b
+    ≡ row_order keys (row_in a) (row_in b)
 ranked_rows keys a b p q =
     let first = first_of keys in
     let one = by_rank a.rank b.rank in

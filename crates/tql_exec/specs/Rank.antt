@@ -1,5 +1,6 @@
 -- What is at hand of values where rows are sorted: a rank never contradicts the order of the values.
-use Rattle.std.specs.Prelude.{◌≡◌, ℕ, Bool, zero, suc, false, ◌+◌, ◌*◌, ◌^◌, ◌<◌, List, [], ◌∷◌, ℤ, pos, ◌+ℤ◌, neg_ℤ, drop, All}
+use Rattle.std.specs.Prelude.{◌≡◌, ℕ, Bool, zero, suc, false, ◌+◌, ◌*◌, ◌^◌, ◌<◌, List, [], ◌∷◌, ℤ, pos, ◌+ℤ◌}
+use Rattle.std.specs.Prelude.{neg_ℤ, drop, All}
 use Rattle.std.specs.declared.cmp.Ordering.{Ordering}
 use Rattle.std.specs.Ordering.{nat_cmp, int_cmp, ordering_then}
 use Rattle.tql_spec.specs.Query.{OrderKey, directed, row_order}

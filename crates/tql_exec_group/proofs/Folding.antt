@@ -50,7 +50,8 @@ module _ {X A B : Type 0} (f : X → Option A) where
 
 -- ---- the values of an expression on rows
 
-pub more_present : {A : Type 0} (e : Expr) (h h' : List Datum → Option A) (xs : List Row) (i : ℕ) (d x : Row) (v : Datum)
+pub more_present : {A : Type 0} (e : Expr) (h h' : List Datum → Option A) (xs : List Row) (i : ℕ) (d x : Row)
+    (v : Datum)
     (all : Option A) → i < length xs → x ≡ slice_index_or xs i d
     → Some v ≡ eval [] x e → ((vs : List Datum) → h' (present vs) ≡ h (present (v ∷ vs)))
     → of_present h e (drop i xs) ≡ all → of_present h' e (drop (i + 1) xs) ≡ all

@@ -41,13 +41,15 @@ at_most g (e ∷ es) l h =
 
 not_greater : (xs ys : List Entry) → SameBag xs ys → greatest_end xs ≤ℤ greatest_end ys
 not_greater xs ys h =
-    let n : count_by (ends_after (greatest_end ys)) ys ≡ 0 = none_ends_after (greatest_end ys) ys (omega (arith, ints)) in
+    let n : count_by (ends_after (greatest_end ys)) ys ≡ 0
+    = none_ends_after (greatest_end ys) ys (omega (arith, ints)) in
     let t = h.totals (λ e. cond (ends_after (greatest_end ys) e) 1 0) in
     at_most (greatest_end ys) xs (least_below ys) (omega (arith, n, t))
 
 not_less : (xs ys : List Entry) → SameBag xs ys → greatest_end ys ≤ℤ greatest_end xs
 not_less xs ys h =
-    let n : count_by (ends_after (greatest_end xs)) xs ≡ 0 = none_ends_after (greatest_end xs) xs (omega (arith, ints)) in
+    let n : count_by (ends_after (greatest_end xs)) xs ≡ 0
+    = none_ends_after (greatest_end xs) xs (omega (arith, ints)) in
     let t = h.totals (λ e. cond (ends_after (greatest_end xs) e) 1 0) in
     at_most (greatest_end xs) ys (least_below xs) (omega (arith, n, t))
 

@@ -1,5 +1,5 @@
 -- The first list of columns that conjuncts give values.
-use Rattle.std.proofs.Common.{◌≡◌, ap, refl, sym, subst, ◌∙◌, ℕ, ◌+◌, ◌<◌, Bool, true, false, ◌&&◌, cond, List, []}
+use Rattle.std.proofs.Common.{◌≡◌, ap, refl, sym, subst, ◌∙◌, ℕ, ◌+◌, ◌<◌, Bool, true, false, cond, List, []}
 use Rattle.std.proofs.Common.{◌∷◌, ◌++◌, map, drop, length, get_or}
 use Rattle.std.specs.Prelude.{◌||◌, Some, is_some}
 use Rattle.std.specs.List.{list_all, list_any}

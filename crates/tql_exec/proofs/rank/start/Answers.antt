@@ -1,5 +1,6 @@
 -- One more byte is read.
-use Rattle.std.proofs.Common.{◌≡◌, ℕ, suc, ◌+◌, ◌-◌, ◌*◌, ◌^◌, ◌<◌, ◌≤◌, List, drop, get_or, sym, ap, subst, ◌∙◌, add-one, arith}
+use Rattle.std.proofs.Common.{◌≡◌, ℕ, suc, ◌+◌, ◌-◌, ◌*◌, ◌^◌, ◌<◌, ◌≤◌, List, drop, get_or, sym, ap, subst, ◌∙◌}
+use Rattle.std.proofs.Common.{add-one, arith}
 use Rattle.std.proofs.Math.Nat.{pow-succ', pow-le-pow_right}
 use Rattle.std.proofs.lemmas.Nat.{mul-add-lt}
 use Rattle.tql_exec.specs.Rank.{start_of}
@@ -9,13 +10,16 @@ use Rattle.tql_exec.proofs.rank.start.Goals as goal
 -- what is read of fewer than eight bytes leaves room for one more
 fits : (place number : ℕ) → place < 8 → number < 256 ^ place → number < 2 ^ 56
 fits place number h k =
-    let w : 256 ^ place ≤ 256 ^ 7 = pow-le-pow_right (omega arith) {i = place} {j = 7} (omega arith) in omega (arith, k, w)
+    let w : 256 ^ place ≤ 256 ^ 7 = pow-le-pow_right (omega arith) {i = place} {j = 7} (omega arith) in
+    omega (arith, k, w)
 
 pub overflow_mul-number : goal.overflow_mul-number
-overflow_mul-number c = omega (arith, fits c.loop-place.place c.loop-place.number c.loop-place-test.true c.loop-place.invariant.0)
+overflow_mul-number c =
+    omega (arith, fits c.loop-place.place c.loop-place.number c.loop-place-test.true c.loop-place.invariant.0)
 
 pub overflow_add-number : goal.overflow_add-number
-overflow_add-number c = omega (arith, fits c.loop-place.place c.loop-place.number c.loop-place-test.true c.loop-place.invariant.0)
+overflow_add-number c =
+    omega (arith, fits c.loop-place.place c.loop-place.number c.loop-place-test.true c.loop-place.invariant.0)
 
 pub loop-place-preserved : goal.loop-place-preserved
 loop-place-preserved c =
@@ -44,7 +48,8 @@ returns-clause-number c =
     let place = c.loop-place.place in
     let text : List ℕ = c.args.text.now in
     let e : 8 - place ≡ 0 = omega arith in
-    let f : number * 256 ^ (8 - place) + start_of (8 - place) (drop place text) ≡ number * 256 ^ 0 + start_of 0 (drop place text)
+    let f : number * 256 ^ (8 - place) + start_of (8 - place) (drop place text)
+    ≡ number * 256 ^ 0 + start_of 0 (drop place text)
     = ap (λ m. number * 256 ^ m + start_of m (drop place text)) e in
     let g : number * 256 ^ (8 - place) + start_of (8 - place) (drop place text) ≡ number * 1 + 0 = f in
     omega (arith, g, c.loop-place.invariant.1)

@@ -12,7 +12,8 @@ returns-then-is_distinct c bag b =
     let keys = map order_of c.args.keys.now in
     c.drop_repeats.ensures
     ∙ distinct_printed c.order_is_one.ensures.order c.order_is_one.ensures.distinct keys
-    (rows_of c.sort_rows.new.rows.items) bag c.in_ok-sort_rows.ensures.sorted (same-trans c.in_ok-sort_rows.ensures.same b)
+    (rows_of c.sort_rows.new.rows.items) bag c.in_ok-sort_rows.ensures.sorted
+    (same-trans c.in_ok-sort_rows.ensures.same b)
     ∙ ap (λ d. in_order keys (if_distinct d bag)) (sym c.if-is_distinct.true)
 
 pub returns-else-is_distinct : goal.returns-else-is_distinct

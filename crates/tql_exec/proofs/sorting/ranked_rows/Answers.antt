@@ -27,7 +27,8 @@ loop-row-preserved c =
     let done : map row_in c.push.new.self.items ≡ map row_in before ++ row ∷ []
     = ap (map row_in) pushed ∙ map-append row_in before (made ∷ []) in
     let were : rows_of c.loop-row.rows.items ≡ left ++ row ∷ []
-    = ap rows_of c.in-Some.ensures.items ∙ map-append (λ v. row_of v.items) c.pop.new.self.items (c.in-Some.row ∷ []) in (
+    = ap rows_of c.in-Some.ensures.items ∙ map-append (λ v. row_of v.items) c.pop.new.self.items
+    (c.in-Some.row ∷ []) in (
       subst (All (HasRank column)) (sym pushed)
           (All-push (HasRank column) before made c.loop-row.invariant.0 rank),
       subst (λ rs. SameBag (rs ++ left) all) (sym done)

@@ -15,7 +15,8 @@ returns-then-falls-clause-sorted c =
     let keys : List OrderKey = map order_of c.args.keys.now in
     subst (λ f. IsSortedBy (λ x y. is_lt (ranked_order f keys x y)) c.sort_unstable_by.new.self.items)
     (sym c.if-falls.true)
-    (c.sort_unstable_by.ensures.sorted (λ x y. is_lt (ranked_order true keys x y)) (ranks_by (ranked_total true keys) (λ x. x))
+    (c.sort_unstable_by.ensures.sorted (λ x y. is_lt (ranked_order true keys x y))
+    (ranks_by (ranked_total true keys) (λ x. x))
     (always_returns_same _ _ _ (λ a r f' k. (search rules, search rules))))
 
 pub returns-else-falls-clause-sorted : goal.returns-else-falls-clause-sorted
@@ -23,5 +24,6 @@ returns-else-falls-clause-sorted c =
     let keys : List OrderKey = map order_of c.args.keys.now in
     subst (λ f. IsSortedBy (λ x y. is_lt (ranked_order f keys x y)) c.sort_unstable_by-else-falls.new.self.items)
     (sym c.if-falls.false)
-    (c.sort_unstable_by-else-falls.ensures.sorted (λ x y. is_lt (ranked_order false keys x y)) (ranks_by (ranked_total false keys) (λ x. x))
+    (c.sort_unstable_by-else-falls.ensures.sorted (λ x y. is_lt (ranked_order false keys x y))
+    (ranks_by (ranked_total false keys) (λ x. x))
     (always_returns_same _ _ _ (λ a r f' k. (search rules, search rules))))

@@ -23,9 +23,11 @@ settle-requires-clause-around g t c =
     let p = named _ _ _ _ c.deref_mut-then-is_gt.ensures.value (named _ _ _ _ c.deref_mut.ensures.value
     (was_top _ _ c.in-Some.ensures.some)) in
     let o : c.compare.result ≡ entry_cmp x (entry_of d) =
-    subst (λ (b : Branch g.row.A.Denot). c.compare.result ≡ entry_cmp x (entry_of b)) (sym c.deref_mut-then-is_gt.ensures.value)
+    subst (λ (b : Branch g.row.A.Denot). c.compare.result ≡ entry_cmp x (entry_of b))
+    (sym c.deref_mut-then-is_gt.ensures.value)
     (rw (c.deref-3.ensures, c.deref-4.ensures, c.deref-5.ensures) at c.compare.ensures) in
-    around_more_right x (entry_of d) _ _ _ (after_is x (entry_of d) c.compare.result o (sym c.is_gt.ensures ∙ c.if-is_gt.true))
+    around_more_right x (entry_of d) _ _ _
+    (after_is x (entry_of d) c.compare.result o (sym c.is_gt.ensures ∙ c.if-is_gt.true))
     c.insert.ensures.entries p.1.around
 
 pub settle-requires-clause-greatest : goal.settle-requires-clause-greatest
@@ -62,9 +64,11 @@ settle-requires-else-is_gt-clause-around g t c =
     let p = named _ _ _ _ c.deref_mut-else-is_gt.ensures.value (named _ _ _ _ c.deref_mut.ensures.value
     (was_top _ _ c.in-Some.ensures.some)) in
     let o : c.compare.result ≡ entry_cmp x (entry_of d) =
-    subst (λ (b : Branch g.row.A.Denot). c.compare.result ≡ entry_cmp x (entry_of b)) (sym c.deref_mut-else-is_gt.ensures.value)
+    subst (λ (b : Branch g.row.A.Denot). c.compare.result ≡ entry_cmp x (entry_of b))
+    (sym c.deref_mut-else-is_gt.ensures.value)
     (rw (c.deref-3.ensures, c.deref-4.ensures, c.deref-5.ensures) at c.compare.ensures) in
-    around_more_left x (entry_of d) _ _ _ (not_after x (entry_of d) c.compare.result o (sym c.is_gt.ensures ∙ c.if-is_gt.false))
+    around_more_left x (entry_of d) _ _ _
+    (not_after x (entry_of d) c.compare.result o (sym c.is_gt.ensures ∙ c.if-is_gt.false))
     c.insert-else-is_gt.ensures.entries p.1.around
 
 pub settle-requires-else-is_gt-clause-greatest : goal.settle-requires-else-is_gt-clause-greatest

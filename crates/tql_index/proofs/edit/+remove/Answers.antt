@@ -33,7 +33,8 @@ settle_less-requires-clause-greatest g t c =
     subst (λ (b : Branch g.row.A.Denot). Less ≡ entry_cmp x (entry_of b)) (sym c.deref_mut.ensures.value)
     (rw (c.in-Less.is, c.deref.ensures) at c.compare.ensures) in
     let e : passed c.args.period.end ≡ c.args.period.end = omega (arith, ints) in
-    rw e (greatest_before c.remove-found.result x _ _ d.greatest (left_less c.remove-found.result x (entry_of d) _ _ _ _ _ p.entries refl (less_is x (entry_of d) o)
+    rw e (greatest_before c.remove-found.result x _ _ d.greatest
+    (left_less c.remove-found.result x (entry_of d) _ _ _ _ _ p.entries refl (less_is x (entry_of d) o)
     p.branch.around c.remove-found.ensures.entries) (p.branch.greatest_is ∙ ap greatest_end (sym p.entries)))
 
 pub returns-in-Less-clause-entries : goal.returns-in-Less-clause-entries
@@ -44,7 +45,8 @@ returns-in-Less-clause-entries g t c =
     let o : Less ≡ entry_cmp x (entry_of d) =
     subst (λ (b : Branch g.row.A.Denot). Less ≡ entry_cmp x (entry_of b)) (sym c.deref_mut.ensures.value)
     (rw (c.in-Less.is, c.deref.ensures) at c.compare.ensures) in
-    left_less c.remove-found.result x (entry_of d) _ _ _ _ _ p.entries c.settle_less.ensures.entries (less_is x (entry_of d) o)
+    left_less c.remove-found.result x (entry_of d) _ _ _ _ _ p.entries c.settle_less.ensures.entries
+    (less_is x (entry_of d) o)
     p.branch.around c.remove-found.ensures.entries
 
 pub settle_less-requires-in-Greater-clause-around : goal.settle_less-requires-in-Greater-clause-around
@@ -52,7 +54,8 @@ settle_less-requires-in-Greater-clause-around g t c =
     let p = named_top _ _ _ c.deref_mut-in-Greater.ensures.value c.in-Some.ensures.some in
     let x : Entry = record { period = points_of c.args.period; id = c.args.id } in
     let d = c.deref_mut-in-Greater.result.now in
-    around_less_right c.remove-found-in-Greater.result x (entry_of d) _ _ _ c.remove-found-in-Greater.ensures.entries p.branch.around
+    around_less_right c.remove-found-in-Greater.result x (entry_of d) _ _ _ c.remove-found-in-Greater.ensures.entries
+    p.branch.around
 
 pub settle_less-requires-in-Greater-clause-greatest : goal.settle_less-requires-in-Greater-clause-greatest
 settle_less-requires-in-Greater-clause-greatest g t c =
@@ -63,7 +66,8 @@ settle_less-requires-in-Greater-clause-greatest g t c =
     subst (λ (b : Branch g.row.A.Denot). Greater ≡ entry_cmp x (entry_of b)) (sym c.deref_mut-in-Greater.ensures.value)
     (rw (c.in-Greater.is, c.deref.ensures) at c.compare.ensures) in
     let e : passed c.args.period.end ≡ c.args.period.end = omega (arith, ints) in
-    rw e (greatest_before c.remove-found-in-Greater.result x _ _ d.greatest (right_less c.remove-found-in-Greater.result x (entry_of d) _ _ _ _ _ p.entries refl (greater_is x (entry_of d) o)
+    rw e (greatest_before c.remove-found-in-Greater.result x _ _ d.greatest
+    (right_less c.remove-found-in-Greater.result x (entry_of d) _ _ _ _ _ p.entries refl (greater_is x (entry_of d) o)
     p.branch.around c.remove-found-in-Greater.ensures.entries) (p.branch.greatest_is ∙ ap greatest_end (sym p.entries)))
 
 pub returns-in-Greater-clause-entries : goal.returns-in-Greater-clause-entries
@@ -74,7 +78,8 @@ returns-in-Greater-clause-entries g t c =
     let o : Greater ≡ entry_cmp x (entry_of d) =
     subst (λ (b : Branch g.row.A.Denot). Greater ≡ entry_cmp x (entry_of b)) (sym c.deref_mut-in-Greater.ensures.value)
     (rw (c.in-Greater.is, c.deref.ensures) at c.compare.ensures) in
-    right_less c.remove-found-in-Greater.result x (entry_of d) _ _ _ _ _ p.entries c.settle_less-in-Greater.ensures.entries (greater_is x (entry_of d) o)
+    right_less c.remove-found-in-Greater.result x (entry_of d) _ _ _ _ _ p.entries
+    c.settle_less-in-Greater.ensures.entries (greater_is x (entry_of d) o)
     p.branch.around c.remove-found-in-Greater.ensures.entries
 
 pub returns-in-Equal-clause-entries : goal.returns-in-Equal-clause-entries
