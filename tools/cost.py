@@ -20,7 +20,7 @@ FUNCTION = re.compile(r"^\s*(?:pub(?:\([a-z]+\))?\s+)?(?:const\s+|unsafe\s+)*fn\
 TEST = re.compile(r"^\s*#\[test\]", re.M)
 UNDER_TEST = re.compile(r"#\[cfg\(test\)\]")
 # A crate whose only job is tests: beside remarks and attributes its lib.rt has modules under cfg(test) alone, or it is a program that
-# answers the files of its data/. Nothing stands on it, so it may have more functions than a library.
+# answers the files of its data/. Nothing stands on it.
 ONLY_TESTS = re.compile(r"(?:\s*(?://[^\n]*|#!\[[^\n]*\]|#\[cfg\(test\)\]\s*(?:pub\s+)?mod\s+\w+;))+\s*")
 # The libraries of the kit, and those of them that the gate does not count.
 LIBRARIES, UNCOUNTED = Path(shutil.which("rt") or "rt").resolve().parent.parent / "rlibs", {"core", "std", "io", "libc", "os"}
@@ -53,7 +53,7 @@ class Crate:
     def broken(self) -> list[tuple[str, str]]:
         """The bounds that it breaks, each with what to say."""
         found = []
-        if self.functions > FUNCTIONS and not self.is_tests:
+        if self.functions > FUNCTIONS:
             found.append(("functions", f"{self.functions} functions, at most {FUNCTIONS}"))
         if self.weight >= WEIGHT:
             found.append(("weight", f"1,000 + code + .antt / 5 is {self.weight:.0f}, to be below {WEIGHT}"))

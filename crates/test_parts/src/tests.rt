@@ -1,12 +1,9 @@
-//! One file for each crate that is tested.
+//! One file for each subject; `devices` has what the others share.
 mod devices;
-mod histories;
 mod indexes;
 mod memories;
 mod notes;
-mod prunings;
 mod runs;
 mod sessions;
 mod sinks;
 mod sources;
-mod stores;

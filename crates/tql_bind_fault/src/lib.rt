@@ -2,8 +2,6 @@
 #![tactic(auto)]
 
 mod creates;
-mod forms;
-mod kinds;
 mod names;
 mod tables;
 pub mod told;

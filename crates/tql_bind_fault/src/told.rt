@@ -1,10 +1,10 @@
 //! What is told of a statement that is refused where its names are bound.
-use crate::forms::form_words;
-use crate::kinds::kind_words;
 use crate::names::name_words;
 use crate::tables::table_words;
 use std::alloc::AllocError;
 use tql_bind_spot::words::Words;
+use tql_bind_unfit::forms::form_words;
+use tql_bind_unfit::kinds::kind_words;
 use tql_catalog::catalog::Catalog;
 use tql_detail::detail::Detail;
 use tql_memory::Memory;

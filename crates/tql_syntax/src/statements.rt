@@ -6,10 +6,10 @@ ghost use Rattle.tql_syntax_tree.specs.Trees.{tree_of};
 
 use tql_memory::Memory;
 use tql_syntax_expr::cursor::{Cursor, ParseError};
+use tql_syntax_query::clauses::moment;
+use tql_syntax_query::queries::{query, read_query};
 use tql_syntax_statement::changes::{delete, insert, update};
-use tql_syntax_statement::clauses::moment;
 use tql_syntax_statement::creates::{create, drop_table};
-use tql_syntax_statement::queries::{query, read_query};
 use tql_syntax_tree::statement::Statement;
 use tql_syntax_tree::tree::Tree;
 

@@ -1,3 +1,2 @@
 pub mod CreateEnds
-pub mod SelectEnds
 pub mod ChangeEnds

@@ -11,13 +11,13 @@ ghost use Rattle.tql_syntax_tree.specs.Statements.{names_of, cell_of, tuple_of, 
 ghost use Rattle.tql_syntax_tree.specs.Statements.{assignments_of};
 ghost use Rattle.tql_syntax_tree.specs.Statements.{point_of, portion_of, statement_of};
 
-use crate::clauses::{moment, period_name, where_clause};
-use crate::queries::select;
 use tql_lex::token::Symbol;
 use tql_memory::Memory;
 use tql_syntax_expr::cursor::{Cursor, ParseError};
 use tql_syntax_expr::expressions::expr_here;
 use tql_syntax_expr::lists::{Rule, behind_commas, separated};
+use tql_syntax_query::clauses::{moment, period_name, where_clause};
+use tql_syntax_query::queries::select;
 use tql_syntax_tree::expression::Name;
 use tql_syntax_tree::statement::{
     CellTree, Delete, Insert, PointTree, PortionTree, RowSource, SetTree, Statement, Tuple, Update,

@@ -11,12 +11,12 @@ ghost use Rattle.tql_syntax_tree.specs.Statements.{type_of, generated_of, reflis
 ghost use Rattle.tql_syntax_tree.specs.Statements.{boxed_constraint_of};
 ghost use Rattle.tql_syntax_tree.specs.Statements.{element_of, elements_of, statement_of};
 
-use crate::clauses::period_name;
 use tql_lex::token::Symbol;
 use tql_memory::Memory;
 use tql_syntax_cond::conditions::condition_here;
 use tql_syntax_expr::cursor::{Cursor, ParseError};
 use tql_syntax_expr::lists::{Rule, Step, behind_commas, repeated};
+use tql_syntax_query::clauses::period_name;
 use tql_syntax_tree::expression::Name;
 use tql_syntax_tree::statement::{
     ColumnTree, Constraint, CreateTree, Element, ForeignTree, Generated, KeyTree, PeriodTree,

@@ -5,7 +5,7 @@ ghost use Rattle.tql_syntax_grammar.specs.Outcome.{Read};
 ghost use Rattle.tql_syntax_grammar.specs.ReadingExpressions.{named_at};
 ghost use Rattle.tql_syntax_grammar.specs.ReadingStatements as reading;
 ghost use Rattle.tql_syntax_expr.specs.Parsing.{Reads};
-ghost use Rattle.tql_syntax_statement.specs.SelectEnds.{ended_by, select_from};
+ghost use Rattle.tql_syntax_query.specs.SelectEnds.{ended_by, select_from};
 ghost use Rattle.tql_syntax_tree.specs.Expressions.{name_of, named_of};
 ghost use Rattle.tql_syntax_tree.specs.Statements.{span_of, ref_of, joined_by, crossed_of, join_of, chain_of, item_of};
 ghost use Rattle.tql_syntax_tree.specs.Statements.{items_of, filter_of, nameds_of, boxed_select_of, key_name_of};
@@ -378,7 +378,7 @@ fn select_from<'a>(
 
 /// What stands behind SELECT, but ORDER BY.
 #[tactic(auto, unfolding(tql_syntax_grammar::specs::ReadingStatements::select_at, crate::specs::SelectEnds::select_from))]
-pub(crate) fn select<'a>(
+pub fn select<'a>(
     memory: Memory,
     tokens: &mut Cursor<'_, 'a>,
 ) -> Result<Box<SelectTree<'a>, Memory>, ParseError>

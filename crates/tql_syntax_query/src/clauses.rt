@@ -22,7 +22,7 @@ pub fn moment<'a>(tokens: &mut Cursor<'_, 'a>) -> Result<&'a str, ParseError>
 
 /// A WHERE clause, where one is in front.
 #[tactic(auto, unfolding(tql_syntax_grammar::specs::ReadingStatements::where_at))]
-pub(crate) fn where_clause<'a>(
+pub fn where_clause<'a>(
     memory: Memory,
     tokens: &mut Cursor<'_, 'a>,
 ) -> Result<Option<Box<Cond<'a>, Memory>>, ParseError>
@@ -37,7 +37,7 @@ pub(crate) fn where_clause<'a>(
 
 /// The name of a period; SYSTEM_TIME has none.
 #[tactic(auto, unfolding(tql_syntax_grammar::specs::ReadingStatements::period_name_at))]
-pub(crate) fn period_name<'a>(tokens: &mut Cursor<'_, 'a>) -> Result<Option<Name<'a>>, ParseError>
+pub fn period_name<'a>(tokens: &mut Cursor<'_, 'a>) -> Result<Option<Name<'a>>, ParseError>
     ensures { Reads (option_map name_of) (reading.period_name_at tokens.old) result tokens.new }
 {
     if tokens.eat_word("SYSTEM_TIME") {

@@ -4,7 +4,7 @@ use Rattle.tql_spec.specs.Syntax.{Items, ChainTree, SelectTree}
 use Rattle.tql_syntax_grammar.specs.Outcome.{Parser, ◌>>=◌, more, next}
 use Rattle.tql_syntax_grammar.specs.ReadingStatements.{chain_at, select_end}
 use Rattle.tql_syntax_tree.specs.Statements.{filter_of, nameds_of}
-use Rattle.tql_syntax_statement.specs.declared.queries.SelectEnd.{SelectEnd}
+use Rattle.tql_syntax_query.specs.declared.queries.SelectEnd.{SelectEnd}
 
 -- the select of these first parts and this end
 abbrev pub ended_by : Bool → Items → ChainTree → List ChainTree → SelectEnd → SelectTree

@@ -396,8 +396,9 @@ fn update_kinds(
     tell_filter(memory, &scope, update.filter.as_deref(), words)
 }
 
-/// Tells which kinds or numbers differ: some of those with which the statement is refused.
-pub(crate) fn kind_words(
+/// Tells which kinds or numbers of a statement over these tables differ: some of those for which it is refused (E22).
+/// The only error is a refused growth.
+pub fn kind_words(
     memory: Memory,
     catalog: &Catalog,
     statement: &Statement<'_>,

@@ -173,8 +173,9 @@ fn update_forms(
     tell_aggregate(memory, update.filter.as_deref(), words)
 }
 
-/// Tells which form may not stand where it stands: one of those with which the statement is refused.
-pub(crate) fn form_words(
+/// Tells which form of a statement over these tables may not stand where it stands: one of those for which it is
+/// refused (E23). The only error is a refused growth.
+pub fn form_words(
     memory: Memory,
     catalog: &Catalog,
     statement: &Statement<'_>,

@@ -1,0 +1,5 @@
+//! What is told of kinds, numbers and forms of a statement that do not fit.
+#![tactic(auto)]
+
+pub mod forms;
+pub mod kinds;
