@@ -1,11 +1,11 @@
 -- Rows that are sorted by the ranks of values, and then by what is printed first.
-use Rattle.std.proofs.Common.{◌≡◌, ◌+◌, ◌<◌, Bool, true, false, List, [], ◌∷◌, ◌++◌, map, length, get_or, sym, ap}
+use Rattle.std.proofs.Common.{◌≡◌, ◌+◌, Bool, true, false, List, [], ◌∷◌, ◌++◌, map, get_or, sym, ap}
 use Rattle.std.proofs.Common.{subst, ◌∙◌, arith}
 use Rattle.std.specs.Prelude.{All}
 use Rattle.std.specs.Cmp.{IsTotalOrder}
 use Rattle.std.specs.List.Sorted.{IsSorted, IsSortedBy}
 use Rattle.std.specs.declared.cmp.Ordering.{Ordering}
-use Rattle.std.specs.Ordering.{nat_cmp, int_cmp, ordering_then, ordering_reverse, is_lt}
+use Rattle.std.specs.Ordering.{ordering_then, ordering_reverse, is_lt}
 use Rattle.std.proofs.lemmas.Cmp.{nat_cmp_total, int_cmp_total, on_total, then_total, back_total}
 use Rattle.std.proofs.lemmas.List.Sums.{sum_by-append}
 use Rattle.tql_spec.specs.Bag.{SameBag}
@@ -16,7 +16,7 @@ use Rattle.tql_spec.proofs.Orders.{total_along}
 use Rattle.tql_spec.proofs.OrderBags.{row_order_total}
 use Rattle.tql_exec.specs.declared.rank.Rank.{Rank}
 use Rattle.tql_exec.specs.declared.sorting.Ranked.{Ranked}
-use Rattle.tql_exec.specs.Rank.{IsRank, by_rank, by_rest, first_of, row_in, HasRank, ranked_order}
+use Rattle.tql_exec.specs.Rank.{by_rank, by_rest, first_of, row_in, HasRank, ranked_order}
 use Rattle.tql_exec.proofs.Printed.{sorted_rows}
 use Rattle.tql_exec.proofs.Ranked.{directed_then, rank_told, row_told, then_joins}
 

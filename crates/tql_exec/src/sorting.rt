@@ -42,27 +42,33 @@ fn compare_by(key: OrderKey, a: &[Value], b: &[Value]) -> Ordering
 fn compare_by_keys(keys: &[OrderKey], a: &[Value], b: &[Value]) -> Ordering
     ensures { result ≡ by_keys (map order_of keys.now) (row_of a.now) (row_of b.now) }
 {
-    match keys.split_first() {
-        None => Ordering::Equal,
-        Some((key, others)) => match compare_by(*key, a, b) {
-            Ordering::Equal => compare_by_keys(others, a, b),
-            other => other,
-        },
+    for key in keys {
+        match compare_by(*key, a, b) {
+            Ordering::Equal => {}
+            other => return other,
+        }
     }
+    Ordering::Equal
 }
 
 /// The order of two rows, column by column from the left.
 fn compare_by_columns(a: &[Value], b: &[Value]) -> Ordering
     ensures { result ≡ by_columns (row_of a.now) (row_of b.now) }
 {
-    match (a.split_first(), b.split_first()) {
-        (None, None) => Ordering::Equal,
-        (None, Some(_)) => Ordering::Less,
-        (Some(_), None) => Ordering::Greater,
-        (Some((x, left)), Some((y, right))) => match order(x.view(), y.view()) {
-            Ordering::Equal => compare_by_columns(left, right),
-            other => other,
-        },
+    let mut others = b;
+    for x in a {
+        match others.split_first() {
+            None => return Ordering::Greater,
+            Some((y, rest)) => match order(x.view(), y.view()) {
+                Ordering::Equal => others = rest,
+                other => return other,
+            },
+        }
+    }
+    if others.is_empty() {
+        Ordering::Equal
+    } else {
+        Ordering::Less
     }
 }
 

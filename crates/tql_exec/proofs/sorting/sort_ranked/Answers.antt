@@ -1,5 +1,5 @@
 -- The rows are sorted by their ranks, and are the same.
-use Rattle.std.proofs.Common.{rules, map, ap, subst, sym, List, true, false}
+use Rattle.std.proofs.Common.{rules, map, subst, sym, List, true, false}
 use Rattle.std.specs.List.Sorted.{IsSortedBy}
 use Rattle.std.specs.Ordering.{is_lt}
 use Rattle.std.proofs.lemmas.List.Sorted.{ranks_by}
