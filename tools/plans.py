@@ -7,6 +7,7 @@ COUNT scripts (by default 1,000), each by a counter that begins at FIRST (by def
 and repeats, some of them changed later, and queries and changes with joins of all kinds whose conditions give keys, points, periods and equalities.
 Each is run twice: as it is, and with `AND 0 + 0 = 0` behind each WHERE. That conjunct is true of every row, but calculates, so that nothing is left
 out, sought or sorted: each row is compared with each. Both have to print the same bytes, since an order is asked for nowhere but in the answer.
+One script of twenty has tables of 66 to 150 rows, of which two are joined: enough that not each key is asked row by row.
 A script that differs is kept in a folder, which is named; the status is 1 then. The program is ./tql, or TQL=path.
 """
 import os
@@ -30,6 +31,7 @@ class Script:
 
     def __init__(self, counter: int) -> None:
         self.dice = random.Random(counter)
+        self.is_large = counter % 20 == 19
         self.plain: list[str] = []
         self.slow: list[str] = []
         self.moment = 0
@@ -67,7 +69,7 @@ class Script:
         return f"DATE '{day}'" if days else f"TIMESTAMP '{day} 00:00:00'"
 
     def number(self, none: float) -> str:
-        return "NULL" if self.dice.random() < none else str(self.dice.randint(0, 4))
+        return "NULL" if self.dice.random() < none else str(self.dice.randint(0, 299 if self.is_large else 4))
 
     def row(self, days: bool) -> str:
         text = "NULL" if self.dice.random() < 0.2 else self.dice.choice(TEXTS)
@@ -84,7 +86,7 @@ class Script:
         """Rows, each by a statement of its own, since some are refused; a few are changed or go later."""
         for name, days, _ in self.tables:
             self.tick()
-            for _ in range(self.dice.randint(0, 9)):
+            for _ in range(self.dice.randint(*((66, 150) if self.is_large else (0, 9)))):
                 self.say(f"INSERT INTO {name} (k, f, g, x, u) VALUES {self.row(days)};")
             self.tick()
             self.say(f"UPDATE {name} SET g = {self.number(0.2)}{{}};", self.condition([(name, days)], 1))
@@ -132,7 +134,7 @@ class Script:
             text, ref = self.reference(len(refs))
             near = [ref]
             refs.append(ref)
-            for _ in range(self.dice.choice([0, 1, 1, 2])):
+            for _ in range(self.dice.choice([0, 1][: 3 - len(refs)] if self.is_large else [0, 1, 1, 2])):
                 more, ref = self.reference(len(refs))
                 near.append(ref)
                 refs.append(ref)
@@ -140,7 +142,7 @@ class Script:
                 on = f" ON {self.condition(near, 2) or 'r0.k = r0.k'.replace('r0', ref[0])}" if kind != "CROSS JOIN" else ""
                 text += f" {kind} {more}{on}"
             chains.append(text)
-            if len(refs) > 4:
+            if len(refs) > (1 if self.is_large else 4):
                 break
         items = self.dice.choice(["*", "COUNT(*)", "r0.k, r0.x", "DISTINCT r0.g", "MAX(r0.u), COUNT(r0.g)"])
         return f"SELECT {items} FROM {', '.join(chains)}{{}}", self.condition(refs[:1], 2) if self.dice.random() < 0.4 else self.condition(refs, 4)

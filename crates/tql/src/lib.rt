@@ -15,7 +15,7 @@
 //! ```
 //!
 //! `Engine::step` is given one statement, without its `;`. A `;` ends a statement of a script, and is no part of a
-//! statement: in a text that is given to `step` it stands in a quote alone, or is refused as not a statement.
+//! statement: in a text that is given to `step` it stands in a quote or in a comment, or is refused as not a statement.
 //!
 //! A script runs by `run`, over a `Source` that gives its bytes and a `Sink` that takes the replies' bytes, as
 //! `SliceSource` and `VecSink` are in memory, and `StdSource` and `StdSink` over files and streams. A `Listener` is
@@ -27,7 +27,7 @@
 //!
 //! Values are put into a statement by `literal`, which doubles each quote. Which tables are there, with their columns
 //! and kinds, `Engine::table_count` and `Engine::table_definition` tell; which kinds the columns of a query have,
-//! before it runs, `Engine::column_kinds`; and by what its rows are found, `Engine::plan_told`. Days and moments are
+//! before it runs, `Engine::column_kinds`; and by what its rows can be found, `Engine::plan_told`. Days and moments are
 //! numbers (`View::Day`, `View::Moment`): `read_date` and `read_timestamp` read their texts, `date_text` and
 //! `timestamp_text` write them, and `day_parts` and `moment_parts` tell their parts.
 //!

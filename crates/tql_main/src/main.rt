@@ -1,7 +1,7 @@
 //! The program: `tql [SCRIPT]` runs the script in the file SCRIPT, or on the standard input without it or where it is
 //! `-`, and writes the replies to the standard output. `tql --check [SCRIPT]` only checks each statement by the
 //! grammar, and replies with `OK` or a refusal. For each refused statement a line on the standard error says where it
-//! stands, but not with `--quiet`; with `--plans` one for each query says by what its rows are found.
+//! stands, but not with `--quiet`; with `--plans` one for each query says by what its rows can be found.
 //!
 //! It exits with 0 where no statement was refused, and after help or the version; with 1 where some statement was
 //! refused; with 2 where the command line is wrong; and with 3 where opening, reading or writing failed, or memory ran

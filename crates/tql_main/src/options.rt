@@ -43,7 +43,7 @@ pub struct CommandLine<'a> {
     pub check: bool,
     /// Whether nothing is told of refused statements on the standard error.
     pub quiet: bool,
-    /// Whether the standard error is told by what the rows of each query are found.
+    /// Whether the standard error is told by what the rows of each query can be found.
     pub plans: bool,
     /// The word SIZE: how many bytes may be in use. Without one there is no bound.
     pub memory: Option<&'a str>,
@@ -120,7 +120,7 @@ fn plans_flag<'a>(alloc: Global) -> Arg<'a>
     Arg::new(alloc, "plans")
         .long("plans")
         .action(ArgAction::SetTrue)
-        .help("Tell the standard error by what the rows of each query are found")
+        .help("Tell the standard error by what the rows of each query can be found")
 }
 
 /// The option `--memory SIZE`.

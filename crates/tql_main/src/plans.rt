@@ -8,7 +8,7 @@ use tql_run::responder::Responder;
 use tql_value::refusal::Refusal;
 
 /// An engine that writes a line to the standard error for each query before it answers: by what the rows of its table
-/// references are found. So it does for the query of an INSERT. A line that cannot be written is lost, and so is one
+/// references can be found. So it does for the query of an INSERT. A line that cannot be written is lost, and so is one
 /// for which there is no memory. It counts the statements that it answers.
 #[derive(Drop)]
 pub(crate) struct PlansTold<'a, E: Eprint> {

@@ -1,4 +1,4 @@
-//! In how many places a plan finds rows otherwise than by reading and comparing all.
+//! In how many places a plan can find rows otherwise than by reading and comparing all.
 ghost use Rattle.std.specs.Prelude.{◌≡◌, if◌then◌else◌, option_map};
 ghost use Rattle.tql_plan.specs.Maps.{chains_keys, chains_maps, intervals_of, keys_of, maps_of, products_keys};
 ghost use Rattle.tql_plan.specs.Maps.{products_maps, steps_keys, steps_maps, with_map};
@@ -9,12 +9,12 @@ use crate::plan::{ChainPlan, Plan, Product, Step};
 use tql_expr::equality::Equality;
 use tql_store_index::basis::Sought;
 
-/// In how many places of a plan rows are found otherwise than by reading and comparing all.
+/// In how many places of a plan rows can be found otherwise than by reading and comparing all.
 #[derive(Clone, Copy, PartialEq, Eq, Debug)]
 pub struct Counts {
-    /// Joins and products whose partners are found by an equality.
+    /// Joins and products that name an equality.
     pub maps: usize,
-    /// Scans, joins and products whose rows are found by the values of a key or of a reference.
+    /// Joins and products that name a key or a reference, and the first scan where its rows are found by one.
     pub keys: usize,
     /// Scans whose rows are found by their application period, which holds a point or shares one with a period.
     pub intervals: usize,
@@ -73,7 +73,7 @@ fn with_steps_keys(count: usize, steps: &[Step<'_>]) -> usize
     keys
 }
 
-/// So many, and the joins of chains whose partners are found by a key.
+/// So many, and the joins of chains that name a key.
 fn with_chains_keys(count: usize, chains: &[ChainPlan<'_>]) -> usize
     ensures { result ≡ chains_keys count chains.now }
 {
@@ -95,7 +95,7 @@ fn with_products(count: usize, products: &[Product<'_>]) -> usize
     maps
 }
 
-/// So many, and the products whose partners are found by a key.
+/// So many, and the products that name a key.
 fn with_products_keys(count: usize, products: &[Product<'_>]) -> usize
     ensures { result ≡ products_keys count products.now }
 {
@@ -127,7 +127,7 @@ fn interval_count(sought: Option<Sought<'_>>) -> usize
 }
 
 impl<'a> Plan<'a> {
-    /// In how many places this plan finds rows otherwise than by reading and comparing all.
+    /// In how many places this plan can find rows otherwise than by reading and comparing all.
     pub fn counts(&self) -> Counts
         ensures maps { result.maps ≡ maps_of self.now }
         ensures keys { result.keys ≡ keys_of self.now }

@@ -20,7 +20,11 @@ pub(crate) fn column_name(definition: &TableDef, number: usize) -> Option<&str> 
 }
 
 /// The name of a reference's column.
-fn reference_column(catalog: &Catalog, reference: Reference, number: usize) -> Option<&str> {
+pub(crate) fn reference_column(
+    catalog: &Catalog,
+    reference: Reference,
+    number: usize,
+) -> Option<&str> {
     column_name(definition_of(catalog, reference)?, number)
 }
 

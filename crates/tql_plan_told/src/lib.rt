@@ -1,4 +1,4 @@
-//! What is told of a query's plan: by what the rows of each table reference are found.
+//! What is told of a query's plan: by what the rows of each table reference can be found.
 #![tactic(auto)]
 
 mod calculations;

@@ -1,6 +1,8 @@
-//! A plan in words: by what the rows of each table reference of a query are found.
+//! A plan in words: by what the rows of each table reference of a query can be found.
 use crate::calculations::first_calculation;
-use crate::columns::{chain_column, chains_column, column_name, definition_of, is_key};
+use crate::columns::{
+    chain_column, chains_column, column_name, definition_of, is_key, reference_column,
+};
 use std::alloc::AllocError;
 use tql_bind_spot::references::joined_reference;
 use tql_bind_spot::words::Words;
@@ -36,32 +38,18 @@ fn say_when(when: When, words: &mut Words) -> Result<(), AllocError> {
 
 /// The other name of a chain's reference, by its number from 0.
 fn chain_alias<'s>(chain: &ChainTree<'s>, number: usize) -> Option<Name<'s>> {
-    if number == 0 {
-        return chain.first.alias;
+    match number.checked_sub(1) {
+        None => chain.first.alias,
+        Some(at) => joined_reference(chain.joins.get(at)?).alias,
     }
-    let mut at = 1usize;
-    for join in &chain.joins {
-        if at == number {
-            return joined_reference(join).alias;
-        }
-        at = at.saturating_add(1);
-    }
-    None
 }
 
 /// The other name of a reference, by the number of its chain and its own in the chain, from 0.
 fn alias_at<'s>(select: &SelectTree<'s>, place: usize, number: usize) -> Option<Name<'s>> {
-    if place == 0 {
-        return chain_alias(&select.first, number);
+    match place.checked_sub(1) {
+        None => chain_alias(&select.first, number),
+        Some(at) => chain_alias(select.more.get(at)?, number),
     }
-    let mut at = 1usize;
-    for chain in &select.more {
-        if at == place {
-            return chain_alias(chain, number);
-        }
-        at = at.saturating_add(1);
-    }
-    None
 }
 
 /// Says a table reference: its table, its other name where it has one, and which versions are read.
@@ -138,7 +126,7 @@ struct Equal<'t> {
     far: &'t str,
 }
 
-/// Says two such columns, and by which means partners are found by them.
+/// Says two such columns, and by which means partners can be found by them.
 fn say_equal(means: &str, equal: Equal<'_>, words: &mut Words) -> Result<(), AllocError> {
     words.show(means, equal.near)?;
     if equal.near == equal.far {
@@ -148,7 +136,7 @@ fn say_equal(means: &str, equal: Equal<'_>, words: &mut Words) -> Result<(), All
     }
 }
 
-/// Says the columns of a table by whose index partners are found, in parentheses where they are several.
+/// Says the columns of a table by whose index partners can be found, in parentheses where they are several.
 fn say_index(
     definition: &TableDef,
     columns: &[usize],
@@ -177,8 +165,8 @@ fn is_alone(columns: &[usize], number: usize) -> bool {
     }
 }
 
-/// Says by what partners in a table are found: by an index of columns that are equal to some before, by a map of one
-/// such column, or by comparing all pairs.
+/// Says by what partners in a table can be found: by an index of columns that are equal to some before, by a map of
+/// one such column, or by comparing all pairs.
 fn say_partners(
     definition: Option<&TableDef>,
     key: Option<&[usize]>,
@@ -199,7 +187,7 @@ fn say_partners(
 }
 
 impl<'t, 'p> Told<'t, '_, '_, 'p> {
-    /// By which equality the rows of the chain at this place are found behind those before it.
+    /// By which equality the rows of the chain at this place can be found behind those before it.
     fn chain_equality(self, place: usize) -> Option<Equality> {
         if place.saturating_add(1) >= self.plan.query.chains.len() {
             self.plan.equality
@@ -208,7 +196,7 @@ impl<'t, 'p> Told<'t, '_, '_, 'p> {
         }
     }
 
-    /// By the index of which columns they are found.
+    /// By the index of which columns they can be.
     fn chain_key(self, place: usize) -> Option<&'p [usize]> {
         if place.saturating_add(1) >= self.plan.query.chains.len() {
             self.plan.key
@@ -227,7 +215,7 @@ impl<'t, 'p> Told<'t, '_, '_, 'p> {
         })
     }
 
-    /// Says by what the rows of a chain are found behind those of the chains before it.
+    /// Says by what the rows of a chain can be found behind those of the chains before it.
     fn say_product(self, place: usize, chain: &Chain, words: &mut Words) -> Result<(), AllocError> {
         say_partners(
             definition_of(self.catalog, chain.first),
@@ -239,22 +227,20 @@ impl<'t, 'p> Told<'t, '_, '_, 'p> {
 
     /// Says the joins of a chain, each behind a comma.
     fn say_joins(self, place: usize, chain: &Chain, words: &mut Words) -> Result<(), AllocError> {
-        let mut at = 0usize;
-        for join in &chain.joins {
+        for (at, join) in chain.joins.iter().enumerate() {
             words.say(", ")?;
             say_reference(self, join.reference, place, at.saturating_add(1), words)?;
             self.say_step(place, at, chain, join.reference, words)?;
-            at = at.saturating_add(1);
         }
         Ok(())
     }
 
-    /// By which equality the rows of the reference of a join are found behind those before it in its chain.
+    /// By which equality the rows of the reference of a join can be found behind those before it in its chain.
     fn step_equality(self, place: usize, at: usize) -> Option<Equality> {
         self.plan.chains.get(place)?.joins.get(at)?.equality
     }
 
-    /// By the index of which columns they are found.
+    /// By the index of which columns they can be.
     fn step_key(self, place: usize, at: usize) -> Option<&'p [usize]> {
         self.plan.chains.get(place)?.joins.get(at)?.key
     }
@@ -271,11 +257,11 @@ impl<'t, 'p> Told<'t, '_, '_, 'p> {
         Some(Equal {
             near: chain_column(self.catalog, chain, equality.near)?,
             number: equality.far,
-            far: column_of(self.catalog, reference, equality.far)?,
+            far: reference_column(self.catalog, reference, equality.far)?,
         })
     }
 
-    /// Says by what the partners of a join are found.
+    /// Says by what the partners of a join can be found.
     fn say_step(
         self,
         place: usize,
@@ -339,16 +325,11 @@ impl<'t, 'p> Told<'t, '_, '_, 'p> {
     }
 }
 
-/// The name of a reference's column.
-fn column_of(catalog: &Catalog, reference: Reference, number: usize) -> Option<&str> {
-    column_name(definition_of(catalog, reference)?, number)
-}
-
-/// A plan in words, of a select over these tables: for each table reference, from the left, by what its rows are found.
-/// The first one's are found by a key, a reference or the application period of its table, or it is read whole; the
-/// others' by an index of columns, or by a map of their rows by a column, that ON or WHERE says to be equal to some
-/// before, or by comparing all pairs. Where a calculation of ON or WHERE may be out of range, the first one is told,
-/// since for it nothing is sought. The only error is a refused growth.
+/// A plan in words, of a select over these tables: for each table reference, from the left, by what its rows can be
+/// found. The first one's are found by a key, a reference or the application period of its table, or it is read whole;
+/// the others' can be by an index of columns, which many rows do not ask, or by a map of their rows by a column, that
+/// ON or WHERE says to be equal to some before, or all pairs are compared. Where a calculation of ON or WHERE may be
+/// out of range, the first one is told, since for it nothing is sought. The only error is a refused growth.
 pub fn plan_words(
     memory: Memory,
     catalog: &Catalog,
@@ -362,10 +343,8 @@ pub fn plan_words(
         plan,
     };
     let mut words = Words::none(memory);
-    let mut place = 0usize;
-    for chain in &plan.query.chains {
+    for (place, chain) in plan.query.chains.iter().enumerate() {
         told.say_chain(place, chain, &mut words)?;
-        place = place.saturating_add(1);
     }
     told.say_reason(&mut words)?;
     Ok(words.into_text())

@@ -77,7 +77,7 @@ impl Engine {
         }
     }
 
-    /// By what the rows of a query are found, in words: of a SELECT or a READ by its text, or of the query of an
+    /// By what the rows of a query can be found, in words: of a SELECT or a READ by its text, or of the query of an
     /// INSERT. None of any other text, of one that is refused before it runs, or where no memory is there for it. The
     /// blocks of memory that this asks for are counted as granted to no one. It changes nothing.
     pub fn plan_told(&self, text: &[u8]) -> Option<String<Memory>> {
