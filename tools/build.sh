@@ -9,4 +9,4 @@ made=crates/tql_main/out/tql_main
 # (rt builds a program by running it: here on a script of no statement)
 (cd crates/tql_main && rt run < /dev/null)
 install -m 755 "$made" "$top/tql"
-echo "proved and built: ./tql [--check] [--quiet] [--memory SIZE] [SCRIPT]"
+echo "proved and built: ./tql [--check] [--quiet] [--plans] [--memory SIZE] [--format FORMAT] [SCRIPT]"
