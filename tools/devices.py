@@ -147,6 +147,8 @@ def stack(room: Path) -> None:
         "IN of 100,000": "SELECT x FROM t WHERE x IN (0" + ", 1" * 100000 + ");",
         "a sum of 250,000": "SELECT 1" + " + 1" * 250000 + " FROM t;",
         "a product of 250,000": "SELECT 1" + " * 1" * 250000 + " FROM t;",
+        "ORDER BY of 300,000 keys, all equal": "INSERT INTO t VALUES (1);\nSELECT x FROM t ORDER BY 1" + ", 1" * 299999 + ";",
+        "DISTINCT of 300,000 items, all equal": "INSERT INTO t VALUES (1);\nSELECT DISTINCT x" + ", x" * 299999 + " FROM t;",
         "10,000 rows": "INSERT INTO t VALUES (1)" + ", (2)" * 9999 + ";",
         "quotes that never close": "SELECT '" + "x" * 900000,
         "a comment of a mebibyte": "--" + "x" * 1000000 + "\nSELECT x FROM t;",

@@ -1,0 +1,135 @@
+#!/usr/bin/env python3
+"""How long queries take that look at all rows, join, group and order, in tql and in sqlite3 over a database in memory, at several sizes N.
+
+Usage: benches/queries.py [N..]        (first: make build; TQL=path of another program; sqlite3 on the path)
+
+Two tables of N rows of three INTEGERs each: n is one of 0 to N - 1 and its own in each row, k is n modulo 100, c is 1. None has a key, and sqlite3 no
+index but those that it makes for a question. A third table has a period of 10 days of 1,000; the two columns are texts in sqlite3, with an index of
+the first. A fourth has its N rows written anew in three later minutes; in sqlite3 its history is kept by hand, with an index of the starts.
+
+What is printed goes nowhere. Each time is that of a processor for a question and a row of the table: the lower of two runs of a script that asks the
+question as often as takes as long as making the table, less that of the script without it.
+"""
+import os
+import subprocess
+import sys
+import tempfile
+import time
+from pathlib import Path
+
+TOP = Path(__file__).resolve().parent.parent
+TQL = os.environ.get("TQL", str(TOP / "tql"))
+# How often a question is asked at most.
+MOST = 50_000
+ALWAYS = "s TIMESTAMP GENERATED ALWAYS AS ROW START, e TIMESTAMP GENERATED ALWAYS AS ROW END, PERIOD FOR SYSTEM_TIME (s, e)"
+# What is asked: its name; the table that it is asked of; the question in tql, and in sqlite3 where it is another.
+QUESTIONS = [
+    ("COUNT(*)", "plain", "SELECT COUNT(*) FROM t;", None),
+    ("one row by a condition", "plain", "SELECT k FROM t WHERE n = 77;", None),
+    ("GROUP BY in 100 groups, with COUNT and SUM", "plain", "SELECT k, COUNT(*), SUM(n) FROM t GROUP BY k;", None),
+    ("GROUP BY in N groups", "plain", "SELECT n, COUNT(*) FROM t GROUP BY n;", None),
+    ("DISTINCT, of 100 values", "plain", "SELECT DISTINCT k FROM t;", None),
+    ("ORDER BY of all rows", "plain", "SELECT n, k FROM t ORDER BY n DESC;", None),
+    ("a join on an equality", "plain", "SELECT t.n, u.k FROM t JOIN u ON t.n = u.n;", None),
+    ("LEFT JOIN", "plain", "SELECT t.n, u.k FROM t LEFT JOIN u ON t.n = u.n;", None),
+    ("by a comma and WHERE", "plain", "SELECT t.n, u.k FROM t, u WHERE t.n = u.n;", None),
+    ("three tables by commas", "plain", "SELECT COUNT(*) FROM t, u, t v WHERE t.n = u.n AND u.n = v.n;", None),
+    ("on two columns, the first of one value", "plain", "SELECT COUNT(*) FROM t JOIN u ON t.c = u.c AND t.n = u.n;", None),
+    ("the rows of a day", "days", "SELECT n FROM d WHERE p CONTAINS DATE '2001-06-01';", "SELECT n FROM d WHERE a <= '2001-06-01' AND b > '2001-06-01';"),
+    ("the rows of a week", "days", "SELECT n FROM d WHERE p OVERLAPS PERIOD (DATE '2001-06-01', DATE '2001-06-08');",
+     "SELECT n FROM d WHERE a < '2001-06-08' AND b > '2001-06-01';"),
+    ("all rows AS OF a moment, in 100 groups", "past",
+     "SELECT k, COUNT(*), SUM(n) FROM h FOR SYSTEM_TIME AS OF TIMESTAMP '2011-01-01 00:01:30' GROUP BY k;",
+     "SELECT k, COUNT(*), SUM(n) FROM h WHERE s <= 90 AND e > 90 GROUP BY k;"),
+]
+
+
+def inserted(table: str, rows: list[str]) -> list[str]:
+    """INSERTs of these rows, 1,000 in a statement."""
+    return [f"INSERT INTO {table} VALUES {', '.join(rows[at:at + 1000])};" for at in range(0, len(rows), 1000)]
+
+
+def plain(who: str, count: int) -> list[str]:
+    """The two tables, with their rows in two orders; the factors have no divisor in common with the sizes that are asked for."""
+    lines = [f"CREATE TABLE {name} (n INTEGER, k INTEGER, c INTEGER);" for name in "tu"] + [begun(who)]
+    for name, factor in (("t", 7919), ("u", 104_729)):
+        numbers = [at * factor % count for at in range(count)]
+        lines += inserted(name, [f"({number}, {number % 100}, 1)" for number in numbers])
+    return [*lines, "COMMIT;"]
+
+
+def days(who: str, count: int) -> list[str]:
+    """The table with a period."""
+    word = "DATE " if who == "tql" else ""
+    kind = "(n INTEGER, a DATE, b DATE, PERIOD FOR p (a, b))" if who == "tql" else "(n INTEGER, a TEXT, b TEXT)"
+    day = [time.strftime("%Y-%m-%d", time.gmtime(978_307_200 + 86_400 * at)) for at in range(1010)]
+    rows = [f"({at}, {word}'{day[at % 1000]}', {word}'{day[at % 1000 + 10]}')" for at in range(count)]
+    index = [] if who == "tql" else ["CREATE INDEX starts ON d (a);"]
+    return [f"CREATE TABLE d {kind};", *index, begun(who), *inserted("d", rows), "COMMIT;"]
+
+
+def past(who: str, count: int) -> list[str]:
+    """The table that is written anew in three minutes."""
+    if who == "tql":
+        lines = [f"CREATE TABLE h (n INTEGER, k INTEGER, {ALWAYS}) WITH SYSTEM VERSIONING;", "AT TIMESTAMP '2011-01-01 00:00:00';", begun(who)]
+        lines += [*inserted("h", [f"({at}, {at % 100})" for at in range(count)]), "COMMIT;"]
+        for minute in (1, 2, 3):
+            lines += [f"AT TIMESTAMP '2011-01-01 00:0{minute}:00';", "UPDATE h SET n = n + 1;"]
+        return lines
+    lines = ["CREATE TABLE h (n INTEGER, k INTEGER, s INTEGER, e INTEGER);", "CREATE INDEX begun ON h (s);", begun(who)]
+    lines += inserted("h", [f"({at}, {at % 100}, 0, 99999999)" for at in range(count)])
+    for moment in (60, 120, 180):
+        lines += [f"INSERT INTO h SELECT n + 1, k, {moment}, 99999999 FROM h WHERE e = 99999999;"]
+        lines += [f"UPDATE h SET e = {moment} WHERE e = 99999999 AND s < {moment};"]
+    return [*lines, "COMMIT;"]
+
+
+def begun(who: str) -> str:
+    return "START TRANSACTION;" if who == "tql" else "BEGIN;"
+
+
+def took(who: str, path: Path, lines: list[str]) -> float:
+    """The lower time of two runs of a script, in seconds of a processor."""
+    path.write_text("\n".join(lines) + "\n", encoding="utf-8")
+    words, times = [TQL, str(path)] if who == "tql" else ["sqlite3", ":memory:", f".read {path}"], []
+    for _ in range(2):
+        ran = subprocess.Popen(words, stdout=subprocess.DEVNULL)
+        _, status, used = os.wait4(ran.pid, 0)
+        if status:
+            sys.exit(f"{words[0]} ends with status {status}")
+        times.append(used.ru_utime + used.ru_stime)
+    return min(times)
+
+
+def asked(who: str, path: Path, lines: list[str], alone: float, question: str) -> float:
+    """The time of one asking of a question behind a script that takes so long without it."""
+    times = 4
+    while True:
+        spent = took(who, path, lines + [question] * times) - alone
+        if spent > max(alone, 0.2) or times * 4 > MOST:
+            return spent / times
+        times *= 4
+
+
+def main() -> int:
+    sizes = [int(it) for it in sys.argv[1:]] or [1000, 10_000, 100_000]
+    made = {"plain": plain, "days": days, "past": past}
+    found: dict[str, list[str]] = {it[0]: [] for it in QUESTIONS}
+    with tempfile.TemporaryDirectory() as room:
+        for count in sizes:
+            for who in ("tql", "sqlite3"):
+                scripts = {name: make(who, count) for name, make in made.items()}
+                alone = {name: took(who, Path(room) / "script.sql", lines) for name, lines in scripts.items()}
+                for name, table, ours, theirs in QUESTIONS:
+                    question = ours if who == "tql" else theirs or ours
+                    spent = asked(who, Path(room) / "script.sql", scripts[table], alone[table], question)
+                    found[name].append(f"{spent / count * 1e9:.0f} ns")
+    print("| What | " + " | ".join(f"`tql`, {count:,} | `sqlite3`, {count:,}" for count in sizes) + " |")
+    print("|---|" + "---|" * 2 * len(sizes))
+    for name, told in found.items():
+        print(f"| {name} | {' | '.join(told)} |")
+    return 0
+
+
+if __name__ == "__main__":
+    sys.exit(main())
