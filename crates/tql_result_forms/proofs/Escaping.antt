@@ -7,7 +7,7 @@ use Rattle.std.proofs.lemmas.List.Concat.{flat_map-append}
 use Rattle.std.proofs.lemmas.List.Quantifiers.{position-Some}
 use Rattle.std.specs.Prelude.{◌==◌, ◌||◌, position, Some, None, nat_lt}
 use Rattle.std.specs.List.{position_or_len, flat_map}
-use Rattle.tql_spec.specs.Json.{escaped}
+use Rattle.tql_result_laws.specs.Json.{escaped}
 use Rattle.tql_result_forms.specs.Escapes.{has_escape}
 
 -- a byte that is not escaped stays

@@ -3,7 +3,7 @@ use Rattle.std.proofs.Common.{◌≡◌, ℕ, List, sym, ◌∙◌, ap, map}
 use Rattle.std.proofs.lemmas.List.Folds.{flat_map-map}
 use Rattle.std.specs.Prelude.{Vec}
 use Rattle.std.specs.List.{flat_map}
-use Rattle.tql_spec.specs.Csv.{field, csv_line}
+use Rattle.tql_result_laws.specs.Csv.{field, csv_line}
 use Rattle.tql_value.specs.Views.{row_of}
 use Rattle.tql_value.specs.declared.value.Value.{Value}
 

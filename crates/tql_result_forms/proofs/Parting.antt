@@ -2,7 +2,7 @@
 use Rattle.std.proofs.Common.{◌≡◌, ℕ, List, [], ◌∷◌, ◌++◌, sym, ◌∙◌, ap, map, refl}
 use Rattle.std.proofs.lemmas.List.Folds.{flat_map-map}
 use Rattle.std.specs.List.{flat_map}
-use Rattle.tql_spec.specs.Json.{parted}
+use Rattle.tql_result_laws.specs.Json.{parted}
 
 -- parted texts are the first, and each other behind a comma and a blank
 pub parted_views : {X Y : Type 0} (f : Y → List ℕ) (v : X → Y) (x : X) (xs : List X)

@@ -3,7 +3,7 @@ use Rattle.std.proofs.Common.{◌≡◌, ℕ, List, [], ◌∷◌, ◌++◌, app
 use Rattle.std.specs.Prelude.{codes}
 use Rattle.std.specs.List.{flat_map}
 use Rattle.tql_spec.specs.Answer.{Answer}
-use Rattle.tql_spec.specs.Json.{member, members_of, json_text}
+use Rattle.tql_result_laws.specs.Json.{member, members_of, json_text}
 use Rattle.tql_spec.specs.Text.{line}
 
 -- the beginning of an object: the number of a statement, and its line

@@ -1,7 +1,7 @@
 -- Which texts stand in quotes as fields.
 use Rattle.std.proofs.Common.{◌≡◌, ℕ, ◌<◌, List, [], ◌∷◌, true, refl, length, arith}
 use Rattle.std.specs.List.{list_any}
-use Rattle.tql_spec.specs.Csv.{is_sign, is_quoted}
+use Rattle.tql_result_laws.specs.Csv.{is_sign, is_quoted}
 
 -- one of no bytes
 pub quoted_empty : (xs : List ℕ) → length xs ≡ 0 → is_quoted xs ≡ true

@@ -1,7 +1,7 @@
 //! Strings of JSON: texts in quotes, with what may not stand there escaped.
 ghost use Rattle.std.specs.Prelude.{◌≡◌, ◌<◌, ◌||◌, ◌==◌, ◌∷◌, ◌++◌, nat_lt, IfSome, MatchOption, length, position};
 ghost use Rattle.std.specs.List.{flat_map};
-ghost use Rattle.tql_spec.specs.Json.{hex_digit as hex_digit_of, control, escaped, string};
+ghost use Rattle.tql_result_laws.specs.Json.{hex_digit as hex_digit_of, control, escaped, string};
 ghost use Rattle.tql_result.specs.Devices.{Pushes};
 ghost use Rattle.tql_result_forms.specs.Escapes.{has_escape as escape_of};
 

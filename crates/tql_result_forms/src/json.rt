@@ -2,7 +2,7 @@
 ghost use Rattle.std.specs.Prelude.{◌≡◌, ◌∷◌, ◌++◌, [], codes, decimal, drop};
 ghost use Rattle.std.specs.List.{flat_map};
 ghost use Rattle.tql_spec.specs.Answer.{Replied};
-ghost use Rattle.tql_spec.specs.Json.{string, member, count_members, members_of, json_text};
+ghost use Rattle.tql_result_laws.specs.Json.{string, member, count_members, members_of, json_text};
 ghost use Rattle.tql_spec.specs.Machine.{Done, Table, Refused};
 ghost use Rattle.tql_spec.specs.Text.{wording};
 ghost use Rattle.tql_value.specs.Refusals.{refusal_of};

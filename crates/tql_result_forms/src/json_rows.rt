@@ -2,7 +2,7 @@
 ghost use Rattle.std.specs.Prelude.{◌≡◌, ◌∷◌, ◌++◌, All, map, string_bytes};
 ghost use Rattle.std.specs.List.{flat_map};
 ghost use Rattle.tql_spec.specs.Calendar.{day_parts};
-ghost use Rattle.tql_spec.specs.Json.{string, in_quotes, iso_text, json_value, parted, array, row_array};
+ghost use Rattle.tql_result_laws.specs.Json.{string, in_quotes, iso_text, json_value, parted, array, row_array};
 ghost use Rattle.tql_spec.specs.Text.{date_text};
 ghost use Rattle.tql_value.specs.Views.{datum_of_value, datum_of_view, row_of};
 ghost use Rattle.tql_value.specs.Points.{IsDay, IsMoment, IsPrintable};

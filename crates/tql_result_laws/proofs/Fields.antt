@@ -6,7 +6,7 @@ use Rattle.std.proofs.lemmas.Bool.{cases_Bool, eqb-true}
 use Rattle.std.proofs.lemmas.List.{append-nil, length-map}
 use Rattle.std.specs.Prelude.{◌==◌, ◌&&◌, not, Option, Some, None}
 use Rattle.std.specs.List.{flat_map, join_with_byte, list_all, list_any}
-use Rattle.tql_spec.specs.Csv.{is_sign, is_quoted, text_field, field, csv_line, csv_text}
+use Rattle.tql_result_laws.specs.Csv.{is_sign, is_quoted, text_field, field, csv_line, csv_text}
 use Rattle.tql_spec.specs.Datum.{Datum, Null, Int, Text, Day, Moment, Row}
 use Rattle.tql_spec.specs.Definition.{Name}
 use Rattle.tql_spec.specs.Text.{quoted, cell_text}

@@ -10,8 +10,8 @@ use Rattle.std.specs.Int.Signed.{mag}
 use Rattle.tql_spec.specs.Calendar.{day_parts, moment_day, moment_micros}
 use Rattle.tql_spec.specs.Datum.{Datum, Null, Int, Text, Day, Moment, Row}
 use Rattle.tql_spec.specs.Definition.{Name}
-use Rattle.tql_spec.specs.Json.{string, in_quotes, iso_text, json_value, array, row_array, member, count_members}
-use Rattle.tql_spec.specs.Json.{members_of, json_text}
+use Rattle.tql_result_laws.specs.Json.{string, in_quotes, iso_text, json_value, array, row_array, member, count_members}
+use Rattle.tql_result_laws.specs.Json.{members_of, json_text}
 use Rattle.tql_spec.specs.Machine.{Verb, Done, Table, Refused}
 use Rattle.tql_spec.specs.Refusal.{Refusal}
 use Rattle.tql_spec.specs.Answer.{Answer, Replied, Accepted}

@@ -5,7 +5,7 @@ use Rattle.std.proofs.lemmas.Bool.{cases_Bool, eqb-true, cases_lt}
 use Rattle.std.proofs.lemmas.Bool.Decides.{nat_tests}
 use Rattle.std.specs.Prelude.{◌==◌, ◌||◌, nat_lt}
 use Rattle.std.specs.List.{flat_map, list_all}
-use Rattle.tql_spec.specs.Json.{hex_digit, control, escaped, string}
+use Rattle.tql_result_laws.specs.Json.{hex_digit, control, escaped, string}
 use Rattle.tql_result_laws.proofs.Cuts.{and_left, and_right}
 use Rattle.tql_result_laws.proofs.Words.{is_word}
 

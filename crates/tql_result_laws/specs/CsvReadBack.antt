@@ -1,7 +1,7 @@
 -- Comma-separated values are read back up to what a field shows: equal texts are of tables that show the same.
 use Rattle.std.specs.Prelude.{◌≡◌, ℕ, List, map, Option, Some, None}
 use Rattle.std.specs.Fmt.{signed_decimal}
-use Rattle.tql_spec.specs.Csv.{csv_text}
+use Rattle.tql_result_laws.specs.Csv.{csv_text}
 use Rattle.tql_spec.specs.Datum.{Datum, Null, Int, Text, Day, Moment, Row}
 use Rattle.tql_spec.specs.Definition.{Name}
 use Rattle.tql_spec.specs.Text.{cell_text}

@@ -3,7 +3,7 @@ use Rattle.std.specs.Prelude.{◌≡◌, ◌<◌, ◌^◌, ℕ, List, map, ℤ}
 use Rattle.tql_spec.specs.Answer.{Answer, Replied}
 use Rattle.tql_spec.specs.Calendar.{day_parts}
 use Rattle.tql_spec.specs.Datum.{Datum, Null, Int, Text, Day, Moment}
-use Rattle.tql_spec.specs.Json.{iso_text, json_text}
+use Rattle.tql_result_laws.specs.Json.{iso_text, json_text}
 use Rattle.tql_spec.specs.Machine.{Table}
 use Rattle.tql_spec.specs.Text.{date_text}
 use Rattle.tql_result_laws.specs.ReadBack.{IsWhole}

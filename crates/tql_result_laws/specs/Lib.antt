@@ -1,3 +1,5 @@
+pub mod Csv
+pub mod Json
 pub mod ReadBack
 pub mod CsvReadBack
 pub mod JsonReadBack

@@ -20,8 +20,6 @@ pub mod Constraint
 pub mod Machine
 pub mod Answer
 pub mod Text
-pub mod Csv
-pub mod Json
 pub mod Script
 pub mod Lines
 pub mod Token

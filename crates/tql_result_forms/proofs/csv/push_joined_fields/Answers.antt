@@ -1,6 +1,6 @@
 use Rattle.std.proofs.Common.{refl, sym, ap, subst}
 use Rattle.std.proofs.lemmas.List.Elements.{All-head, All-rest, All-same}
-use Rattle.tql_spec.specs.Csv.{field}
+use Rattle.tql_result_laws.specs.Csv.{field}
 use Rattle.tql_value.specs.Views.{datum_of_value}
 use Rattle.tql_value.specs.Points.{IsPrintable}
 use Rattle.tql_result.proofs.Joining.{joined_parts}

@@ -1,5 +1,5 @@
 use Rattle.std.proofs.Common.{refl, sym, ap, string_bytes}
-use Rattle.tql_spec.specs.Csv.{text_field}
+use Rattle.tql_result_laws.specs.Csv.{text_field}
 use Rattle.tql_result.proofs.Joining.{joined_parts}
 use Rattle.tql_result.proofs.Pushing.{sent_none, step, stop, last}
 use Rattle.tql_result_forms.proofs.csv.push_joined_headings.Goals as goal

@@ -1,5 +1,5 @@
 use Rattle.std.proofs.Common.{◌∷◌, refl}
-use Rattle.tql_spec.specs.Csv.{field}
+use Rattle.tql_result_laws.specs.Csv.{field}
 use Rattle.tql_value.specs.Views.{datum_of_value}
 use Rattle.tql_result.proofs.Joining.{flat_map_next}
 use Rattle.tql_result.proofs.Pushing.{step, stop}

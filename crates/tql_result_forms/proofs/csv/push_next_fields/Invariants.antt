@@ -1,6 +1,6 @@
 use Rattle.std.proofs.Common.{◌∷◌, drop}
 use Rattle.std.specs.List.{flat_map}
-use Rattle.tql_spec.specs.Csv.{field}
+use Rattle.tql_result_laws.specs.Csv.{field}
 use Rattle.tql_value.specs.Views.{datum_of_value}
 use Rattle.tql_result.proofs.Pushing.{Sent}
 use Rattle.tql_result_forms.proofs.csv.push_next_fields.Given as goal

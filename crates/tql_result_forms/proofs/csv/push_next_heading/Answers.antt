@@ -1,5 +1,5 @@
 use Rattle.std.proofs.Common.{ap}
-use Rattle.tql_spec.specs.Csv.{text_field}
+use Rattle.tql_result_laws.specs.Csv.{text_field}
 use Rattle.tql_result.proofs.Pushing.{joined, ended, as_text}
 use Rattle.tql_result_forms.proofs.csv.push_next_heading.Goals as goal
 

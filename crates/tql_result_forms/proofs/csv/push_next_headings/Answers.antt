@@ -1,5 +1,5 @@
 use Rattle.std.proofs.Common.{◌∷◌, string_bytes, sym, ap}
-use Rattle.tql_spec.specs.Csv.{text_field}
+use Rattle.tql_result_laws.specs.Csv.{text_field}
 use Rattle.tql_result.proofs.Joining.{flat_map_next}
 use Rattle.tql_result.proofs.Pushing.{step, stop}
 use Rattle.tql_result_forms.proofs.csv.push_next_headings.Goals as goal

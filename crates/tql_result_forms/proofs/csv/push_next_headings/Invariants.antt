@@ -1,6 +1,6 @@
 use Rattle.std.proofs.Common.{◌∷◌, string_bytes, drop}
 use Rattle.std.specs.List.{flat_map}
-use Rattle.tql_spec.specs.Csv.{text_field}
+use Rattle.tql_result_laws.specs.Csv.{text_field}
 use Rattle.tql_result.proofs.Pushing.{Sent}
 use Rattle.tql_result_forms.proofs.csv.push_next_headings.Given as goal
 

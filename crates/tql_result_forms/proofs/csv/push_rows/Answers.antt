@@ -1,5 +1,5 @@
 use Rattle.std.proofs.Common.{map, sym, ap}
-use Rattle.tql_spec.specs.Csv.{field, csv_line}
+use Rattle.tql_result_laws.specs.Csv.{field, csv_line}
 use Rattle.tql_value.specs.Views.{row_of}
 use Rattle.tql_result.proofs.Joining.{flat_map_next}
 use Rattle.tql_result.proofs.Pushing.{step, stop}

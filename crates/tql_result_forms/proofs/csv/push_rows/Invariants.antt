@@ -1,6 +1,6 @@
 use Rattle.std.proofs.Common.{map, drop}
 use Rattle.std.specs.List.{flat_map}
-use Rattle.tql_spec.specs.Csv.{field, csv_line}
+use Rattle.tql_result_laws.specs.Csv.{field, csv_line}
 use Rattle.tql_value.specs.Views.{row_of}
 use Rattle.tql_result.proofs.Pushing.{Sent}
 use Rattle.tql_result_forms.proofs.csv.push_rows.Given as goal

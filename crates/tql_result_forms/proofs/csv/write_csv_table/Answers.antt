@@ -1,5 +1,5 @@
 use Rattle.std.proofs.Common.{ap, map, string_bytes}
-use Rattle.tql_spec.specs.Csv.{text_field, csv_line}
+use Rattle.tql_result_laws.specs.Csv.{text_field, csv_line}
 use Rattle.tql_result.proofs.Printing.{values_print}
 use Rattle.tql_result.proofs.Pushing.{joined, ended, as_text}
 use Rattle.tql_result_forms.proofs.Lines.{lines_are}

@@ -1,6 +1,6 @@
 use Rattle.std.proofs.Common.{length}
 use Rattle.std.specs.List.{flat_map}
-use Rattle.tql_spec.specs.Json.{escaped}
+use Rattle.tql_result_laws.specs.Json.{escaped}
 use Rattle.tql_result.proofs.Pushing.{Sent}
 use Rattle.tql_result_forms.proofs.escape.push_escapes.Given as goal
 

@@ -1,6 +1,6 @@
 use Rattle.std.proofs.Common.{sym, ◌∙◌, ap, decimal}
 use Rattle.std.proofs.lemmas.List.{append-nil}
-use Rattle.tql_spec.specs.Json.{string}
+use Rattle.tql_result_laws.specs.Json.{string}
 use Rattle.tql_result.proofs.Pushing.{joined, ended, as_text}
 use Rattle.tql_result_forms.proofs.json.push_refusal.Goals as goal
 

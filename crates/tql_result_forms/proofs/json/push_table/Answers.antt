@@ -1,6 +1,6 @@
 use Rattle.std.proofs.Common.{sym, ◌∙◌, ap, map, string_bytes}
 use Rattle.std.proofs.lemmas.List.{append-nil}
-use Rattle.tql_spec.specs.Json.{string, array, row_array}
+use Rattle.tql_result_laws.specs.Json.{string, array, row_array}
 use Rattle.tql_value.specs.Views.{row_of}
 use Rattle.tql_result.proofs.Printing.{values_print}
 use Rattle.tql_result.proofs.Pushing.{joined, ended, as_text}

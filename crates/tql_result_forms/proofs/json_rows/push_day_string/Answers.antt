@@ -2,7 +2,7 @@ use Rattle.std.proofs.Common.{ap}
 use Rattle.std.proofs.Math.Facts.{to_z-of_z}
 use Rattle.std.specs.Prelude.{ℤ}
 use Rattle.tql_spec.specs.Calendar.{day_parts}
-use Rattle.tql_spec.specs.Json.{in_quotes}
+use Rattle.tql_result_laws.specs.Json.{in_quotes}
 use Rattle.tql_spec.specs.Text.{date_text}
 use Rattle.tql_result.proofs.Pushing.{joined, ended, as_text}
 use Rattle.tql_result_forms.proofs.json_rows.push_day_string.Goals as goal

@@ -1,5 +1,5 @@
 use Rattle.std.proofs.Common.{◌∷◌, string_bytes, sym, ap}
-use Rattle.tql_spec.specs.Json.{string}
+use Rattle.tql_result_laws.specs.Json.{string}
 use Rattle.tql_result.proofs.Joining.{flat_map_next}
 use Rattle.tql_result.proofs.Pushing.{step, stop}
 use Rattle.tql_result_forms.proofs.json_rows.push_next_names.Goals as goal

@@ -1,6 +1,6 @@
 use Rattle.std.proofs.Common.{◌∷◌, string_bytes, drop}
 use Rattle.std.specs.List.{flat_map}
-use Rattle.tql_spec.specs.Json.{string}
+use Rattle.tql_result_laws.specs.Json.{string}
 use Rattle.tql_result.proofs.Pushing.{Sent}
 use Rattle.tql_result_forms.proofs.json_rows.push_next_names.Given as goal
 

@@ -1,5 +1,5 @@
 use Rattle.std.proofs.Common.{◌∷◌, sym, ap}
-use Rattle.tql_spec.specs.Json.{row_array}
+use Rattle.tql_result_laws.specs.Json.{row_array}
 use Rattle.tql_value.specs.Views.{row_of}
 use Rattle.tql_result.proofs.Joining.{flat_map_next}
 use Rattle.tql_result.proofs.Pushing.{step, stop}

@@ -1,6 +1,6 @@
 use Rattle.std.proofs.Common.{◌∷◌, drop}
 use Rattle.std.specs.List.{flat_map}
-use Rattle.tql_spec.specs.Json.{row_array}
+use Rattle.tql_result_laws.specs.Json.{row_array}
 use Rattle.tql_value.specs.Views.{row_of}
 use Rattle.tql_result.proofs.Pushing.{Sent}
 use Rattle.tql_result_forms.proofs.json_rows.push_next_rows.Given as goal

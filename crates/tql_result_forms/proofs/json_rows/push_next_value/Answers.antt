@@ -1,5 +1,5 @@
 use Rattle.std.proofs.Common.{ap}
-use Rattle.tql_spec.specs.Json.{json_value}
+use Rattle.tql_result_laws.specs.Json.{json_value}
 use Rattle.tql_result.proofs.Pushing.{joined, ended, as_text}
 use Rattle.tql_result_forms.proofs.json_rows.push_next_value.Goals as goal
 

@@ -1,6 +1,6 @@
 use Rattle.std.proofs.Common.{◌∷◌, drop}
 use Rattle.std.specs.List.{flat_map}
-use Rattle.tql_spec.specs.Json.{json_value}
+use Rattle.tql_result_laws.specs.Json.{json_value}
 use Rattle.tql_value.specs.Views.{datum_of_value}
 use Rattle.tql_result.proofs.Pushing.{Sent}
 use Rattle.tql_result_forms.proofs.json_rows.push_next_values.Given as goal

@@ -1,5 +1,5 @@
 use Rattle.std.proofs.Common.{refl, sym, ap, string_bytes}
-use Rattle.tql_spec.specs.Json.{string}
+use Rattle.tql_result_laws.specs.Json.{string}
 use Rattle.tql_result_forms.proofs.Parting.{parted_parts}
 use Rattle.tql_result.proofs.Pushing.{sent_none, step, stop, last}
 use Rattle.tql_result_forms.proofs.json_rows.push_parted_names.Goals as goal

@@ -1,7 +1,7 @@
 use Rattle.std.proofs.Common.{refl, sym, ap, subst}
 use Rattle.std.specs.Prelude.{All}
 use Rattle.std.proofs.lemmas.List.Elements.{All-head, All-rest, All-same}
-use Rattle.tql_spec.specs.Json.{row_array}
+use Rattle.tql_result_laws.specs.Json.{row_array}
 use Rattle.tql_value.specs.Views.{datum_of_value, row_of}
 use Rattle.tql_value.specs.Points.{IsPrintable}
 use Rattle.tql_result_forms.proofs.Parting.{parted_parts}
