@@ -3,11 +3,12 @@
 CREATE TABLE rate (employee INTEGER, cents INTEGER, since DATE, until DATE, PERIOD FOR valid (since, until),
   known_from TIMESTAMP GENERATED ALWAYS AS ROW START, known_to TIMESTAMP GENERATED ALWAYS AS ROW END,
   PERIOD FOR SYSTEM_TIME (known_from, known_to), PRIMARY KEY (employee, valid WITHOUT OVERLAPS)) WITH SYSTEM VERSIONING;
-AT TIMESTAMP '2024-01-10 09:00:00';    -- the year's rates are written down
-INSERT INTO rate VALUES (1, 2000, DATE '2024-01-01', DATE '2025-01-01'), (2, 1800, DATE '2024-01-01', DATE '2025-01-01');
-AT TIMESTAMP '2024-05-20 09:00:00';    -- a rise is heard of that holds from April on
+AT TIMESTAMP '2024-01-10 09:00:00';    -- the rates of the year are recorded
+INSERT INTO rate VALUES (1, 2000, DATE '2024-01-01', DATE '2025-01-01'),
+  (2, 1800, DATE '2024-01-01', DATE '2025-01-01');
+AT TIMESTAMP '2024-05-20 09:00:00';    -- we learn of a rise from April on
 UPDATE rate FOR PORTION OF valid FROM DATE '2024-04-01' TO DATE '2025-01-01' SET cents = 2200 WHERE employee = 1;
-AT TIMESTAMP '2024-07-01 09:00:00';    -- number 2 has left with the end of June
+AT TIMESTAMP '2024-07-01 09:00:00';    -- employee 2 left at the end of June
 DELETE FROM rate FOR PORTION OF valid FROM DATE '2024-07-01' TO DATE '2025-01-01' WHERE employee = 2;
 
 SELECT employee, cents, since, until FROM rate;

@@ -1,0 +1,20 @@
+-- How is the history of another system loaded?
+-- The text was written by hand from docs/LANGUAGE.md.
+CREATE TABLE price (item INTEGER, cents INTEGER,
+  known_from TIMESTAMP GENERATED ALWAYS AS ROW START, known_to TIMESTAMP GENERATED ALWAYS AS ROW END,
+  PERIOD FOR SYSTEM_TIME (known_from, known_to), PRIMARY KEY (item)) WITH SYSTEM VERSIONING;
+AT TIMESTAMP '2023-01-05 08:00:00';
+INSERT INTO price (item, cents) VALUES
+(1, 100),
+(2, 250);
+AT TIMESTAMP '2023-06-01 08:00:00';
+START TRANSACTION;
+DELETE FROM price WHERE item = 1;
+INSERT INTO price (item, cents) VALUES
+(1, 120);
+COMMIT;
+AT TIMESTAMP '2023-09-01 08:00:00';
+DELETE FROM price WHERE item = 2;
+
+SELECT item, cents, known_from, known_to FROM price
+  FOR SYSTEM_TIME BETWEEN TIMESTAMP '0001-01-01 00:00:00' AND TIMESTAMP '9999-12-31 23:59:59.999999';
