@@ -1,0 +1,1 @@
+../crates/test_cases/data/cases/examples/claims.sql
