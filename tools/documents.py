@@ -1,21 +1,31 @@
 #!/usr/bin/env python3
-"""Looks whether the documents name what is there, and whether the lines of code and definitions are short enough.
+"""Checks that the documents name what exists, that their examples are those of the cases, and that lines are short enough.
 
 Usage: tools/documents.py [--count]        (make documents)
 
-The documents are README.md, docs/*.md and the README.md files of crates, benches and examples. Each crate that they name (tql_*, test_*) is
-in crates/. Each path from the top (crates/.., docs/.., tools/.., benches/.., examples/..), from a crate (tql_lex/src/scan.rt) or in one
-(specs/Runs.antt in the README.md of its crate), and each name of a file of code, definitions, scripts or documents (scan.rt) is that of
-something that is there. Words in capitals alone, as NAME, stand for any name. Each name in backticks (Engine::step) stands in the sources, beside
-their remarks; not so in docs/LANGUAGE.md, QUESTIONS.md and MOVING.md, whose names are those of SQL. Each crate has its line in docs/ARCHITECTURE.md. Of each line
-'| `Module` | 12 |' of docs/DEFINITIONS.md the number is that of the lines of the module of tql_spec, or of that file of another crate; --count
-writes the numbers anew. A line of .rt and .antt has at most 120 characters, but for the attributes #[tactic(..)], which the formatter joins. The
-status is 1 where something is not so.
+The documents are README.md, CHANGELOG.md, docs/*.md and the README.md files of crates, benches and examples. What is checked:
+
+- Each crate that they name (tql_*, test_*) is in crates/.
+- Each path from the top (crates/.., docs/.., tools/.., benches/.., examples/..), from a crate (tql_lex/src/scan.rt) or in one
+  (specs/Runs.antt in the README.md of its crate) exists, and so does each file that is named (scan.rt). Words in capitals alone, as NAME, stand
+  for any name.
+- Each name in backticks (Engine::step) is in the sources outside of comments. CHANGELOG.md and the pages of docs/ for users are left out: their
+  names are those of SQL.
+- Each crate has its line in docs/ARCHITECTURE.md.
+- In each line '| `Module` | 12 |' of docs/DEFINITIONS.md the number is the module's count of lines (of tql_spec, or of the named file of another
+  crate). --count writes the numbers anew.
+- A line of .rt and .antt has at most 120 characters, except the attributes #[tactic(..)], which the formatter joins.
+- Examples and links: see tools/pages.py.
+
+The status is 1 if something is wrong.
 """
 import os
 import re
 import sys
 from pathlib import Path
+
+sys.dont_write_bytecode = True
+import pages  # noqa: E402
 
 TOP = Path(__file__).resolve().parent.parent
 COLUMNS = 120
@@ -24,7 +34,7 @@ CRATE = re.compile(r"(?<![\w/.-])(?:tql|test)_[a-z_]*[a-z]\b")
 NAMED = re.compile(r"(?<![\w/:*+-])(?<!\w\.)(?:\.\./)*(?:[\w.+-]+/)*[\w+-]*[\w+](?:\.[\w]+)*(?<!\.)/?")
 FILE = re.compile(r"\.(?:rt|antt|py|sh|md|edit)$")
 # Documents whose names in backticks are those of SQL.
-OF_SQL = ("LANGUAGE.md", "QUESTIONS.md", "MOVING.md")
+OF_SQL = ("CHANGELOG.md", "ERRORS.md", "LANGUAGE.md", "MOVING.md", "QUESTIONS.md", "RECIPES.md")
 FOLDERS, PARTS = ("crates", "docs", "tools", "benches", "examples"), ("src", "specs", "proofs", "must-fail", "edits", "data")
 ANY_NAME = re.compile(r"(?:^|/)(?:NAME|FOLDER|PATH|CRATE|EDIT|EXAMPLE)(?:[./]|$)")
 # A name of the sources in backticks; the words of the sources, remarks apart; and what no source names.
@@ -34,7 +44,7 @@ COUNTED = re.compile(r"^\| `([\w/.]+)` \| (\d+) \|", re.M)
 
 
 def documents() -> list[Path]:
-    places = ("README.md", "docs/*.md", "crates/*/README.md", "benches/README.md", "examples/README.md")
+    places = ("README.md", "CHANGELOG.md", "docs/*.md", "crates/*/README.md", "benches/README.md", "examples/README.md")
     return [it for place in places for it in sorted(TOP.glob(place))]
 
 
@@ -107,6 +117,7 @@ def main(words: list[str]) -> int:
         for at, line in enumerate(source.split("\n"), 1):
             if len(line) > COLUMNS and not line.lstrip().startswith("#[tactic("):
                 wrong.append(f"{path}:{at}: {len(line)} characters, at most {COLUMNS}")
+    wrong += pages.faults(documents())
     print("".join(f"{it}\n" for it in wrong) + f"{len(documents())} documents, {len(wrong)} wrong")
     return 1 if wrong else 0
 
