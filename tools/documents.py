@@ -1,7 +1,7 @@
 #!/usr/bin/env python3
 """Checks that the documents name what exists, that their examples are those of the cases, and that lines are short enough.
 
-Usage: tools/documents.py [--count]        (make documents)
+Usage: tools/documents.py [--count]        (make lint)
 
 The documents are README.md, CHANGELOG.md, docs/*.md and the README.md files of crates, benches and examples. What is checked:
 

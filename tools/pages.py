@@ -1,7 +1,7 @@
 #!/usr/bin/env python3
 """Compares the examples of the pages with the cases that the gate runs, and checks the links of all documents.
 
-Usage: tools/pages.py [PROGRAM]        (make documents calls it without a program)
+Usage: tools/pages.py [PROGRAM]        (make lint calls it without a program)
 
 The pages are README.md, examples/README.md and, in docs/, QUESTIONS.md, RECIPES.md and ERRORS.md.
 
