@@ -1,7 +1,7 @@
 #!/usr/bin/env python3
 """Prints what each crate weighs in the gate, and fails where one is over a bound.
 
-Usage: tools/cost.py        (make cost)
+Usage: tools/cost.py        (a part of make lint)
 
 By crate of crates.txt, the lowest first: functions (the fn lines of src/), lines of code (.rt) and of .antt (specs/ and proofs/), lines of
 both in all crates below it, the edits in must-fail/ and the tests. 'weight' is what a proof of the crate is taken to need of its own memory,

@@ -1,7 +1,7 @@
 #!/usr/bin/env python3
 """Refuses code that makes an error of memory by itself: only the allocator makes one, and all other code passes it on.
 
-Usage: tools/earned.py        (a part of make test)
+Usage: tools/earned.py        (a part of make lint and of make test)
 
 Of each .rt file of the product's crates but tql_memory it reads the tokens, without comments, texts, clauses, ghost items and use lines. An
 `AllocError`, `Refusal::OutOfMemory`, `ParseError::OutOfMemory` or `Fault::Memory` that is neither a type nor a pattern is a value that this

@@ -1,7 +1,7 @@
 #!/usr/bin/env python3
 """Looks whether queries answer the same whichever way their rows are found. Outside the gate, and without a proof.
 
-Usage: tools/plans.py [COUNT [FIRST]]        (make plans COUNT=1000)
+Usage: tools/plans.py [COUNT [FIRST]]        (make try-plans COUNT=1000)
 
 COUNT scripts (by default 1,000), each by a counter that begins at FIRST (by default 0): tables with keys, references and periods, rows with NULLs
 and repeats, some of them changed later, and queries and changes with joins of all kinds whose conditions give keys, points, periods and equalities.

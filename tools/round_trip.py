@@ -2,7 +2,7 @@
 """Sends 10,000 rows through a file of comma-separated values: makes the file, turns it into INSERTs (tools/csv_to_sql.py), has tql run these and
 print the table with --format csv, and compares that with the file, byte for byte. Outside the gate.
 
-Usage: tools/round_trip.py [ROWS]        (make round-trip)
+Usage: tools/round_trip.py [ROWS]        (make try-round-trip)
 
 The file is written here as RFC 4180 has it: a heading, then a line a row, each ended by a carriage return and a line feed; NULL is an empty
 field, an empty text two quotes, and a text stands in quotes only where it is empty or holds a comma, a quote or an end of a line. Among the
