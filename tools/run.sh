@@ -11,12 +11,13 @@ set -eu
 script=$(realpath "$1")
 cd "$(dirname "$0")/.."
 
-newer() {
-    find crates crates.txt -name out -prune -o \( -name '*.rt' -o -name '*.antt' -o -name crates.txt \) -newer tql -print -quit
+# Whether the program $1 is newer than crates.txt, the code, and the other sources whose names match $2.
+is_new() {
+    [ -x "$1" ] && [ -z "$(find crates crates.txt -name out -prune -o \( -name '*.rt' -o -name "$2" -o -name crates.txt \) -newer "$1" -print -quit)" ]
 }
-if [ -x tql ] && [ -z "$(newer)" ]; then
+if is_new tql '*.antt'; then
     exec ./tql "$script"
 fi
-tools/quick.py --silent >&2 || exit 2
+is_new tql-quick '*.rt' || tools/quick.py --silent >&2 || exit 2
 echo "make run: by ./tql-quick, which is compiled without a proof; make build proves the program" >&2
 exec ./tql-quick "$script"
