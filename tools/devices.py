@@ -1,7 +1,7 @@
 #!/usr/bin/env python3
 """Tries the program where what it reads or writes fails, where memory or the stack is short, and on statements at each limit. Outside the gate.
 
-Usage: tools/devices.py        (make devices; first: make build)
+Usage: tools/devices.py        (make try-devices; first: make build or make quick)
 
 Each line that it prints is a trial: what was tried, the status, and `ok` or what was wanted. A program that dies by a signal is wrong wherever
 it does. The status is 1 where one is wrong.
@@ -15,8 +15,10 @@ from pathlib import Path
 
 sys.dont_write_bytecode = True
 
+from quick import program
+
 TOP = Path(__file__).resolve().parent.parent
-PROGRAM = str(TOP / "tql")
+PROGRAM = program()
 ROWS = "CREATE TABLE t (x INTEGER, y VARCHAR(40));\n" + "".join(
     "INSERT INTO t VALUES " + ", ".join(f"({i * 1000 + j}, 'a text of some length')" for j in range(1000)) + ";\n" for i in range(100))
 TABLE = ROWS + "SELECT * FROM t;\n"
@@ -159,8 +161,6 @@ def stack(room: Path) -> None:
 
 
 def main() -> int:
-    if not Path(PROGRAM).exists():
-        sys.exit("no ./tql: make build")
     with tempfile.TemporaryDirectory(prefix="tql-devices-") as folder:
         for trials in (outputs, inputs, memory, stack, least_stack):
             trials(Path(folder))

@@ -1,15 +1,15 @@
 #!/usr/bin/env python3
 """Tries the program on scripts that nobody has written, for a while, with the grammar as guide. Outside the gate.
 
-Usage: tools/fuzz.py SECONDS [FIRST]        (make fuzz SECONDS=60)
+Usage: tools/fuzz.py SECONDS [FIRST]        (make try-fuzz SECONDS=60)
 
 Of three scripts in turn, each by a counter that begins at FIRST (by default the seconds since 1970):
 - one of tools/copies.py, over the whole grammar: the program has to print what the machine of that tool prints, which copies all of its tables;
 - one of tools/points.py: what the forty plain machines print, one a day;
 - a case of crates/test_cases/data/cases with a few bytes changed, words swapped or statements repeated, cut at a byte: the program ends with
   status 0 or 1, and prints the same whether its script comes whole or in small pieces through a pipe.
-What differs is kept in a folder, which is named. The program is ./tql where it is there and newer than every source, else one that is compiled
-with checks and without a proof (rt try, some minutes). The status is 1 where something differed.
+What differs is kept in a folder, which is named. The program is TQL=path, or ./tql where it is newer than every source, or else ./tql-quick,
+which is compiled first where it has to be (make quick). The status is 1 where something differed.
 """
 import os
 import random
@@ -24,30 +24,13 @@ sys.dont_write_bytecode = True
 
 import copies
 import points
-from lines import PROGRAM, Keeper
+from quick import program
 
 TOP = Path(__file__).resolve().parent.parent
 CASES = TOP / "crates" / "test_cases" / "data" / "cases"
 PATIENCE = 60
 WORDS = ["NULL", "(", ")", ",", ";", "'", '"', "--", "-9223372036854775808", "9999-12-31", "FOR PORTION OF", "FOR SYSTEM_TIME", "COMMIT;", "ROLLBACK;",
          "START TRANSACTION;", "WITHOUT OVERLAPS", "NOT", "OR", "\x00", "\x1b[31m", "\u00e4", "0"]
-
-
-def program(room: Path) -> list[str]:
-    """The words that run the program."""
-    built = TOP / "tql"
-    sources = [it for end in ("*.rt", "*.antt") for it in TOP.glob(f"crates/*/[!o]*/**/{end}")]
-    if built.exists() and all(it.stat().st_mtime < built.stat().st_mtime for it in sources):
-        return [str(built)]
-    keeper = Keeper(room)
-    keeper.start()
-    subprocess.run(["rt", "try"], cwd=PROGRAM, stdin=subprocess.DEVNULL, stdout=subprocess.DEVNULL, stderr=subprocess.STDOUT, check=False,
-                   env=dict(os.environ, TMPDIR=str(room)))
-    keeper.ended.set()
-    if not keeper.program.exists():
-        sys.exit("rt try made no program")
-    kit = Path(subprocess.run(["rt", "doc"], stdout=subprocess.PIPE, text=True, check=True).stdout.strip()).parent / "toolchain" / "lib"
-    return [str(kit / "ld-linux-x86-64.so.2"), "--inhibit-cache", "--library-path", str(kit), str(keeper.program)]
 
 
 def run(words: list[str], script: bytes) -> tuple[bytes, int]:
@@ -128,7 +111,7 @@ def main() -> int:
     scripts = sorted(it for it in CASES.glob("*/*.sql") if it.parent.name not in ("sizes", "copies", "points") and it.stat().st_size < 20000)
     wrong, tried, folder = 0, 0, None
     with tempfile.TemporaryDirectory(prefix="tql-fuzz-") as room, ThreadPoolExecutor(os.cpu_count()) as pool:
-        words, end = program(Path(room)), time.time() + seconds
+        words, end = [program()], time.time() + seconds
         while time.time() < end:
             seeds = range(first + tried, first + tried + 24)
             for seed, what in zip(seeds, pool.map(lambda it: difference(words, scripts, it), seeds)):

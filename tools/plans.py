@@ -8,7 +8,8 @@ and repeats, some of them changed later, and queries and changes with joins of a
 Each is run twice: as it is, and with `AND 0 + 0 = 0` behind each WHERE. That conjunct is true of every row, but calculates, so that nothing is left
 out, sought or sorted: each row is compared with each. Both have to print the same bytes, since an order is asked for nowhere but in the answer.
 One script of twenty has tables of 66 to 150 rows, of which two are joined: enough that not each key is asked row by row.
-A script that differs is kept in a folder, which is named; the status is 1 then. The program is ./tql, or TQL=path.
+A script that differs is kept in a folder, which is named; the status is 1 then. The program is TQL=path, or ./tql where it is
+newer than every source, or else ./tql-quick, which is compiled first where it has to be (make quick).
 """
 import os
 import random
@@ -18,8 +19,11 @@ import tempfile
 from concurrent.futures import ThreadPoolExecutor
 from pathlib import Path
 
-TOP = Path(__file__).resolve().parent.parent
-PROGRAM = os.environ.get("TQL", str(TOP / "tql"))
+sys.dont_write_bytecode = True
+
+from quick import program
+
+PROGRAM = program()
 PATIENCE = 60
 SLOW = "0 + 0 = 0"
 TEXTS = ["'a'", "'b'", "'c'", "''"]
@@ -188,8 +192,6 @@ def differs(counter: int) -> Script | None:
 def main() -> int:
     count = int(sys.argv[1]) if len(sys.argv) > 1 and sys.argv[1] else 1000
     first = int(sys.argv[2]) if len(sys.argv) > 2 else 0
-    if not Path(PROGRAM).exists():
-        sys.exit(f"{PROGRAM} is not there: make build, or TQL=path")
     room: Path | None = None
     with ThreadPoolExecutor(os.cpu_count()) as pool:
         for counter, script in zip(range(first, first + count), pool.map(differs, range(first, first + count))):

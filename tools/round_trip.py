@@ -7,19 +7,18 @@ Usage: tools/round_trip.py [ROWS]        (make try-round-trip)
 The file is written here as RFC 4180 has it: a heading, then a line a row, each ended by a carriage return and a line feed; NULL is an empty
 field, an empty text two quotes, and a text stands in quotes only where it is empty or holds a comma, a quote or an end of a line. Among the
 texts are such, and `'`, blanks, bytes that are no ASCII, and words that look like numbers, NULL or SQL. The replies of one line go to the
-standard error with --format csv, so the standard output is the table alone. The program is ./tql where it is there and newer than every source, else
-one that is compiled with checks and without a proof (rt try, a minute or two). The status is 1 where something differs.
+standard error with --format csv, so the standard output is the table alone. The program is TQL=path, or ./tql where it is newer than every source, or
+else ./tql-quick, which is compiled first where it has to be (make quick). The status is 1 where something differs.
 """
 import datetime
 import random
 import subprocess
 import sys
-import tempfile
 from pathlib import Path
 
 sys.dont_write_bytecode = True
 
-from fuzz import program
+from quick import program
 
 COLUMNS = (("N", "INTEGER"), ("AMOUNT", "INTEGER"), ("WORDS", "VARCHAR"), ("BORN", "DATE"), ("SEEN", "TIMESTAMP"))
 TABLE = "CREATE TABLE t (n INTEGER, amount INTEGER, words VARCHAR(60), born DATE, seen TIMESTAMP);\n"
@@ -67,9 +66,8 @@ def main() -> int:
     made = file_of(count)
     turn = [str(Path(__file__).with_name("csv_to_sql.py")), "t", *(f"{name}:{kind}" for name, kind in COLUMNS)]
     inserts = subprocess.run(turn, input=made, stdout=subprocess.PIPE, check=True).stdout
-    with tempfile.TemporaryDirectory(prefix="tql-round-") as room:
-        run = [*program(Path(room)), "--format", "csv"]
-        ran = subprocess.run(run, input=TABLE.encode() + inserts + QUERY.encode(), stdout=subprocess.PIPE, stderr=subprocess.PIPE, check=False)
+    run = [program(), "--format", "csv"]
+    ran = subprocess.run(run, input=TABLE.encode() + inserts + QUERY.encode(), stdout=subprocess.PIPE, stderr=subprocess.PIPE, check=False)
     if ran.returncode or ran.stdout != made:
         print(f"status {ran.returncode}; {ran.stderr[-300:]!r}; {first_difference(made, ran.stdout)}")
         return 1

@@ -1,12 +1,12 @@
 #!/usr/bin/env python3
 """Times the program on inputs of 1, 2, 4 and 8 times a size, and prints a table. Outside the gate.
 
-Usage: tools/sizes.py [TIMES]        (make growth-times)
+Usage: tools/sizes.py [TIMES]        (make try-growth-times)
 
 Each row is a form of input, each column a size; a time is the least of TIMES runs (by default 3), in milliseconds, the program's start included. What
 the program prints is compared with what docs/LANGUAGE.md says of such an input. The status is 1 where an answer is wrong, or where a doubling more
-than triples the time; what takes less than 50 ms is taken as 50. The program is ./tql where it is there and newer than every source, else one that
-is compiled with checks and without a proof (rt try, a minute or two), on which only the answers and the proportions say something.
+than triples the time; what takes less than 50 ms is taken as 50. The program is TQL=path, or ./tql where it is newer than every source, or
+else ./tql-quick, which is compiled first where it has to be (make quick).
 """
 import subprocess
 import sys
@@ -16,7 +16,7 @@ from pathlib import Path
 
 sys.dont_write_bytecode = True
 
-from fuzz import program
+from quick import program
 
 FLOOR, TRIPLE = 0.05, 3.0
 MADE, ONE = "CREATE TABLE t (x INTEGER, y VARCHAR(65535));\nINSERT INTO t VALUES (1, 'a');\n", "CREATE TABLE\nINSERT 1\n"
@@ -116,7 +116,7 @@ def main() -> int:
         sys.exit(__doc__)
     times, wrong = int(sys.argv[1]) if sys.argv[1:] else 3, 0
     with tempfile.TemporaryDirectory(prefix="tql-sizes-") as room:
-        words, file = program(Path(room)), Path(room) / "script.sql"
+        words, file = [program()], Path(room) / "script.sql"
         print("| Input | Size | times 1 | times 2 | times 4 | times 8 |\n|---|---|---|---|---|---|")
         for what, size, form in FORMS:
             best, said = [], ""
