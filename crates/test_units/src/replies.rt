@@ -13,7 +13,8 @@ use tql_result::reply::{Reply, Verb};
 use tql_result::table::is_printable_table;
 use tql_result::vec_sink::VecSink;
 use tql_result_forms::csv::write_csv_table;
-use tql_result_forms::json::write_json_answer;
+use tql_result_forms::json::{Diagnostic, write_json_answer};
+use tql_result_forms::jsonl::write_json_rows;
 use tql_value::refusal::Refusal;
 use tql_value::value::ResultTable;
 
@@ -119,16 +120,49 @@ fn write_csv(out: &mut String, memory: Memory, reply: &Reply) -> Result<(), Stop
     }
 }
 
+/// Writes the rows of a table as JSON Lines.
+fn write_jsonl(out: &mut String, memory: Memory, reply: &Reply) -> Result<(), Stop> {
+    match reply {
+        Reply::Table(table) if is_printable_table(table) => {
+            let mut sink = VecSink::new(Vec::new(memory));
+            write_json_rows(&mut sink, table).ok().ok_or(NO_MEMORY)?;
+            write_held(out, sink)
+        }
+        _ => Err(Stop::Form),
+    }
+}
+
 /// Writes an answer as a line of JSON.
-fn write_json(out: &mut String, memory: Memory, answer: &Answer) -> Result<(), Stop> {
+fn write_json(
+    out: &mut String,
+    memory: Memory,
+    answer: &Answer,
+    diagnostic: Diagnostic<'_>,
+) -> Result<(), Stop> {
     if !is_printable_answer(answer) {
         return Err(Stop::Form);
     }
     let mut sink = VecSink::new(Vec::new(memory));
-    write_json_answer(&mut sink, STATEMENT, LINE, answer)
+    write_json_answer(&mut sink, STATEMENT, LINE, answer, diagnostic)
         .ok()
         .ok_or(NO_MEMORY)?;
     write_held(out, sink)
+}
+
+/// Answers a line about a refusal with the column and the detail of its fault, `-` where one is not known.
+fn answer_fault(memory: Memory, input: &str, out: &mut String) -> Result<(), Stop> {
+    let (number, known) = two(input)?;
+    let (column, detail) = two(known)?;
+    let diagnostic = Diagnostic {
+        column: if column == "-" {
+            None
+        } else {
+            Some(count(column)? as u64)
+        },
+        detail: if detail == "-" { None } else { Some(detail) },
+    };
+    let reply = Reply::Refused(refusal(number)?);
+    write_json(out, memory, &Answer::Replied(reply), diagnostic)
 }
 
 /// Answers a line about an answer as JSON.
@@ -137,10 +171,11 @@ fn answer_json(memory: Memory, line: &Line<'_>, out: &mut String) -> Result<(), 
         "json_done" => done(line.input)?,
         "json_refused" => Reply::Refused(refusal(line.input)?),
         "json_rows" => table(memory, line.input)?,
-        "json_accepted" => return write_json(out, memory, &Answer::Accepted),
+        "json_accepted" => return write_json(out, memory, &Answer::Accepted, Diagnostic::NONE),
+        "json_fault" => return answer_fault(memory, line.input, out),
         _ => return Err(Stop::Form),
     };
-    write_json(out, memory, &Answer::Replied(reply))
+    write_json(out, memory, &Answer::Replied(reply), Diagnostic::NONE)
 }
 
 /// Answers a line about a reply.
@@ -151,6 +186,7 @@ pub fn answer(memory: Memory, line: &Line<'_>, out: &mut String) -> Result<(), S
         "rows" => write_printed(out, memory, &table(memory, line.input)?),
         "accepted" => write_accepted(out, memory),
         "csv" => write_csv(out, memory, &table(memory, line.input)?),
+        "jsonl" => write_jsonl(out, memory, &table(memory, line.input)?),
         _ => answer_json(memory, line, out),
     }
 }

@@ -22,8 +22,8 @@
 //! told which statements were refused, on which lines, and which word or name is meant, where that is known: `Notes`
 //! keeps that, `Silence` does not listen. Where neither is needed, `run_bytes` runs a script in memory. A host whose
 //! bytes come part by part has a `Session`: it is fed them as they come, and gives each answer as soon as its
-//! statement is whole. A table is written as comma-separated values by `write_csv_table`, and an answer as JSON by
-//! `write_json_answer`.
+//! statement is whole. A table is written as comma-separated values by `write_csv_table`, and as JSON Lines by
+//! `write_json_rows`. An answer is written as JSON by `write_json_answer`, with a `Diagnostic` of a refusal.
 //!
 //! Values are put into a statement by `literal`, which doubles each quote. Which tables are there, with their columns
 //! and kinds, `Engine::table_count` and `Engine::table_definition` tell; which kinds the columns of a query have,
@@ -53,7 +53,8 @@ pub use tql_result::sink::Sink;
 pub use tql_result::std_sink::StdSink;
 pub use tql_result::vec_sink::VecSink;
 pub use tql_result_forms::csv::write_csv_table;
-pub use tql_result_forms::json::write_json_answer;
+pub use tql_result_forms::json::{Diagnostic, write_json_answer};
+pub use tql_result_forms::jsonl::write_json_rows;
 pub use tql_run::complaint::Complaint;
 pub use tql_run::device::{Input, Source};
 pub use tql_run::listener::Listener;

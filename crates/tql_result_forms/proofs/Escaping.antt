@@ -1,5 +1,5 @@
 -- The bytes of a string, cut at the first that is escaped.
-use Rattle.std.proofs.Common.{◌≡◌, ℕ, ◌+◌, ◌-◌, ◌<◌, ◌≤◌, suc, true, false, List, [], ◌∷◌, ◌++◌, refl, sym, ◌∙◌, ap}
+use Rattle.std.proofs.Common.{◌≡◌, ℕ, ◌+◌, ◌-◌, ◌<◌, ◌≤◌, suc, false, List, [], ◌∷◌, ◌++◌, refl, sym, ◌∙◌, ap}
 use Rattle.std.proofs.Common.{take, drop, length, get_or, arith, inl, inr}
 use Rattle.std.proofs.lemmas.Bool.{ltb-false, cases_Bool}
 use Rattle.std.proofs.lemmas.List.{take-append-drop, drop_more, get_or-take, length-take, take_rest, drop-drop}

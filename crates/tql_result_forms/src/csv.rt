@@ -1,7 +1,8 @@
 //! The text of a table as comma-separated values.
 ghost use Rattle.std.specs.Prelude.{◌≡◌, ◌∷◌, ◌++◌, All, map, string_bytes};
 ghost use Rattle.std.specs.List.{flat_map, join_with_byte, list_any};
-ghost use Rattle.tql_result_laws.specs.Csv.{is_sign as sign_of, is_quoted as quoted_of, text_field, field, csv_line, csv_text};
+ghost use Rattle.tql_result_laws.specs.Csv.{is_sign as sign_of, is_quoted as quoted_of, text_field, field, csv_line};
+ghost use Rattle.tql_result_laws.specs.Csv.{csv_text};
 ghost use Rattle.tql_value.specs.Views.{datum_of_value, datum_of_view, row_of};
 ghost use Rattle.tql_value.specs.Points.{IsPrintable, ArePrintable};
 ghost use Rattle.tql_result.specs.Devices.{Pushes};

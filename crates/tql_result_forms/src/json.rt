@@ -1,9 +1,11 @@
 //! The text of an answer as one JSON object on one line.
-ghost use Rattle.std.specs.Prelude.{◌≡◌, ◌∷◌, ◌++◌, [], codes, decimal, drop};
+ghost use Rattle.std.specs.Prelude.{◌≡◌, ◌∷◌, ◌++◌, [], codes, decimal, drop, option_map};
 ghost use Rattle.std.specs.List.{flat_map};
 ghost use Rattle.tql_spec.specs.Answer.{Replied};
-ghost use Rattle.tql_result_laws.specs.Json.{string, member, count_members, members_of, json_text};
-ghost use Rattle.tql_spec.specs.Machine.{Done, Table, Refused};
+ghost use Rattle.tql_result_laws.specs.Json.{member, count_members, column_members, detail_members, done_members};
+ghost use Rattle.tql_result_laws.specs.Json.{table_members, refusal_members, members_of, json_text};
+ghost use Rattle.tql_result_forms.specs.Diagnostics.{detail_of};
+ghost use Rattle.tql_spec.specs.Machine.{Refused};
 ghost use Rattle.tql_spec.specs.Text.{wording};
 ghost use Rattle.tql_value.specs.Refusals.{refusal_of};
 ghost use Rattle.tql_value.specs.Points.{ArePrintable};
@@ -21,6 +23,23 @@ use tql_result::reply::{Reply, Verb};
 use tql_result::sink::Sink;
 use tql_value::refusal::Refusal;
 use tql_value::value::ResultTable;
+
+/// What is known of a refusal besides its number: where the statement is at fault, and why.
+#[derive(Clone, Copy, Debug)]
+pub struct Diagnostic<'a> {
+    /// The column on the line, counted in characters from 1.
+    pub column: Option<u64>,
+    /// What is wrong there, or what to write.
+    pub detail: Option<&'a str>,
+}
+
+impl Diagnostic<'_> {
+    /// Nothing is known.
+    pub const NONE: Diagnostic<'static> = Diagnostic {
+        column: None,
+        detail: None,
+    };
+}
 
 /// The words of a refusal, without its number.
 fn words(refusal: Refusal) -> &'static [u8]
@@ -60,7 +79,7 @@ fn push_count<S: Sink>(sink: &mut S, count: Option<u64>) -> Result<(), DeviceFau
 
 /// Pushes what a reply says that something is done.
 fn push_done<S: Sink>(sink: &mut S, verb: Verb, count: Option<u64>) -> Result<(), DeviceFault>
-    ensures { Pushes (flat_map (λ m. 44 ∷ 32 ∷ m) (members_of (Replied (Done (plain_verb verb) count)))) result
+    ensures { Pushes (flat_map (λ m. 44 ∷ 32 ∷ m) (done_members (plain_verb verb) count)) result
         (S.written sink.old) (S.written sink.new) (S.failures sink.old) (S.failures sink.new) }
 {
     push_all(sink, b", \"reply\": ")?;
@@ -72,7 +91,7 @@ fn push_done<S: Sink>(sink: &mut S, verb: Verb, count: Option<u64>) -> Result<()
 fn push_table<S: Sink>(sink: &mut S, table: &ResultTable) -> Result<(), DeviceFault>
     requires { ArePrintable (table_rows table.now) }
     ensures { Pushes (flat_map (λ m. 44 ∷ 32 ∷ m)
-        (members_of (Replied (Table (headings_of table.now) (table_rows table.now))))) result
+        (table_members (headings_of table.now) (table_rows table.now))) result
         (S.written sink.old) (S.written sink.new) (S.failures sink.old) (S.failures sink.new) }
 {
     push_all(sink, b", \"columns\": ")?;
@@ -81,9 +100,37 @@ fn push_table<S: Sink>(sink: &mut S, table: &ResultTable) -> Result<(), DeviceFa
     push_rows(sink, table.rows.as_slice())
 }
 
+/// Pushes the column of a fault, where it is known.
+fn push_column<S: Sink>(sink: &mut S, column: Option<u64>) -> Result<(), DeviceFault>
+    ensures { Pushes (flat_map (λ m. 44 ∷ 32 ∷ m) (column_members column)) result
+        (S.written sink.old) (S.written sink.new) (S.failures sink.old) (S.failures sink.new) }
+{
+    match column {
+        None => Ok(()),
+        Some(number) => {
+            push_all(sink, b", \"column\": ")?;
+            push_decimal(sink, number)
+        }
+    }
+}
+
+/// Pushes the detail of a fault, where there is one.
+fn push_detail<S: Sink>(sink: &mut S, detail: Option<&str>) -> Result<(), DeviceFault>
+    ensures { Pushes (flat_map (λ m. 44 ∷ 32 ∷ m) (detail_members (option_map (λ s. s.now) detail.entry))) result
+        (S.written sink.old) (S.written sink.new) (S.failures sink.old) (S.failures sink.new) }
+{
+    match detail {
+        None => Ok(()),
+        Some(words) => {
+            push_all(sink, b", \"detail\": ")?;
+            push_string(sink, words.as_bytes())
+        }
+    }
+}
+
 /// Pushes the number and the words of a refusal.
-fn push_refusal<S: Sink>(sink: &mut S, refusal: Refusal) -> Result<(), DeviceFault>
-    ensures { Pushes (flat_map (λ m. 44 ∷ 32 ∷ m) (members_of (Replied (Refused (refusal_of refusal))))) result
+fn push_words<S: Sink>(sink: &mut S, refusal: Refusal) -> Result<(), DeviceFault>
+    ensures { Pushes (flat_map (λ m. 44 ∷ 32 ∷ m) (refusal_members (refusal_of refusal))) result
         (S.written sink.old) (S.written sink.new) (S.failures sink.old) (S.failures sink.new) }
 {
     push_all(sink, b", \"refused\": ")?;
@@ -92,49 +139,86 @@ fn push_refusal<S: Sink>(sink: &mut S, refusal: Refusal) -> Result<(), DeviceFau
     push_string(sink, words(refusal))
 }
 
+/// Pushes a refusal, and what is known of it.
+fn push_refusal<S: Sink>(
+    sink: &mut S,
+    refusal: Refusal,
+    diagnostic: Diagnostic<'_>,
+) -> Result<(), DeviceFault>
+    ensures { Pushes (flat_map (λ m. 44 ∷ 32 ∷ m)
+        (members_of diagnostic.entry.column (detail_of diagnostic.entry) (Replied (Refused (refusal_of refusal)))))
+        result
+        (S.written sink.old) (S.written sink.new) (S.failures sink.old) (S.failures sink.new) }
+{
+    push_words(sink, refusal)?;
+    push_column(sink, diagnostic.column)?;
+    push_detail(sink, diagnostic.detail)
+}
+
 /// Pushes what a reply says.
-fn push_reply<S: Sink>(sink: &mut S, reply: &Reply) -> Result<(), DeviceFault>
+fn push_reply<S: Sink>(
+    sink: &mut S,
+    reply: &Reply,
+    diagnostic: Diagnostic<'_>,
+) -> Result<(), DeviceFault>
     requires { IsPrintableReply (reply_of reply.now) }
-    ensures { Pushes (flat_map (λ m. 44 ∷ 32 ∷ m) (members_of (Replied (reply_of reply.now)))) result
+    ensures { Pushes (flat_map (λ m. 44 ∷ 32 ∷ m)
+        (members_of diagnostic.entry.column (detail_of diagnostic.entry) (Replied (reply_of reply.now)))) result
         (S.written sink.old) (S.written sink.new) (S.failures sink.old) (S.failures sink.new) }
 {
     match reply {
         Reply::Done(verb, count) => push_done(sink, *verb, *count),
         Reply::Table(table) => push_table(sink, table),
-        Reply::Refused(refusal) => push_refusal(sink, *refusal),
+        Reply::Refused(refusal) => push_refusal(sink, *refusal, diagnostic),
     }
 }
 
 /// Pushes what an answer says.
-fn push_answer<S: Sink>(sink: &mut S, answer: &Answer) -> Result<(), DeviceFault>
+fn push_answer<S: Sink>(
+    sink: &mut S,
+    answer: &Answer,
+    diagnostic: Diagnostic<'_>,
+) -> Result<(), DeviceFault>
     requires { IsPrintableAnswer (answer_of answer.now) }
-    ensures { Pushes (flat_map (λ m. 44 ∷ 32 ∷ m) (members_of (answer_of answer.now))) result
+    ensures { Pushes (flat_map (λ m. 44 ∷ 32 ∷ m)
+        (members_of diagnostic.entry.column (detail_of diagnostic.entry) (answer_of answer.now))) result
         (S.written sink.old) (S.written sink.new) (S.failures sink.old) (S.failures sink.new) }
 {
     match answer {
-        Answer::Replied(reply) => push_reply(sink, reply),
+        Answer::Replied(reply) => push_reply(sink, reply, diagnostic),
         Answer::Accepted => push_all(sink, b", \"reply\": \"OK\""),
     }
 }
 
-/// Pushes an answer as one JSON object on one line, by RFC 8259: the number of its statement and the line on which
-/// that stands, both counted from 1, and then what it says. `reply` has the words of what is done, and `count` the rows
-/// where these are counted; `columns` and `rows` are a table; `refused` is a refusal's number and `text` its words; a
-/// statement that is checked and has no fault has the reply `OK`. A number stands as a number, NULL as `null`, a text
-/// as a string, a day as the string `YYYY-MM-DD`, and a moment as the string `YYYY-MM-DDTHH:MM:SS` of ISO 8601, with
-/// six digits behind a point where its microseconds are not zero. It takes no memory. After an error a beginning of the
-/// text was pushed.
+/// Pushes an answer as one JSON object on one line, by RFC 8259: the number of its statement, a line number, and what
+/// it says. The caller gives both numbers, counted from 1; the line is that of the fault where it is known.
+///
+/// - `reply` and `count`: the words of a statement that is done, and how many rows it changed, where these are counted.
+///   A statement that was only checked and has no fault has the reply `OK`.
+/// - `columns` and `rows`: the headings of a table, and its rows.
+/// - `refused` and `text`: the number of a refusal and its words. `column` and `detail` follow where `diagnostic` has
+///   them. Other answers ignore `diagnostic`.
+///
+/// A number is a JSON number, NULL is `null`, and a text is a string. A day is the string `YYYY-MM-DD`, and a moment is
+/// the string `YYYY-MM-DD HH:MM:SS`, with a point and six digits where its microseconds are not zero: the literals
+/// `DATE '..'` and `TIMESTAMP '..'` read them. It takes no memory.
+///
+/// # Errors
+///
+/// Fails where the sink fails; a beginning of the text was pushed then.
 pub fn write_json_answer<S: Sink>(
     sink: &mut S,
     statement: u64,
     line: u64,
     answer: &Answer,
+    diagnostic: Diagnostic<'_>,
 ) -> Result<(), DeviceFault>
     requires { IsPrintableAnswer (answer_of answer.now) }
-    ensures { Pushes (json_text statement line (answer_of answer.now)) result
+    ensures { Pushes
+        (json_text statement line diagnostic.entry.column (detail_of diagnostic.entry) (answer_of answer.now)) result
         (S.written sink.old) (S.written sink.new) (S.failures sink.old) (S.failures sink.new) }
 {
     push_place(sink, statement, line)?;
-    push_answer(sink, answer)?;
+    push_answer(sink, answer, diagnostic)?;
     push_all(sink, b"}\n")
 }

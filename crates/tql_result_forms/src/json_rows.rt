@@ -1,9 +1,9 @@
 //! Headings, values and rows as lists of JSON.
 ghost use Rattle.std.specs.Prelude.{◌≡◌, ◌∷◌, ◌++◌, All, map, string_bytes};
 ghost use Rattle.std.specs.List.{flat_map};
-ghost use Rattle.tql_spec.specs.Calendar.{day_parts};
-ghost use Rattle.tql_result_laws.specs.Json.{string, in_quotes, iso_text, json_value, parted, array, row_array};
-ghost use Rattle.tql_spec.specs.Text.{date_text};
+ghost use Rattle.tql_result_laws.specs.Json.{string, in_quotes, json_value, parted, array, row_array};
+ghost use Rattle.tql_spec.specs.Datum.{Day, Moment};
+ghost use Rattle.tql_spec.specs.Text.{cell_text};
 ghost use Rattle.tql_value.specs.Views.{datum_of_value, datum_of_view, row_of};
 ghost use Rattle.tql_value.specs.Points.{IsDay, IsMoment, IsPrintable};
 ghost use Rattle.tql_result.specs.Devices.{Pushes};
@@ -20,7 +20,7 @@ use tql_value::value::{Value, View};
 /// Pushes a day as a string.
 fn push_day_string<S: Sink>(sink: &mut S, day: i64) -> Result<(), DeviceFault>
     requires { IsDay day }
-    ensures { Pushes (in_quotes (date_text (day_parts day))) result
+    ensures { Pushes (in_quotes (cell_text (Day day))) result
         (S.written sink.old) (S.written sink.new) (S.failures sink.old) (S.failures sink.new) }
 {
     push_all(sink, b"\"")?;
@@ -31,16 +31,16 @@ fn push_day_string<S: Sink>(sink: &mut S, day: i64) -> Result<(), DeviceFault>
 /// Pushes a moment as a string.
 fn push_moment_string<S: Sink>(sink: &mut S, moment: i64) -> Result<(), DeviceFault>
     requires { IsMoment moment }
-    ensures { Pushes (in_quotes (iso_text moment)) result
+    ensures { Pushes (in_quotes (cell_text (Moment moment))) result
         (S.written sink.old) (S.written sink.new) (S.failures sink.old) (S.failures sink.new) }
 {
     push_all(sink, b"\"")?;
-    push_moment(sink, b'T', moment)?;
+    push_moment(sink, b' ', moment)?;
     push_all(sink, b"\"")
 }
 
 /// Pushes a value.
-fn push_value<S: Sink>(sink: &mut S, cell: View<'_>) -> Result<(), DeviceFault>
+pub(crate) fn push_value<S: Sink>(sink: &mut S, cell: View<'_>) -> Result<(), DeviceFault>
     requires { IsPrintable (datum_of_view cell) }
     ensures { Pushes (json_value (datum_of_view cell.entry)) result
         (S.written sink.old) (S.written sink.new) (S.failures sink.old) (S.failures sink.new) }

@@ -5,3 +5,4 @@ pub mod csv;
 mod escape;
 pub mod json;
 mod json_rows;
+pub mod jsonl;

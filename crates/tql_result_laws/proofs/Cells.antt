@@ -151,7 +151,7 @@ date_long p t h =
     let e : length (date_text p ++ t) ≡ length (date_bytes p ++ t) =
     ap (λ l. length (l ++ t)) (date_is p h) in omega arith
 
-moment_word : (m : ℤ) → IsKept (Moment m) → list_all is_word (cell_text (Moment m)) ≡ true
+pub moment_word : (m : ℤ) → IsKept (Moment m) → list_all is_word (cell_text (Moment m)) ≡ true
 moment_word m h =
     let short = moment_short m h in
     all_append is_word (date_text (moment_day m)) (32 ∷ time_text (moment_micros m))

@@ -2,6 +2,7 @@ pub mod Cells
 pub mod Cuts
 pub mod Dates
 pub mod Fields
+pub mod Members
 pub mod Objects
 pub mod Openings
 pub mod Strings

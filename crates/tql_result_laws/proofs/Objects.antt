@@ -7,23 +7,25 @@ use Rattle.std.specs.Prelude.{◌==◌, ◌||◌, codes, ℤ, pos, negsuc, Optio
 use Rattle.std.specs.List.{flat_map, list_all}
 use Rattle.std.specs.Fmt.{signed_decimal}
 use Rattle.std.specs.Int.Signed.{mag}
-use Rattle.tql_spec.specs.Calendar.{day_parts, moment_day, moment_micros}
+use Rattle.tql_spec.specs.Calendar.{day_parts}
 use Rattle.tql_spec.specs.Datum.{Datum, Null, Int, Text, Day, Moment, Row}
 use Rattle.tql_spec.specs.Definition.{Name}
-use Rattle.tql_result_laws.specs.Json.{string, in_quotes, iso_text, json_value, array, row_array, member, count_members}
+use Rattle.tql_result_laws.specs.Json.{string, in_quotes, json_value, array, row_array, member, count_members}
+use Rattle.tql_result_laws.specs.Json.{column_members, detail_members, done_members, table_members, refusal_members}
 use Rattle.tql_result_laws.specs.Json.{members_of, json_text}
 use Rattle.tql_spec.specs.Machine.{Verb, Done, Table, Refused}
 use Rattle.tql_spec.specs.Refusal.{Refusal}
 use Rattle.tql_spec.specs.Answer.{Answer, Replied, Accepted}
-use Rattle.tql_spec.specs.Text.{date_text, time_text, line, verb_text, wording, number}
+use Rattle.tql_spec.specs.Text.{cell_text, line, verb_text, wording, number}
 use Rattle.tql_result_laws.specs.ReadBack.{IsKept, IsTable, IsCount, IsWhole}
-use Rattle.tql_result_laws.specs.JsonReadBack.{Said, Nothing, Number, Words, said, SayTheSame, LinesReadBack}
+use Rattle.tql_result_laws.specs.JsonReadBack.{Said, Nothing, Number, Words, said, SayTheSame, SameFault}
+use Rattle.tql_result_laws.specs.JsonReadBack.{LinesReadBack}
 use Rattle.tql_result_laws.proofs.Cuts.{Each, IsRow, begins, begins_append, cancel, Cuts, word_cut, tails_cut}
-use Rattle.tql_result_laws.proofs.Cells.{fits_mag, int_long, digit_other}
-use Rattle.tql_result_laws.proofs.Dates.{day_short, moment_short, micros_short}
+use Rattle.tql_result_laws.proofs.Cells.{fits_mag, int_long, digit_other, moment_word}
+use Rattle.tql_result_laws.proofs.Dates.{day_short}
 use Rattle.tql_result_laws.proofs.Whole.{table_rows, none_some}
-use Rattle.tql_result_laws.proofs.Words.{is_word, is_stop, apart, all_weaker, all_append, decimal_word, decimal_digits}
-use Rattle.tql_result_laws.proofs.Words.{date_word, time_word, signed_word}
+use Rattle.tql_result_laws.proofs.Words.{is_word, is_stop, apart, all_weaker, decimal_word, decimal_digits}
+use Rattle.tql_result_laws.proofs.Words.{date_word, signed_word}
 use Rattle.tql_result_laws.proofs.Openings.{opening, verb_at, verb_opens, accepted_opens, number_same, number_small}
 use Rattle.tql_result_laws.proofs.Strings.{string_cut, word_escapes}
 
@@ -41,24 +43,17 @@ IsSaid Nothing = Unit {0}
 IsSaid (Number n) = mag n < 2 ^ 63
 IsSaid (Words t) = Unit {0}
 
-iso_word : (m : ℤ) → IsKept (Moment m) → list_all is_word (iso_text m) ≡ true
-iso_word m h =
-    let short = moment_short m h in
-    all_append is_word (date_text (moment_day m)) (84 ∷ time_text (moment_micros m))
-    (date_word (moment_day m) (omega (arith, short.year)) (omega (arith, short.month)) (omega (arith, short.day)))
-    (time_word (moment_micros m) (omega (arith, micros_short m)))
-
-value_is : (d : Datum) → IsKept d → json_value d ≡ said_text (said d)
+pub value_is : (d : Datum) → IsKept d → json_value d ≡ said_text (said d)
 value_is Null h = refl
 value_is (Int n) h = refl
 value_is (Text t) h = refl
 value_is (Day d) h =
     let short = day_short d h in
-    ap in_quotes (sym (word_escapes (date_text (day_parts d))
+    ap in_quotes (sym (word_escapes (cell_text (Day d))
     (date_word (day_parts d) (omega (arith, short.year)) (omega (arith, short.month)) (omega (arith, short.day)))))
-value_is (Moment m) h = ap in_quotes (sym (word_escapes (iso_text m) (iso_word m h)))
+value_is (Moment m) h = ap in_quotes (sym (word_escapes (cell_text (Moment m)) (moment_word m h)))
 
-value_said : (d : Datum) → IsKept d → IsSaid (said d)
+pub value_said : (d : Datum) → IsKept d → IsSaid (said d)
 value_said Null h = tt
 value_said (Int n) h = fits_mag n h
 value_said (Text t) h = tt
@@ -78,7 +73,7 @@ no_string : (t u w v : List ℕ) → list_all is_word w ≡ true → 0 < length 
 no_string t u w v h some e =
     let never : is_word 34 ≡ true = ap (begins is_word) e ∙ begins_append is_word w v some h in absurd (cc)
 
-said_cut : Cuts IsSaid said_text is_stop
+pub said_cut : Cuts IsSaid said_text is_stop
 said_cut Nothing Nothing u v ka kb su sv e = (refl, cancel (codes "null") u v e)
 said_cut Nothing (Number m) u v ka kb su sv e =
     let cut = word_cut is_word is_stop apart (codes "null") (signed_decimal m) u v refl (signed_word m kb) su sv e in
@@ -252,28 +247,58 @@ no_verb : (v : Verb) → verb_text v ≡ codes "OK" → ⊥
 no_verb v e = none_some v (sym accepted_opens ∙ ap (λ l. verb_at (opening (l ++ []))) (sym e) ∙ verb_opens v [])
 
 dones_same : (v w : Verb) (n m : Option ℕ) → IsCount n → IsCount m
-    → rest_text (members_of (Replied (Done v n))) ≡ rest_text (members_of (Replied (Done w m)))
+    → rest_text (done_members v n) ≡ rest_text (done_members w m)
     → Replied (Done v n) ≡ Replied (Done w m)
 dones_same v w n m hn hm e =
     let cut = string_member (codes "reply") (verb_text v) (verb_text w) (count_members n) (count_members m) e in
     let verbs : v ≡ w = verbs_same v w cut.0 in
     let counts : n ≡ m = counts_same n m hn hm cut.1 in cc
 
-no_done : (v : Verb) (n : Option ℕ) → rest_text (members_of (Replied (Done v n))) ≡ rest_text (members_of Accepted) → ⊥
+no_done : (v : Verb) (n : Option ℕ)
+    → rest_text (done_members v n) ≡ rest_text (member (codes "reply") (string (codes "OK")) ∷ []) → ⊥
 no_done v n e = no_verb v (string_member (codes "reply") (verb_text v) (codes "OK") (count_members n) [] e).0
 
-refusals_same : (e f : Refusal)
-    → rest_text (members_of (Replied (Refused e))) ≡ rest_text (members_of (Replied (Refused f)))
-    → Replied (Refused e) ≡ Replied (Refused f)
-refusals_same e f h =
+-- the detail, where there is one, and the end of the line
+details_stop : (s : Option (List ℕ)) → begins is_stop (rest_text (detail_members s)) ≡ true
+details_stop None = refl
+details_stop (Some s) = refl
+
+details_same : (s t : Option (List ℕ)) → rest_text (detail_members s) ≡ rest_text (detail_members t) → s ≡ t
+details_same None None e = refl
+details_same None (Some t) e = let never : false ≡ true = ap (begins (λ b. b == 44)) e in absurd (cc)
+details_same (Some s) None e = let never : true ≡ false = ap (begins (λ b. b == 44)) e in absurd (cc)
+details_same (Some s) (Some t) e = ap Some (string_member (codes "detail") s t [] [] e).0
+
+-- no detail begins as a column does
+no_column : (s : Option (List ℕ)) (n : ℕ) (ms : List (List ℕ))
+    → rest_text (detail_members s) ≡ rest_text (member (codes "column") (decimal n) ∷ ms) → ⊥
+no_column None n ms e = let never : false ≡ true = ap (begins (λ b. b == 44)) e in absurd (cc)
+no_column (Some s) n ms e = let never : true ≡ false = ap (λ l. get_or l 3 0 == 100) e in absurd (cc)
+
+faults_same : (c d : Option ℕ) (s t : Option (List ℕ)) → IsCount c → IsCount d
+    → rest_text (column_members c ++ detail_members s) ≡ rest_text (column_members d ++ detail_members t)
+    → (c ≡ d) × (s ≡ t)
+faults_same None None s t hc hd e = (refl, details_same s t e)
+faults_same None (Some m) s t hc hd e = absurd (no_column s m (detail_members t) e)
+faults_same (Some n) None s t hc hd e = absurd (no_column t n (detail_members s) (sym e))
+faults_same (Some n) (Some m) s t hc hd e =
+    let cut = number_cut (codes "column") n m (detail_members s) (detail_members t) hc hd (details_stop s)
+    (details_stop t) e in
+    (ap Some cut.0, details_same s t cut.1)
+
+refusals_same : (e f : Refusal) (ms ns : List (List ℕ))
+    → rest_text (refusal_members e ++ ms) ≡ rest_text (refusal_members f ++ ns)
+    → (Replied (Refused e) ≡ Replied (Refused f)) × (rest_text ms ≡ rest_text ns)
+refusals_same e f ms ns h =
     let low = number_small e in let high = number_small f in
     let cut = number_cut (codes "refused") (number e) (number f)
-    (member (codes "text") (string (drop 4 (wording e))) ∷ [])
-    (member (codes "text") (string (drop 4 (wording f))) ∷ []) (omega arith) (omega arith) refl refl h in
-    ap (λ x. Replied (Refused x)) (number_same e f cut.0)
+    (member (codes "text") (string (drop 4 (wording e))) ∷ ms)
+    (member (codes "text") (string (drop 4 (wording f))) ∷ ns) (omega arith) (omega arith) refl refl h in
+    let after = string_member (codes "text") (drop 4 (wording e)) (drop 4 (wording f)) ms ns cut.1 in
+    (ap (λ x. Replied (Refused x)) (number_same e f cut.0), after.1)
 
 tables_same : (hs ks : List Name) (rs qs : List Row) → IsTable hs rs → IsTable ks qs
-    → rest_text (members_of (Replied (Table hs rs))) ≡ rest_text (members_of (Replied (Table ks qs)))
+    → rest_text (table_members hs rs) ≡ rest_text (table_members ks qs)
     → (hs ≡ ks) × (map (map said) rs ≡ map (map said) qs)
 tables_same hs ks rs qs tr tq e =
     let rows = λ (l : List Row). member (codes "rows") (array (map row_array l)) ∷ [] in
@@ -297,42 +322,46 @@ tables_same hs ks rs qs tr tq e =
     (heads.0, same.0)
 
 -- the sixth byte tells what kind of members they are
-answers_say : (a b : Answer) → IsWhole a → IsWhole b → rest_text (members_of a) ≡ rest_text (members_of b)
-    → SayTheSame a b
-answers_say (Replied (Done v n)) (Replied (Done w m)) ha hb e = dones_same v w n m ha hb e
-answers_say (Replied (Done v n)) (Replied (Table ks qs)) ha hb e =
+answers_say : (c d : Option ℕ) (s t : Option (List ℕ)) (a b : Answer) → IsCount c → IsCount d → IsWhole a → IsWhole b
+    → rest_text (members_of c s a) ≡ rest_text (members_of d t b) → SayTheSame a b × SameFault a c d s t
+answers_say c d s t (Replied (Done v n)) (Replied (Done w m)) hc hd ha hb e = (dones_same v w n m ha hb e, tt)
+answers_say c d s t (Replied (Done v n)) (Replied (Table ks qs)) hc hd ha hb e =
     let never : true ≡ false = ap (λ l. get_or l 5 0 == 112) e in absurd (cc)
-answers_say (Replied (Done v n)) (Replied (Refused y)) ha hb e =
+answers_say c d s t (Replied (Done v n)) (Replied (Refused y)) hc hd ha hb e =
     let never : true ≡ false = ap (λ l. get_or l 5 0 == 112) e in absurd (cc)
-answers_say (Replied (Done v n)) Accepted ha hb e = absurd (no_done v n e)
-answers_say (Replied (Table hs rs)) (Replied (Done w m)) ha hb e =
+answers_say c d s t (Replied (Done v n)) Accepted hc hd ha hb e = absurd (no_done v n e)
+answers_say c d s t (Replied (Table hs rs)) (Replied (Done w m)) hc hd ha hb e =
     let never : true ≡ false = ap (λ l. get_or l 5 0 == 108) e in absurd (cc)
-answers_say (Replied (Table hs rs)) (Replied (Table ks qs)) ha hb e = tables_same hs ks rs qs ha hb e
-answers_say (Replied (Table hs rs)) (Replied (Refused y)) ha hb e =
+answers_say c d s t (Replied (Table hs rs)) (Replied (Table ks qs)) hc hd ha hb e =
+    (tables_same hs ks rs qs ha hb e, tt)
+answers_say c d s t (Replied (Table hs rs)) (Replied (Refused y)) hc hd ha hb e =
     let never : true ≡ false = ap (λ l. get_or l 5 0 == 108) e in absurd (cc)
-answers_say (Replied (Table hs rs)) Accepted ha hb e =
+answers_say c d s t (Replied (Table hs rs)) Accepted hc hd ha hb e =
     let never : true ≡ false = ap (λ l. get_or l 5 0 == 108) e in absurd (cc)
-answers_say (Replied (Refused x)) (Replied (Done w m)) ha hb e =
+answers_say c d s t (Replied (Refused x)) (Replied (Done w m)) hc hd ha hb e =
     let never : true ≡ false = ap (λ l. get_or l 5 0 == 102) e in absurd (cc)
-answers_say (Replied (Refused x)) (Replied (Table ks qs)) ha hb e =
+answers_say c d s t (Replied (Refused x)) (Replied (Table ks qs)) hc hd ha hb e =
     let never : true ≡ false = ap (λ l. get_or l 5 0 == 102) e in absurd (cc)
-answers_say (Replied (Refused x)) (Replied (Refused y)) ha hb e = refusals_same x y e
-answers_say (Replied (Refused x)) Accepted ha hb e =
+answers_say c d s t (Replied (Refused x)) (Replied (Refused y)) hc hd ha hb e =
+    let same = refusals_same x y (column_members c ++ detail_members s) (column_members d ++ detail_members t) e in
+    (same.0, faults_same c d s t hc hd same.1)
+answers_say c d s t (Replied (Refused x)) Accepted hc hd ha hb e =
     let never : true ≡ false = ap (λ l. get_or l 5 0 == 102) e in absurd (cc)
-answers_say Accepted (Replied (Done w m)) ha hb e = absurd (no_done w m (sym e))
-answers_say Accepted (Replied (Table ks qs)) ha hb e =
+answers_say c d s t Accepted (Replied (Done w m)) hc hd ha hb e = absurd (no_done w m (sym e))
+answers_say c d s t Accepted (Replied (Table ks qs)) hc hd ha hb e =
     let never : true ≡ false = ap (λ l. get_or l 5 0 == 112) e in absurd (cc)
-answers_say Accepted (Replied (Refused y)) ha hb e =
+answers_say c d s t Accepted (Replied (Refused y)) hc hd ha hb e =
     let never : true ≡ false = ap (λ l. get_or l 5 0 == 112) e in absurd (cc)
-answers_say Accepted Accepted ha hb e = refl
+answers_say c d s t Accepted Accepted hc hd ha hb e = (refl, tt)
 
 -- ---- lines
 
-members_stop : (a : Answer) → begins is_stop (rest_text (members_of a)) ≡ true
-members_stop (Replied (Done v n)) = refl
-members_stop (Replied (Table hs rs)) = refl
-members_stop (Replied (Refused e)) = refl
-members_stop Accepted = refl
+members_stop : (c : Option ℕ) (s : Option (List ℕ)) (a : Answer)
+    → begins is_stop (rest_text (members_of c s a)) ≡ true
+members_stop c s (Replied (Done v n)) = refl
+members_stop c s (Replied (Table hs rs)) = refl
+members_stop c s (Replied (Refused e)) = refl
+members_stop c s Accepted = refl
 
 -- what stands before the statement's number
 abbrev pub opened : List ℕ
@@ -348,21 +377,23 @@ line_is : (n v l w f : List ℕ)
     ≡ (123 ∷ (n ++ (58 ∷ 32 ∷ []))) ++ (v ++ ((44 ∷ 32 ∷ (l ++ (58 ∷ 32 ∷ []))) ++ (w ++ (f ++ (125 ∷ 10 ∷ [])))))
 line_is n v l w f = pieces (123 ∷ []) n (58 ∷ 32 ∷ []) v (44 ∷ 32 ∷ []) l w f (125 ∷ []) (10 ∷ [])
 
-line_parts : (statement at : ℕ) (a : Answer)
-    → json_text statement at a
-    ≡ opened ++ (decimal statement ++ (named (codes "line") ++ (decimal at ++ rest_text (members_of a))))
-line_parts statement at a =
+line_parts : (statement at : ℕ) (c : Option ℕ) (s : Option (List ℕ)) (a : Answer)
+    → json_text statement at c s a
+    ≡ opened ++ (decimal statement ++ (named (codes "line") ++ (decimal at ++ rest_text (members_of c s a))))
+line_parts statement at c s a =
     line_is (string (codes "statement")) (decimal statement) (string (codes "line")) (decimal at)
-    (flat_map (λ m. 44 ∷ 32 ∷ m) (members_of a))
+    (flat_map (λ m. 44 ∷ 32 ∷ m) (members_of c s a))
 
 pub lines_same : LinesReadBack
-lines_same m n k l a b hm hn hk hl ha hb e =
-    let after = λ (j : ℕ) (x : Answer). decimal j ++ rest_text (members_of x) in
-    let first = word_cut is_word is_stop apart (decimal m) (decimal n) (named (codes "line") ++ after k a)
-    (named (codes "line") ++ after l b) (decimal_word m hm) (decimal_word n hn) refl refl
-    (cancel opened (decimal m ++ (named (codes "line") ++ after k a)) (decimal n ++ (named (codes "line") ++ after l b))
-    (sym (line_parts m k a) ∙ e ∙ line_parts n l b)) in
-    let second = word_cut is_word is_stop apart (decimal k) (decimal l) (rest_text (members_of a))
-    (rest_text (members_of b)) (decimal_word k hk) (decimal_word l hl) (members_stop a) (members_stop b)
-    (cancel (named (codes "line")) (after k a) (after l b) first.1) in
-    (decimal_injective m n hm hn first.0, decimal_injective k l hk hl second.0, answers_say a b ha hb second.1)
+lines_same m n k l c d s t a b hm hn hk hl hc hd ha hb e =
+    let rest_a = rest_text (members_of c s a) in let rest_b = rest_text (members_of d t b) in
+    let after_a = decimal k ++ rest_a in let after_b = decimal l ++ rest_b in
+    let first = word_cut is_word is_stop apart (decimal m) (decimal n) (named (codes "line") ++ after_a)
+    (named (codes "line") ++ after_b) (decimal_word m hm) (decimal_word n hn) refl refl
+    (cancel opened (decimal m ++ (named (codes "line") ++ after_a)) (decimal n ++ (named (codes "line") ++ after_b))
+    (sym (line_parts m k c s a) ∙ e ∙ line_parts n l d t b)) in
+    let second = word_cut is_word is_stop apart (decimal k) (decimal l) rest_a rest_b (decimal_word k hk)
+    (decimal_word l hl) (members_stop c s a) (members_stop d t b)
+    (cancel (named (codes "line")) after_a after_b first.1) in
+    let same = answers_say c d s t a b hc hd ha hb second.1 in
+    (decimal_injective m n hm hn first.0, decimal_injective k l hk hl second.0, same.0, same.1)

@@ -1,13 +1,14 @@
 -- The text of an answer as one JSON object on one line, by RFC 8259.
 use Rattle.std.specs.Prelude.{ℕ, ◌+◌, ◌/◌, ◌%◌, ◌||◌, ◌==◌, nat_lt, List, [], ◌∷◌, ◌++◌, map, drop, codes, decimal}
-use Rattle.std.specs.Prelude.{ℤ, Option, Some, None, if◌then◌else◌}
+use Rattle.std.specs.Prelude.{Option, Some, None, if◌then◌else◌}
 use Rattle.std.specs.Fmt.{signed_decimal}
 use Rattle.std.specs.List.{flat_map}
-use Rattle.tql_spec.specs.Calendar.{day_parts, moment_day, moment_micros}
 use Rattle.tql_spec.specs.Datum.{Datum, Null, Int, Text, Day, Moment, Row}
-use Rattle.tql_spec.specs.Machine.{Done, Table, Refused}
+use Rattle.tql_spec.specs.Definition.{Name}
+use Rattle.tql_spec.specs.Machine.{Verb, Done, Table, Refused}
+use Rattle.tql_spec.specs.Refusal.{Refusal}
 use Rattle.tql_spec.specs.Answer.{Answer, Replied, Accepted}
-use Rattle.tql_spec.specs.Text.{date_text, time_text, line, verb_text, wording, number}
+use Rattle.tql_spec.specs.Text.{cell_text, line, verb_text, wording, number}
 
 -- a digit of base 16
 abbrev pub hex_digit : ℕ → ℕ
@@ -29,17 +30,13 @@ in_quotes bs = 34 ∷ bs ++ 34 ∷ []
 abbrev pub string : List ℕ → List ℕ
 string bs = in_quotes (flat_map escaped bs)
 
--- a moment by ISO 8601: its fraction stands where it is not zero
-abbrev pub iso_text : ℤ → List ℕ
-iso_text m = date_text (moment_day m) ++ 84 ∷ time_text (moment_micros m)
-
--- a value
+-- a value; a day and a moment are the text that their literals take
 abbrev pub json_value : Datum → List ℕ
 json_value Null = codes "null"
 json_value (Int n) = signed_decimal n
 json_value (Text t) = string t
-json_value (Day d) = in_quotes (date_text (day_parts d))
-json_value (Moment m) = in_quotes (iso_text m)
+json_value (Day d) = in_quotes (cell_text (Day d))
+json_value (Moment m) = in_quotes (cell_text (Moment m))
 
 -- texts, a comma and a blank between each two
 abbrev pub parted : List (List ℕ) → List ℕ
@@ -67,17 +64,40 @@ abbrev pub count_members : Option ℕ → List (List ℕ)
 count_members None = []
 count_members (Some n) = member (codes "count") (decimal n) ∷ []
 
--- what an answer says
-abbrev pub members_of : Answer → List (List ℕ)
-members_of (Replied (Done v n)) = member (codes "reply") (string (verb_text v)) ∷ count_members n
-members_of (Replied (Table headings rows)) =
-    member (codes "columns") (array (map string headings)) ∷ member (codes "rows") (array (map row_array rows)) ∷ []
-members_of (Replied (Refused e)) =
-    member (codes "refused") (decimal (number e)) ∷ member (codes "text") (string (drop 4 (wording e))) ∷ []
-members_of Accepted = member (codes "reply") (string (codes "OK")) ∷ []
+-- the column of a fault, where it is known
+abbrev pub column_members : Option ℕ → List (List ℕ)
+column_members None = []
+column_members (Some n) = member (codes "column") (decimal n) ∷ []
 
--- the bytes of the answer to the statement of this number, which stands on this line
-abbrev pub json_text : ℕ → ℕ → Answer → List ℕ
-json_text statement at a =
+-- the detail of a fault, where there is one
+abbrev pub detail_members : Option (List ℕ) → List (List ℕ)
+detail_members None = []
+detail_members (Some t) = member (codes "detail") (string t) ∷ []
+
+-- what is done, and how often
+abbrev pub done_members : Verb → Option ℕ → List (List ℕ)
+done_members v n = member (codes "reply") (string (verb_text v)) ∷ count_members n
+
+-- a table
+abbrev pub table_members : List Name → List Row → List (List ℕ)
+table_members headings rows =
+    member (codes "columns") (array (map string headings)) ∷ member (codes "rows") (array (map row_array rows)) ∷ []
+
+-- the number of a refusal and its words
+abbrev pub refusal_members : Refusal → List (List ℕ)
+refusal_members e =
+    member (codes "refused") (decimal (number e)) ∷ member (codes "text") (string (drop 4 (wording e))) ∷ []
+
+-- what an answer says; a refusal has the column and the detail of its fault
+abbrev pub members_of : Option ℕ → Option (List ℕ) → Answer → List (List ℕ)
+members_of column detail (Replied (Done v n)) = done_members v n
+members_of column detail (Replied (Table headings rows)) = table_members headings rows
+members_of column detail (Replied (Refused e)) = refusal_members e ++ column_members column ++ detail_members detail
+members_of column detail Accepted = member (codes "reply") (string (codes "OK")) ∷ []
+
+-- the bytes of the answer to the statement of this number, on this line, with the column and the detail of its fault
+abbrev pub json_text : ℕ → ℕ → Option ℕ → Option (List ℕ) → Answer → List ℕ
+json_text statement at column detail a =
     line (object
-    (member (codes "statement") (decimal statement) ∷ member (codes "line") (decimal at) ∷ members_of a))
+    (member (codes "statement") (decimal statement) ∷ member (codes "line") (decimal at)
+    ∷ members_of column detail a))

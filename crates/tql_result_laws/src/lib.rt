@@ -3,6 +3,7 @@
 
 ghost use Rattle.tql_result_laws.specs.CsvReadBack.{TablesReadBack};
 ghost use Rattle.tql_result_laws.specs.JsonReadBack.{LinesReadBack};
+ghost use Rattle.tql_result_laws.specs.JsonlReadBack.{RowsReadBack};
 ghost use Rattle.tql_result_laws.specs.ReadBack.{AnswersReadBack};
 
 /// Two answers with one text are one answer: no value can pass for a row, a heading or a count.
@@ -16,8 +17,14 @@ pub fn csv_tables_read_back()
     ensures { TablesReadBack }
 {}
 
-/// Two lines of JSON that are equal have one statement's number, one line's number and one answer, but that a day or a
-/// moment is not told from a text that spells it.
+/// Two lines of JSON that are equal have one statement's number, one line's number and one answer. Of a refusal they
+/// have one column and one detail too. A day or a moment cannot be told from a text that spells it.
 pub fn json_lines_read_back()
     ensures { LinesReadBack }
+{}
+
+/// Two tables with one text of JSON Lines say the same rows, and where they have a row, they have the same headings. A
+/// day or a moment cannot be told from a text that spells it.
+pub fn jsonl_rows_read_back()
+    ensures { RowsReadBack }
 {}

@@ -1,5 +1,5 @@
 use Rattle.std.proofs.Common.{ap, map, string_bytes}
-use Rattle.tql_result_laws.specs.Csv.{text_field, csv_line}
+use Rattle.tql_result_laws.specs.Csv.{text_field, field, csv_line}
 use Rattle.tql_result.proofs.Printing.{values_print}
 use Rattle.tql_result.proofs.Pushing.{joined, ended, as_text}
 use Rattle.tql_result_forms.proofs.Lines.{lines_are}
@@ -19,4 +19,4 @@ returns g c =
     joined
     (as_text (ap (λ l. csv_line (map text_field (map string_bytes l))) c.as_slice.ensures.value)
     c.in_ok-push_headings.ensures)
-    (as_text (lines_are _ _ c.as_slice-2.ensures.value) c.push_rows.ensures)
+    (as_text (lines_are (λ r. csv_line (map field r)) _ _ c.as_slice-2.ensures.value) c.push_rows.ensures)

@@ -1,27 +1,28 @@
-use Rattle.std.proofs.Common.{sym, ◌∙◌, ap, decimal}
-use Rattle.std.proofs.lemmas.List.{append-nil}
-use Rattle.tql_result_laws.specs.Json.{string}
+use Rattle.tql_result_laws.specs.Json.{column_members, detail_members, refusal_members}
+use Rattle.tql_value.specs.Refusals.{refusal_of}
 use Rattle.tql_result.proofs.Pushing.{joined, ended, as_text}
+use Rattle.tql_result_forms.specs.Diagnostics.{detail_of}
+use Rattle.tql_result_forms.proofs.Placing.{fault_parts}
 use Rattle.tql_result_forms.proofs.json.push_refusal.Goals as goal
 
-pub returns-in_err-push_all : goal.returns-in_err-push_all
-returns-in_err-push_all g c = ended _ _ c.from_residual.ensures.0 c.in_err-push_all.ensures
+pub returns-in_err-push_words : goal.returns-in_err-push_words
+returns-in_err-push_words g c =
+    as_text
+    (fault_parts (refusal_members (refusal_of c.args.refusal)) (column_members c.args.diagnostic.column)
+    (detail_members (detail_of c.args.diagnostic)))
+    (ended _ _ c.from_residual.ensures.0 c.in_err-push_words.ensures)
 
-pub returns-in_err-push_decimal : goal.returns-in_err-push_decimal
-returns-in_err-push_decimal g c =
-    joined c.in_ok-push_all.ensures
-    (ended _ _ c.from_residual-in_err-push_decimal.ensures.0
-    (as_text (ap decimal (c.from.ensures ∙ c.number.ensures)) c.in_err-push_decimal.ensures))
-
-pub returns-in_err-push_all-2 : goal.returns-in_err-push_all-2
-returns-in_err-push_all-2 g c =
-    joined c.in_ok-push_all.ensures
-    (joined (as_text (ap decimal (c.from.ensures ∙ c.number.ensures)) c.in_ok-push_decimal.ensures)
-    (ended _ _ c.from_residual-in_err-push_all-2.ensures.0 c.in_err-push_all-2.ensures))
+pub returns-in_err-push_column : goal.returns-in_err-push_column
+returns-in_err-push_column g c =
+    as_text
+    (fault_parts (refusal_members (refusal_of c.args.refusal)) (column_members c.args.diagnostic.column)
+    (detail_members (detail_of c.args.diagnostic)))
+    (joined c.in_ok-push_words.ensures
+    (ended _ _ c.from_residual-in_err-push_column.ensures.0 c.in_err-push_column.ensures))
 
 pub returns : goal.returns
 returns g c =
-    joined c.in_ok-push_all.ensures
-    (joined (as_text (ap decimal (c.from.ensures ∙ c.number.ensures)) c.in_ok-push_decimal.ensures)
-    (joined c.in_ok-push_all-2.ensures
-    (as_text (ap string c.words.ensures ∙ sym (append-nil _)) c.push_string.ensures)))
+    as_text
+    (fault_parts (refusal_members (refusal_of c.args.refusal)) (column_members c.args.diagnostic.column)
+    (detail_members (detail_of c.args.diagnostic)))
+    (joined c.in_ok-push_words.ensures (joined c.in_ok-push_column.ensures c.push_detail.ensures))
