@@ -1,8 +1,9 @@
 -- The most parentheses that are open at once.
 use Rattle.std.specs.Prelude.{◌≡◌, refl, ℕ, suc, pred, max, ◌+◌, ◌-◌, ◌<◌, ◌≤◌, List, [], ◌∷◌, map, drop, length}
-use Rattle.std.specs.Prelude.{get_or}
+use Rattle.std.specs.Prelude.{get_or, take, ◌++◌}
 use Rattle.std.proofs.Common.{arith, ap, sym, ◌∙◌, add-one}
 use Rattle.std.proofs.Math.Seq.{drop-cons}
+use Rattle.std.proofs.lemmas.List.{take_more, map-append}
 use Rattle.tql_spec.specs.Token.{Token, Word, QuotedName, Number, Quote, Sign, Open, Close, depth, depth_from}
 use Rattle.tql_lex.specs.Tokens.{token_of}
 use Rattle.tql_lex.specs.declared.token.Token as code
@@ -55,3 +56,42 @@ one_more_token l d i n most r m lt counted seen is_r is_m =
 
 pub one_more_open : (n r : ℕ) (t : Token) → r ≡ open_behind n t → r ≤ n + 1
 one_more_open n r t is = let h = open_behind_bound n t in omega arith
+
+-- ---- the tokens before the first parenthesis that is too many
+
+-- how many are open after the tokens
+abbrev pub open_after : ℕ → List Token → ℕ
+open_after n [] = n
+open_after n (t ∷ ts) = open_after (open_behind n t) ts
+
+open_after-push : (n : ℕ) (ts : List Token) (t : Token) → open_after n (ts ++ t ∷ []) ≡ open_behind (open_after n ts) t
+open_after-push n [] t = refl
+open_after-push n (u ∷ ts) t = open_after-push (open_behind n u) ts t
+
+depth_from-push : (n : ℕ) (ts : List Token) (t : Token)
+    → depth_from n (ts ++ t ∷ []) ≡ max (depth_from n ts) (open_behind (open_after n ts) t)
+depth_from-push n [] t = depth_from-cons n t []
+depth_from-push n (u ∷ ts) t =
+    let whole = depth_from-cons n u (ts ++ t ∷ []) in
+    let front = depth_from-cons n u ts in
+    let more = depth_from-push (open_behind n u) ts t in
+    omega arith
+
+-- the tokens up to this one
+front_push : (l : List code.Token) (d : code.Token) (i : ℕ) → i < length l
+    → map token_of (take (i + 1) l) ≡ map token_of (take i l) ++ token_of (get_or l i d) ∷ []
+front_push l d i lt =
+    ap (map token_of) (take_more l i d lt) ∙ map-append token_of (take i l) (get_or l i d ∷ [])
+
+-- one token more is open so, and no deeper than 64 where so many are open after it
+pub one_more_shallow : (l : List code.Token) (d : code.Token) (i n r : ℕ) → i < length l
+    → n ≡ open_after 0 (map token_of (take i l)) → depth (map token_of (take i l)) ≤ 64
+    → r ≡ open_behind n (token_of (get_or l i d)) → r ≤ 64
+    → (r ≡ open_after 0 (map token_of (take (i + 1) l))) × (depth (map token_of (take (i + 1) l)) ≤ 64)
+one_more_shallow l d i n r lt is_n shallow is_r below =
+    let front : List Token = map token_of (take i l) in
+    let token : Token = token_of (get_or l i d) in
+    let same : r ≡ open_behind (open_after 0 front) token = is_r ∙ ap (λ (k : ℕ). open_behind k token) is_n in
+    let deeper = depth_from-push 0 front token in
+    let bound : depth (front ++ token ∷ []) ≤ 64 = omega arith in
+    rw (front_push l d i lt) (same ∙ sym (open_after-push 0 front token), bound)

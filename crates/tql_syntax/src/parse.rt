@@ -1,5 +1,5 @@
 //! Reading the tokens of a statement, all of them.
-ghost use Rattle.std.specs.Prelude.{◌≡◌, ◌+◌, ◌^◌, ◌<◌, map};
+ghost use Rattle.std.specs.Prelude.{◌≡◌, ◌+◌, ◌^◌, ◌<◌, ◌≤◌, map, take, length};
 ghost use Rattle.tql_spec.specs.Token.{depth};
 ghost use Rattle.tql_lex.specs.Tokens.{token_of};
 ghost use Rattle.tql_syntax.specs.Nesting.{open_behind};
@@ -39,6 +39,21 @@ fn most_open(tokens: &[Token<'_>]) -> usize
         most = count.max(most);
     }
     most
+}
+
+/// Returns how many tokens come before the 65th parenthesis that is open at once: all of them where there is none.
+pub(crate) fn shallow_count(tokens: &[Token<'_>]) -> usize
+    ensures fits { result ≤ length tokens.now }
+    ensures shallow { depth (map token_of (take result tokens.now)) ≤ 64 }
+{
+    let mut count = 0;
+    for (index, token) in tokens.iter().enumerate() {
+        count = open_behind(count, token);
+        if count > MOST_OPEN {
+            return index;
+        }
+    }
+    tokens.len()
 }
 
 /// Reads the tokens of one statement, all of them, however wide it is.
