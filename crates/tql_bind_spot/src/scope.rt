@@ -187,6 +187,39 @@ fn tell_found(
     }
 }
 
+/// Returns the name of a column that is this name but for the case of its letters, if there is one.
+fn other_case<'s>(scope: &'s [Known<'_>], name: &str) -> Option<&'s str> {
+    for known in scope {
+        let mut columns = known.table.columns().iter();
+        let alike = columns.find(|column| column.name.as_str().eq_ignore_ascii_case(name));
+        if let Some(column) = alike {
+            return Some(column.name.as_str());
+        }
+    }
+    None
+}
+
+/// Adds what was meant by an unknown name in double quotes: a column in other letters, or else a text.
+fn advise_quoted(
+    scope: &[Known<'_>],
+    spot: Spot<'_>,
+    name: &str,
+    found: &Found<'_>,
+    words: &mut Words,
+) -> Result<(), AllocError> {
+    let is_known = found.columns.first.is_some() || found.periods.first.is_some();
+    if !spot.named.name.is_quoted || is_known || matches!(spot.role, Role::Period) {
+        return Ok(());
+    }
+    match other_case(scope, name) {
+        Some(other) => {
+            words.show("; ", other)?;
+            words.say(" is there")
+        }
+        None => words.say("; texts stand in single quotes"),
+    }
+}
+
 /// Tells what is wrong with a name where it stands, if anything is.
 fn tell_spot(
     memory: Memory,
@@ -197,7 +230,8 @@ fn tell_spot(
     let name = spot.named.name.meant(memory)?;
     let Some(qualifier) = spot.named.qualifier else {
         let found = sought(scope, None, name.as_str());
-        return tell_found(spot.role, name.as_str(), &found, words);
+        tell_found(spot.role, name.as_str(), &found, words)?;
+        return advise_quoted(scope, spot, name.as_str(), &found, words);
     };
     let qualifier = qualifier.meant(memory)?;
     let found = sought(scope, Some(qualifier.as_str()), name.as_str());
