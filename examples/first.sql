@@ -1,1 +1,8 @@
-../crates/test_cases/data/cases/examples/first.sql
+-- cases: growths in-turn
+-- What did the log say on the first of January, and until when did it stand?
+CREATE TABLE log (x INTEGER, s TIMESTAMP GENERATED ALWAYS AS ROW START,
+  e TIMESTAMP GENERATED ALWAYS AS ROW END,
+  PERIOD FOR SYSTEM_TIME (s, e)) WITH SYSTEM VERSIONING;
+AT TIMESTAMP '2011-01-01 00:00:00';
+INSERT INTO log VALUES (7);
+SELECT * FROM log FOR SYSTEM_TIME AS OF TIMESTAMP '2011-01-01 00:00:00';

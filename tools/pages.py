@@ -13,7 +13,7 @@ The pages are README.md, examples/README.md and, in docs/, QUESTIONS.md, RECIPES
 - ERRORS.md: its headings are the numbers and texts of tql_value/src/refusal.rt, each once, by number. Each but E01 is in an output of the cases
   `errors`.
 - MOVING.md: each whole statement in the column "Here" is in a script of the cases `moving`.
-- examples/: each case of the folder `examples` has a link NAME.sql there, and its row in examples/README.md.
+- examples/: each case of the folder `examples` has an equal copy NAME.sql there, and its row in examples/README.md.
 - README.md: each time in its table is in docs/TIMES.md.
 - RECIPES.md: its lines of Python are in examples/client.py.
 - Links: the file of each relative link exists, and has the heading that the link names.
@@ -47,6 +47,11 @@ class Block(NamedTuple):
     script: Path | None
 
 
+def case_of(script: Path) -> Path:
+    """Returns the case that a script of examples/ is a copy of, or the script itself."""
+    return CASES / "examples" / script.name if script.parent == TOP / "examples" else script
+
+
 def blocks(page: Path) -> Iterator[Block]:
     """Yields the fenced blocks of a page, in order."""
     script, kind, begun, lines = None, None, 0, []
@@ -55,7 +60,7 @@ def blocks(page: Path) -> Iterator[Block]:
         if kind is None:
             for target in LINK.findall(line):
                 if target.endswith(".sql"):
-                    script = (page.parent / target).resolve()
+                    script = case_of((page.parent / target).resolve())
             if fence:
                 kind, begun, lines = fence[1], at + 1, []
         elif fence:
@@ -190,14 +195,14 @@ def moving_faults() -> Iterator[str]:
 
 
 def folder_faults() -> Iterator[str]:
-    """Yields the examples that have no link, or no row in the README.md of the folder."""
+    """Yields the examples that have no equal copy, or no row in the README.md of the folder."""
     rows = (TOP / "examples" / "README.md").read_text(encoding="utf-8")
     wanted = {it.name for it in (CASES / "examples").glob("*.sql")}
-    linked = {it.name for it in (TOP / "examples").glob("*.sql")}
-    yield from (f"examples/{it}: there is no such case" for it in sorted(linked - wanted))
+    copied = {it.name for it in (TOP / "examples").glob("*.sql")}
+    yield from (f"examples/{it}: there is no such case" for it in sorted(copied - wanted))
     for name in sorted(wanted):
-        if (TOP / "examples" / name).resolve() != CASES / "examples" / name:
-            yield f"examples/{name} is no link to the case"
+        if name not in copied or (TOP / "examples" / name).read_bytes() != (CASES / "examples" / name).read_bytes():
+            yield f"examples/{name} is not equal to the case"
         if f"| [{name}]({name}) |" not in rows:
             yield f"examples/README.md: no row of {name}"
 
