@@ -1,292 +1,425 @@
-//! What people write by habit of other systems, and what to write instead: the one table of it.
-use tql_lex::folding::is_folded;
-use tql_lex::token::{Symbol, Token, TokenKind};
+//! What people write by habit of other systems, and what to write instead: one table, in four parts.
+//!
+//! A hint is help only: no clause speaks of it, and a statement that has one stays refused. It is found by the tokens
+//! before the place where reading stopped and by the text from there on. The first that fits is shown, so a special
+//! case comes before the general one.
+//!
+//! One rule holds for every hint: none advises a statement that changes or deletes rows in the place of one that would
+//! not. Where nothing here does the same, the hint says what is missing; where it reaches further, the hint says so.
+use crate::matching::fits;
+use tql_lex::token::Token;
 
-/// A habit, by what stands where reading stopped, all in upper case: a word somewhere before, the token at once before
-/// (`#` is any number), and with what the text goes on from there. Where one is empty, anything does. And what to write
-/// instead, in at most eight words.
-struct Hint(&'static str, &'static str, &'static str, &'static str);
+/// A habit: the tokens before the place where reading stopped, what the text goes on with there, and the hint.
+///
+/// The tokens before it are words and symbols in upper case, with single blanks between them, the last of them next to
+/// the place. `^` is the beginning of the statement, `_` any name, `#` any number, `'` any text in quotes. A token and
+/// `..` in front of the others: it is somewhere before them. What the text goes on with is tokens, a name `_`, or
+/// characters of which no token begins. Where one of the two is empty, anything fits.
+struct Hint(&'static str, &'static str, &'static str);
 
-/// What is said of several habits.
 const ALL_ROWS: &str = "all rows are printed: there is no limit";
-
-const LENGTH: &str = "write VARCHAR(n), with n up to 65,535";
 
 const CENTS: &str = "write BIGINT, in the smallest unit: whole cents";
 
-const NO_QUOTIENT: &str = "nothing divides: divide where replies are read";
-
-const NO_SUBQUERY: &str = "write a join, or several queries";
-
-const NO_PATTERN: &str = "texts are compared whole: filter outside";
-
-const NO_CASE: &str = "no CASE: choose where replies are read";
-
-const FUNCTIONS: &str = "only COUNT, SUM, MIN and MAX are there";
-
-const NO_TABLE: &str = "FROM and a table are missing";
-
-const MOMENT: &str = "write a moment: TIMESTAMP 'YYYY-MM-DD HH:MM:SS'";
-
-const NUMBERS: &str = "write the number in each INSERT";
-
-const NAMES: &str = "write names in double quotes";
-
-const NO_ALIAS: &str = "a changed table has no other name";
-
-const TURNED: &str = "write LEFT JOIN, the tables turned round";
-
-const ORDERED: &str = "columns by name; ORDER BY also by position";
+const FROM_SELECT: &str = "write CREATE TABLE, then INSERT from SELECT";
 
 const IN_KEY: &str = "write a key, as UNIQUE (x), in CREATE TABLE";
 
-/// The habits. The first that fits is told.
-static HINTS: [Hint; 96] = [
-    Hint("", "", "LIMIT", ALL_ROWS),
-    Hint("", "", "OFFSET", ALL_ROWS),
-    Hint("", "", "FETCH", ALL_ROWS),
-    Hint("", "TOP", "", ALL_ROWS),
-    Hint("", "", "BEGIN", "write START TRANSACTION"),
-    Hint("", "", "END", "write COMMIT"),
-    Hint("", "START", "", "write START TRANSACTION"),
-    Hint("", "COMMIT", "", "write COMMIT or COMMIT WORK"),
-    Hint("", "ROLLBACK", "", "write ROLLBACK: all of it is undone"),
-    Hint("", "", "SAVEPOINT", "a transaction is undone whole"),
-    Hint("", "", "TEXT", LENGTH),
-    Hint("", "", "CHAR", LENGTH),
-    Hint("", "", "CHARACTER", LENGTH),
-    Hint("", "", "NVARCHAR", LENGTH),
-    Hint("", "", "STRING", LENGTH),
-    Hint("", "VARCHAR", "", LENGTH),
-    Hint("", "", "DECIMAL", CENTS),
-    Hint("", "", "NUMERIC", CENTS),
-    Hint("", "", "FLOAT", CENTS),
-    Hint("", "", "REAL", CENTS),
-    Hint("", "", "DOUBLE", CENTS),
-    Hint("", "#", ".", "write whole numbers, in the smallest unit"),
-    Hint("", "", "SMALLINT", "write INTEGER"),
-    Hint("", "", "TINYINT", "write INTEGER"),
-    Hint("", "", "BOOLEAN", "write INTEGER, and 0 and 1"),
-    Hint("", "", "BOOL", "write INTEGER, and 0 and 1"),
-    Hint("", "IS", "TRUE", "write the condition alone"),
-    Hint("", "IS", "FALSE", "write NOT before the condition"),
-    Hint("", "", "DATETIME", "write TIMESTAMP"),
+const LEAVE: &str = "press Ctrl-D to leave";
+
+const LENGTH: &str = "write VARCHAR(n), with n up to 65,535";
+
+const MISSING_KEYS: &str = "there is no ON CONFLICT: INSERT only rows with new keys";
+
+const MOMENT: &str = "write a moment: TIMESTAMP 'YYYY-MM-DD HH:MM:SS'";
+
+const NAMES: &str = "write names in double quotes";
+
+const NO_ACTION: &str = "only NO ACTION is supported";
+
+const NO_ALIAS: &str = "a changed table takes no other name";
+
+const NO_BOOLEAN: &str = "write INTEGER, with 0 and 1";
+
+const NO_CASE: &str = "there is no CASE: choose in your program";
+
+const NO_INDEX: &str = "leave it out: keys and references are indexed";
+
+const NO_LIMIT: &str = "there is no LIMIT: choose the rows by WHERE";
+
+const NO_LISTING: &str = "there is no list of tables and columns";
+
+const NO_PATTERN: &str = "there is no pattern match: filter in your program";
+
+const NO_PREPARED: &str = "there are no prepared statements";
+
+const NO_QUOTIENT: &str = "there is no division: divide in your program";
+
+const NO_SUBQUERY: &str = "write a join, or several queries";
+
+const NO_VARIABLE: &str = "there are no variables: write the value";
+
+const NO_VIEW: &str = "write the query itself";
+
+const NO_ZONES: &str = "write TIMESTAMP alone: there are no time zones";
+
+const NOTHING_OUTLASTS: &str = "write CREATE TABLE: nothing outlasts the run";
+
+const NULL_APART: &str = "write OR x IS NULL";
+
+const NUMBERS: &str = "write the number in each INSERT";
+
+const ONLY_ROW: &str = "only ROW START and ROW END are generated";
+
+const ONLY_SQL: &str = "only SQL statements are read here";
+
+const ORDERED: &str = "write columns by name; ORDER BY also takes a position";
+
+const OWN_TABLE: &str = "UPDATE reads its own table only";
+
+const POINT: &str = "write DATE '..' or TIMESTAMP '..'";
+
+const PRUNING: &str = "write PRUNE HISTORY BEFORE TIMESTAMP '..', for all tables";
+
+const SHOWN: &str = "leave it out: every column is shown";
+
+const TYPES: &str = "the types are INTEGER, VARCHAR(n), DATE and TIMESTAMP";
+
+const WHOLE: &str = "only the whole transaction can be rolled back";
+
+const WRITE_COLUMNS: &str = "write the columns";
+
+/// The habits of whole statements.
+static STATEMENTS: [Hint; 56] = [
+    // The beginning of a statement.
+    Hint("^", "\u{feff}", "remove the byte order mark"),
+    Hint("^", "BEGIN", "write START TRANSACTION"),
+    Hint("^", "END", "write COMMIT"),
+    Hint("^ START", "", "write START TRANSACTION"),
+    Hint("^ COMMIT", "", "write COMMIT or COMMIT WORK"),
+    Hint("^ ROLLBACK", "TO", WHOLE),
+    Hint("^ ROLLBACK WORK", "TO", WHOLE),
+    Hint("^ ROLLBACK", "", "write ROLLBACK or ROLLBACK WORK"),
+    Hint("^", "SAVEPOINT", WHOLE),
+    Hint("^", "RELEASE", WHOLE),
+    Hint("^", "SHOW", NO_LISTING),
+    Hint("^", "DESCRIBE", NO_LISTING),
+    Hint("^", "DESC", NO_LISTING),
+    Hint("^", "EXPLAIN", "run tql with --plans"),
+    Hint("^", "SET", "there are no settings"),
+    Hint("^", "PREPARE", NO_PREPARED),
+    Hint("^", "EXECUTE", NO_PREPARED),
+    Hint("^", "DEALLOCATE", NO_PREPARED),
+    Hint("^", "DECLARE", NO_VARIABLE),
+    Hint("^", "HELP", "read docs/LANGUAGE.md"),
+    Hint("^", "QUIT", LEAVE),
+    Hint("^", "EXIT", LEAVE),
+    Hint("^", ".", ONLY_SQL),
+    Hint("^", "\\", ONLY_SQL),
+    Hint("^", "ALTER", "create a new table, and INSERT from a SELECT"),
+    Hint("^", "TRUNCATE", "write DELETE FROM"),
+    Hint("^", "MERGE", "write UPDATE and INSERT in one transaction"),
+    Hint("^", "REPLACE", "write DELETE and INSERT in one transaction"),
+    Hint("^", "WITH", NO_SUBQUERY),
+    Hint("^ AT", "", MOMENT),
+    Hint("^ PRUNE HISTORY BEFORE", "", MOMENT),
+    Hint("^ PRUNE", "", PRUNING),
+    Hint("^ PRUNE HISTORY", "", PRUNING),
+    // DELETE, INSERT, UPDATE and DROP.
+    Hint("^ DELETE", "HISTORY", PRUNING),
+    Hint("^ DELETE", "_", "write DELETE FROM"),
+    Hint("^ DELETE", "*", "write DELETE FROM"),
+    Hint("", "RETURNING", "write a SELECT after it"),
+    Hint("DELETE ..", "USING", "DELETE reads its own table only"),
+    Hint("DELETE ..", "LIMIT", NO_LIMIT),
+    Hint("UPDATE ..", "LIMIT", NO_LIMIT),
+    Hint("^ DELETE FROM _", "AS", NO_ALIAS),
+    Hint("^ DELETE FROM _", "_", NO_ALIAS),
+    Hint("^ UPDATE _", "AS", NO_ALIAS),
+    Hint("^ UPDATE _", "_", NO_ALIAS),
+    Hint("^ UPDATE _", "JOIN", OWN_TABLE),
+    Hint("UPDATE ..", "FROM", OWN_TABLE),
+    Hint("^ INSERT", "", "write INSERT INTO"),
+    Hint("^ INSERT INTO _", "SET", "write the columns, then VALUES"),
     Hint(
-        "",
-        "TIMESTAMP",
-        "WITH",
-        "write TIMESTAMP alone: there are no zones",
+        "INSERT ..",
+        "ON DUPLICATE",
+        "write UPDATE, then INSERT what is missing",
     ),
+    Hint("INSERT ..", "ON CONFLICT", MISSING_KEYS),
     Hint(
-        "",
-        "",
+        "INSERT ..",
+        "ORDER",
+        "leave ORDER BY out: it has no effect here",
+    ),
+    Hint("INSERT ..", "WITH", NO_SUBQUERY),
+    Hint("^ DROP TABLE _", ",", "write one DROP TABLE for each table"),
+    Hint("^ DROP TABLE _", "CASCADE", "leave CASCADE out"),
+    Hint("IF", "NOT", "leave IF NOT EXISTS out"),
+    Hint("IF", "EXISTS", "leave IF EXISTS out"),
+];
+
+/// The habits of CREATE TABLE and its columns.
+static TABLES: [Hint; 48] = [
+    // CREATE.
+    Hint("^ CREATE", "OR REPLACE VIEW", NO_VIEW),
+    Hint("^ CREATE", "OR", "leave OR REPLACE out"),
+    Hint("^ CREATE", "VIEW", NO_VIEW),
+    Hint("^ CREATE", "MATERIALIZED", NO_VIEW),
+    Hint("^ CREATE", "UNIQUE", IN_KEY),
+    Hint("^ CREATE", "INDEX", IN_KEY),
+    Hint("^ CREATE", "TEMPORARY", NOTHING_OUTLASTS),
+    Hint("^ CREATE", "TEMP", NOTHING_OUTLASTS),
+    Hint("^ CREATE TABLE _", "LIKE", WRITE_COLUMNS),
+    Hint("CREATE .. (", "LIKE", WRITE_COLUMNS),
+    Hint("CREATE .. (", "SELECT", WRITE_COLUMNS),
+    Hint("^ CREATE TABLE _", "AS", FROM_SELECT),
+    Hint("CREATE .. )", "AS SELECT", FROM_SELECT),
+    // The columns of a table.
+    Hint("ALWAYS AS", "IDENTITY", NUMBERS),
+    Hint("AS ROW", "BEGIN", "write ROW START"),
+    Hint("AS ROW", "", "write ROW START or ROW END"),
+    Hint("GENERATED", "", ONLY_ROW),
+    Hint("ALWAYS AS", "", ONLY_ROW),
+    Hint(
+        "CREATE ..",
+        "AS ROW END",
+        "write GENERATED ALWAYS AS ROW END",
+    ),
+    Hint("CREATE ..", "AS ROW", "write GENERATED ALWAYS AS ROW START"),
+    Hint("CREATE ..", "INVISIBLE", SHOWN),
+    Hint("CREATE ..", "HIDDEN", SHOWN),
+    Hint("CREATE ..", "IMPLICITLY", SHOWN),
+    Hint("CREATE ..", "TEXT", LENGTH),
+    Hint("CREATE ..", "CHAR", LENGTH),
+    Hint("CREATE ..", "CHARACTER", LENGTH),
+    Hint("CREATE ..", "NVARCHAR", LENGTH),
+    Hint("CREATE ..", "STRING", LENGTH),
+    Hint("VARCHAR", "", LENGTH),
+    Hint("VARCHAR (", "", LENGTH),
+    Hint("CREATE ..", "DECIMAL", CENTS),
+    Hint("CREATE ..", "NUMERIC", CENTS),
+    Hint("CREATE ..", "FLOAT", CENTS),
+    Hint("CREATE ..", "REAL", CENTS),
+    Hint("CREATE ..", "DOUBLE", CENTS),
+    Hint("CREATE ..", "SMALLINT", "write INTEGER"),
+    Hint("CREATE ..", "TINYINT", "write INTEGER"),
+    Hint("CREATE ..", "BOOLEAN", NO_BOOLEAN),
+    Hint("CREATE ..", "BOOL", NO_BOOLEAN),
+    Hint("CREATE ..", "DATETIME", "write TIMESTAMP"),
+    Hint("TIMESTAMP", "WITH", NO_ZONES),
+    Hint("CREATE .. )", "WITH TIME", NO_ZONES),
+    Hint(
+        "CREATE ..",
         "SERIAL",
         "write INTEGER, and the number in each INSERT",
     ),
-    Hint("", "", "AUTO_INCREMENT", NUMBERS),
-    Hint("", "", "AUTOINCREMENT", NUMBERS),
-    Hint("", "", "IDENTITY", NUMBERS),
-    Hint("", "", "DEFAULT", "write the value in each INSERT"),
+    Hint("CREATE ..", "AUTO_INCREMENT", NUMBERS),
+    Hint("CREATE ..", "AUTOINCREMENT", NUMBERS),
+    Hint("CREATE ..", "IDENTITY", NUMBERS),
+    Hint("", "DEFAULT", "write the value in each INSERT"),
+    Hint("CREATE ..", "NULL", "leave NULL out"),
+];
+
+/// The habits of keys, references, checks, periods and moments.
+static ELEMENTS: [Hint; 43] = [
+    // Keys, references, checks and periods.
+    Hint("ON DELETE", "", NO_ACTION),
+    Hint("ON UPDATE", "", NO_ACTION),
+    Hint("ON DELETE NO", "", NO_ACTION),
+    Hint("ON UPDATE NO", "", NO_ACTION),
     Hint(
-        "",
-        "",
-        "PRIMARY",
-        "write it behind a comma: PRIMARY KEY (x)",
+        "CREATE ..",
+        "DEFERRABLE",
+        "leave it out: each statement is checked at once",
     ),
-    Hint("", "CREATE", "UNIQUE", IN_KEY),
-    Hint("", "CREATE", "INDEX", IN_KEY),
-    Hint("", "", "UNIQUE", "write it behind a comma: UNIQUE (x)"),
+    Hint("REFERENCES _", "", "write the columns: REFERENCES t (x)"),
     Hint(
-        "",
-        "",
+        "CREATE ..",
         "REFERENCES",
         "write FOREIGN KEY (x) REFERENCES t (x)",
     ),
-    Hint("", "", "CHECK", "write it behind a comma: CHECK (..)"),
-    Hint("", "IF", "NOT", "leave IF NOT EXISTS out"),
-    Hint("", "IF", "EXISTS", "leave IF EXISTS out"),
-    Hint("", "CREATE", "VIEW", "write the query itself"),
     Hint(
-        "",
-        "CREATE",
-        "TEMPORARY",
-        "write CREATE TABLE: nothing outlasts the run",
+        "CREATE ..",
+        "PRIMARY",
+        "write it after a comma: PRIMARY KEY (x)",
     ),
+    Hint("UNIQUE", "KEY", "write UNIQUE (x)"),
+    Hint("UNIQUE", "INDEX", "write UNIQUE (x)"),
+    Hint("CREATE ..", "UNIQUE", "write it after a comma: UNIQUE (x)"),
+    Hint("CREATE ..", "CHECK", "write it after a comma: CHECK (..)"),
+    Hint("CREATE ..", "INDEX", NO_INDEX),
+    Hint("CREATE ..", "KEY", NO_INDEX),
     Hint(
-        "",
-        "CREATE",
-        "TEMP",
-        "write CREATE TABLE: nothing outlasts the run",
+        "PERIOD",
+        "SYSTEM_TIME",
+        "write PERIOD FOR SYSTEM_TIME (s, e)",
     ),
+    Hint("CREATE .. PERIOD", "_", "write PERIOD FOR and its name"),
     Hint(
-        "CREATE",
-        "",
-        "AS",
-        "write CREATE TABLE, then INSERT from SELECT",
+        "CREATE ..",
+        "PARTITION",
+        "leave it out: there are no partitions",
     ),
-    Hint("", "", "/*", "write -- to the end of the line"),
-    Hint("", "", "/", NO_QUOTIENT),
-    Hint("", "", "%", NO_QUOTIENT),
-    Hint("", "", "!=", "write <>"),
-    Hint("", "=", "=", "write = once"),
-    Hint("", "", "||", "texts are not joined: join them outside"),
-    Hint("", "", "`", NAMES),
-    Hint("", "", "[", NAMES),
-    Hint("", ".", "*", "write the columns, or * alone"),
+    Hint("CREATE ..", "ENGINE", "leave ENGINE out"),
+    Hint("^ CREATE TABLE _ ( _", "_", TYPES),
+    Hint("CREATE .. INTEGER , _", "_", TYPES),
+    Hint("CREATE .. INT , _", "_", TYPES),
+    Hint("CREATE .. BIGINT , _", "_", TYPES),
+    Hint("CREATE .. DATE , _", "_", TYPES),
+    Hint("CREATE .. TIMESTAMP , _", "_", TYPES),
+    Hint("CREATE .. NULL , _", "_", TYPES),
+    Hint("CREATE .. ) , _", "_", TYPES),
+    // Moments and periods.
     Hint(
-        "",
-        "(",
-        "DISTINCT",
-        "write SELECT DISTINCT, and count its rows",
-    ),
-    Hint("", "(", "SELECT", NO_SUBQUERY),
-    Hint("", "FROM", "(", NO_SUBQUERY),
-    Hint("", "", "EXISTS", NO_SUBQUERY),
-    Hint("", "UNION", "", NO_SUBQUERY),
-    Hint("", "EXCEPT", "", NO_SUBQUERY),
-    Hint("", "INTERSECT", "", NO_SUBQUERY),
-    Hint("", "", "WITH", NO_SUBQUERY),
-    Hint(
-        "",
         "SYSTEM_TIME",
         "ALL",
-        "write FROM and TO, with two moments",
+        "write BETWEEN, with the first and the last moment",
     ),
-    Hint("", "OF", "DATE", MOMENT),
-    Hint("", "OF", "'", MOMENT),
-    Hint("", "OF", "NOW", MOMENT),
-    Hint("", "OF", "CURRENT_TIMESTAMP", MOMENT),
-    Hint("", "CASE", "", NO_CASE),
-    Hint("", "", "WHEN", NO_CASE),
-    Hint("", "", "LIKE", NO_PATTERN),
-    Hint("", "", "ILIKE", NO_PATTERN),
+    Hint("SYSTEM_TIME AS OF", "", MOMENT),
+    Hint("SYSTEM_TIME FROM", "", MOMENT),
+    Hint("SYSTEM_TIME FROM TIMESTAMP ' TO", "", MOMENT),
+    Hint("SYSTEM_TIME BETWEEN", "", MOMENT),
+    Hint("SYSTEM_TIME BETWEEN TIMESTAMP ' AND", "", MOMENT),
+    Hint("PORTION OF _ FROM", "", POINT),
+    Hint("PORTION OF _ FROM DATE ' TO", "", POINT),
+    Hint("PORTION OF _ FROM TIMESTAMP ' TO", "", POINT),
     Hint(
-        "",
-        "INTERVAL",
-        "",
-        "days and moments are not calculated with",
+        "SELECT .. _",
+        "FOR SYSTEM_TIME",
+        "write it before the table's other name",
     ),
-    Hint("SELECT", "", "USING", "write ON, and the columns"),
-    Hint("", "", "FULL", TURNED),
-    Hint("", "", "RIGHT", TURNED),
-    Hint("", "FOR", "UPDATE", "leave FOR UPDATE out"),
-    Hint("BY", "", "NULLS", "NULL comes first, with DESC last"),
-    Hint("", "BY", "", ORDERED),
-    Hint("BY", "", "+", ORDERED),
-    Hint("BY", "", "-", ORDERED),
-    Hint("", "", "OVER", "there are no windows: GROUP BY groups"),
-    Hint("UPDATE", "", "AS", NO_ALIAS),
-    Hint("DELETE", "", "AS", NO_ALIAS),
-    Hint("UPDATE", "", "FROM", "UPDATE looks at its own table alone"),
-    Hint("", "DELETE", "", "write DELETE FROM"),
-    Hint("", "INSERT", "", "write INSERT INTO"),
-    Hint("INSERT", "", "SET", "write the columns, then VALUES"),
-    Hint("", "", "RETURNING", "write a SELECT behind it"),
+    Hint("FOR", "UPDATE", "leave FOR UPDATE out"),
     Hint(
-        "INSERT",
-        "",
-        "ON",
-        "write UPDATE, then INSERT what is missing",
+        "SELECT .. FOR",
+        "_",
+        "write WHERE, and that the period CONTAINS the day",
     ),
-    Hint("", "", "ALTER", "write a new table, and INSERT from SELECT"),
-    Hint("", "", "TRUNCATE", "write DELETE FROM"),
-    Hint(
-        "",
-        "",
-        "MERGE",
-        "write DELETE and INSERT in one transaction",
-    ),
-    Hint(
-        "",
-        "",
-        "REPLACE INTO",
-        "write DELETE and INSERT in one transaction",
-    ),
-    Hint("NATURAL", "", "", "write JOIN, and ON with the columns"),
+    Hint("DATE", "#", "write DATE 'YYYY-MM-DD'"),
+    Hint("DATE", "\"", "write DATE 'YYYY-MM-DD'"),
+    Hint("TIMESTAMP", "#", MOMENT),
+    Hint("TIMESTAMP", "\"", MOMENT),
+    Hint("INTERVAL", "", "there is no arithmetic of days and moments"),
 ];
 
-/// Whether a byte goes on a word.
-fn is_word_byte(byte: u8) -> bool {
-    byte.is_ascii_alphanumeric() || byte == b'_'
-}
+/// The habits of queries, expressions and conditions.
+static QUERIES: [Hint; 54] = [
+    // Queries.
+    Hint("", "LIMIT", ALL_ROWS),
+    Hint("", "OFFSET", ALL_ROWS),
+    Hint("", "FETCH", ALL_ROWS),
+    Hint("TOP", "", ALL_ROWS),
+    Hint("(", "DISTINCT", "write SELECT DISTINCT, and count its rows"),
+    Hint("(", "SELECT", NO_SUBQUERY),
+    Hint("FROM", "(", NO_SUBQUERY),
+    Hint("JOIN", "(", NO_SUBQUERY),
+    Hint("", "EXISTS", NO_SUBQUERY),
+    Hint("UNION", "", NO_SUBQUERY),
+    Hint("EXCEPT", "", NO_SUBQUERY),
+    Hint("INTERSECT", "", NO_SUBQUERY),
+    Hint("", "UNION", NO_SUBQUERY),
+    Hint("", "EXCEPT", NO_SUBQUERY),
+    Hint("", "INTERSECT", NO_SUBQUERY),
+    Hint("SELECT ..", "USING", "write ON, and the columns"),
+    Hint(
+        "",
+        "FULL",
+        "write two queries: a LEFT JOIN, and the other table's rows without a partner",
+    ),
+    Hint("", "RIGHT", "write LEFT JOIN, with the tables swapped"),
+    Hint("BY ..", "NULLS", "NULL sorts first, with DESC last"),
+    Hint("ORDER BY _", ".", "write the column's heading alone"),
+    Hint("BY", "", ORDERED),
+    Hint("BY ..", "+", ORDERED),
+    Hint("BY ..", "-", ORDERED),
+    Hint("", "OVER", "there are no window functions"),
+    Hint(",", "FROM", "leave the last comma out"),
+    Hint(",", ")", "leave the last comma out"),
+    // Expressions and conditions.
+    Hint("=", "NULL", "write IS NULL"),
+    Hint("<>", "NULL", "write IS NOT NULL"),
+    Hint("IN (", "NULL", NULL_APART),
+    Hint("IN .. ,", "NULL", NULL_APART),
+    Hint("IS", "TRUE", "write the condition alone"),
+    Hint("IS", "FALSE", "write NOT before the condition"),
+    Hint("CASE", "", NO_CASE),
+    Hint("", "WHEN", NO_CASE),
+    Hint("", "LIKE", NO_PATTERN),
+    Hint("", "ILIKE", NO_PATTERN),
+    Hint("#", ".", "write whole numbers, in the smallest unit"),
+    Hint("", "/*", "write -- to the end of the line"),
+    Hint("", "/", NO_QUOTIENT),
+    Hint("", "%", NO_QUOTIENT),
+    Hint("", "!=", "write <>"),
+    Hint("=", "=", "write = once"),
+    Hint(
+        "",
+        "||",
+        "there is no operator for texts: join them in your program",
+    ),
+    Hint("", "&&", "write OVERLAPS for periods, AND for conditions"),
+    Hint("", "@>", "write CONTAINS"),
+    Hint("", "`", NAMES),
+    Hint("", "[", NAMES),
+    Hint(".", "*", "write the columns, or * alone"),
+    Hint("", "::", "there are no casts"),
+    Hint("", "@", NO_VARIABLE),
+    Hint("", "?", NO_VARIABLE),
+    Hint("", "$", NO_VARIABLE),
+    Hint("", ":", NO_VARIABLE),
+    Hint("NATURAL ..", "", "write JOIN, and ON with the columns"),
+];
 
-/// Whether a text begins with these bytes, of which words are given in upper case, and no word goes on behind them.
-fn begins_with(text: &str, wanted: &str) -> bool {
-    let bytes = text.as_bytes();
-    let (Some(front), Some(last)) = (bytes.get(..wanted.len()), wanted.as_bytes().last()) else {
-        return wanted.is_empty();
-    };
-    let goes_on = match bytes.get(wanted.len()) {
-        Some(next) => is_word_byte(*last) && is_word_byte(*next),
-        None => false,
-    };
-    is_folded(front, wanted.as_bytes()) && !goes_on
-}
-
-/// Whether a token is this one, in upper case; `#` is any number.
-fn is_token(token: &Token<'_>, wanted: &str) -> bool {
-    match token.kind {
-        TokenKind::Number => wanted == "#",
-        _ => is_folded(token.text.as_bytes(), wanted.as_bytes()),
-    }
-}
-
-/// Whether a token is a word that may be a name.
-pub(crate) fn is_plain(token: &Token<'_>) -> bool {
-    matches!(token.kind, TokenKind::Word) && !token.is_reserved()
-}
-
-/// Whether these are the tokens of a query without FROM, a reader's or not.
-fn lacks_from(before: &[Token<'_>]) -> bool {
-    let is_query = match before {
-        [read, _, select, ..] if read.is_word("READ") => select.is_word("SELECT"),
-        [first, ..] => first.is_word("SELECT"),
-        [] => false,
-    };
-    is_query && !before.iter().any(|token| token.is_word("FROM"))
-}
-
-/// Whether a call of a function that is not there begins with these tokens, behind these.
-fn begins_call(before: &[Token<'_>], tokens: &[Token<'_>]) -> bool {
-    let is_call = match tokens {
-        [name, open, ..] => is_plain(name) && open.is_sign(Symbol::Open),
-        _ => false,
-    };
-    let in_change = match before {
-        [first, ..] => !first.is_word("CREATE"),
-        [] => false,
-    };
-    is_call && in_change
-}
-
-impl Hint {
-    /// Whether the habit is this one: the tokens before, and the text from where reading stopped.
-    fn fits(&self, before: &[Token<'_>], rest: &str) -> bool {
-        let Hint(somewhere, last, at, _) = self;
-        let is_behind = somewhere.is_empty()
-            || before.iter().any(|token| is_token(token, somewhere));
-        let is_last = last.is_empty() || before.last().is_some_and(|token| is_token(token, last));
-        is_behind && is_last && begins_with(rest, at)
-    }
-}
-
-/// What to write instead, where a text is of a habit: the tokens before the place where reading stopped, those from
-/// there on, and the text from there on.
-pub(crate) fn hint_for(
+/// Returns the hint of the first habit that fits.
+fn first_hint(
+    hints: &[Hint],
     before: &[Token<'_>],
-    tokens: &[Token<'_>],
+    behind: &[Token<'_>],
     rest: &str,
 ) -> Option<&'static str> {
-    for hint in &HINTS {
-        if hint.fits(before, rest) {
-            return Some(hint.3);
+    for hint in hints {
+        if fits(before, hint.0, behind, rest, hint.1) {
+            return Some(hint.2);
         }
     }
-    if begins_call(before, tokens) {
-        Some(FUNCTIONS)
-    } else if rest.is_empty() && lacks_from(before) {
-        Some(NO_TABLE)
-    } else {
-        None
+    None
+}
+
+/// Returns the hint for a habit of whole statements.
+fn statement_hint(before: &[Token<'_>], behind: &[Token<'_>], rest: &str) -> Option<&'static str> {
+    first_hint(&STATEMENTS, before, behind, rest)
+}
+
+/// Returns the hint for a habit of CREATE TABLE and its columns.
+fn table_hint(before: &[Token<'_>], behind: &[Token<'_>], rest: &str) -> Option<&'static str> {
+    first_hint(&TABLES, before, behind, rest)
+}
+
+/// Returns the hint for a habit of keys, references, checks, periods and moments.
+fn element_hint(before: &[Token<'_>], behind: &[Token<'_>], rest: &str) -> Option<&'static str> {
+    first_hint(&ELEMENTS, before, behind, rest)
+}
+
+/// Returns the hint for a habit of queries, expressions and conditions.
+fn query_hint(before: &[Token<'_>], behind: &[Token<'_>], rest: &str) -> Option<&'static str> {
+    first_hint(&QUERIES, before, behind, rest)
+}
+
+/// Returns the hint for a text of a habit, if it is one: by the tokens before the place where reading stopped, those
+/// from there on, and the text from there on.
+pub(crate) fn habit_hint(
+    before: &[Token<'_>],
+    behind: &[Token<'_>],
+    rest: &str,
+) -> Option<&'static str> {
+    if let Some(says) = statement_hint(before, behind, rest) {
+        return Some(says);
     }
+    if let Some(says) = table_hint(before, behind, rest) {
+        return Some(says);
+    }
+    if let Some(says) = element_hint(before, behind, rest) {
+        return Some(says);
+    }
+    query_hint(before, behind, rest)
 }

@@ -1,5 +1,7 @@
-//! What is told of a text that is no statement.
+//! The detail of a text that is no statement: where reading it stopped, and what to write instead.
 #![tactic(auto)]
 
 mod hints;
+mod matching;
+mod places;
 pub mod told;

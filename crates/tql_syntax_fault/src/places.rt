@@ -1,0 +1,184 @@
+//! Which token of a refused text is shown: mostly the one at which reading stopped, or the one before it.
+use crate::matching::{is_name, is_plain};
+use tql_lex::token::{Symbol, Token, TokenKind};
+use tql_syntax::stop::Stopped;
+
+/// Whether an operand may end with this token.
+fn ends_operand(token: &Token<'_>) -> bool {
+    match token.kind {
+        TokenKind::Word => !token.is_reserved() && !token.is_word("OF"),
+        TokenKind::QuotedName | TokenKind::Number | TokenKind::Quote => true,
+        TokenKind::Sign(symbol) => matches!(symbol, Symbol::Close | Symbol::Star),
+    }
+}
+
+/// Whether an operand may begin with this token.
+fn begins_operand(token: &Token<'_>) -> bool {
+    match token.kind {
+        TokenKind::Word => !token.is_reserved(),
+        TokenKind::QuotedName | TokenKind::Number | TokenKind::Quote => true,
+        TokenKind::Sign(symbol) => matches!(symbol, Symbol::Open),
+    }
+}
+
+/// Whether a token is one of these words.
+fn is_one_of(token: &Token<'_>, words: &[&str]) -> bool {
+    words.iter().any(|word| token.is_word(word))
+}
+
+/// The types of columns, here and in other systems.
+const TYPES: [&str; 20] = [
+    "INTEGER",
+    "INT",
+    "BIGINT",
+    "VARCHAR",
+    "DATE",
+    "TIMESTAMP",
+    "SMALLINT",
+    "TINYINT",
+    "TEXT",
+    "CHAR",
+    "CHARACTER",
+    "DECIMAL",
+    "NUMERIC",
+    "FLOAT",
+    "REAL",
+    "DOUBLE",
+    "BOOLEAN",
+    "BOOL",
+    "DATETIME",
+    "SERIAL",
+];
+
+/// The reserved words with which literals begin.
+const LITERALS: [&str; 2] = ["DATE", "TIMESTAMP"];
+
+/// The reserved words with which aggregates begin.
+const AGGREGATES: [&str; 4] = ["COUNT", "SUM", "MIN", "MAX"];
+
+/// What other systems let stand in the place of a column of CREATE TABLE; here they are read as a column's name.
+const ELEMENTS: [&str; 5] = ["INDEX", "KEY", "LIKE", "FULLTEXT", "SPATIAL"];
+
+/// Whether these are the tokens of a CREATE.
+fn are_create(tokens: &[Token<'_>]) -> bool {
+    tokens.first().is_some_and(|first| first.is_word("CREATE"))
+}
+
+/// Whether an element of CREATE TABLE, or a member of one of its lists, may begin after these tokens.
+fn begins_element(before: &[Token<'_>]) -> bool {
+    let is_behind = match before.last() {
+        Some(last) => last.is_sign(Symbol::Open) || last.is_sign(Symbol::Comma),
+        None => false,
+    };
+    is_behind && are_create(before)
+}
+
+/// Whether a reserved word and a type stand where a column of CREATE TABLE begins.
+fn is_reserved_column(before: &[Token<'_>], behind: &[Token<'_>]) -> bool {
+    match behind {
+        [word, kind, ..] => {
+            word.is_reserved() && is_one_of(kind, &TYPES) && begins_element(before)
+        }
+        _ => false,
+    }
+}
+
+/// Whether the token with which an operand begins goes on as such: a literal with its text, which may lack its quotes
+/// or have double ones, an aggregate or a period with a parenthesis.
+fn goes_on(word: &Token<'_>, next: Option<&Token<'_>>) -> bool {
+    let Some(next) = next else {
+        return false;
+    };
+    if is_one_of(word, &LITERALS) {
+        matches!(
+            next.kind,
+            TokenKind::Quote | TokenKind::Number | TokenKind::QuotedName
+        )
+    } else {
+        next.is_sign(Symbol::Open)
+    }
+}
+
+/// Whether a reserved word with which an operand begins stands alone. In CREATE TABLE, DATE and TIMESTAMP after a
+/// column's name are types, MAX may be a length, and PERIOD begins an element.
+fn is_bare_beginning(before: &[Token<'_>], behind: &[Token<'_>]) -> bool {
+    let [word, rest @ ..] = behind else {
+        return false;
+    };
+    let is_created = are_create(before);
+    let is_type = is_created && before.last().is_some_and(|last| is_name(last));
+    let is_length = matches!(before, [.., kind, _] if kind.is_word("VARCHAR"));
+    let is_beginning = is_one_of(word, &LITERALS) && !is_type
+        || is_one_of(word, &AGGREGATES) && !is_length
+        || word.is_word("PERIOD") && !is_created;
+    is_beginning && !before.is_empty() && !goes_on(word, rest.first())
+}
+
+/// Whether a name was meant by the first of the second tokens, which is a word that is never one; the first ones come
+/// before it.
+pub(crate) fn is_name_meant(before: &[Token<'_>], behind: &[Token<'_>]) -> bool {
+    is_reserved_column(before, behind) || is_bare_beginning(before, behind)
+}
+
+/// Whether a word was read as a column's name of CREATE TABLE that begins another element in other systems.
+fn is_element(before: &[Token<'_>], behind: &[Token<'_>]) -> bool {
+    match behind {
+        [word, next, ..] => {
+            is_one_of(word, &ELEMENTS) && !is_one_of(next, &TYPES) && begins_element(before)
+        }
+        _ => false,
+    }
+}
+
+/// Whether a word before a `(` was read as a name, or a word between two operands as the other name of the first.
+fn is_alias(last: &Token<'_>, behind: &[Token<'_>]) -> bool {
+    match behind {
+        [word, open, ..] if is_plain(word) && open.is_sign(Symbol::Open) => true,
+        [word, next, ..] => {
+            ends_operand(last)
+                && is_plain(word)
+                && !is_one_of(word, &["ASC", "DESC"])
+                && begins_operand(next)
+        }
+        _ => false,
+    }
+}
+
+/// Whether an operand may stand at the end of these tokens or after them. Statements of transactions, of the clock, of
+/// the horizon and of readers begin with words that are not reserved, and have no operand before a reserved one.
+fn may_have_operands(tokens: &[Token<'_>]) -> bool {
+    tokens.iter().any(|token| token.is_reserved())
+}
+
+/// Whether reading stopped one token late, after the first of the second tokens.
+fn is_late(before: &[Token<'_>], behind: &[Token<'_>]) -> bool {
+    let Some(last) = before.last() else {
+        return false;
+    };
+    if are_create(before) {
+        return is_element(before, behind)
+            || matches!(behind, [word, open, ..] if is_plain(word) && open.is_sign(Symbol::Open));
+    }
+    may_have_operands(before) && is_alias(last, behind)
+}
+
+/// Returns the place of the token that is shown, among those of the text.
+///
+/// A word that was read as another name of what comes before it, as `FRM` in `SELECT x FRM t`, is shown in the place of
+/// the token after it, and so is a reserved word where a name was meant. Where no token begins, as at `@`, the name
+/// before it is not blamed.
+pub(crate) fn shown_place(stopped: &Stopped<'_>) -> usize {
+    let tokens = stopped.front.tokens.as_slice();
+    let Some(place) = stopped.read.checked_sub(1) else {
+        return stopped.read;
+    };
+    let before = tokens.get(..place).unwrap_or(&[]);
+    let behind = tokens.get(place..).unwrap_or(&[]);
+    let is_broken = stopped.front.broken.is_some() && stopped.read == tokens.len();
+    let is_meant = !is_broken && is_name_meant(before, behind);
+    if is_meant || is_late(before, behind) {
+        place
+    } else {
+        stopped.read
+    }
+}
