@@ -160,9 +160,43 @@ def stack(room: Path) -> None:
         told(f"{what}, with a stack of {STACK} KiB", status, fits, "0 or 1, and a reply to the last statement")
 
 
+# Each form of a statement up to where an expression, a condition or a moment begins.
+FORMS = (
+    "SELECT ", "INSERT INTO t VALUES ", "INSERT INTO t SELECT ", "UPDATE t SET x = ", "UPDATE t SET x = 1 WHERE ", "DELETE FROM t WHERE ",
+    "UPDATE t FOR PORTION OF p FROM ", "CREATE TABLE u (x INTEGER, CHECK ", "READ r SELECT ", "SELECT x FROM t GROUP BY x HAVING ",
+    "SELECT t.x FROM t JOIN u ON ", "SELECT x FROM t ORDER BY ", "AT ", "PRUNE HISTORY BEFORE ", "FOO ",
+)
+# What follows the parentheses, whether a later statement is still read, and the refusal.
+TAILS = {
+    "a byte that begins no token": ("#;", True, "E10 not a statement"), "a semicolon": (";", True, "E14 nested too deep"),
+    "an open quote": ("'", False, "E12 unfinished statement"), "an open quoted name": ('"', False, "E12 unfinished statement"),
+    "the end": ("", False, "E12 unfinished statement"),
+}
+
+
+def fits_nested(form: str, depth: int, tail: str, option: str, limit) -> bool:
+    """Whether a form with so many open parentheses and a tail is refused as it has to be, and a later statement is answered."""
+    end, goes_on, refusal = TAILS[tail]
+    ran = run([option] if option else [], form + "(" * depth + end + ("\nCOMMIT;\n" if goes_on else ""), preexec_fn=limit)
+    later = "OK" if option == "--check" else "REFUSED E40 not in this transaction state"
+    wanted = f"REFUSED {refusal}\n" + (f"{later}\n" if goes_on else "")
+    place = f"tql: statement 1, line 1{', column' if refusal.startswith('E10') else ''}".encode()
+    return ran.returncode == 1 and ran.stdout.decode() == wanted and ran.stderr.startswith(b"" if option == "--quiet" else place)
+
+
+def open_parentheses(room: Path) -> None:
+    """2,000 and 100,000 open parentheses in each form of a statement, before each tail: with a short stack and the default one."""
+    for option in ("", "--check", "--quiet"):
+        for what, limit in ((f"a stack of {STACK} KiB", limited(resource.RLIMIT_STACK, STACK << 10)), ("the default stack", None)):
+            for tail in TAILS:
+                bad = [f"{form.strip()} {depth:,}" for form in FORMS for depth in (2000, 100000) if not fits_nested(form, depth, tail, option, limit)]
+                told(f"open parentheses in {len(FORMS)} forms before {tail}, {option or 'plain'}, with {what}", len(bad), not bad,
+                     f"a refusal each: {', '.join(bad)}")
+
+
 def main() -> int:
     with tempfile.TemporaryDirectory(prefix="tql-devices-") as folder:
-        for trials in (outputs, inputs, memory, stack, least_stack):
+        for trials in (outputs, inputs, memory, stack, open_parentheses, least_stack):
             trials(Path(folder))
     print(f"{wrong} wrong")
     return 1 if wrong else 0

@@ -6,8 +6,9 @@ Usage: tools/fuzz.py SECONDS [FIRST]        (make try-fuzz SECONDS=60)
 Of three scripts in turn, each by a counter that begins at FIRST (by default the seconds since 1970):
 - one of tools/copies.py, over the whole grammar: the program has to print what the machine of that tool prints, which copies all of its tables;
 - one of tools/points.py: what the forty plain machines print, one a day;
-- a case of crates/test_cases/data/cases with a few bytes changed, words swapped or statements repeated, cut at a byte: the program ends with
-  status 0 or 1, and prints the same whether its script comes whole or in small pieces through a pipe.
+- a case of crates/test_cases/data/cases with a few bytes changed, words swapped or statements repeated, cut at a byte, or with a long run of one
+  token before a byte that begins none: the program ends with status 0 or 1, and prints the same whether its script comes whole or in small pieces
+  through a pipe.
 What differs is kept in a folder, which is named. The program is TQL=path, or ./tql where it is newer than every source, or else ./tql-quick,
 which is compiled first where it has to be (make quick). The status is 1 where something differed.
 """
@@ -31,6 +32,11 @@ CASES = TOP / "crates" / "test_cases" / "data" / "cases"
 PATIENCE = 60
 WORDS = ["NULL", "(", ")", ",", ";", "'", '"', "--", "-9223372036854775808", "9999-12-31", "FOR PORTION OF", "FOR SYSTEM_TIME", "COMMIT;", "ROLLBACK;",
          "START TRANSACTION;", "WITHOUT OVERLAPS", "NOT", "OR", "\x00", "\x1b[31m", "\u00e4", "0"]
+
+# Tokens of which long runs are made, how long they are, and what follows them.
+RUN_TOKENS = ["(", "((", "NOT ", "NOT (", "- ", "-(", "+", "x,", "x + ", "x AND ", "SELECT ", "COUNT(", "PERIOD (", "IN (", ")", ".", "'a' ", '"a" ', "1 "]
+RUN_LENGTHS = [63, 64, 65, 66, 300, 5000, 60000]
+RUN_ENDS = ["#", ";", "\x00", "\u20ac;", "'", '"', "", " 1 #;", "x;"]
 
 
 def run(words: list[str], script: bytes) -> tuple[bytes, int]:
@@ -62,7 +68,7 @@ def changed(seed: int, scripts: list[Path]) -> bytes:
     for _ in range(chance.randint(1, 6)):
         at = chance.randrange(len(text) + 1)
         to = min(len(text), at + chance.randint(0, 12))
-        how = chance.randrange(5)
+        how = chance.randrange(6)
         if how == 0:
             del text[at:to]
         elif how == 1:
@@ -72,6 +78,9 @@ def changed(seed: int, scripts: list[Path]) -> bytes:
         elif how == 3:
             parts = bytes(text).split(b";")
             text += b";" + chance.choice(parts) + b";"
+        elif how == 4:
+            run_ = chance.choice(RUN_TOKENS) * chance.choice(RUN_LENGTHS) + chance.choice(RUN_ENDS)
+            text[at:at] = run_.encode()
         else:
             del text[chance.randrange(len(text) // 2, len(text) + 1):]
     return bytes(text)

@@ -17,7 +17,7 @@ use tql_run::listener::Listener;
 use tql_run::responder::Responder;
 use tql_run::runner::{Fault, Summary, run};
 use tql_syntax::text::read_text;
-use tql_syntax_fault::told::syntax_detail;
+use tql_syntax_fault::told::{depth_detail, syntax_detail};
 use tql_syntax_tree::width::is_too_wide;
 use tql_value::refusal::Refusal;
 
@@ -66,6 +66,7 @@ impl Responder for Checker {
     fn detail(&self, text: &[u8], refusal: Refusal) -> Option<Detail> {
         match refusal {
             Refusal::NotAStatement => syntax_detail(self.memory, text),
+            Refusal::NestedTooDeep => depth_detail(self.memory, text),
             _ => None,
         }
     }
