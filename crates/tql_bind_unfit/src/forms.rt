@@ -1,5 +1,8 @@
-//! Forms that may not stand where they stand.
+//! Forms that are not allowed where they are written.
+use crate::references::reference_forms;
+use crate::system_periods::system_forms;
 use std::alloc::AllocError;
+use std::collections::BTreeSet;
 use tql_bind_spot::references::joined_reference;
 use tql_bind_spot::scope::table_named;
 use tql_bind_spot::spots::{Spot, Spots, condition_spots, expr_spots};
@@ -13,7 +16,10 @@ use tql_syntax_tree::statement::{
     ChainTree, Items, RefTree, RowSource, SelectTree, SpanTree, Statement, Update,
 };
 
-/// Tells of a value that is given to a generated column.
+/// The names of the columns of GROUP BY.
+type Grouped = BTreeSet<String<Memory>, Memory>;
+
+/// Reports a value that is given to a generated column.
 fn tell_generated(
     memory: Memory,
     table: &TableDef,
@@ -35,7 +41,7 @@ fn tell_generated(
     Ok(())
 }
 
-/// Tells of a table that keeps no versions and is asked for them.
+/// Reports a table without versions whose versions are asked for.
 fn tell_unversioned(
     memory: Memory,
     catalog: &Catalog,
@@ -54,7 +60,7 @@ fn tell_unversioned(
     }
 }
 
-/// Tells of a table of a chain that keeps no versions and is asked for them.
+/// Reports the first table of a chain without versions whose versions are asked for.
 fn chain_forms(
     memory: Memory,
     catalog: &Catalog,
@@ -68,7 +74,7 @@ fn chain_forms(
     Ok(())
 }
 
-/// Tells of an aggregate in WHERE.
+/// Reports an aggregate in WHERE.
 fn tell_aggregate(
     memory: Memory,
     filter: Option<&Cond<'_>>,
@@ -85,29 +91,31 @@ fn tell_aggregate(
     Ok(())
 }
 
-/// Whether a column of this name is among those of GROUP BY, of whatever table.
-fn is_grouped(memory: Memory, name: &str, grouping: &[Named<'_>]) -> Result<bool, AllocError> {
-    let mut is_there = false;
+/// Returns the names of the columns of GROUP BY, of whatever table.
+fn grouped_names(memory: Memory, grouping: &[Named<'_>]) -> Result<Grouped, AllocError> {
+    let mut names = BTreeSet::new(memory);
     for named in grouping {
-        let meant = named.name.meant(memory)?;
-        is_there |= meant.as_str() == name;
+        names.insert(named.name.meant(memory)?)?;
     }
-    Ok(is_there)
+    Ok(names)
 }
 
-/// Tells of a name of a grouped query that is neither one of GROUP BY nor inside an aggregate.
+/// Reports the first name of a grouped query that is neither one of GROUP BY nor inside an aggregate.
 fn tell_loose(
     memory: Memory,
     spots: &[Spot<'_>],
     grouping: &[Named<'_>],
     words: &mut Words,
 ) -> Result<(), AllocError> {
+    if words.are_there() {
+        return Ok(());
+    }
+    let grouped = grouped_names(memory, grouping)?;
     for spot in spots {
         let meant = spot.named.name.meant(memory)?;
-        let is_loose = !spot.is_inside && !is_grouped(memory, meant.as_str(), grouping)?;
-        if is_loose && !words.are_there() {
+        if !spot.is_inside && !grouped.contains(meant.as_str()) {
             words.show("", meant.as_str())?;
-            words.say(" is neither grouped nor inside an aggregate")?;
+            return words.say(" is neither grouped nor inside an aggregate");
         }
     }
     Ok(())
@@ -127,7 +135,7 @@ fn items_spots<'a>(items: &Items<'a>, spots: &mut Spots<'a>) -> Result<(), Alloc
     }
 }
 
-/// Tells what may not stand in the select list of a grouped query.
+/// Reports what the select list of a grouped query may not have.
 fn grouped_forms(
     memory: Memory,
     select: &SelectTree<'_>,
@@ -144,7 +152,7 @@ fn grouped_forms(
     tell_loose(memory, &spots.names, &select.grouping, words)
 }
 
-/// Tells what may not stand in a select.
+/// Reports a form that a select may not have.
 fn select_forms(
     memory: Memory,
     catalog: &Catalog,
@@ -159,7 +167,7 @@ fn select_forms(
     grouped_forms(memory, select, words)
 }
 
-/// Tells what may not stand in an UPDATE of this table.
+/// Reports a form that an UPDATE of this table may not have.
 fn update_forms(
     memory: Memory,
     table: &TableDef,
@@ -173,8 +181,8 @@ fn update_forms(
     tell_aggregate(memory, update.filter.as_deref(), words)
 }
 
-/// Tells which form of a statement over these tables may not stand where it stands: one of those for which it is
-/// refused (E23). The only error is a refused growth.
+/// Adds the words for a form of a statement over these tables that is not allowed where it is written: one of those
+/// for which it is refused (E23). The only error is a refused allocation.
 pub fn form_words(
     memory: Memory,
     catalog: &Catalog,
@@ -200,8 +208,11 @@ pub fn form_words(
         Statement::Delete(delete) => tell_aggregate(memory, delete.filter.as_deref(), words),
         Statement::Query(query) => select_forms(memory, catalog, &query.select, words),
         Statement::Read(_, query) => select_forms(memory, catalog, &query.select, words),
-        Statement::Create(_)
-        | Statement::DropTable(_)
+        Statement::Create(create) => {
+            system_forms(memory, create, words)?;
+            reference_forms(memory, catalog, create, words)
+        }
+        Statement::DropTable(_)
         | Statement::StartTransaction
         | Statement::Commit
         | Statement::Rollback

@@ -1,4 +1,4 @@
-//! Kinds that differ, and numbers of cells that do.
+//! Kinds that do not fit, and numbers of cells.
 use std::alloc::AllocError;
 use tql_bind_spot::references::{join_condition, joined_reference};
 use tql_bind_spot::scope::{
@@ -17,7 +17,7 @@ use tql_syntax_tree::statement::{
 };
 use tql_value::value::Kind;
 
-/// What a value of an expression is, where that is known: a column's name or a literal, and its kind.
+/// The value of an expression, where it is known: a column's name or a literal, and its kind.
 #[derive(Clone, Copy)]
 struct Side<'a> {
     before: &'static str,
@@ -27,7 +27,7 @@ struct Side<'a> {
 }
 
 impl<'a> Side<'a> {
-    /// A literal, written so behind this word.
+    /// A literal, with the word before it.
     fn literal(before: &'static str, text: &'a str, kind: Kind) -> Side<'a> {
         Side {
             before,
@@ -47,7 +47,7 @@ impl<'a> Side<'a> {
         }
     }
 
-    /// What it is called.
+    /// Returns the words for its kind.
     fn kind_words(&self) -> &'static str {
         match (self.is_column, self.kind) {
             (true, Kind::Int) => " is INTEGER",
@@ -61,14 +61,36 @@ impl<'a> Side<'a> {
         }
     }
 
-    /// Tells what it is.
+    /// Adds what it is to the words.
     fn tell(&self, words: &mut Words) -> Result<(), AllocError> {
         words.show(self.before, self.text)?;
         words.say(self.kind_words())
     }
+
+    /// Whether it is a text in quotes.
+    fn is_bare_text(&self) -> bool {
+        !self.is_column && matches!(self.kind, Kind::Text)
+    }
+
+    /// Returns what to write in the place of a text, where a value of this kind is wanted.
+    fn literal_hint(&self) -> Option<&'static str> {
+        match self.kind {
+            Kind::Day => Some("; write DATE 'YYYY-MM-DD'"),
+            Kind::Moment => Some("; write TIMESTAMP 'YYYY-MM-DD HH:MM:SS'"),
+            Kind::Int | Kind::Text => None,
+        }
+    }
 }
 
-/// What an expression is: a literal, or a column.
+/// Adds what to write in the place of the second side, where that is a text and the first one no text.
+fn advise(wanted: &Side<'_>, given: &Side<'_>, words: &mut Words) -> Result<(), AllocError> {
+    match wanted.literal_hint() {
+        Some(says) if given.is_bare_text() => words.say(says),
+        _ => Ok(()),
+    }
+}
+
+/// Returns the value of an expression that is a literal or a column.
 fn side_of<'a>(
     memory: Memory,
     scope: &[Known<'_>],
@@ -89,7 +111,7 @@ fn side_of<'a>(
     }
 }
 
-/// Tells of two sides whose kinds differ.
+/// Reports two sides whose kinds differ.
 fn tell_sides(
     left: Option<Side<'_>>,
     right: Option<Side<'_>>,
@@ -102,11 +124,13 @@ fn tell_sides(
         left.tell(words)?;
         words.say(", ")?;
         right.tell(words)?;
+        advise(&left, &right, words)?;
+        advise(&right, &left, words)?;
     }
     Ok(())
 }
 
-/// Tells of two expressions whose kinds differ.
+/// Reports two expressions whose kinds differ.
 fn tell_pair(
     memory: Memory,
     scope: &[Known<'_>],
@@ -119,7 +143,7 @@ fn tell_pair(
     tell_sides(left, right, words)
 }
 
-/// Tells of the members of an IN list whose kind is another one.
+/// Reports a member of an IN list whose kind differs.
 fn tell_members(
     memory: Memory,
     scope: &[Known<'_>],
@@ -133,7 +157,7 @@ fn tell_members(
     Ok(())
 }
 
-/// Tells of kinds that differ in a test.
+/// Reports kinds that differ in a test.
 #[cycle(conditions)]
 fn tell_test(
     memory: Memory,
@@ -159,7 +183,7 @@ fn tell_test(
     }
 }
 
-/// Tells of kinds that differ in what AND joins.
+/// Reports kinds that differ in an AND list.
 #[cycle(conditions)]
 fn tell_conj(
     memory: Memory,
@@ -174,7 +198,7 @@ fn tell_conj(
     Ok(())
 }
 
-/// Tells of kinds that differ in a condition.
+/// Reports kinds that differ in a condition.
 #[cycle(conditions)]
 fn tell_condition(
     memory: Memory,
@@ -189,7 +213,7 @@ fn tell_condition(
     Ok(())
 }
 
-/// Tells of kinds that differ in a condition, where there is one.
+/// Reports kinds that differ in a condition, where there is one.
 fn tell_filter(
     memory: Memory,
     scope: &[Known<'_>],
@@ -202,7 +226,7 @@ fn tell_filter(
     }
 }
 
-/// Adds the references of a chain, and tells of kinds that differ in its conditions.
+/// Adds the references of a chain, and reports kinds that differ in its conditions.
 fn chain_kinds<'c>(
     memory: Memory,
     catalog: &'c Catalog,
@@ -218,7 +242,7 @@ fn chain_kinds<'c>(
     Ok(())
 }
 
-/// Tells of kinds that differ in the conditions of a select.
+/// Reports kinds that differ in the conditions of a select.
 fn select_kinds<'c>(
     memory: Memory,
     catalog: &'c Catalog,
@@ -234,7 +258,7 @@ fn select_kinds<'c>(
     tell_filter(memory, &scope, select.having.as_deref(), words)
 }
 
-/// Tells of a cell of another kind than its column.
+/// Reports a cell whose kind is not that of its column.
 fn tell_cell(
     memory: Memory,
     scope: &[Known<'_>],
@@ -252,7 +276,8 @@ fn tell_cell(
     }
 }
 
-/// The column of this number among those that an INSERT fills: those that it names, or all that are not generated.
+/// Returns the column at this index among those that an INSERT fills: those that it names, or all that are not
+/// generated.
 fn filled<'c>(
     memory: Memory,
     table: &'c TableDef,
@@ -276,21 +301,23 @@ fn filled<'c>(
     }
 }
 
-/// Tells of another number of cells than columns.
+/// Reports a number of cells that is not that of the columns.
 fn tell_count(
     cells: usize,
-    what: &str,
+    one: &str,
+    several: &str,
     columns: usize,
     words: &mut Words,
 ) -> Result<(), AllocError> {
     if cells != columns && !words.are_there() {
-        words.count(cells, what)?;
-        words.count(columns, " columns")?;
+        words.count(cells, if cells == 1 { one } else { several })?;
+        words.say(" for ")?;
+        words.count(columns, if columns == 1 { " column" } else { " columns" })?;
     }
     Ok(())
 }
 
-/// How many columns an INSERT fills.
+/// Returns how many columns an INSERT fills.
 fn width_of(table: &TableDef, names: &[Name<'_>]) -> usize {
     if names.is_empty() {
         table.assignable().len()
@@ -299,7 +326,7 @@ fn width_of(table: &TableDef, names: &[Name<'_>]) -> usize {
     }
 }
 
-/// Tells what does not fit in a tuple.
+/// Reports what does not fit in a tuple.
 fn tell_tuple(
     memory: Memory,
     table: &TableDef,
@@ -308,7 +335,8 @@ fn tell_tuple(
     words: &mut Words,
 ) -> Result<(), AllocError> {
     let cells = tuple.more.len().saturating_add(1);
-    tell_count(cells, " cells for ", width_of(table, names), words)?;
+    let columns = width_of(table, names);
+    tell_count(cells, " cell", " cells", columns, words)?;
     let scope: Scope<'_> = Vec::new(memory);
     if let Some(column) = filled(memory, table, names, 0)? {
         tell_cell(memory, &scope, column, &tuple.first, words)?;
@@ -321,7 +349,7 @@ fn tell_tuple(
     Ok(())
 }
 
-/// Tells of another number of output columns than are filled.
+/// Reports a number of output columns that is not that of the columns that are filled.
 fn tell_outputs(
     table: &TableDef,
     names: &[Name<'_>],
@@ -332,17 +360,13 @@ fn tell_outputs(
         Items::All => Ok(()),
         Items::These(_, more) => {
             let outputs = more.len().saturating_add(1);
-            tell_count(
-                outputs,
-                " output columns for ",
-                width_of(table, names),
-                words,
-            )
+            let columns = width_of(table, names);
+            tell_count(outputs, " output column", " output columns", columns, words)
         }
     }
 }
 
-/// Tells what does not fit in an INSERT.
+/// Reports what does not fit in an INSERT.
 fn insert_kinds(
     memory: Memory,
     catalog: &Catalog,
@@ -367,7 +391,7 @@ fn insert_kinds(
     }
 }
 
-/// Tells of an assignment whose kinds differ.
+/// Reports an assignment whose kinds differ.
 fn tell_set(
     memory: Memory,
     table: &TableDef,
@@ -381,7 +405,7 @@ fn tell_set(
     }
 }
 
-/// Tells what does not fit in an UPDATE of this table.
+/// Reports what does not fit in an UPDATE of this table.
 fn update_kinds(
     memory: Memory,
     table: &TableDef,
@@ -396,8 +420,8 @@ fn update_kinds(
     tell_filter(memory, &scope, update.filter.as_deref(), words)
 }
 
-/// Tells which kinds or numbers of a statement over these tables differ: some of those for which it is refused (E22).
-/// The only error is a refused growth.
+/// Reports which kinds or numbers of a statement over these tables differ: one of the faults for which it is refused
+/// (E22). The only error is a refused allocation.
 pub fn kind_words(
     memory: Memory,
     catalog: &Catalog,
