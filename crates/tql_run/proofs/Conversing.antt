@@ -1,37 +1,56 @@
 -- From one pull to the next, and what a whole run comes to.
-use Rattle.std.proofs.Common.{◌≡◌, refl, sym, ◌∙◌, ap, subst, ℕ, Bool, true, false, List, [], ◌++◌, Option}
+use Rattle.std.proofs.Common.{◌≡◌, refl, sym, ◌∙◌, ap, subst, ℕ, zero, suc, Bool, true, false, List, []}
+use Rattle.std.proofs.Common.{◌∷◌, ◌++◌, Option}
 use Rattle.std.proofs.Common.{arith, ◌+◌, ◌*◌, ◌<◌, ◌≤◌, append_assoc, append-nil, length-append, length-take}
 use Rattle.std.proofs.lemmas.Bool.{eqb-true}
-use Rattle.std.specs.Prelude.{length, take, IsTrue, Result, Ok, Err, not, ◌==◌, ◌&&◌}
+use Rattle.std.specs.Prelude.{length, take, IsTrue, Result, Ok, Err, not, ◌==◌, ◌&&◌, IfOk, MatchBool}
 use Rattle.tql_spec.specs.Machine.{State}
+use Rattle.tql_spec.specs.Answer.{Answer}
 use Rattle.tql_spec.specs.Script.{Piece, statements}
 use Rattle.tql_spec.specs.Run.{Answering, RunBy}
 use Rattle.tql_lex.specs.Stream.{Stream, is_begun, kept_now, one_if, to_do}
 use Rattle.tql_lex.specs.Holding.{Holds}
-use Rattle.tql_run.specs.Hearing.{Heard, HearingChange}
+use Rattle.tql_run.specs.Hearing.{HearingChange}
 use Rattle.tql_run.specs.Responding.{Standing}
 use Rattle.tql_run.specs.Reads.{ReadsSoFar, Pulls}
+use Rattle.tql_run.specs.Texts.{Written}
 use Rattle.tql_run.specs.Runs.{SourceChange, SinkChange, Gives, MeetsEnd, MissesEnd, answered, most_pulls}
-use Rattle.tql_run.specs.Runs.{most_bytes, StopsReading, StopsWriting, Runs}
-use Rattle.tql_run.specs.Writing.{WroteTo, WroteAll, WroteScriptOrFailed, SinkFailed}
+use Rattle.tql_run.specs.RunsIn.{Manner}
+use Rattle.tql_run.specs.Runs.{most_bytes}
+use Rattle.tql_run.specs.RunsIn.{stops, RunsWholeIn, RunsToRefusal, StopsReadingIn, StopsWritingIn, RunsIn}
+use Rattle.tql_run.specs.Writing.{Shown, WroteTo, WroteAll, WroteReady, WroteScript, RefusedAt}
+use Rattle.tql_run.specs.Writing.{WroteScriptOrFailed}
+use Rattle.tql_run.specs.Writing.{SinkFailed}
 use Rattle.tql_run.specs.declared.runner.Summary.{Summary}
 use Rattle.tql_run.specs.declared.runner.Fault.{Fault}
 use Rattle.tql_run.specs.declared.runner.Fault.TheVariants.{Read, Write, Memory}
-use Rattle.tql_run.proofs.Writing.{wrote_first, all_asked, all_told}
+use Rattle.tql_run.proofs.Writing.{wrote_first, all_asked, to_told, to_texts, refused_at, goes_on, at_stop, as_stop}
 
 -- ---- so far
 
--- so many pulls were made, and what is whole in the bytes that they gave was answered
-pub record Converses (A : Answering) (start : Standing) (pulls : ℕ) (stream : Stream) (after : Standing)
-    (summary : Summary) (source : SourceChange) (held_old held_new : Option (List ℕ)) (writes_before writes_now : ℕ)
-    (heard_old heard_new : Option (List Heard)) : Type 0 where
+-- what a sink and a listener show before and after a run
+abbrev pub before_run : SinkChange → HearingChange → Shown
+before_run sink hearing =
+    record { held = sink.held_old; writes = sink.failures_old; heard = hearing.heard_old }
+
+abbrev pub after_run : SinkChange → HearingChange → Shown
+after_run sink hearing = record { held = sink.held_new; writes = sink.failures_new; heard = hearing.heard_new }
+
+-- so many pulls were made, and what is whole in the bytes that they gave before the last was answered
+pub record Converses (M : Manner) (start : Standing) (had : Written) (pulls : ℕ) (stream : Stream) (after : Standing)
+    (form : Written) (summary : Summary) (source : SourceChange) (from now : Shown) : Type 0 where
   pub script : List ℕ
   pub reads : ReadsSoFar pulls script source
-  pub wrote : (s : State) → start s
-      → WroteTo A s script stream after summary held_old held_new writes_before writes_now heard_old heard_new
+  pub wrote : had [] → (s : State) → start s → WroteTo M s script stream after form summary from now
   pub unended : stream.ended ≡ false
   pub room : summary.statements + to_do stream ≤ pulls * 65_536 + 1
   pub fewer : summary.refused ≤ summary.statements
+  pub going : IsTrue M.bail → summary.refused ≡ 0
+  pub before : List ℕ
+  pub last : List ℕ
+  pub parts : script ≡ before ++ last
+  pub small : length last ≤ 65_536
+  pub asked : had [] → (s : State) → start s → length (answered false before) ≤ summary.statements
 
 pub gives_none : (left : Option (List ℕ)) → Gives left [] left
 gives_none left = record { told = λ xs e. (xs, refl, e) }
@@ -45,17 +64,17 @@ gives_on a b c xs ys p q = record {
   );
 }
 
-pub converse_first : (A : Answering) (start : Standing) (stream : Stream) (summary : Summary) (left : Option (List ℕ))
-    (failures : ℕ) (ended : Bool) (held : Option (List ℕ)) (writes : ℕ) (heard : Option (List Heard))
+pub converse_first : (M : Manner) (start : Standing) (had : Written) (stream : Stream) (summary : Summary)
+    (left : Option (List ℕ)) (failures : ℕ) (ended : Bool) (from : Shown)
     → Holds stream [] [] → stream.ready ≡ [] → stream.ended ≡ false → summary.statements ≡ 0 → summary.refused ≡ 0
-    → Converses A start 0 stream start summary (record {
+    → Converses M start had 0 stream start had summary (record {
       left_old = left;
       left_new = left;
       failures_old = failures;
       failures_new = failures;
       ended = ended;
-    }) held held writes writes heard heard
-converse_first A start stream summary left failures ended held writes heard holds ready unended a b = record {
+    }) from from
+converse_first M start had stream summary left failures ended from holds ready unended a b = record {
   script = [];
   reads = record {
     given = gives_none left;
@@ -64,15 +83,39 @@ converse_first A start stream summary left failures ended held writes heard hold
     grown = omega arith;
     short = omega arith;
   };
-  wrote = λ s st. wrote_first A s stream start summary held writes heard holds st a b;
+  wrote = λ fresh s st. wrote_first M s stream start had summary from holds st fresh a b;
   unended = unended;
   room = let few = one_at_most (is_begun (kept_now stream.given stream.kept)) in omega (arith, a, few, ap length ready);
   fewer = omega (arith, a, b);
+  going = λ _. b;
+  before = [];
+  last = [];
+  parts = refl;
+  small = omega arith;
+  asked = λ fresh s st. let none : length (answered false []) ≡ 0 = refl in omega (arith, none);
 }
   where
     one_at_most : (t : Bool) → one_if t ≤ 1
     one_at_most true = omega arith
     one_at_most false = omega arith
+
+-- as many were answered as there are answers
+as_many : (A : Answering) (s new : State) (done : List Piece) (answers : List Answer) → RunBy A s done answers new
+    → length done ≡ length answers
+as_many A s new [] [] ran = refl
+as_many A s new [] (x ∷ xs) ran = absurd ran
+as_many A s new (p ∷ ps) [] ran = absurd ran
+as_many A s new (p ∷ ps) (x ∷ xs) ran = ap suc (as_many A ran.0 new ps xs ran.2)
+
+-- where no statement is left, all that are whole were counted
+pub all_counted : (M : Manner) (s : State) (script : List ℕ) (stream : Stream) (h : Standing) (form : Written)
+    (summary : Summary) (from to : Shown) → stream.ended ≡ false
+    → WroteAll M s script stream h form summary from to → length (answered false script) ≡ summary.statements
+all_counted M s script stream h form summary from to unended t =
+    let w = t.to.wrote in
+    ap (λ (b : Bool). length (answered b script)) (sym unended)
+    ∙ ap length (all_asked M s script stream h form summary from to t)
+    ∙ as_many M.answering s w.state w.done w.answers w.ran ∙ sym w.counts.statements
 
 pub script_short : (pulls : ℕ) (script : List ℕ) (source : SourceChange) → pulls ≤ most_pulls
     → ReadsSoFar pulls script source → length script < most_bytes
@@ -82,13 +125,12 @@ pub count_fits : (pulls n : ℕ) → pulls ≤ most_pulls → n ≤ pulls * 65_5
 count_fits pulls n few le = omega (arith, few, le)
 
 -- the sink failed before the end was met
-pub failed_writing : (A : Answering) (s : State) (script : List ℕ) (ended : Bool) (after : Standing) (pulls : ℕ)
+pub failed_writing : (M : Manner) (s : State) (script : List ℕ) (ended : Bool) (after : Standing) (pulls : ℕ)
     (source : SourceChange) (sink : SinkChange) (hearing : HearingChange) → ended ≡ false
     → ReadsSoFar pulls script source
-    → SinkFailed A s script ended after sink.flushes_fail sink.held_old sink.held_new sink.failures_old
-    sink.failures_new
-    hearing.heard_old hearing.heard_new → StopsWriting A s after source sink hearing
-failed_writing A s script ended after pulls source sink hearing unended r f = record {
+    → SinkFailed M s script ended after sink.flushes_fail (before_run sink hearing) (after_run sink hearing)
+    → StopsWritingIn M s after source sink hearing
+failed_writing M s script ended after pulls source sink hearing unended r f = record {
   script = script;
   given = r.given;
   met = false;
@@ -109,28 +151,107 @@ failed_writing A s script ended after pulls source sink hearing unended r f = re
 }
 
 -- the source failed, or never ended
-pub failed_reading : (A : Answering) (s : State) (script : List ℕ) (stream : Stream) (after : Standing)
+pub failed_reading : (M : Manner) (s : State) (script : List ℕ) (stream : Stream) (after : Standing) (form : Written)
     (summary : Summary) (source : SourceChange) (sink : SinkChange) (hearing : HearingChange) → stream.ended ≡ false
+    → stops M.bail summary ≡ false
     → Gives source.left_old script source.left_new → MissesEnd source script → IsTrue sink.flushed
-    → WroteAll A s script stream after summary sink.held_old sink.held_new sink.failures_old sink.failures_new
-    hearing.heard_old hearing.heard_new → StopsReading A s after source sink hearing
-failed_reading A s script stream after summary source sink hearing unended given misses passed_on t =
+    → WroteAll M s script stream after form summary (before_run sink hearing) (after_run sink hearing)
+    → StopsReadingIn M s after source sink hearing
+failed_reading M s script stream after form summary source sink hearing unended going given misses passed_on t =
     let w = t.to.wrote in
+    let from = before_run sink hearing in
+    let to = after_run sink hearing in
     let all : answered false script ≡ w.done = ap (λ (b : Bool). answered b script) (sym unended)
-    ∙ all_asked A s script stream after summary _ _ _ _ _ _ t in
+    ∙ all_asked M s script stream after form summary from to t in
     record {
       script = script;
       given = given;
       cut = misses;
       answers = w.answers;
+      goes_on = λ b. sym w.counts.refused ∙ goes_on M.bail summary going b;
       state = w.state;
-      ran = subst (λ (ps : List Piece). RunBy A s ps w.answers w.state) (sym all) w.ran;
+      ran = subst (λ (ps : List Piece). RunBy M.answering s ps w.answers w.state) (sym all) w.ran;
       stands = w.stands;
-      heard = all_told A s script stream after summary _ _ _ _ _ _ t;
+      heard = to_told M s script stream after form summary from to t.to;
+      text = w.text;
+      texts = to_texts M s script stream after form summary from to t.to;
       written = w.written;
       writes = w.steady;
       flushed = passed_on;
     }
+
+-- a refusal stopped the run
+refused_run : (M : Manner) (s : State) (script : List ℕ) (met : Bool) (after : Standing) (summary : Summary)
+    (source : SourceChange) (sink : SinkChange) (hearing : HearingChange) (before last : List ℕ)
+    → script ≡ before ++ last → length last ≤ 65_536 → length (answered false before) < summary.statements
+    → Gives source.left_old script source.left_new
+    → MatchBool met (MeetsEnd source) (source.failures_new ≡ source.failures_old)
+    → RefusedAt M s script met after summary sink.flushed (before_run sink hearing) (after_run sink hearing)
+    → RunsToRefusal M s after source sink hearing summary
+refused_run M s script met after summary source sink hearing before last parts small fewer given read f = record {
+  script = script;
+  given = given;
+  met = met;
+  read = read;
+  done = f.done;
+  rest = f.rest;
+  parts = f.parts;
+  first = f.first;
+  answers = f.answers;
+  refused = f.refused;
+  state = f.state;
+  ran = f.ran;
+  stands = f.stands;
+  heard = f.heard;
+  text = f.text;
+  texts = f.texts;
+  written = f.written;
+  counts = f.counts;
+  writes = f.steady;
+  flushed = f.flushed;
+  pulled = record {
+    before = before;
+    last = last;
+    parts = parts;
+    small = small;
+    fewer = let all = f.counts.statements in omega (arith, fewer, all);
+  };
+}
+
+-- one counted refusal more is one counted answer more
+one_counted : (bail : Bool) (had counted : Summary) → stops bail counted ≡ true
+    → (IsTrue bail → had.refused ≡ 0) → counted.refused + had.statements ≤ counted.statements + had.refused
+    → had.statements < counted.statements
+one_counted false had counted stopped going grown = let bad : false ≡ true = stopped in absurd cc
+one_counted true had counted stopped going grown =
+    let none = going refl in
+    let some = at_least counted.refused stopped in
+    omega (arith, none, some, grown)
+  where
+    at_least : (n : ℕ) → not (n == 0) ≡ true → 0 < n
+    at_least zero e = let bad : false ≡ true = e in absurd cc
+    at_least (suc n) e = omega arith
+
+-- it stopped the run before the end was met
+pub stopped_run : (M : Manner) (s : State) (start : Standing) (had : Written) (pulls : ℕ)
+    (stream later : Stream) (h after : Standing) (form wrote : Written) (summary counted : Summary)
+    (source : SourceChange) (sink : SinkChange) (hearing : HearingChange) (now : Shown)
+    → (i : Converses M start had pulls stream h form summary source (before_run sink hearing) now) → had [] → start s
+    → later.ended ≡ stream.ended → counted.refused + summary.statements ≤ counted.statements + summary.refused
+    → stops M.bail counted ≡ true → IsTrue sink.flushed
+    → WroteReady M s i.script later after wrote counted (before_run sink hearing) (after_run sink hearing)
+    → RunsIn M s after source sink hearing (Ok counted)
+stopped_run M s start had pulls stream later h after form wrote summary counted source sink hearing now i fresh st
+    same grown stopped passed_on t =
+    let from = before_run sink hearing in
+    let to = after_run sink hearing in
+    let more = one_counted M.bail summary counted stopped i.going grown in
+    as_stop (RunsToRefusal M s after source sink hearing counted) (RunsWholeIn M s after source sink hearing counted)
+    (stops M.bail counted) stopped
+    (refused_run M s i.script false after counted source sink hearing i.before i.last i.parts i.small
+    (let few = i.asked fresh s st in omega (arith, few, more)) i.reads.given i.reads.steady
+    (refused_at M s i.script later false after wrote counted sink.flushed from to (same ∙ i.unended) passed_on
+    (at_stop _ _ (stops M.bail counted) stopped t.is)))
 
 -- a pull that gave nothing
 pub gives_kept : (a b c : Option (List ℕ)) (xs bytes : List ℕ) → bytes ≡ [] → Gives a xs b → Gives b bytes c
@@ -206,26 +327,50 @@ pub room_more : (pulls n statements counted before after : ℕ) → statements +
 room_more pulls n statements counted before after had less few is = omega (arith, had, less, few, is)
 
 -- the end was met, and the rest was answered
-pub ended_run : (A : Answering) (s : State) (script : List ℕ) (after : Standing) (result : Result Summary Fault)
-    (source : SourceChange) (sink : SinkChange) (hearing : HearingChange)
+pub ended_run : (M : Manner) (s : State) (script : List ℕ) (after : Standing) (had : Summary)
+    (result : Result Summary Fault) (source : SourceChange) (sink : SinkChange) (hearing : HearingChange)
+    → length (answered false script) ≡ had.statements → (IsTrue M.bail → had.refused ≡ 0)
+    → IfOk result (λ all. all.refused + had.statements ≤ all.statements + had.refused)
     → Gives source.left_old script source.left_new → MeetsEnd source
-    → WroteScriptOrFailed A result s script after sink.flushes_fail sink.flushed sink.held_old sink.held_new
-    sink.failures_old sink.failures_new hearing.heard_old hearing.heard_new → Runs A s after source sink hearing result
-ended_run A s script after (Ok summary) source sink hearing given meets w = record {
-  script = script;
-  given = given;
-  ended = meets;
-  answers = w.answers;
-  state = w.state;
-  ran = w.ran;
-  stands = w.stands;
-  heard = w.heard;
-  written = w.written;
-  counts = w.counts;
-  writes = w.steady;
-  flushed = w.flushed;
-}
-ended_run A s script after (Err Write) source sink hearing given meets f = record {
+    → WroteScriptOrFailed M result s script after sink.flushes_fail sink.flushed (before_run sink hearing)
+    (after_run sink hearing)
+    → RunsIn M s after source sink hearing result
+ended_run M s script after had (Ok summary) source sink hearing asked going grown given meets w =
+    by_case (stops M.bail summary) refl w
+  where
+    whole : stops M.bail summary ≡ false
+        → WroteScript M s script after summary sink.flushed (before_run sink hearing) (after_run sink hearing)
+        → RunsWholeIn M s after source sink hearing summary
+    whole e w = record {
+      script = script;
+      given = given;
+      ended = meets;
+      answers = w.answers;
+      goes_on = λ b. sym w.counts.refused ∙ goes_on M.bail summary e b;
+      state = w.state;
+      ran = w.ran;
+      stands = w.stands;
+      heard = w.heard;
+      text = w.text;
+      texts = w.texts;
+      written = w.written;
+      counts = w.counts;
+      writes = w.steady;
+      flushed = w.flushed;
+    }
+
+    by_case : (b : Bool) → stops M.bail summary ≡ b
+        → MatchBool b
+        (RefusedAt M s script true after summary sink.flushed (before_run sink hearing) (after_run sink hearing))
+        (WroteScript M s script after summary sink.flushed (before_run sink hearing) (after_run sink hearing))
+        → MatchBool b (RunsToRefusal M s after source sink hearing summary)
+        (RunsWholeIn M s after source sink hearing summary)
+    by_case true e w =
+        let more = one_counted M.bail had summary e going grown in
+        refused_run M s script true after summary source sink hearing script [] (sym (append-nil script)) (omega arith)
+        (omega (arith, asked, more)) given meets w
+    by_case false e w = whole e w
+ended_run M s script after had (Err Write) source sink hearing asked going grown given meets f = record {
   script = script;
   given = given;
   met = true;
@@ -244,5 +389,5 @@ ended_run A s script after (Err Write) source sink hearing given meets f = recor
   written = f.written;
   cause = f.cause;
 }
-ended_run A s script after (Err Read) source sink hearing given meets f = absurd f
-ended_run A s script after (Err Memory) source sink hearing given meets f = absurd f
+ended_run M s script after had (Err Read) source sink hearing asked going grown given meets f = absurd f
+ended_run M s script after had (Err Memory) source sink hearing asked going grown given meets f = absurd f

@@ -2,7 +2,9 @@ pub mod Responding
 pub mod Pieces
 pub mod Ending
 pub mod Hearing
+pub mod Texts
 pub mod Runs
+pub mod RunsIn
 pub mod Keeping
 pub mod Reads
 pub mod Writing

@@ -3,6 +3,7 @@
 
 pub mod complaint;
 pub mod device;
+pub mod form;
 pub mod listener;
 pub mod note;
 pub mod notes;

@@ -1,10 +1,11 @@
 //! The push of an answer, before the listener is told of it.
 ghost use Rattle.std.specs.Prelude.{◌≡◌};
-ghost use Rattle.tql_spec.specs.Text.{answer_text};
-ghost use Rattle.tql_result.specs.Devices.{Pushes};
 ghost use Rattle.tql_result.specs.Replies.{answer_of, IsPrintableAnswer};
+ghost use Rattle.tql_run.specs.Texts.{Writes};
 
-use tql_result::answer::{Answer, write_answer};
+use crate::form::Form;
+use tql_detail::detail::Detail;
+use tql_result::answer::Answer;
 use tql_result::device::DeviceFault;
 use tql_result::sink::Sink;
 
@@ -16,14 +17,21 @@ pub struct Pushed {
 }
 
 impl Pushed {
-    /// Pushes an answer as `write_answer` does.
-    pub fn push<O: Sink>(sink: &mut O, answer: &Answer) -> Pushed
+    /// Pushes an answer in a form, as its `write` does.
+    pub fn push<F: Form, O: Sink>(
+        form: &mut F,
+        sink: &mut O,
+        statement: u64,
+        line: u64,
+        answer: &Answer,
+        detail: Option<&Detail>,
+    ) -> Pushed
         requires { IsPrintableAnswer (answer_of answer.now) }
-        ensures { Pushes (answer_text (answer_of answer.now)) result.outcome
-            (O.written sink.old) (O.written sink.new) (O.failures sink.old) (O.failures sink.new) }
+        ensures { Writes F.texts (F.wrote form.old) (F.wrote form.new) statement line (answer_of answer.now)
+            result.outcome (O.written sink.old) (O.written sink.new) (O.failures sink.old) (O.failures sink.new) }
     {
         Pushed {
-            outcome: write_answer(sink, answer),
+            outcome: form.write(sink, statement, line, answer, detail),
         }
     }
 

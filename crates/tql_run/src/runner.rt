@@ -1,15 +1,17 @@
 //! A whole run of a script.
-ghost use Rattle.std.specs.Prelude.{◌≡◌, ◌≤◌, ◌<◌, ◌+◌, [], length, IsTrue, IsFalse, IfOk, OnOk};
+ghost use Rattle.std.specs.Prelude.{◌≡◌, ◌≤◌, ◌<◌, ◌+◌, [], length, IsTrue, IsFalse, IfOk, OnOk, ◌&&◌, not};
 ghost use Rattle.tql_spec.specs.Machine.{State};
 ghost use Rattle.tql_result.specs.Replies.{answer_of};
 ghost use Rattle.tql_lex.specs.Stream.{to_do};
 ghost use Rattle.tql_lex.specs.Holding.{Holds};
 ghost use Rattle.tql_run.specs.Runs.{Runs, source_change, sink_change, count_of, most_bytes};
+ghost use Rattle.tql_run.specs.RunsIn.{RunsIn, manner, stops};
 ghost use Rattle.tql_run.specs.Hearing.{Hears, note_of, hearing_change};
 ghost use Rattle.tql_run.specs.Reads.{Pulls, taken};
-ghost use Rattle.tql_run.specs.Writing.{AnswersNext, AnswersReady, Tallies, EndsRun};
+ghost use Rattle.tql_run.specs.Writing.{AnswersNext, AnswersReady, Tallies, EndsRun, shown};
 
 use crate::device::Source;
+use crate::form::{Form, PlainForm};
 use crate::listener::Listener;
 use crate::piece::{answer_piece, detail_of};
 use crate::pushed::Pushed;
@@ -73,6 +75,13 @@ fn counted(summary: Summary, answer: &Answer) -> Summary
     }
 }
 
+/// Whether a run is stopped by a refusal: the first is to stop it, and one was counted.
+fn is_stopped(bail: bool, summary: &Summary) -> bool
+    ensures { result ≡ stops bail summary.now }
+{
+    bail && summary.refused != 0
+}
+
 /// Takes the next statement and answers it, and keeps what is told beside the answer, at its place in the statement;
 /// None where the bytes that were fed hold no whole one.
 fn answer_whole<R: Responder>(
@@ -129,62 +138,67 @@ fn tell<L: Listener>(
     }
 }
 
-/// Answers the statements that are whole, writes their answers, and tells the listener of those that are refused.
-fn answer_ready<R: Responder, O: Sink, L: Listener>(
+/// Answers the statements that are whole, writes their answers in the form, and tells the listener of those that are
+/// refused; where a refusal is to stop the run, up to the first.
+fn answer_ready<R: Responder, O: Sink, L: Listener, F: Form>(
     responder: &mut R,
     splitter: &mut Splitter,
     sink: &mut O,
     listener: &mut L,
+    form: &mut F,
+    bail: bool,
     summary: &mut Summary,
 ) -> Result<(), DeviceFault>
     requires room { summary.old.statements + to_do splitter.old ≤ most_bytes }
     requires fewer { summary.old.refused ≤ summary.old.statements }
-    ensures answers { AnswersReady R.answering result splitter.old splitter.new
-        (R.stands responder.old) (R.stands responder.new) summary.old summary.new O.flushes_fail
-        (O.written sink.old) (O.written sink.new) (O.failures sink.old) (O.failures sink.new)
-        (L.heard listener.old) (L.heard listener.new) }
+    requires going { IsTrue bail → summary.old.refused ≡ 0 }
+    ensures answers { AnswersReady (manner R.answering F.texts bail) result splitter.old splitter.new
+        (R.stands responder.old) (R.stands responder.new) (F.wrote form.old) (F.wrote form.new)
+        summary.old summary.new O.flushes_fail (shown O.written O.failures L.heard sink.old listener.old)
+        (shown O.written O.failures L.heard sink.new listener.new) }
     ensures tallies { Tallies splitter.old splitter.new summary.old summary.new }
-    ensures ready { OnOk result (splitter.new.ready ≡ []) }
+    ensures ready { OnOk result (IsFalse (stops bail summary.new) → splitter.new.ready ≡ []) }
 {
-    let is_wanted = listener.wants_details();
+    let is_wanted = listener.wants_details() || form.wants_details();
     let mut detail = None;
     while let Some(answer) = answer_next(responder, splitter, is_wanted, &mut detail) {
-        let pushed = Pushed::push(sink, &answer);
-        tell(
-            listener,
-            summary.statements + 1,
-            splitter.line(),
-            &answer,
-            detail.as_ref(),
-            &pushed,
-        );
+        let statement = summary.statements + 1;
+        let line = splitter.line();
+        let pushed = Pushed::push(form, sink, statement, line, &answer, detail.as_ref());
+        tell(listener, statement, line, &answer, detail.as_ref(), &pushed);
         match pushed.outcome() {
             Ok(()) => *summary = counted(*summary, &answer),
             Err(fault) => return Err(fault),
+        }
+        if is_stopped(bail, summary) {
+            return Ok(());
         }
     }
     Ok(())
 }
 
 /// Answers the statements that are whole as `answer_ready` does, and has the sink pass on what it may have kept back.
-fn answer_flushed<R: Responder, O: Sink, L: Listener>(
+fn answer_flushed<R: Responder, O: Sink, L: Listener, F: Form>(
     responder: &mut R,
     splitter: &mut Splitter,
     sink: &mut O,
     listener: &mut L,
+    form: &mut F,
+    bail: bool,
     summary: &mut Summary,
 ) -> Result<(), DeviceFault>
     requires room { summary.old.statements + to_do splitter.old ≤ most_bytes }
     requires fewer { summary.old.refused ≤ summary.old.statements }
-    ensures answers { AnswersReady R.answering result splitter.old splitter.new
-        (R.stands responder.old) (R.stands responder.new) summary.old summary.new O.flushes_fail
-        (O.written sink.old) (O.written sink.new) (O.failures sink.old) (O.failures sink.new)
-        (L.heard listener.old) (L.heard listener.new) }
+    requires going { IsTrue bail → summary.old.refused ≡ 0 }
+    ensures answers { AnswersReady (manner R.answering F.texts bail) result splitter.old splitter.new
+        (R.stands responder.old) (R.stands responder.new) (F.wrote form.old) (F.wrote form.new)
+        summary.old summary.new O.flushes_fail (shown O.written O.failures L.heard sink.old listener.old)
+        (shown O.written O.failures L.heard sink.new listener.new) }
     ensures tallies { Tallies splitter.old splitter.new summary.old summary.new }
-    ensures ready { OnOk result (splitter.new.ready ≡ []) }
+    ensures ready { OnOk result (IsFalse (stops bail summary.new) → splitter.new.ready ≡ []) }
     ensures flushed { OnOk result (IsTrue (O.flushed sink.new)) }
 {
-    match answer_ready(responder, splitter, sink, listener, summary) {
+    match answer_ready(responder, splitter, sink, listener, form, bail, summary) {
         Ok(()) => match sink.flush() {
             Ok(()) => Ok(()),
             Err(fault) => Err(fault),
@@ -211,78 +225,108 @@ fn pull_flushed<I: Source<O>, O: Sink>(
 }
 
 /// Answers what is left of a script that was read to its end.
-fn answer_rest<R: Responder, O: Sink, L: Listener>(
+fn answer_rest<R: Responder, O: Sink, L: Listener, F: Form>(
     responder: &mut R,
     splitter: &mut Splitter,
     sink: &mut O,
     listener: &mut L,
+    form: &mut F,
+    bail: bool,
     summary: Summary,
 ) -> Result<Summary, Fault>
     requires room { summary.statements + to_do splitter.old ≤ most_bytes }
     requires fewer { summary.refused ≤ summary.statements }
-    ensures { EndsRun R.answering result splitter.old
-        (R.stands responder.old) (R.stands responder.new) summary O.flushes_fail (O.flushed sink.new)
-        (O.written sink.old) (O.written sink.new) (O.failures sink.old) (O.failures sink.new)
-        (L.heard listener.old) (L.heard listener.new) }
+    requires going { IsTrue bail → summary.refused ≡ 0 }
+    ensures ends { EndsRun (manner R.answering F.texts bail) result splitter.old
+        (R.stands responder.old) (R.stands responder.new) (F.wrote form.old) summary O.flushes_fail (O.flushed sink.new)
+        (shown O.written O.failures L.heard sink.old listener.old)
+        (shown O.written O.failures L.heard sink.new listener.new) }
+    ensures grown { IfOk result
+        (λ all. all.refused + summary.statements ≤ all.statements + summary.refused) }
 {
     let mut all = summary;
     splitter.finish();
-    match answer_flushed(responder, splitter, sink, listener, &mut all) {
+    match answer_flushed(responder, splitter, sink, listener, form, bail, &mut all) {
         Ok(()) => Ok(all),
         Err(_) => Err(Fault::Write),
     }
 }
 
-/// Reads a script from the source, and answers each of its statements as `run` does.
-fn converse<R: Responder, I: Source<O>, O: Sink, L: Listener>(
+/// Reads a script from the source, and answers each of its statements as `run_in` does.
+fn converse<R: Responder, I: Source<O>, O: Sink, L: Listener, F: Form>(
     responder: &mut R,
     source: &mut I,
     sink: &mut O,
     listener: &mut L,
-    splitter: &mut Splitter,
+    form: &mut F,
+    bail: bool,
     buffer: &mut [u8],
 ) -> Result<Summary, Fault>
     requires room { 0 < length buffer.old }
     requires small { length buffer.old ≤ 65_536 }
-    requires unread { Holds splitter.old [] [] }
-    requires ready { splitter.old.ready ≡ [] }
-    requires unended { IsFalse splitter.old.ended }
-    ensures { (s : State) → R.stands responder.old s → Runs R.answering s (R.stands responder.new)
+    ensures { F.wrote form.old [] → (s : State) → R.stands responder.old s
+        → RunsIn (manner R.answering F.texts bail) s (R.stands responder.new)
         (source_change I.left I.failures I.ended source.old source.new)
         (sink_change O.written O.failures O.flushed O.flushes_fail sink.old sink.new)
         (hearing_change L.heard listener.old listener.new) result }
 {
-    let mut summary = Summary {
+    let mut script = Splitter::new(responder.memory())?;
+    let mut all = Summary {
         statements: 0,
         refused: 0,
     };
     for _pull in 0..MOST_PULLS {
-        match answer_flushed(responder, splitter, sink, listener, &mut summary) {
+        match answer_flushed(responder, &mut script, sink, listener, form, bail, &mut all) {
             Ok(()) => {}
             Err(_) => return Err(Fault::Write),
         }
-        match pull_flushed(source, splitter, sink, buffer) {
+        if is_stopped(bail, &all) {
+            return Ok(all);
+        }
+        match pull_flushed(source, &script, sink, buffer) {
             Err(_) => return Err(Fault::Read),
             Ok(count) => {
                 if count == 0 {
-                    return answer_rest(responder, splitter, sink, listener, summary);
+                    return answer_rest(responder, &mut script, sink, listener, form, bail, all);
                 }
-                splitter.feed(&buffer[..count]);
+                script.feed(&buffer[..count]);
             }
         }
     }
-    match answer_flushed(responder, splitter, sink, listener, &mut summary) {
+    match answer_flushed(responder, &mut script, sink, listener, form, bail, &mut all) {
+        Ok(()) if is_stopped(bail, &all) => Ok(all),
         Ok(()) => Err(Fault::Read),
         Err(_) => Err(Fault::Write),
     }
 }
 
-/// Answers the statements of a script one after another, writes each answer to the sink, and tells the listener of
-/// those that are refused, behind the push of the answer: what it is handed is made by a push alone. Each statement is
-/// answered as soon as it is whole: the source is pulled only where no whole statement is left, and where the sink has
-/// passed on all answers before. Where the source fails, the statements that came whole before that are answered and
-/// stand, and the run says `Read`; where the sink fails, no statement runs behind the one whose answer it did not take,
-/// and the run says `Write`. A refused statement does not stop the run.
+/// Answers the statements of a script one after another, writes each answer in a form to the sink, and tells the
+/// listener of those that are refused, behind the push of the answer: what it is handed is made by a push alone. Each
+/// statement is answered as soon as it is whole: the source is pulled only where no whole statement is left, and where
+/// the sink has passed on all answers before. Where the source fails, the statements that came whole before that are
+/// answered and stand, and the run says `Read`; where the sink fails, no statement runs behind the one whose answer it
+/// did not take, and the run says `Write`. Where `bail` says so, the first refusal stops the run, which ends well
+/// then, with the refusal written and counted: no statement behind it is answered, and nothing is pulled behind it.
+/// Else a refused statement does not stop the run.
+pub fn run_in<R: Responder, I: Source<O>, O: Sink, L: Listener, F: Form>(
+    responder: &mut R,
+    source: &mut I,
+    sink: &mut O,
+    listener: &mut L,
+    form: &mut F,
+    bail: bool,
+) -> Result<Summary, Fault>
+    ensures { F.wrote form.old [] → (s : State) → R.stands responder.old s
+        → RunsIn (manner R.answering F.texts bail) s (R.stands responder.new)
+        (source_change I.left I.failures I.ended source.old source.new)
+        (sink_change O.written O.failures O.flushed O.flushes_fail sink.old sink.new)
+        (hearing_change L.heard listener.old listener.new) result }
+{
+    let mut buffer = vec![in responder.memory(); 0u8; LONGEST_PART]?;
+    converse(responder, source, sink, listener, form, bail, &mut buffer)
+}
+
+/// Answers the statements of a script as `run_in` does, in the plain form; a refused statement does not stop the run.
 pub fn run<R: Responder, I: Source<O>, O: Sink, L: Listener>(
     responder: &mut R,
     source: &mut I,
@@ -294,15 +338,5 @@ pub fn run<R: Responder, I: Source<O>, O: Sink, L: Listener>(
         (sink_change O.written O.failures O.flushed O.flushes_fail sink.old sink.new)
         (hearing_change L.heard listener.old listener.new) result }
 {
-    let memory = responder.memory();
-    let mut splitter = Splitter::new(memory)?;
-    let mut buffer = vec![in memory; 0u8; LONGEST_PART]?;
-    converse(
-        responder,
-        source,
-        sink,
-        listener,
-        &mut splitter,
-        &mut buffer,
-    )
+    run_in(responder, source, sink, listener, &mut PlainForm, false)
 }

@@ -4,7 +4,8 @@ use std::test::Fail;
 use test_devices::{SOUND, Setting};
 use tql_memory::memory;
 use tql_result::std_sink::StdSink;
-use tql_run::runner::{Fault, Summary, run};
+use tql_run::form::PlainForm;
+use tql_run::runner::{Fault, Summary, run, run_in};
 use tql_run::silence::Silence;
 use tql_run::std_source::StdSource;
 
@@ -32,6 +33,27 @@ fn run_script(rt: &impl AllocGlobal, script: &[u8], setting: Setting) -> Result<
     let end = run(&mut lengths, &mut source, &mut sink, &mut Silence).map(counts);
     Ok(Outcome {
         end,
+        text: sink.into_writer().bytes,
+    })
+}
+
+/// Runs a script up to its first refusal.
+fn bail_script(rt: &impl AllocGlobal, script: &[u8], setting: Setting) -> Result<Outcome, Fail> {
+    let mut lengths = Lengths {
+        memory: memory(rt.alloc(), setting.granted)?,
+    };
+    let mut source = StdSource::new(setting.reader(script));
+    let mut sink = StdSink::new(setting.writer(rt.alloc()));
+    let end = run_in(
+        &mut lengths,
+        &mut source,
+        &mut sink,
+        &mut Silence,
+        &mut PlainForm,
+        true,
+    );
+    Ok(Outcome {
+        end: end.map(counts),
         text: sink.into_writer().bytes,
     })
 }
@@ -227,6 +249,54 @@ const CASES: [(&[u8], Setting, End, &str); 33] = [
 fn runs_end_and_write(rt: HostRuntime) -> Result<(), Fail> {
     for (case, (script, setting, end, text)) in CASES.into_iter().enumerate() {
         let outcome = run_script(&rt, script, setting)?;
+        let is_right = outcome.end == end && outcome.text.as_slice() == text.as_bytes();
+        assert!(rt; is_right, "case {case}");
+    }
+    Ok(())
+}
+
+const BAILS: [(&[u8], Setting, End, &str); 8] = [
+    (SCRIPT, SOUND, Ok((2, 1)), TWO),
+    (SCRIPT, BY_ONE, Ok((2, 1)), TWO),
+    // nothing is read behind the refusal: the read behind it would fail
+    (
+        SCRIPT,
+        Setting {
+            reads: 2,
+            ..BY_FOUR
+        },
+        Ok((2, 1)),
+        TWO,
+    ),
+    (
+        SCRIPT,
+        Setting {
+            reads: 1,
+            ..BY_FOUR
+        },
+        Err(Fault::Read),
+        FIRST,
+    ),
+    // the flush behind the refusal fails
+    (
+        SCRIPT,
+        Setting {
+            flushes: 1,
+            ..SOUND
+        },
+        Err(Fault::Write),
+        TWO,
+    ),
+    // the last statement is refused, and none is
+    (b"a;'b;", SOUND, Ok((2, 1)), CUT),
+    (b"a;", SOUND, Ok((1, 0)), "INSERT 1\n"),
+    (b"", SOUND, Ok((0, 0)), ""),
+];
+
+#[test]
+fn a_refusal_stops_a_run(rt: HostRuntime) -> Result<(), Fail> {
+    for (case, (script, setting, end, text)) in BAILS.into_iter().enumerate() {
+        let outcome = bail_script(&rt, script, setting)?;
         let is_right = outcome.end == end && outcome.text.as_slice() == text.as_bytes();
         assert!(rt; is_right, "case {case}");
     }

@@ -1,30 +1,39 @@
-use Rattle.std.proofs.Common.{refl, subst, ◌∙◌, ◌≡◌, ◌≤◌, ◌++◌, ℕ, inl, inr, arith, take, length, length-take}
+use Rattle.std.proofs.Common.{refl, sym, subst, ◌∙◌, ◌≡◌, ◌≤◌, ◌++◌, ℕ, inl, inr, arith, take, length, length-take}
 use Rattle.tql_result.specs.Devices.{HasFailed}
 use Rattle.tql_run.specs.Runs.{most_pulls}
-use Rattle.tql_run.proofs.Writing.{wrote_fed}
+use Rattle.tql_run.proofs.Writing.{wrote_fed, goes_on, at_going}
 use Rattle.tql_run.proofs.Conversing.{converse_first, script_short, failed_writing, failed_reading, gives_kept}
-use Rattle.tql_run.proofs.Conversing.{met_end, none_taken, reads_more, ended_run}
+use Rattle.tql_run.proofs.Conversing.{met_end, none_taken, reads_more, ended_run, stopped_run, all_counted}
 use Rattle.tql_run.proofs.runner.converse.Goals as goal
 
 pub loop-pull-init : goal.loop-pull-init
-loop-pull-init g c = converse_first _ _ _ (record {
+loop-pull-init g c = converse_first _ _ _ _ (record {
   statements = 0;
   refused = 0;
-}) _ _ _ _ _ _ c.requires.unread c.requires.ready c.requires.unended refl refl
+}) _ _ _ _ c.in_ok-script.ensures.holds c.in_ok-script.ensures.ready c.in_ok-script.ensures.open refl refl
 
 pub returns-in-Err : goal.returns-in-Err
-returns-in-Err g c s st =
+returns-in-Err g c fresh s st =
     let i = c.loop-pull.invariant in
     let few : c.loop-pull._pull ≤ most_pulls = omega arith in
     failed_writing _ s i.script _ _ _ _ _ _ (c.in-Err.ensures.tallies.ended ∙ i.unended) i.reads
-    (c.in-Err.ensures.answers s i.script _ _ _ (script_short _ i.script _ few i.reads) (i.wrote s st))
+    (c.in-Err.ensures.answers s i.script _ (script_short _ i.script _ few i.reads) (i.wrote fresh s st))
+
+pub returns-then-is_stopped : goal.returns-then-is_stopped
+returns-then-is_stopped g c fresh s st =
+    let i = c.loop-pull.invariant in
+    let few : c.loop-pull._pull ≤ most_pulls = omega arith in
+    stopped_run _ s _ _ _ _ _ _ _ _ _ _ _ _ _ _ _ i fresh st c.in-Ok.ensures.tallies.ended
+    c.in-Ok.ensures.tallies.grown (sym c.is_stopped.ensures ∙ c.if-is_stopped.true) c.in-Ok.ensures.flushed
+    (c.in-Ok.ensures.answers s i.script _ (script_short _ i.script _ few i.reads) (i.wrote fresh s st))
 
 pub returns-in-Err-pull_flushed : goal.returns-in-Err-pull_flushed
-returns-in-Err-pull_flushed g c s st =
+returns-in-Err-pull_flushed g c fresh s st =
     let i = c.loop-pull.invariant in
     let few : c.loop-pull._pull ≤ most_pulls = omega arith in
     let p = c.in-Err-pull_flushed.ensures.pulls in
-    failed_reading _ s i.script _ _ _ _ _ _ (c.in-Ok.ensures.tallies.ended ∙ i.unended)
+    failed_reading _ s i.script _ _ _ _ _ _ _ (c.in-Ok.ensures.tallies.ended ∙ i.unended)
+    (sym c.is_stopped.ensures ∙ c.if-is_stopped.false)
     (gives_kept _ _ _ i.script _ refl i.reads.given p.given)
     (record {
       unmet = p.told;
@@ -32,19 +41,24 @@ returns-in-Err-pull_flushed g c s st =
           (g.I.Input.failures c.pull_flushed.new.source)) i.reads.steady p.counted);
     })
     c.in-Ok.ensures.flushed
-    (c.in-Ok.ensures.answers s i.script _ _ _ (script_short _ i.script _ few i.reads) (i.wrote s st))
+    (at_going _ _ _ (sym c.is_stopped.ensures ∙ c.if-is_stopped.false)
+    (c.in-Ok.ensures.answers s i.script _ (script_short _ i.script _ few i.reads) (i.wrote fresh s st)).is)
 
 pub returns-then-count-eq0 : goal.returns-then-count-eq0
-returns-then-count-eq0 g c s st =
+returns-then-count-eq0 g c fresh s st =
     let i = c.loop-pull.invariant in
     let few : c.loop-pull._pull ≤ most_pulls = omega arith in
     let p = c.in-Ok-pull_flushed.ensures.pulls in
-    let w = c.in-Ok.ensures.answers s i.script _ _ _ (script_short _ i.script _ few i.reads) (i.wrote s st) in
-    ended_run _ s i.script _ c.answer_rest.result _ _ _
+    let w = at_going _ _ _ (sym c.is_stopped.ensures ∙ c.if-is_stopped.false)
+    (c.in-Ok.ensures.answers s i.script _ (script_short _ i.script _ few i.reads) (i.wrote fresh s st)).is in
+    let unended = c.in-Ok.ensures.tallies.ended ∙ i.unended in
+    ended_run _ s i.script _ _ c.answer_rest.result _ _ _ (all_counted _ s i.script _ _ _ _ _ _ unended w)
+    (goes_on c.args.bail c.answer_flushed.new.summary (sym c.is_stopped.ensures ∙ c.if-is_stopped.false))
+    c.answer_rest.ensures.grown
     (gives_kept _ _ _ i.script _ (none_taken _ _ c.if-count-eq0.true) i.reads.given p.given)
     (met_end _ _ _ i.script _ _ _ _ _ i.reads p c.if-count-eq0.true
     (omega (arith, c.requires.room, c.loop-pull.auto.buffer)))
-    (c.answer_rest.ensures s i.script _ _ _ (script_short _ i.script _ few i.reads) w.to)
+    (c.answer_rest.ensures.ends s i.script _ (script_short _ i.script _ few i.reads) w.to)
 
 pub loop-pull-preserved : goal.loop-pull-preserved
 loop-pull-preserved g c =
@@ -63,27 +77,43 @@ loop-pull-preserved g c =
       script = i.script ++ bytes;
       reads = reads_more _ _ count i.script c.pull_flushed.new.buffer bytes _ _ _ _ i.reads p c.if-count-eq0.false fits
           small refl;
-      wrote = λ s st. wrote_fed _ s i.script bytes _ _ _ _ _ _ _ _ _ _ unended
-          (c.in-Ok.ensures.answers s i.script _ _ _ (script_short _ i.script _ few i.reads) (i.wrote s st)).to
+      wrote = λ fresh s st. wrote_fed _ s i.script bytes _ _ _ _ _ _ _ unended
+          (at_going _ _ _ (sym c.is_stopped.ensures ∙ c.if-is_stopped.false)
+          (c.in-Ok.ensures.answers s i.script _ (script_short _ i.script _ few i.reads) (i.wrote fresh s st)).is).to
           c.feed.ensures;
       unended = c.feed.ensures.ended ∙ unended;
       room = omega (arith, i.room, c.in-Ok.ensures.tallies.room, c.feed.ensures.more, size, fits, small);
-      fewer = c.in-Ok.ensures.tallies.fewer i.fewer;
+      fewer = let grown = c.in-Ok.ensures.tallies.grown in omega (arith, grown, i.fewer);
+      going = goes_on c.args.bail c.answer_flushed.new.summary (sym c.is_stopped.ensures ∙ c.if-is_stopped.false);
+      before = i.script;
+      last = bytes;
+      parts = refl;
+      small = omega (arith, size, fits, small);
+      asked = λ fresh s st.
+          let all = all_counted _ s i.script _ _ _ _ _ _ unended
+          (at_going _ _ _ (sym c.is_stopped.ensures ∙ c.if-is_stopped.false)
+          (c.in-Ok.ensures.answers s i.script _ (script_short _ i.script _ few i.reads) (i.wrote fresh s st)).is) in
+          omega (arith, all);
     }
 
 pub returns-in-Ok-answer_flushed : goal.returns-in-Ok-answer_flushed
-returns-in-Ok-answer_flushed g c s st =
+returns-in-Ok-answer_flushed g c fresh s st =
+    let i = c.loop-pull.invariant in
+    let few : c.loop-pull._pull ≤ most_pulls = omega arith in
+    stopped_run _ s _ _ _ _ _ _ _ _ _ _ _ _ _ _ _ i fresh st c.in-Ok-answer_flushed.ensures.tallies.ended
+    c.in-Ok-answer_flushed.ensures.tallies.grown (sym c.if-is_stopped-2.ensures)
+    c.in-Ok-answer_flushed.ensures.flushed
+    (c.in-Ok-answer_flushed.ensures.answers s i.script _ (script_short _ i.script _ few i.reads) (i.wrote fresh s st))
+
+pub returns-in-Ok-2 : goal.returns-in-Ok-2
+returns-in-Ok-2 g c fresh s st =
     let i = c.loop-pull.invariant in
     let few : c.loop-pull._pull ≤ most_pulls = omega arith in
     let all : most_pulls ≤ length i.script = omega (arith, i.reads.grown, c.loop-pull-test.false) in
-    failed_reading _ s i.script _ _ _ _ _ _ (c.in-Ok-answer_flushed.ensures.tallies.ended ∙ i.unended) i.reads.given
+    let going = sym c.if-is_stopped-2.ensures in
+    failed_reading _ s i.script _ _ _ _ _ _ _ (c.in-Ok-2.ensures.tallies.ended ∙ i.unended)
+    going i.reads.given
     (record { unmet = i.reads.unmet (omega (arith, c.loop-pull-test.false)); cause = inr all })
-    c.in-Ok-answer_flushed.ensures.flushed
-    (c.in-Ok-answer_flushed.ensures.answers s i.script _ _ _ (script_short _ i.script _ few i.reads) (i.wrote s st))
-
-pub returns-in-Err-answer_flushed : goal.returns-in-Err-answer_flushed
-returns-in-Err-answer_flushed g c s st =
-    let i = c.loop-pull.invariant in
-    let few : c.loop-pull._pull ≤ most_pulls = omega arith in
-    failed_writing _ s i.script _ _ _ _ _ _ (c.in-Err-answer_flushed.ensures.tallies.ended ∙ i.unended) i.reads
-    (c.in-Err-answer_flushed.ensures.answers s i.script _ _ _ (script_short _ i.script _ few i.reads) (i.wrote s st))
+    c.in-Ok-2.ensures.flushed
+    (at_going _ _ _ going
+    (c.in-Ok-2.ensures.answers s i.script _ (script_short _ i.script _ few i.reads) (i.wrote fresh s st)).is)

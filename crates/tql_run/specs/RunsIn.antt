@@ -1,0 +1,188 @@
+-- What a run leaves that writes its answers in a form, and that the first refusal may stop.
+use Rattle.std.specs.Prelude.{◌≡◌, ◌⊎◌, ◌≤◌, ◌<◌, ◌+◌, ◌==◌, ◌&&◌, not, ℕ, Bool, true, false, List, [], ◌∷◌, ◌++◌}
+use Rattle.std.specs.Prelude.{length, count_by, Result, Ok, Err, IsTrue, MatchBool}
+use Rattle.tql_spec.specs.Machine.{State, Refused}
+use Rattle.tql_spec.specs.Answer.{Answer, Replied}
+use Rattle.tql_spec.specs.Script.{Piece, statements}
+use Rattle.tql_spec.specs.Run.{Answering, RunBy}
+use Rattle.tql_spec.specs.Lines.{Placed, placed_statements}
+use Rattle.tql_spec.specs.Refusal.{Refusal}
+use Rattle.tql_result.specs.Devices.{Appends, HasFailed}
+use Rattle.tql_run.specs.Hearing.{Hears, HearingChange, notes_of}
+use Rattle.tql_run.specs.Responding.{Standing}
+use Rattle.tql_run.specs.Runs.{SourceChange, SinkChange, Gives, MeetsEnd, MissesEnd, Counts, IsBeginning, NothingRun}
+use Rattle.tql_run.specs.Runs.{is_refused, answered}
+use Rattle.tql_run.specs.Texts.{Texts, AreTexts, plain_texts, line_behind}
+use Rattle.tql_run.specs.declared.runner.Summary.{Summary}
+use Rattle.tql_run.specs.declared.runner.Fault.{Fault}
+use Rattle.tql_run.specs.declared.runner.Fault.TheVariants.{Read, Write, Memory}
+
+-- ---- how a run goes
+
+-- what its answers are, how they are written, and whether it stops at the first refusal
+pub record Manner : Type 1 where
+  pub answering : Answering
+  pub texts : Texts
+  pub bail : Bool
+
+abbrev pub manner : Answering → Texts → Bool → Manner
+manner answering texts bail = record { answering = answering; texts = texts; bail = bail }
+
+-- the default: each answer has its one text, and a refusal stops nothing
+abbrev pub plainly : Answering → Manner
+plainly answering = manner answering plain_texts false
+
+-- no answer is a refusal
+abbrev pub NoneRefused : List Answer → Type 0
+NoneRefused answers = count_by is_refused answers ≡ 0
+
+-- where the first refusal stops a run, none of these answers is one
+abbrev pub GoesOn : Bool → List Answer → Type 0
+GoesOn bail answers = IsTrue bail → NoneRefused answers
+
+-- the last answer is a refusal, and no other is
+pub record EndsRefused (answers : List Answer) : Type 0 where
+  pub earlier : List Answer
+  pub refusal : Refusal
+  pub all : answers ≡ earlier ++ Replied (Refused refusal) ∷ []
+  pub others : NoneRefused earlier
+
+-- by its counts, a run was stopped by a refusal
+abbrev pub stops : Bool → Summary → Bool
+stops bail summary = bail && not (summary.refused == 0)
+
+-- the last part of the script came by one pull at most, and what was read before it has fewer whole statements
+pub record PullsLast (count : ℕ) (script : List ℕ) : Type 0 where
+  pub before : List ℕ
+  pub last : List ℕ
+  pub parts : script ≡ before ++ last
+  pub small : length last ≤ 65_536
+  pub fewer : length (answered false before) < count
+
+-- ---- what a run did
+
+-- In each case the listener is told of the statements that are refused among those answered, of no others, and of each
+-- by its number and its line.
+
+-- the whole script was read and each of its statements answered, no device failed, and the sink is flushed
+pub record RunsWholeIn (M : Manner) (s : State) (after : Standing) (source : SourceChange) (sink : SinkChange)
+    (hearing : HearingChange) (summary : Summary) : Type 0 where
+  pub script : List ℕ
+  pub given : Gives source.left_old script source.left_new
+  pub ended : MeetsEnd source
+  pub answers : List Answer
+  pub goes_on : GoesOn M.bail answers
+  pub state : State
+  pub ran : RunBy M.answering s (answered true script) answers state
+  pub stands : after state
+  pub heard : Hears hearing.heard_old (notes_of (placed_statements script) answers) hearing.heard_new
+  pub text : List ℕ
+  pub texts : AreTexts M.texts (placed_statements script) answers text
+  pub written : Appends sink.held_old text sink.held_new
+  pub counts : Counts summary answers
+  pub writes : sink.failures_new ≡ sink.failures_old
+  pub flushed : IsTrue sink.flushed
+
+-- The run was stopped by a refusal, the first: that of the statement that ran last. The first statements of the script
+-- ran up to that one, whatever may still follow what was read; where the end was met, nothing does. No device failed,
+-- and the sink is flushed. Nothing was pulled behind the refusal: what was pulled before the last pull, which gave at
+-- most 65,536 bytes, has fewer whole statements.
+pub record RunsToRefusal (M : Manner) (s : State) (after : Standing) (source : SourceChange) (sink : SinkChange)
+    (hearing : HearingChange) (summary : Summary) : Type 0 where
+  pub script : List ℕ
+  pub given : Gives source.left_old script source.left_new
+  pub met : Bool
+  pub read : MatchBool met (MeetsEnd source) (source.failures_new ≡ source.failures_old)
+  pub done : List Piece
+  pub rest : List Piece
+  pub parts : answered met script ≡ done ++ rest
+  pub first : (more : List ℕ) → (IsTrue met → more ≡ []) → IsBeginning done (statements (script ++ more))
+  pub answers : List Answer
+  pub refused : EndsRefused answers
+  pub state : State
+  pub ran : RunBy M.answering s done answers state
+  pub stands : after state
+  pub heard : Hears hearing.heard_old (notes_of (placed_statements script) answers) hearing.heard_new
+  pub text : List ℕ
+  pub texts : AreTexts M.texts (placed_statements script) answers text
+  pub written : Appends sink.held_old text sink.held_new
+  pub counts : Counts summary answers
+  pub writes : sink.failures_new ≡ sink.failures_old
+  pub flushed : IsTrue sink.flushed
+  pub pulled : PullsLast (length answers) script
+
+-- the end of the input was not met: the statements that are whole in what was read are answered, and the sink is
+-- flushed
+pub record StopsReadingIn (M : Manner) (s : State) (after : Standing) (source : SourceChange) (sink : SinkChange)
+    (hearing : HearingChange) : Type 0 where
+  pub script : List ℕ
+  pub given : Gives source.left_old script source.left_new
+  pub cut : MissesEnd source script
+  pub answers : List Answer
+  pub goes_on : GoesOn M.bail answers
+  pub state : State
+  pub ran : RunBy M.answering s (answered false script) answers state
+  pub stands : after state
+  pub heard : Hears hearing.heard_old (notes_of (placed_statements script) answers) hearing.heard_new
+  pub text : List ℕ
+  pub texts : AreTexts M.texts (placed_statements script) answers text
+  pub written : Appends sink.held_old text sink.held_new
+  pub writes : sink.failures_new ≡ sink.failures_old
+  pub flushed : IsTrue sink.flushed
+
+-- of the answers to the first of these statements there was written: texts of all but the last whole, and a beginning
+-- of a text of the last, which is not all of it; but for the last, none is a refusal that stops the run
+pub record CutsLastIn (M : Manner) (places : List Placed) (answers : List Answer) (text : List ℕ) : Type 0 where
+  pub earlier : List Answer
+  pub last : Answer
+  pub all : answers ≡ earlier ++ last ∷ []
+  pub goes_on : GoesOn M.bail earlier
+  pub before : List ℕ
+  pub texts : AreTexts M.texts places earlier before
+  pub front : List ℕ
+  pub back : List ℕ
+  pub is_text : M.texts earlier (1 + length earlier) (line_behind (length earlier) places) last (front ++ back)
+  pub lacks : 0 < length back
+  pub is : text ≡ before ++ front
+
+-- all answers were written whole, and then a flush failed, which may fail: where none is left to be answered, or where
+-- the last is the refusal that stops the run
+pub record FailsFlush (M : Manner) (flushes_fail : Bool) (rest : List Piece) (places : List Placed)
+    (answers : List Answer) (text : List ℕ) : Type 0 where
+  pub allowed : IsTrue flushes_fail
+  pub texts : AreTexts M.texts places answers text
+  pub all : ((rest ≡ []) × GoesOn M.bail answers) ⊎ (IsTrue M.bail × EndsRefused answers)
+
+-- The sink failed, at an answer: the statement of that answer is the last that ran; or at a flush, where a flush of
+-- this sink may fail: all ran that are whole in what was read, or all up to the refusal that stops the run. The source
+-- had not failed. Those that ran are the first statements of the script, whatever may still follow what was read; where
+-- the end was met, nothing does.
+pub record StopsWritingIn (M : Manner) (s : State) (after : Standing) (source : SourceChange) (sink : SinkChange)
+    (hearing : HearingChange) : Type 0 where
+  pub script : List ℕ
+  pub given : Gives source.left_old script source.left_new
+  pub met : Bool
+  pub read : MatchBool met (MeetsEnd source) (source.failures_new ≡ source.failures_old)
+  pub done : List Piece
+  pub rest : List Piece
+  pub parts : answered met script ≡ done ++ rest
+  pub first : (more : List ℕ) → (IsTrue met → more ≡ []) → IsBeginning done (statements (script ++ more))
+  pub answers : List Answer
+  pub state : State
+  pub ran : RunBy M.answering s done answers state
+  pub stands : after state
+  pub heard : Hears hearing.heard_old (notes_of (placed_statements script) answers) hearing.heard_new
+  pub text : List ℕ
+  pub reached : CutsLastIn M (placed_statements script) answers text
+      ⊎ FailsFlush M sink.flushes_fail rest (placed_statements script) answers text
+  pub written : Appends sink.held_old text sink.held_new
+  pub cause : HasFailed sink.failures_old sink.failures_new
+
+-- how a run in this manner went by its result: the state that the responder stood for, and what it stands for after it
+abbrev pub RunsIn : Manner → State → Standing → SourceChange → SinkChange → HearingChange → Result Summary Fault
+    → Type 0
+RunsIn M s after source sink hearing (Ok summary) = MatchBool (stops M.bail summary)
+    (RunsToRefusal M s after source sink hearing summary) (RunsWholeIn M s after source sink hearing summary)
+RunsIn M s after source sink hearing (Err Read) = StopsReadingIn M s after source sink hearing
+RunsIn M s after source sink hearing (Err Write) = StopsWritingIn M s after source sink hearing
+RunsIn M s after source sink hearing (Err Memory) = NothingRun M.answering s after source sink hearing
