@@ -1,0 +1,5 @@
+//! The command line of the program: which options, texts and scripts its words say.
+#![tactic(auto)]
+
+pub mod options;
+pub mod sizes;
