@@ -3,10 +3,10 @@
 
 Usage: tools/sizes.py [TIMES]        (make try-growth-times)
 
-Each row is a form of input, each column a size; a time is the least of TIMES runs (by default 3), in milliseconds, the program's start included. What
-the program prints is compared with what docs/LANGUAGE.md says of such an input. The status is 1 where an answer is wrong, or where a doubling more
-than triples the time; what takes less than 50 ms is taken as 50. The program is TQL=path, or ./tql where it is newer than every source, or
-else ./tql-quick, which is compiled first where it has to be (make quick).
+Each row is a form of input, each column a size; a time is the least of TIMES runs (by default 3), in milliseconds, the program's start and what it
+says on the standard error included. What the program prints is compared with what docs/LANGUAGE.md says of such an input. The status is 1 where an
+answer is wrong, or where a doubling more than triples the time; what takes less than 50 ms is taken as 50. The program is TQL=path, or ./tql where
+it is newer than every source, or else ./tql-quick, which is compiled first where it has to be (make quick).
 """
 import subprocess
 import sys
@@ -87,11 +87,23 @@ def updates(size: int) -> tuple[str, str]:
             ONE + "START TRANSACTION\n" + "UPDATE 1\n" * size + f"COMMIT\nX\n{size}\n(1 rows)\n")
 
 
+def loose(size: int) -> tuple[str, str]:
+    """So many items and columns of GROUP BY, and an item that is none of them: what the standard error says of it takes each once."""
+    return (MADE + "SELECT " + "x," * size + "y FROM t GROUP BY " + "x," * (size - 1) + "x;\n", ONE + refused("E23 form not allowed here"))
+
+
+def unheaded(size: int) -> tuple[str, str]:
+    """So many items and keys of ORDER BY, the last of which heads no item."""
+    return (MADE + "SELECT " + "x," * (size - 1) + "x FROM t ORDER BY " + "x," * (size - 1) + "q;\n",
+            ONE + refused("E21 name unknown, ambiguous or repeated"))
+
+
 FORMS = (
     ("a text literal, bytes", 125000, literal), ("a text literal that is too long, bytes", 1250000, literal), ("empty statements", 1250000, empty),
     ("a condition, terms", 12500, terms), ("IN, members", 12500, members), ("a sum, terms", 31250, sums), ("64 parentheses, statements", 1250, nested),
     ("a quote that never closes, bytes", 125000, quote), ("a quote that never closes, too long, bytes", 1250000, quote), ("tables", 125, tables),
     ("table references, 2,000 queries", 1, references), ("UPDATEs of one row in a transaction", 2500, updates),
+    ("a name that is not grouped, items", 25000, loose), ("a key of ORDER BY without a heading, items", 12500, unheaded),
 )
 
 
@@ -100,7 +112,7 @@ def timed(words: list[str], file: Path, times: int) -> tuple[float, str]:
     best, text = 1e9, ""
     for _ in range(times):
         begun = time.monotonic()
-        ran = subprocess.run([*words, "--quiet", str(file)], stdout=subprocess.PIPE, stderr=subprocess.DEVNULL, timeout=600, check=False)
+        ran = subprocess.run([*words, str(file)], stdout=subprocess.PIPE, stderr=subprocess.DEVNULL, timeout=600, check=False)
         best, text = min(best, time.monotonic() - begun), ran.stdout.decode(errors="replace")
     return best, text
 

@@ -1,5 +1,6 @@
-//! Names of a CREATE TABLE that are repeated, or that its lists name and that are not there.
+//! Names of CREATE TABLE that are repeated, and columns of its lists that are unknown.
 use std::alloc::AllocError;
+use std::collections::BTreeSet;
 use tql_bind_spot::scope::{has_column, table_named};
 use tql_bind_spot::words::Words;
 use tql_catalog::catalog::Catalog;
@@ -7,19 +8,17 @@ use tql_memory::Memory;
 use tql_syntax_tree::expression::Name;
 use tql_syntax_tree::statement::{Constraint, CreateTree, Element, ForeignTree, KeyTree, RefList};
 
-/// The names of a table that is to be made: its columns, and all names that it has.
+/// A set of names.
+type Names = BTreeSet<String<Memory>, Memory>;
+
+/// The names of a table that is to be created: its columns, and all names that it has.
 #[derive(Drop)]
 struct Draft {
-    columns: Vec<String<Memory>, Memory>,
-    names: Vec<String<Memory>, Memory>,
+    columns: Names,
+    names: Names,
 }
 
-/// Whether a name is among these.
-fn is_among(name: &str, names: &[String<Memory>]) -> bool {
-    names.iter().any(|other| other.as_str() == name)
-}
-
-/// Adds the name of an element, and tells where it stands there already.
+/// Adds the name of an element, and reports it where the table has it already.
 fn draft_element(
     memory: Memory,
     element: &Element<'_>,
@@ -28,7 +27,7 @@ fn draft_element(
 ) -> Result<(), AllocError> {
     let name = match element {
         Element::Column(column) => {
-            draft.columns.push(column.name.meant(memory)?)?;
+            draft.columns.insert(column.name.meant(memory)?)?;
             column.name
         }
         Element::Period(period) => match period.name {
@@ -38,15 +37,15 @@ fn draft_element(
         Element::Constraint(_) => return Ok(()),
     };
     let meant = name.meant(memory)?;
-    if !words.are_there() && is_among(meant.as_str(), &draft.names) {
+    if !words.are_there() && draft.names.contains(meant.as_str()) {
         words.show("", meant.as_str())?;
         words.say(" is there twice")?;
     }
-    draft.names.push(meant)?;
+    draft.names.insert(meant)?;
     Ok(())
 }
 
-/// Tells of a column that is not there.
+/// Reports an unknown column.
 fn tell_column(
     memory: Memory,
     name: Name<'_>,
@@ -54,13 +53,13 @@ fn tell_column(
     words: &mut Words,
 ) -> Result<(), AllocError> {
     let meant = name.meant(memory)?;
-    if !words.are_there() && !is_among(meant.as_str(), &draft.columns) {
+    if !words.are_there() && !draft.columns.contains(meant.as_str()) {
         words.show("no column ", meant.as_str())?;
     }
     Ok(())
 }
 
-/// Tells of columns that are not there.
+/// Reports an unknown column of a list.
 fn tell_columns(
     memory: Memory,
     first: Name<'_>,
@@ -75,7 +74,7 @@ fn tell_columns(
     Ok(())
 }
 
-/// Tells of columns of the table that is referenced that are not there.
+/// Reports an unknown column of the referenced table.
 fn tell_parent(
     memory: Memory,
     catalog: &Catalog,
@@ -100,7 +99,7 @@ fn tell_parent(
     Ok(())
 }
 
-/// Tells of columns of a key that are not there.
+/// Reports an unknown column of a key.
 fn tell_key(
     memory: Memory,
     key: &KeyTree<'_>,
@@ -110,7 +109,7 @@ fn tell_key(
     tell_columns(memory, key.first, &key.more, draft, words)
 }
 
-/// Tells of columns of a reference that are not there.
+/// Reports an unknown column of a reference.
 fn tell_foreign(
     memory: Memory,
     catalog: &Catalog,
@@ -128,7 +127,7 @@ fn tell_foreign(
     tell_parent(memory, catalog, foreign.table, &foreign.parent, words)
 }
 
-/// Tells of columns that an element names and that are not there.
+/// Reports an unknown column that an element names.
 fn tell_element(
     memory: Memory,
     catalog: &Catalog,
@@ -150,7 +149,7 @@ fn tell_element(
     }
 }
 
-/// Tells which name of a CREATE TABLE is repeated, or else which column is not there.
+/// Reports which name of a CREATE TABLE is repeated, or else which column is unknown.
 pub(crate) fn create_words(
     memory: Memory,
     catalog: &Catalog,
@@ -158,8 +157,8 @@ pub(crate) fn create_words(
     words: &mut Words,
 ) -> Result<(), AllocError> {
     let mut draft = Draft {
-        columns: Vec::new(memory),
-        names: Vec::new(memory),
+        columns: BTreeSet::new(memory),
+        names: BTreeSet::new(memory),
     };
     draft_element(memory, &create.first, &mut draft, words)?;
     for element in &create.more {
@@ -168,7 +167,7 @@ pub(crate) fn create_words(
     tell_elements(memory, catalog, create, &draft, words)
 }
 
-/// Tells of columns that the elements name and that are not there.
+/// Reports an unknown column that one of the elements names.
 fn tell_elements(
     memory: Memory,
     catalog: &Catalog,

@@ -1,4 +1,4 @@
-//! What is told of a statement whose names, kinds or forms are refused.
+//! The detail of a statement that the binder refuses: its tables and names.
 #![tactic(auto)]
 
 mod creates;

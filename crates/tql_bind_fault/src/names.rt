@@ -1,6 +1,7 @@
-//! Names that are found nowhere, or several times, or are repeated.
+//! Names that are unknown, ambiguous or repeated.
 use crate::creates::create_words;
 use std::alloc::AllocError;
+use std::collections::BTreeSet;
 use tql_bind_spot::references::{join_condition, joined_reference};
 use tql_bind_spot::scope::{
     Known, Scope, changed_scope, has_column, push_reference, table_named, tell_spots,
@@ -17,7 +18,7 @@ use tql_syntax_tree::statement::{
     RowSource, SelectTree, SetTree, Statement, Tuple, Update,
 };
 
-/// Tells what is wrong with a name of a condition.
+/// Reports what is wrong with a name of a condition.
 fn condition_words(
     memory: Memory,
     scope: &[Known<'_>],
@@ -29,7 +30,7 @@ fn condition_words(
     tell_spots(memory, scope, &spots.names, words)
 }
 
-/// Tells what is wrong with a name of a condition, where there is one.
+/// Reports what is wrong with a name of a condition, where there is one.
 fn filter_words(
     memory: Memory,
     scope: &[Known<'_>],
@@ -42,7 +43,7 @@ fn filter_words(
     }
 }
 
-/// Tells what is wrong with a name of an expression.
+/// Reports what is wrong with a name of an expression.
 fn expr_words(
     memory: Memory,
     scope: &[Known<'_>],
@@ -54,7 +55,7 @@ fn expr_words(
     tell_spots(memory, scope, &spots.names, words)
 }
 
-/// Tells what is wrong with a name of a cell.
+/// Reports what is wrong with a name of a cell.
 fn cell_words(
     memory: Memory,
     scope: &[Known<'_>],
@@ -67,19 +68,20 @@ fn cell_words(
     }
 }
 
-/// Tells of a name that two references have.
+/// Reports a name that two table references have.
 fn repeated_reference(scope: &[Known<'_>], words: &mut Words) -> Result<(), AllocError> {
     for (index, known) in scope.iter().enumerate() {
         let before = scope.get(..index).unwrap_or(&[]);
         let name = known.name.as_str();
         if !words.are_there() && before.iter().any(|other| other.name.as_str() == name) {
             words.show("two tables are named ", name)?;
+            words.say(": give one another name")?;
         }
     }
     Ok(())
 }
 
-/// Adds the references of a chain to those of the query, and tells what is wrong with a name of its conditions.
+/// Adds the references of a chain to those of the query, and reports what is wrong with a name of its conditions.
 fn chain_words<'c>(
     memory: Memory,
     catalog: &'c Catalog,
@@ -94,12 +96,13 @@ fn chain_words<'c>(
         let reference = joined_reference(join);
         push_reference(memory, catalog, reference, &mut scope)?;
         push_reference(memory, catalog, reference, all)?;
+        repeated_reference(&scope, words)?;
         filter_words(memory, &scope, join_condition(join), words)?;
     }
     Ok(())
 }
 
-/// Tells what is wrong with a name of an item.
+/// Reports what is wrong with a name of an item.
 fn item_words(
     memory: Memory,
     scope: &[Known<'_>],
@@ -109,7 +112,7 @@ fn item_words(
     expr_words(memory, scope, &item.value, words)
 }
 
-/// Tells what is wrong with a name of the select list.
+/// Reports what is wrong with a name of the select list.
 fn items_words(
     memory: Memory,
     scope: &[Known<'_>],
@@ -128,7 +131,7 @@ fn items_words(
     }
 }
 
-/// Tells what is wrong with a column of GROUP BY.
+/// Reports what is wrong with a column of GROUP BY.
 fn grouping_words(
     memory: Memory,
     scope: &[Known<'_>],
@@ -146,7 +149,7 @@ fn grouping_words(
     Ok(())
 }
 
-/// Tells what is wrong with a name of a select, and gives its references.
+/// Reports what is wrong with a name of a select, and returns its references.
 fn select_words<'c>(
     memory: Memory,
     catalog: &'c Catalog,
@@ -166,38 +169,60 @@ fn select_words<'c>(
     Ok(scope)
 }
 
-/// Whether this may be the heading of an item: its alias, or its column's name. That of another item is `C` and its
-/// position, as which any name counts that begins so.
-fn may_head(memory: Memory, item: &Item<'_>, name: &str) -> Result<bool, AllocError> {
-    let heading = match (item.alias, sole_primary(&item.value)) {
-        (Some(alias), _) => alias,
-        (None, Some(Primary::Column(named))) => named.name,
-        (None, _) => return Ok(name.starts_with('C')),
-    };
-    let meant = heading.meant(memory)?;
-    Ok(meant.as_str() == name)
+/// The headings of a select list.
+#[derive(Drop)]
+struct Headings {
+    names: BTreeSet<String<Memory>, Memory>,
+    /// Whether an item has neither an alias nor a column's name. Its heading is `C` and its position; any name that
+    /// begins so is taken for one.
+    has_numbered: bool,
 }
 
-/// Whether an output column may have this heading.
-fn is_heading(
-    memory: Memory,
-    scope: &[Known<'_>],
-    items: &Items<'_>,
-    name: &str,
-) -> Result<bool, AllocError> {
-    match items {
-        Items::All => Ok(scope.iter().any(|known| has_column(known.table, name))),
-        Items::These(first, more) => {
-            let mut is_there = may_head(memory, first, name)?;
-            for item in more {
-                is_there |= may_head(memory, item, name)?;
+impl Headings {
+    /// Adds the heading of an item: its alias, or its column's name.
+    fn add(&mut self, memory: Memory, item: &Item<'_>) -> Result<(), AllocError> {
+        let heading = match (item.alias, sole_primary(&item.value)) {
+            (Some(alias), _) => alias,
+            (None, Some(Primary::Column(named))) => named.name,
+            (None, _) => {
+                self.has_numbered = true;
+                return Ok(());
             }
-            Ok(is_there)
-        }
+        };
+        self.names.insert(heading.meant(memory)?)?;
+        Ok(())
+    }
+
+    /// Whether an item may have this heading.
+    fn have(&self, name: &str) -> bool {
+        self.names.contains(name) || self.has_numbered && name.starts_with('C')
     }
 }
 
-/// Tells of a key of ORDER BY that heads no output column.
+/// Returns the headings of a select list; none of `*`.
+fn headings_of(memory: Memory, items: &Items<'_>) -> Result<Headings, AllocError> {
+    let mut headings = Headings {
+        names: BTreeSet::new(memory),
+        has_numbered: false,
+    };
+    if let Items::These(first, more) = items {
+        headings.add(memory, first)?;
+        for item in more {
+            headings.add(memory, item)?;
+        }
+    }
+    Ok(headings)
+}
+
+/// Whether an output column may have this heading; of `*`, whether a table has the column.
+fn is_heading(scope: &[Known<'_>], items: &Items<'_>, headings: &Headings, name: &str) -> bool {
+    match items {
+        Items::All => scope.iter().any(|known| has_column(known.table, name)),
+        Items::These(_, _) => headings.have(name),
+    }
+}
+
+/// Reports the first key of ORDER BY that heads no output column.
 fn ordering_words(
     memory: Memory,
     scope: &[Known<'_>],
@@ -205,18 +230,22 @@ fn ordering_words(
     ordering: &[OrderTree<'_>],
     words: &mut Words,
 ) -> Result<(), AllocError> {
+    if words.are_there() {
+        return Ok(());
+    }
+    let headings = headings_of(memory, items)?;
     for order in ordering {
         if let KeyName::Heading(name) = order.key {
             let meant = name.meant(memory)?;
-            if !words.are_there() && !is_heading(memory, scope, items, meant.as_str())? {
-                words.show("no output column is headed ", meant.as_str())?;
+            if !is_heading(scope, items, &headings, meant.as_str()) {
+                return words.show("no output column is headed ", meant.as_str());
             }
         }
     }
     Ok(())
 }
 
-/// Tells what is wrong with a name of a query.
+/// Reports what is wrong with a name of a query.
 fn query_words(
     memory: Memory,
     catalog: &Catalog,
@@ -227,7 +256,7 @@ fn query_words(
     ordering_words(memory, &scope, &query.select.items, &query.ordering, words)
 }
 
-/// Tells of a column that is not there, or that stands among these names already.
+/// Reports an unknown column, or one that is among the names before it.
 fn listed_words(
     memory: Memory,
     table: &TableDef,
@@ -253,7 +282,7 @@ fn listed_words(
     Ok(())
 }
 
-/// Tells of a name in a tuple, where none may stand.
+/// Reports a name in a tuple, where none is allowed.
 fn tuple_words(memory: Memory, tuple: &Tuple<'_>, words: &mut Words) -> Result<(), AllocError> {
     let scope: Scope<'_> = Vec::new(memory);
     cell_words(memory, &scope, &tuple.first, words)?;
@@ -263,7 +292,7 @@ fn tuple_words(memory: Memory, tuple: &Tuple<'_>, words: &mut Words) -> Result<(
     Ok(())
 }
 
-/// Tells what is wrong with a name of what an INSERT puts in.
+/// Reports what is wrong with a name of the rows of an INSERT.
 fn source_words(
     memory: Memory,
     catalog: &Catalog,
@@ -285,7 +314,7 @@ fn source_words(
     }
 }
 
-/// Tells what is wrong with a name of an INSERT.
+/// Reports what is wrong with a name of an INSERT.
 fn insert_words(
     memory: Memory,
     catalog: &Catalog,
@@ -301,7 +330,7 @@ fn insert_words(
     source_words(memory, catalog, &insert.rows, words)
 }
 
-/// Tells of a portion of a period that is not there.
+/// Reports a portion of an unknown period.
 fn portion_words(
     memory: Memory,
     scope: &[Known<'_>],
@@ -328,7 +357,7 @@ fn portion_words(
     tell_spots(memory, scope, &[spot], words)
 }
 
-/// Tells what is wrong with a name of an assignment, behind these.
+/// Reports what is wrong with a name of an assignment that follows these.
 fn set_words(
     memory: Memory,
     table: &TableDef,
@@ -341,7 +370,7 @@ fn set_words(
     cell_words(memory, scope, &set.value, words)
 }
 
-/// Tells what is wrong with a name of an UPDATE of this table.
+/// Reports what is wrong with a name of an UPDATE of this table.
 fn update_words(
     memory: Memory,
     table: &TableDef,
@@ -360,7 +389,7 @@ fn update_words(
     filter_words(memory, &scope, update.filter.as_deref(), words)
 }
 
-/// Tells what is wrong with a name of a DELETE from this table.
+/// Reports what is wrong with a name of a DELETE from this table.
 fn delete_words(
     memory: Memory,
     table: &TableDef,
@@ -372,7 +401,7 @@ fn delete_words(
     filter_words(memory, &scope, delete.filter.as_deref(), words)
 }
 
-/// Tells which name is found nowhere or several times, or repeated: one of those with which the statement is refused.
+/// Reports which name is unknown, ambiguous or repeated: one of those for which the statement is refused (E21).
 pub(crate) fn name_words(
     memory: Memory,
     catalog: &Catalog,

@@ -1,4 +1,4 @@
-//! Tables that are not there, or there already.
+//! Tables that are unknown, or exist already.
 use std::alloc::AllocError;
 use tql_bind_spot::references::joined_reference;
 use tql_bind_spot::words::Words;
@@ -9,7 +9,7 @@ use tql_syntax_tree::statement::{
     ChainTree, Constraint, CreateTree, Element, RowSource, SelectTree, Statement,
 };
 
-/// Tells of a table that is not there.
+/// Reports an unknown table.
 fn lacking(
     memory: Memory,
     catalog: &Catalog,
@@ -23,7 +23,7 @@ fn lacking(
     Ok(())
 }
 
-/// Tells of a table of a chain that is not there.
+/// Reports an unknown table of a chain.
 fn chain_tables(
     memory: Memory,
     catalog: &Catalog,
@@ -37,7 +37,7 @@ fn chain_tables(
     Ok(())
 }
 
-/// Tells of a table of a select that is not there.
+/// Reports an unknown table of a select.
 fn select_tables(
     memory: Memory,
     catalog: &Catalog,
@@ -51,23 +51,41 @@ fn select_tables(
     Ok(())
 }
 
-/// Tells of a table that a new one references and that is not there.
+/// Reports the table of a reference, where it is unknown or the new table itself.
+fn foreign_table(
+    memory: Memory,
+    catalog: &Catalog,
+    own: &str,
+    name: Name<'_>,
+    words: &mut Words,
+) -> Result<(), AllocError> {
+    let meant = name.meant(memory)?;
+    if words.are_there() || meant.as_str() != own {
+        return lacking(memory, catalog, name, words);
+    }
+    words.say("a table cannot reference itself")
+}
+
+/// Reports the table of a reference of the new table `own`, where an element is one.
 fn element_table(
     memory: Memory,
     catalog: &Catalog,
+    own: &str,
     element: &Element<'_>,
     words: &mut Words,
 ) -> Result<(), AllocError> {
     match element {
         Element::Column(_) | Element::Period(_) => Ok(()),
         Element::Constraint(constraint) => match &**constraint {
-            Constraint::Foreign(foreign) => lacking(memory, catalog, foreign.table, words),
+            Constraint::Foreign(foreign) => {
+                foreign_table(memory, catalog, own, foreign.table, words)
+            }
             Constraint::Key(_) | Constraint::Check(_) => Ok(()),
         },
     }
 }
 
-/// Tells of a new table that is there already, or of one that it references.
+/// Reports a new table that exists already, or the table of one of its references.
 fn create_tables(
     memory: Memory,
     catalog: &Catalog,
@@ -79,14 +97,14 @@ fn create_tables(
         words.show("table ", meant.as_str())?;
         return words.say(" is already there");
     }
-    element_table(memory, catalog, &create.first, words)?;
+    element_table(memory, catalog, meant.as_str(), &create.first, words)?;
     for element in &create.more {
-        element_table(memory, catalog, element, words)?;
+        element_table(memory, catalog, meant.as_str(), element, words)?;
     }
     Ok(())
 }
 
-/// Tells which table is not there, or there already: the first in the order of the text.
+/// Reports which table is unknown, or exists already: the first in the order of the text.
 pub(crate) fn table_words(
     memory: Memory,
     catalog: &Catalog,

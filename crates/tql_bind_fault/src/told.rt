@@ -1,4 +1,4 @@
-//! What is told of a statement that is refused where its names are bound.
+//! The detail of a statement that the binder refuses.
 use crate::names::name_words;
 use crate::tables::table_words;
 use std::alloc::AllocError;
@@ -11,7 +11,7 @@ use tql_memory::Memory;
 use tql_syntax_tree::statement::Statement;
 use tql_value::refusal::Refusal;
 
-/// What is told of a statement over these tables that is refused so.
+/// Returns the words for a statement over these tables that is refused so.
 fn words_of(
     memory: Memory,
     catalog: &Catalog,
@@ -33,9 +33,9 @@ fn words_of(
     Ok(words)
 }
 
-/// What is told of a statement beside its refusal, over the tables that were there when it was refused: which table or
-/// name is meant, which kinds or numbers differ, or which form may not stand there. None of any other refusal, where
-/// nothing more is known, or where memory is refused.
+/// Returns the detail of a statement over the tables that were there when it was refused: which table or name is meant,
+/// which kinds or numbers differ, or which form is not allowed there. None of any other refusal, where nothing more is
+/// known, or where memory is refused.
 pub fn bind_detail(
     memory: Memory,
     catalog: &Catalog,
