@@ -30,7 +30,7 @@ use tql_result::reply::Reply;
 use tql_run::responder::Responder;
 use tql_syntax::ending::{TransactionEnd, transaction_end};
 use tql_syntax::text::read_text;
-use tql_syntax_fault::told::syntax_detail;
+use tql_syntax_fault::told::{depth_detail, syntax_detail};
 use tql_syntax_tree::statement::Statement;
 use tql_value::calendar::FIRST_MOMENT;
 use tql_value::refusal::Refusal;
@@ -258,6 +258,7 @@ impl Responder for Engine {
     fn detail(&self, text: &[u8], refusal: Refusal) -> Option<Detail> {
         match refusal {
             Refusal::NotAStatement => syntax_detail(self.memory, text),
+            Refusal::NestedTooDeep => depth_detail(self.memory, text),
             Refusal::TableUnknownOrAlreadyThere
             | Refusal::NameUnknownAmbiguousOrRepeated
             | Refusal::TypesDoNotFit
