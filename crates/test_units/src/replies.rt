@@ -12,6 +12,7 @@ use tql_result::print::{is_printable_reply, write_reply};
 use tql_result::reply::{Reply, Verb};
 use tql_result::table::is_printable_table;
 use tql_result::vec_sink::VecSink;
+use tql_result_box::box_table::write_box_table;
 use tql_result_forms::csv::write_csv_table;
 use tql_result_forms::json::{Diagnostic, write_json_answer};
 use tql_result_forms::jsonl::write_json_rows;
@@ -132,6 +133,20 @@ fn write_jsonl(out: &mut String, memory: Memory, reply: &Reply) -> Result<(), St
     }
 }
 
+/// Writes a table in a box.
+fn write_box(out: &mut String, memory: Memory, reply: &Reply) -> Result<(), Stop> {
+    match reply {
+        Reply::Table(table) if is_printable_table(table) => {
+            let mut sink = VecSink::new(Vec::new(memory));
+            write_box_table(memory, &mut sink, table)
+                .ok()
+                .ok_or(NO_MEMORY)?;
+            write_held(out, sink)
+        }
+        _ => Err(Stop::Form),
+    }
+}
+
 /// Writes an answer as a line of JSON.
 fn write_json(
     out: &mut String,
@@ -187,6 +202,7 @@ pub fn answer(memory: Memory, line: &Line<'_>, out: &mut String) -> Result<(), S
         "accepted" => write_accepted(out, memory),
         "csv" => write_csv(out, memory, &table(memory, line.input)?),
         "jsonl" => write_jsonl(out, memory, &table(memory, line.input)?),
+        "box" => write_box(out, memory, &table(memory, line.input)?),
         _ => answer_json(memory, line, out),
     }
 }

@@ -52,6 +52,7 @@ pub use tql_result::reply::{Reply, Verb};
 pub use tql_result::sink::Sink;
 pub use tql_result::std_sink::StdSink;
 pub use tql_result::vec_sink::VecSink;
+pub use tql_result_box::box_table::write_box_table;
 pub use tql_result_forms::csv::write_csv_table;
 pub use tql_result_forms::json::{Diagnostic, write_json_answer};
 pub use tql_result_forms::jsonl::write_json_rows;

@@ -1,0 +1,4 @@
+pub mod Characters
+pub mod Columns
+pub mod RowByRow
+pub mod Widths

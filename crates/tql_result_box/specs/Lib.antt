@@ -1,0 +1,2 @@
+pub mod Box
+pub mod Layouts
