@@ -19,8 +19,7 @@ ALLOWED = {
     "tql_syntax_expr/src/cursor.rt": (3, "the same for ParseError, and ParseError's own refusal"),
     "tql_run/src/piece.rt": (1, "the piece that stands for a text which found no memory"),
     "tql_run/src/runner.rt": (1, "From<AllocError> for Fault"),
-    "tql_main/src/main.rt": (5, "what the program takes before a run was refused; there is no run then to say it"),
-    "tql_main/src/formats.rt": (1, "the same, where replies are printed in a form"),
+    "tql_main/src/inputs.rt": (5, "what the program takes before a run was refused; there is no run then to say it"),
 }
 TOKEN = re.compile(r"""//[^\n]*|"(?:[^"\\]|\\.)*"|'(?:[^'\\\n]|\\.)'|[A-Za-z_]\w*|::|=>|->|\n|[^\s\w]""")
 MADE = {"AllocError": ("",), "OutOfMemory": ("Refusal", "ParseError"), "Memory": ("Fault",)}

@@ -1,4 +1,3 @@
-pub mod CommandLine
 pub mod Prompting
-pub mod Sizes
+pub mod Showing
 pub mod Status

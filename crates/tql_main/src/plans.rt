@@ -1,5 +1,5 @@
-//! What a run tells the standard error of the plans of its queries.
-use std::cell::Cell;
+//! What a run writes to the standard error about the plans of its queries.
+use crate::progress::Progress;
 use tql_detail::detail::Detail;
 use tql_engine::engine::Engine;
 use tql_memory::Memory;
@@ -7,20 +7,24 @@ use tql_result::answer::Answer;
 use tql_run::responder::Responder;
 use tql_value::refusal::Refusal;
 
-/// An engine that writes a line to the standard error for each query before it answers: by what the rows of its table
-/// references can be found. So it does for the query of an INSERT. A line that cannot be written is lost, and so is one
-/// for which there is no memory. It counts the statements that it answers.
+/// An engine that writes a line to the standard error for each query before it answers: the access path of each table
+/// reference. It does so for the query of an INSERT too. A line that cannot be written is lost, and so is one for which
+/// there is no memory. It counts the statements that it answers.
 #[derive(Drop)]
 pub(crate) struct PlansTold<'a, E: Eprint> {
     rt: &'a E,
     engine: Engine,
-    count: &'a Cell<u64>,
+    progress: &'a Progress<'a>,
 }
 
 impl<'a, E: Eprint> PlansTold<'a, E> {
-    /// An engine over this standard error, and this count of statements.
-    pub(crate) fn new(rt: &'a E, engine: Engine, count: &'a Cell<u64>) -> PlansTold<'a, E> {
-        PlansTold { rt, engine, count }
+    /// An engine over this standard error, in a run of this progress.
+    pub(crate) fn new(rt: &'a E, engine: Engine, progress: &'a Progress<'a>) -> PlansTold<'a, E> {
+        PlansTold {
+            rt,
+            engine,
+            progress,
+        }
     }
 }
 
@@ -38,10 +42,11 @@ impl<E: Eprint> Responder for PlansTold<'_, E> {
     }
 
     fn answer(&mut self, text: &[u8]) -> Answer {
-        let number = self.count.get().saturating_add(1);
-        self.count.set(number);
+        let number = self.progress.statements().saturating_add(1);
+        self.progress.set_statements(number);
         if let Some(words) = self.engine.plan_told(text) {
-            let _ = eprintln!(self.rt; "tql: statement {number}: {words}");
+            let label = self.progress.label();
+            let _ = eprintln!(self.rt; "tql: {label}statement {number}: {words}");
         }
         self.engine.answer(text)
     }

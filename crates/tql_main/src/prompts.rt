@@ -1,11 +1,17 @@
-//! What is asked at a terminal before each read of a script.
+//! What is written at a terminal before each read of a script, and what may be typed there besides statements.
 ghost use Rattle.std.specs.Prelude.{◌≡◌};
 ghost use Rattle.tql_spec.specs.Script as script;
 ghost use Rattle.tql_main.specs.Prompting.{begun_by, place_of};
 
 use std::io::{self, Read};
 
-/// Where in a script the next byte stands.
+/// What `help` writes.
+static HELP: &str = "tql: each statement ends with `;`, and may take several lines.
+     help writes this; quit, exit or Ctrl-D leaves. Each stands alone on a line, with or without a `;`.
+     The language is described in LANGUAGE.md: in docs/ of the sources, or in share/doc/tql/ where tql is installed.
+     `tql --help` describes the command line.";
+
+/// Where in a script the next byte is.
 #[derive(Clone, Copy, PartialEq, Eq, Debug)]
 enum Place {
     Outside,
@@ -15,7 +21,7 @@ enum Place {
     InComment,
 }
 
-/// The place behind a byte that opens or closes nothing but a text or a quoted name.
+/// Returns the place after a byte that opens or closes nothing but a text or a quoted name.
 fn opened_by(byte: u8) -> Place
     ensures { place_of result ≡ script.opened_by byte }
 {
@@ -26,7 +32,7 @@ fn opened_by(byte: u8) -> Place
     }
 }
 
-/// The place behind a byte at a place.
+/// Returns the place after a byte at a place.
 fn place_after(place: Place, byte: u8) -> Place
     ensures { place_of result ≡ script.state_after (place_of place) byte }
 {
@@ -40,7 +46,7 @@ fn place_after(place: Place, byte: u8) -> Place
     }
 }
 
-/// Whether a statement is begun behind a byte at a place, where it was begun before or not. A `-` alone may begin a
+/// Whether a statement is begun after a byte at a place, where it was begun before or not. A `-` alone may begin a
 /// comment, and counts once another byte follows.
 fn is_begun_by(place: Place, is_begun: bool, byte: u8) -> bool
     ensures { result ≡ begun_by (place_of place) is_begun byte }
@@ -54,14 +60,21 @@ fn is_begun_by(place: Place, is_begun: bool, byte: u8) -> bool
     }
 }
 
-/// What was typed of a script: where the next byte stands, and whether a statement is begun.
+/// What was typed of a script: where the next byte is, and whether a statement is begun.
 #[derive(Clone, Copy)]
 struct Typed {
     place: Place,
     is_begun: bool,
 }
 
-/// What was typed, once more bytes were.
+impl Typed {
+    /// Whether nothing is begun, neither a statement nor a comment.
+    fn is_empty(self) -> bool {
+        !self.is_begun && self.place == Place::Outside
+    }
+}
+
+/// Returns what was typed, once more bytes were.
 fn typed_with(before: Typed, bytes: &[u8]) -> Typed {
     let mut typed = before;
     for byte in bytes {
@@ -73,10 +86,31 @@ fn typed_with(before: Typed, bytes: &[u8]) -> Typed {
     typed
 }
 
+/// A word that is no part of a script.
+#[derive(Clone, Copy, PartialEq, Eq, Debug)]
+enum Order {
+    Help,
+    Quit,
+}
+
+/// Returns the order of a line, where it has one alone, with a `;` or without: `help`, `quit` or `exit` in any case.
+fn order_of(line: &[u8]) -> Option<Order> {
+    let word = line.trim_ascii();
+    let word = word.strip_suffix(b";").unwrap_or(word).trim_ascii_end();
+    if word.eq_ignore_ascii_case(b"help") {
+        Some(Order::Help)
+    } else if word.eq_ignore_ascii_case(b"quit") || word.eq_ignore_ascii_case(b"exit") {
+        Some(Order::Quit)
+    } else {
+        None
+    }
+}
+
 /// A reader at a terminal: before each read it writes to the standard error what it waits for, a statement or more of
-/// one, and at the end of the input a line feed.
+/// one, and at the end of the input a line feed. It takes the orders that are typed where nothing is begun: `help` is
+/// answered on the standard error, and `quit` and `exit` end the input.
 #[derive(Drop)]
-pub struct Prompted<'a, E: Eprint, R> {
+pub(crate) struct Prompted<'a, E: Eprint, R> {
     rt: &'a E,
     reader: R,
     typed: Typed,
@@ -84,30 +118,59 @@ pub struct Prompted<'a, E: Eprint, R> {
 
 impl<'a, E: Eprint, R: Read + Drop> Prompted<'a, E, R> {
     /// A reader of which nothing was read yet.
-    pub fn new(rt: &'a E, reader: R) -> Prompted<'a, E, R> {
+    pub(crate) fn new(rt: &'a E, reader: R) -> Prompted<'a, E, R> {
         let typed = Typed {
             place: Place::Outside,
             is_begun: false,
         };
         Prompted { rt, reader, typed }
     }
-}
 
-impl<E: Eprint, R: Read + Drop> Read for Prompted<'_, E, R> {
-    ghost remaining = { λ s. R.remaining s.reader };
-
-    fn read(&mut self, buf: &mut [u8]) -> io::Result<usize> {
+    /// Writes what is waited for.
+    fn prompt(&self) {
         let prompt = if self.typed.is_begun {
             "...> "
         } else {
             "tql> "
         };
         let _ = eprint!(self.rt; "{prompt}");
-        let count = self.reader.read(buf)?;
-        if count == 0 {
+    }
+
+    /// Returns the order in what was read, where nothing was begun before.
+    fn order_in(&self, bytes: &[u8]) -> Option<Order> {
+        if self.typed.is_empty() {
+            order_of(bytes)
+        } else {
+            None
+        }
+    }
+
+    /// Keeps what was read of the script, and ends the last line at the end of the input.
+    fn keep(&mut self, bytes: &[u8]) {
+        if bytes.is_empty() {
             let _ = eprintln!(self.rt; "");
         }
-        self.typed = typed_with(self.typed, buf.get(..count).unwrap_or(b""));
-        Ok(count)
+        self.typed = typed_with(self.typed, bytes);
+    }
+}
+
+impl<E: Eprint, R: Read + Drop> Read for Prompted<'_, E, R> {
+    fn read(&mut self, buf: &mut [u8]) -> io::Result<usize> {
+        for _ in 0..u64::MAX {
+            self.prompt();
+            let count = self.reader.read(buf)?;
+            let bytes = buf.get(..count).unwrap_or(b"");
+            match self.order_in(bytes) {
+                None => {
+                    self.keep(bytes);
+                    return Ok(count);
+                }
+                Some(Order::Quit) => return Ok(0),
+                Some(Order::Help) => {
+                    let _ = eprintln!(self.rt; "{HELP}");
+                }
+            }
+        }
+        Ok(0)
     }
 }

@@ -1,4 +1,0 @@
-mod LineLemmas
-mod SizeLemmas
-mod WordLemmas
-mod PlanLemmas

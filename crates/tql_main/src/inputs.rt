@@ -1,0 +1,206 @@
+//! The inputs of a command line, answered one after another by one engine.
+use crate::complaints::Complaints;
+use crate::formats::run_printed;
+use crate::plans::PlansTold;
+use crate::printer::{Printer, Style};
+use crate::progress::{Progress, STANDARD_INPUT, name_of};
+use crate::prompts::Prompted;
+use crate::shown::Shown;
+use crate::status::exit_status;
+use std::fs;
+use std::io::{self, BufWriter, ErrorKind, IsTerminal, Read};
+use tql_check::check::Checker;
+use tql_engine::engine::Engine;
+use tql_memory::{Memory, memory_within};
+use tql_options::options::{CommandLine, Format, Input};
+use tql_result::std_sink::StdSink;
+use tql_run::responder::Responder;
+use tql_run::runner::{Fault, Summary, run};
+use tql_run::std_source::StdSource;
+
+/// What follows a text of the command line: its last statement needs no `;`, and may end in a comment.
+static TEXT_END: &[u8] = b"\n;";
+
+/// What a command line has the program do.
+#[derive(Clone, Copy)]
+pub(crate) struct Job<'a> {
+    pub rt: &'a HostRuntime,
+    pub options: &'a CommandLine<'a>,
+    /// The inputs in their order.
+    pub inputs: &'a [Input<'a>],
+    /// How many bytes may be in use.
+    pub most: usize,
+    pub format: Format,
+}
+
+impl Job<'_> {
+    /// Returns how answers are printed. At a terminal the line of JSON alone says that a statement is refused.
+    fn style(&self) -> Style {
+        let rt = self.rt;
+        let is_told = self.format == Format::Json
+            && rt.stdout().is_terminal()
+            && rt.stderr().is_terminal();
+        Style {
+            format: self.format,
+            quiet: self.options.quiet || is_told,
+            bail: self.options.bail,
+        }
+    }
+}
+
+/// Writes to the standard error why the run of an input stopped.
+fn complain(rt: &impl Eprint, name: &str, fault: Fault) {
+    let name = Shown(name);
+    let _ = match fault {
+        Fault::Read => eprintln!(rt; "tql: cannot read {name}"),
+        Fault::Write => eprintln!(rt; "tql: cannot write the replies to {name}"),
+        Fault::Memory => eprintln!(rt; "tql: out of memory"),
+    };
+}
+
+/// Ends a program that lacked memory before a run.
+pub(crate) fn end_lack(rt: &impl Eprint) -> u8 {
+    complain(rt, STANDARD_INPUT, Fault::Memory);
+    exit_status(&Err(Fault::Memory))
+}
+
+/// Reports that a script cannot be opened.
+fn opening_fault(rt: &impl Eprint, path: &str, error: &io::Error) -> Fault {
+    match error.kind() {
+        ErrorKind::OutOfMemory => {
+            complain(rt, path, Fault::Memory);
+            Fault::Memory
+        }
+        _ => {
+            let path = Shown(path);
+            let _ = eprintln!(rt; "tql: cannot read {path}: {error}");
+            Fault::Read
+        }
+    }
+}
+
+/// Says to whoever sits at a terminal that statements are awaited.
+fn invite(rt: &impl Eprint, is_prompted: bool) {
+    let _ = if is_prompted {
+        eprintln!(rt;
+            "tql: each statement ends with a semicolon; type help for help, quit or Ctrl-D to leave"
+        )
+    } else {
+        eprintln!(rt;
+            "tql: reading a script from the terminal: a semicolon ends each statement, Ctrl-D the script"
+        )
+    };
+}
+
+/// A run of several inputs.
+#[derive(Drop)]
+struct Run<'a> {
+    job: &'a Job<'a>,
+    progress: &'a Progress<'a>,
+    printer: Printer<'a, HostRuntime>,
+}
+
+impl<'a> Run<'a> {
+    /// Answers an input. Plain tables that nothing ends early go through the run that is proved as a whole.
+    fn answer_reader<R: Responder, I: Read + Drop>(
+        &mut self,
+        responder: &mut R,
+        reader: I,
+    ) -> Result<(), Fault> {
+        let rt = self.job.rt;
+        let writer = BufWriter::new(rt.alloc(), io::writer(rt)).map_err(|_| Fault::Memory)?;
+        let mut sink = StdSink::new(writer);
+        let mut source = StdSource::new(reader);
+        if self.job.format == Format::Table && !self.job.options.bail {
+            let mut complaints = Complaints::new(rt, self.job.options.quiet, self.progress);
+            let outcome = run(responder, &mut source, &mut sink, &mut complaints);
+            self.printer.add_run(outcome)
+        } else {
+            run_printed(&mut self.printer, responder, &mut source, &mut sink)
+        }
+    }
+
+    /// Answers the standard input, with prompts at a terminal.
+    fn answer_standard<R: Responder>(&mut self, responder: &mut R) -> Result<(), Fault> {
+        let rt = self.job.rt;
+        let input = rt.reader();
+        if !input.is_terminal() {
+            return self.answer_reader(responder, input);
+        }
+        let is_prompted = rt.stdout().is_terminal();
+        invite(rt, is_prompted);
+        if is_prompted {
+            self.answer_reader(responder, Prompted::new(rt, input))
+        } else {
+            self.answer_reader(responder, input)
+        }
+    }
+
+    /// Answers an input.
+    fn answer_input<R: Responder>(
+        &mut self,
+        responder: &mut R,
+        input: Input<'_>,
+    ) -> Result<(), Fault> {
+        let outcome = match input {
+            Input::Standard => self.answer_standard(responder),
+            Input::Text(text) => self.answer_reader(responder, text.as_bytes().chain(TEXT_END)),
+            Input::File(path) => match fs::open(self.job.rt, path) {
+                Ok(file) => self.answer_reader(responder, file),
+                Err(error) => return Err(opening_fault(self.job.rt, path, &error)),
+            },
+        };
+        if let Err(fault) = outcome {
+            complain(self.job.rt, name_of(input), fault);
+        }
+        outcome
+    }
+
+    /// Answers the inputs in their order, until one fails or the run is to end.
+    fn answer_inputs<R: Responder>(&mut self, responder: &mut R) -> Result<Summary, Fault> {
+        for (place, input) in self.job.inputs.iter().enumerate() {
+            self.progress.begin(place);
+            self.answer_input(responder, *input)?;
+            if self.printer.is_done() {
+                break;
+            }
+        }
+        Ok(self.printer.summary())
+    }
+}
+
+/// Answers the inputs of a job by a responder.
+fn answer_by<'a, R: Responder>(
+    job: &'a Job<'a>,
+    progress: &'a Progress<'a>,
+    responder: &mut R,
+) -> Result<Summary, Fault> {
+    let printer = Printer::new(job.rt, responder.memory(), job.style(), progress);
+    let mut run = Run {
+        job,
+        progress,
+        printer,
+    };
+    run.answer_inputs(responder)
+}
+
+/// Runs the inputs of a job, or checks them, within a bound of memory.
+fn answer_within(job: &Job<'_>, memory: Memory) -> Result<Summary, Fault> {
+    let progress = Progress::new(job.inputs);
+    if job.options.check {
+        answer_by(job, &progress, &mut Checker::new(memory))
+    } else if job.options.plans {
+        let mut told = PlansTold::new(job.rt, Engine::new(memory), &progress);
+        answer_by(job, &progress, &mut told)
+    } else {
+        answer_by(job, &progress, &mut Engine::new(memory))
+    }
+}
+
+/// Runs the inputs of a job, or checks them, and returns the exit status.
+pub(crate) fn answer_job(job: &Job<'_>) -> u8 {
+    match memory_within(job.rt.alloc(), job.most) {
+        Ok(memory) => exit_status(&answer_within(job, memory)),
+        Err(_) => end_lack(job.rt),
+    }
+}

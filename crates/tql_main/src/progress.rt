@@ -1,0 +1,80 @@
+//! Where a run is.
+use crate::shown::Shown;
+use std::cell::Cell;
+use std::fmt;
+use tql_options::options::Input;
+
+/// What the standard input is called.
+pub(crate) static STANDARD_INPUT: &str = "the standard input";
+
+/// What a text of the command line is called.
+static TEXT: &str = "-c";
+
+/// The name of an input, where lines on the standard error give it.
+#[derive(Clone, Copy)]
+pub(crate) struct Label<'a>(Option<&'a str>);
+
+impl fmt::Display for Label<'_> {
+    fn fmt<W: fmt::Write>(&self, f: &mut fmt::Formatter<W>) -> fmt::Result {
+        match self.0 {
+            Some(name) => {
+                let name = Shown(name);
+                write!(f, "{name}: ")
+            }
+            None => Ok(()),
+        }
+    }
+}
+
+/// Returns what an input is called.
+pub(crate) fn name_of(input: Input<'_>) -> &str {
+    match input {
+        Input::Standard => STANDARD_INPUT,
+        Input::File(path) => path,
+        Input::Text(_) => TEXT,
+    }
+}
+
+/// Where a run is: how many statements it has met, and which input it reads. All that writes to the standard error
+/// shares it.
+#[derive(Drop)]
+pub(crate) struct Progress<'a> {
+    inputs: &'a [Input<'a>],
+    /// The place of the input that is read.
+    place: Cell<usize>,
+    statements: Cell<u64>,
+}
+
+impl<'a> Progress<'a> {
+    /// The progress of a run over these inputs that has read nothing.
+    pub(crate) fn new(inputs: &'a [Input<'a>]) -> Progress<'a> {
+        Progress {
+            inputs,
+            place: Cell::new(0),
+            statements: Cell::new(0),
+        }
+    }
+
+    /// Begins the input at a place.
+    pub(crate) fn begin(&self, place: usize) {
+        self.place.set(place);
+    }
+
+    /// Returns how many statements the run has met, over all inputs.
+    pub(crate) fn statements(&self) -> u64 {
+        self.statements.get()
+    }
+
+    /// Sets how many statements the run has met.
+    pub(crate) fn set_statements(&self, count: u64) {
+        self.statements.set(count);
+    }
+
+    /// Returns what names the input in a line: its name where there are several inputs, and else nothing.
+    pub(crate) fn label(&self) -> Label<'a> {
+        match self.inputs.get(self.place.get()) {
+            Some(input) if self.inputs.len() > 1 => Label(Some(name_of(*input))),
+            _ => Label(None),
+        }
+    }
+}
