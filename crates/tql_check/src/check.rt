@@ -1,10 +1,11 @@
 //! Checking statements: each is read alone, over the whole grammar, and none is run.
-ghost use Rattle.std.specs.Prelude.{⊤};
+ghost use Rattle.std.specs.Prelude.{⊤, []};
 ghost use Rattle.tql_spec.specs.Machine.{State};
 ghost use Rattle.tql_spec.specs.Run.{Checks, finished};
 ghost use Rattle.tql_result.specs.Replies.{answer_of, IsPrintableAnswer};
 ghost use Rattle.tql_run.specs.Hearing.{hearing_change};
 ghost use Rattle.tql_run.specs.Runs.{Runs, source_change, sink_change};
+ghost use Rattle.tql_run.specs.RunsIn.{RunsIn, manner};
 ghost use Rattle.tql_run.proofs.Faults.{checks_refuse};
 
 use tql_detail::detail::Detail;
@@ -13,9 +14,10 @@ use tql_result::answer::Answer;
 use tql_result::reply::Reply;
 use tql_result::sink::Sink;
 use tql_run::device::Source;
+use tql_run::form::{Form, PlainForm};
 use tql_run::listener::Listener;
 use tql_run::responder::Responder;
-use tql_run::runner::{Fault, Summary, run};
+use tql_run::runner::{Fault, Summary, run_in};
 use tql_syntax::text::read_text;
 use tql_syntax_fault::told::{depth_detail, syntax_detail};
 use tql_syntax_tree::width::is_too_wide;
@@ -75,9 +77,28 @@ impl Responder for Checker {
 }
 
 /// Checks a script without running it: checks its statements one after another, each as soon as it is whole, and writes
-/// each answer to the sink. The source is pulled only where no whole statement is left, and where the sink has passed
-/// on all answers before. A device that fails ends the check as it ends a run, and a refused statement ends nothing;
-/// the listener is told of it. The summary counts the answers, and the refusals among them.
+/// each answer in a form to the sink. The source is pulled only where no whole statement is left, and where the sink
+/// has passed on all answers before. A device that fails ends the check as it ends a run. Where `bail` says so, the
+/// first refusal stops it, as it stops a run, and else a refused statement ends nothing; the listener is told of it.
+/// The summary counts the answers, and the refusals among them.
+pub fn check_script_in<I: Source<O>, O: Sink, L: Listener, F: Form>(
+    memory: Memory,
+    source: &mut I,
+    sink: &mut O,
+    listener: &mut L,
+    form: &mut F,
+    bail: bool,
+) -> Result<Summary, Fault>
+    ensures { F.wrote form.old [] → (s : State) → RunsIn (manner Checks F.texts bail) s (λ _. ⊤)
+        (source_change I.left I.failures I.ended source.old source.new)
+        (sink_change O.written O.failures O.flushed O.flushes_fail sink.old sink.new)
+        (hearing_change L.heard listener.old listener.new) result }
+{
+    let mut checker = Checker::new(memory);
+    run_in(&mut checker, source, sink, listener, form, bail)
+}
+
+/// Checks a script as `check_script_in` does, in the plain form; a refused statement ends nothing.
 pub fn check_script<I: Source<O>, O: Sink, L: Listener>(
     memory: Memory,
     source: &mut I,
@@ -89,6 +110,5 @@ pub fn check_script<I: Source<O>, O: Sink, L: Listener>(
         (sink_change O.written O.failures O.flushed O.flushes_fail sink.old sink.new)
         (hearing_change L.heard listener.old listener.new) result }
 {
-    let mut checker = Checker::new(memory);
-    run(&mut checker, source, sink, listener)
+    check_script_in(memory, source, sink, listener, &mut PlainForm, false)
 }

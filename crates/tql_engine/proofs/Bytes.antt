@@ -22,13 +22,13 @@ use Rattle.tql_run.specs.Ending.{AllEndSurely, Responds}
 -- ---- replies
 
 -- answers that are the machine's replies
-record Replying (old : State) (pieces : List Piece) (answers : List Answer) (new : State) : Type 0 where
-  replies : List Reply
-  all : answers ≡ map Replied replies
-  ran : Run old pieces replies new
-  ends : AllEndSurely pieces replies
+pub record Replying (old : State) (pieces : List Piece) (answers : List Answer) (new : State) : Type 0 where
+  pub replies : List Reply
+  pub all : answers ≡ map Replied replies
+  pub ran : Run old pieces replies new
+  pub ends : AllEndSurely pieces replies
 
-replying : (old : State) (pieces : List Piece) (answers : List Answer) (new : State)
+pub replying : (old : State) (pieces : List Piece) (answers : List Answer) (new : State)
     → RunBy Responds old pieces answers new → Replying old pieces answers new
 replying old [] [] new r = record { replies = []; all = refl; ran = r; ends = tt }
 replying old (p ∷ ps) (Replied x ∷ xs) new (mid, a, r) =

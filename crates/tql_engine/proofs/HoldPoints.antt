@@ -1,6 +1,7 @@
 -- Keys and references hold at every point behind each step and each run, where they held before it.
 use Rattle.std.proofs.Common.{refl, subst, sym, ℕ, List, [], ◌∷◌, inr, Option, Some, None, Ok, Err}
-use Rattle.std.specs.Prelude.{Result}
+use Rattle.std.proofs.Common.{true, false}
+use Rattle.std.specs.Prelude.{Result, Bool, MatchBool}
 use Rattle.tql_spec.specs.Answer.{Answer, Replied, Accepted}
 use Rattle.tql_spec.specs.AtPoints.{HoldAtPoints}
 use Rattle.tql_spec.specs.History.{Entry}
@@ -10,7 +11,9 @@ use Rattle.tql_spec.specs.Script.{Piece, statements}
 use Rattle.tql_spec.proofs.AtPoints.{runs_keep_points}
 use Rattle.tql_run.specs.Hearing.{HearingChange}
 use Rattle.tql_run.specs.Responding.{Answered}
-use Rattle.tql_run.specs.Runs.{Runs, SourceChange, SinkChange}
+use Rattle.tql_run.specs.Runs.{SourceChange, SinkChange}
+use Rattle.tql_run.specs.RunsIn.{RunsIn, RunsToRefusal, RunsWholeIn, manner, stops}
+use Rattle.tql_run.specs.Texts.{Texts}
 use Rattle.tql_run.specs.declared.runner.Summary.{Summary}
 use Rattle.tql_run.specs.declared.runner.Fault.{Fault}
 use Rattle.tql_run.specs.declared.runner.Fault.TheVariants.{Read, Write, Memory}
@@ -42,39 +45,75 @@ step_holds old new s p r h a = record {
   stands = record { stands = a.stands; holds = keeps_one s a.state p r h.holds a.answers };
 }
 
--- a run
-pub run_holds : (new : EngineModel) (s : State) (source : SourceChange) (sink : SinkChange)
-    (hearing : HearingChange) (result : Result Summary Fault) → HoldAtPoints s
-    → Runs Responds s (StandsFor new) source sink hearing result
-    → Runs Responds s (HoldsFor new) source sink hearing result
-run_holds new s source sink hearing (Ok summary) h r = record {
-  script = r.script;
-  given = r.given;
-  ended = r.ended;
-  answers = r.answers;
-  state = r.state;
-  ran = r.ran;
-  stands = record { stands = r.stands; holds = keeps_all s r.state _ r.answers h r.ran };
-  heard = r.heard;
-  written = r.written;
-  counts = r.counts;
-  writes = r.writes;
-  flushed = r.flushed;
-}
-run_holds new s source sink hearing (Err Read) h r = record {
+-- a run in a form
+pub run_in_holds : (texts : Texts) (bail : Bool) (new : EngineModel) (s : State) (source : SourceChange)
+    (sink : SinkChange) (hearing : HearingChange) (result : Result Summary Fault) → HoldAtPoints s
+    → RunsIn (manner Responds texts bail) s (StandsFor new) source sink hearing result
+    → RunsIn (manner Responds texts bail) s (HoldsFor new) source sink hearing result
+run_in_holds texts bail new s source sink hearing (Ok summary) h r = by_case (stops bail summary) r
+  where
+    by_case : (b : Bool)
+        → MatchBool b (RunsToRefusal (manner Responds texts bail) s (StandsFor new) source sink hearing summary)
+        (RunsWholeIn (manner Responds texts bail) s (StandsFor new) source sink hearing summary)
+        → MatchBool b (RunsToRefusal (manner Responds texts bail) s (HoldsFor new) source sink hearing summary)
+        (RunsWholeIn (manner Responds texts bail) s (HoldsFor new) source sink hearing summary)
+    by_case true r = record {
+      script = r.script;
+      given = r.given;
+      met = r.met;
+      read = r.read;
+      done = r.done;
+      rest = r.rest;
+      parts = r.parts;
+      first = r.first;
+      answers = r.answers;
+      refused = r.refused;
+      state = r.state;
+      ran = r.ran;
+      stands = record { stands = r.stands; holds = keeps_all s r.state r.done r.answers h r.ran };
+      heard = r.heard;
+      text = r.text;
+      texts = r.texts;
+      written = r.written;
+      counts = r.counts;
+      writes = r.writes;
+      flushed = r.flushed;
+      pulled = r.pulled;
+    }
+    by_case false r = record {
+      script = r.script;
+      given = r.given;
+      ended = r.ended;
+      answers = r.answers;
+      goes_on = r.goes_on;
+      state = r.state;
+      ran = r.ran;
+      stands = record { stands = r.stands; holds = keeps_all s r.state _ r.answers h r.ran };
+      heard = r.heard;
+      text = r.text;
+      texts = r.texts;
+      written = r.written;
+      counts = r.counts;
+      writes = r.writes;
+      flushed = r.flushed;
+    }
+run_in_holds texts bail new s source sink hearing (Err Read) h r = record {
   script = r.script;
   given = r.given;
   cut = r.cut;
   answers = r.answers;
+  goes_on = r.goes_on;
   state = r.state;
   ran = r.ran;
   stands = record { stands = r.stands; holds = keeps_all s r.state _ r.answers h r.ran };
   heard = r.heard;
+  text = r.text;
+  texts = r.texts;
   written = r.written;
   writes = r.writes;
   flushed = r.flushed;
 }
-run_holds new s source sink hearing (Err Write) h r = record {
+run_in_holds texts bail new s source sink hearing (Err Write) h r = record {
   script = r.script;
   given = r.given;
   met = r.met;
@@ -93,7 +132,7 @@ run_holds new s source sink hearing (Err Write) h r = record {
   written = r.written;
   cause = r.cause;
 }
-run_holds new s source sink hearing (Err Memory) h r = record {
+run_in_holds texts bail new s source sink hearing (Err Memory) h r = record {
   left = r.left;
   reads = r.reads;
   stands = record { stands = r.stands; holds = h };

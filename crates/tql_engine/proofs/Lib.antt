@@ -5,6 +5,7 @@ pub mod Bytes
 pub mod PointRuns
 pub mod Unseen
 pub mod ReaderRuns
+pub mod Agreeing
 pub mod SessionRuns
 pub mod HoldPoints
 pub mod Ending

@@ -3,6 +3,7 @@ use Rattle.std.proofs.Common.{◌≡◌, refl, sym, ap, subst, ◌∙◌, ℕ, L
 use Rattle.std.proofs.lemmas.List.{append_assoc, append-nil}
 use Rattle.std.specs.Prelude.{IsTrue}
 use Rattle.tql_spec.specs.Answer.{Answer, Replied, Accepted}
+use Rattle.tql_spec.specs.HorizonLaws.{PrunesAreUnseen}
 use Rattle.tql_spec.specs.Machine.{State, Reply}
 use Rattle.tql_spec.specs.Run.{Answers, Run}
 use Rattle.tql_spec.specs.Script.{Piece, statements}
@@ -15,6 +16,7 @@ use Rattle.tql_run.specs.Responding.{Answered}
 use Rattle.tql_engine.proofs.HoldPoints.{step_holds}
 use Rattle.tql_run.specs.Ending.{AllEndSurely, EndsSurely, Responds}
 use Rattle.tql_engine.specs.HoldPoints.{HoldsFor}
+use Rattle.tql_engine.specs.ReaderRuns.{RunsReadStably}
 use Rattle.tql_engine.specs.Sessions.{Call, Feed, Finish, Next, Calls, fed, given, SessionsHold}
 use Rattle.tql_engine_state.specs.Stands.{EngineModel, StandsFor}
 
@@ -154,8 +156,8 @@ ran_on (Next (Some answer) ∷ cs) old new before after passed left holds (mid, 
       holds = k.holds;
     }
 
-pub sessions_hold : SessionsHold
-sessions_hold old new before after calls holds turns s h =
+pub sessions_hold : PrunesAreUnseen → RunsReadStably → SessionsHold
+sessions_hold prunes reads old new before after calls holds turns s h =
     let k = ran_on calls old new before after [] [] holds turns s h in
     record {
       done = k.done;
@@ -168,4 +170,6 @@ sessions_hold old new before after calls holds turns s h =
       ends = k.ends;
       holds = k.holds;
       agrees = runs_agree s k.done k.replies k.state k.ran;
+      readers = reads s k.state k.done k.replies k.ran;
+      unseen = λ ordered. prunes s k.state k.done k.replies ordered k.ran;
     }

@@ -3,6 +3,7 @@ pub mod Bytes
 pub mod PointRuns
 pub mod Unseen
 pub mod ReaderRuns
+pub mod Agreeing
 pub mod Sessions
 pub mod HoldPoints
 pub mod ColumnKinds

@@ -1,7 +1,9 @@
 -- What a host does with a session over an engine, and what the engine then stands for.
 use Rattle.std.specs.Prelude.{◌≡◌, ℕ, List, [], ◌∷◌, ◌++◌, map, Option, Some, None}
 use Rattle.tql_spec.specs.Answer.{Answer, Replied}
+use Rattle.tql_spec.specs.HorizonLaws.{RunsWithout, other_pieces, other_replies}
 use Rattle.tql_spec.specs.Machine.{State, Reply}
+use Rattle.tql_spec.specs.Reached.{IsInOrder}
 use Rattle.tql_spec.specs.Run.{Run}
 use Rattle.tql_spec.specs.Script.{Piece, statements}
 use Rattle.tql_points.specs.PointRun.{AgreesAtPoints}
@@ -14,6 +16,7 @@ use Rattle.tql_result.specs.declared.answer.Answer as code
 use Rattle.tql_run.specs.Writing.{AnswersNext}
 use Rattle.tql_run.specs.Ending.{AllEndSurely, Responds}
 use Rattle.tql_engine.specs.HoldPoints.{HoldsFor}
+use Rattle.tql_engine.specs.ReaderRuns.{ReadsStably}
 use Rattle.tql_engine_state.specs.Stands.{EngineModel, StandsFor}
 
 -- a call of a session, and what came of it: these bytes were taken; the end was told; the next answer, or none
@@ -51,8 +54,9 @@ given (Next None ∷ cs) = given cs
 given (Next (Some answer) ∷ cs) = answer_of answer ∷ given cs
 
 -- The answers are the machine's replies to the first statements of what was fed, whatever may follow it; the engine
--- stands for the state behind them, in whose copies, the working one too, keys and references hold at every point; and
--- they agree with the machines of all points.
+-- stands for the state behind them, in whose copies, the working one too, keys and references hold at every point; they
+-- agree with the machines of all points; each READ has the reply that its query would have had at the opening; and
+-- without the statements that pruned, or were refused for the horizon, all others are answered the same.
 pub record SessionRan (s : State) (calls : List Call) (stream : Stream) (after : EngineModel) : Type 0 where
   pub done : List Piece
   pub left : List ℕ
@@ -65,6 +69,8 @@ pub record SessionRan (s : State) (calls : List Call) (stream : Stream) (after :
   pub ends : AllEndSurely done replies
   pub holds : HoldsFor after state
   pub agrees : AgreesAtPoints s done replies state
+  pub readers : ReadsStably s done replies
+  pub unseen : IsInOrder s → RunsWithout s (other_pieces done replies) (other_replies replies) state
 
 -- the law: so it is behind each call of a new session, from every state of which keys and references hold so
 abbrev pub SessionsHold : Type 0

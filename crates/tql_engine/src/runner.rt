@@ -1,13 +1,17 @@
 //! A whole run of a script on an engine.
+ghost use Rattle.std.specs.Prelude.{[], false};
 ghost use Rattle.tql_spec.specs.Machine.{State};
 ghost use Rattle.tql_spec.specs.Reached.{IsInOrder};
 ghost use Rattle.tql_run.specs.Hearing.{hearing_change};
 ghost use Rattle.tql_run.specs.Runs.{Runs, source_change, sink_change};
+ghost use Rattle.tql_run.specs.RunsIn.{RunsIn, manner};
+ghost use Rattle.tql_run.specs.Texts.{plain_texts};
 ghost use Rattle.tql_engine.specs.Bytes.{RunsBytes};
 ghost use Rattle.tql_run.specs.Ending.{Responds};
 ghost use Rattle.tql_engine.specs.HoldPoints.{HoldsFor};
 ghost use Rattle.tql_engine.specs.PointRuns.{BytesAgreeAtPoints};
 ghost use Rattle.tql_engine.specs.ReaderRuns.{BytesReadStably};
+ghost use Rattle.tql_engine.specs.Agreeing.{RunsAgreeing};
 ghost use Rattle.tql_engine_state.specs.Stands.{StandsFor};
 ghost use Rattle.tql_engine.specs.Unseen.{BytesPruneUnseen};
 
@@ -18,6 +22,7 @@ use tql_memory::Memory;
 use tql_result::sink::Sink;
 use tql_result::vec_sink::VecSink;
 use tql_run::device::Source;
+use tql_run::form::{Form, PlainForm};
 use tql_run::listener::Listener;
 use tql_run::responder::Responder;
 use tql_run::runner::{Fault, MOST_PULLS, Summary};
@@ -28,14 +33,52 @@ use tql_spec::pruned_history;
 /// From so many bytes on a script in memory is not read, as a source of so many is not: `run` says `Read` of both.
 const TOO_MANY_BYTES: usize = MOST_PULLS as usize;
 
-/// Runs the statements of a script one after another, writes each reply to the sink, and tells the listener of those
-/// that are refused, behind the push of the reply. Each statement runs as soon as it is whole: the source is pulled
-/// only where no whole statement is left, and where the sink has passed on all replies before. Where the source fails,
-/// the statements that came whole before that have run and stand, and the run says `Read`; where the sink fails, no
-/// statement runs behind the one whose reply it did not take, and the run says `Write`. A refused statement does not
-/// stop the run. Memory for a whole script is not asked for: where a statement finds none it is refused, and `Memory`
-/// is said only of what a run takes at its start. Where keys and references hold at every point of time in each copy
-/// before it, the working one too, they do behind it (clause `holds`).
+/// Runs the statements of a script one after another, writes each reply in a form to the sink, and tells the listener
+/// of those that are refused, behind the push of the reply. Each statement runs as soon as it is whole: the source is
+/// pulled only where no whole statement is left, and where the sink has passed on all replies before. Where the source
+/// fails, the statements that came whole before that have run and stand, and the run says `Read`; where the sink fails,
+/// no statement runs behind the one whose reply it did not take, and the run says `Write`. Where `bail` says so, the
+/// first refusal stops the run, which ends well then: no statement behind it runs, and nothing is pulled behind it.
+/// Else a refused statement does not stop the run. Memory for a whole script is not asked for: where a statement finds
+/// none it is refused, and `Memory` is said only of what a run takes at its start.
+///
+/// What ran agrees with the machines of all points: where its first statements make tables in scope and those behind
+/// them are in scope, it is at each point what a plain machine without periods does. What a READ answers is what its
+/// query would have been answered when the reader was opened, by this run or an earlier one, whatever was written
+/// since; that is said of each that is not refused for the horizon, the reader or memory. What the run prunes is not
+/// seen: without the statements that pruned, or were refused for the horizon, all others are answered the same (all
+/// three by clause `agrees`). Where keys and references hold at every point of time in each copy before it, the working
+/// one too, they do behind it (clause `holds`).
+pub fn run_in<I: Source<O>, O: Sink, L: Listener, F: Form>(
+    engine: &mut Engine,
+    source: &mut I,
+    sink: &mut O,
+    listener: &mut L,
+    form: &mut F,
+    bail: bool,
+) -> Result<Summary, Fault>
+    ensures ran { F.wrote form.old [] → (s : State) → StandsFor engine.old s
+        → RunsIn (manner Responds F.texts bail) s (StandsFor engine.new)
+        (source_change I.left I.failures I.ended source.old source.new)
+        (sink_change O.written O.failures O.flushed O.flushes_fail sink.old sink.new)
+        (hearing_change L.heard listener.old listener.new) result }
+    ensures agrees { F.wrote form.old [] → (s : State) → StandsFor engine.old s
+        → RunsAgreeing F.texts bail s (StandsFor engine.new)
+        (source_change I.left I.failures I.ended source.old source.new)
+        (sink_change O.written O.failures O.flushed O.flushes_fail sink.old sink.new)
+        (hearing_change L.heard listener.old listener.new) result }
+    ensures holds { F.wrote form.old [] → (s : State) → HoldsFor engine.old s
+        → RunsIn (manner Responds F.texts bail) s (HoldsFor engine.new)
+        (source_change I.left I.failures I.ended source.old source.new)
+        (sink_change O.written O.failures O.flushed O.flushes_fail sink.old sink.new)
+        (hearing_change L.heard listener.old listener.new) result }
+{
+    pruned_history();
+    readers_agree();
+    tql_run::runner::run_in(engine, source, sink, listener, form, bail)
+}
+
+/// Runs the statements of a script as `run_in` does, in the plain form; a refused statement does not stop the run.
 pub fn run<I: Source<O>, O: Sink, L: Listener>(
     engine: &mut Engine,
     source: &mut I,
@@ -46,12 +89,16 @@ pub fn run<I: Source<O>, O: Sink, L: Listener>(
         (source_change I.left I.failures I.ended source.old source.new)
         (sink_change O.written O.failures O.flushed O.flushes_fail sink.old sink.new)
         (hearing_change L.heard listener.old listener.new) result }
+    ensures agrees { (s : State) → StandsFor engine.old s → RunsAgreeing plain_texts false s (StandsFor engine.new)
+        (source_change I.left I.failures I.ended source.old source.new)
+        (sink_change O.written O.failures O.flushed O.flushes_fail sink.old sink.new)
+        (hearing_change L.heard listener.old listener.new) result }
     ensures holds { (s : State) → HoldsFor engine.old s → Runs Responds s (HoldsFor engine.new)
         (source_change I.left I.failures I.ended source.old source.new)
         (sink_change O.written O.failures O.flushed O.flushes_fail sink.old sink.new)
         (hearing_change L.heard listener.old listener.new) result }
 {
-    tql_run::runner::run(engine, source, sink, listener)
+    run_in(engine, source, sink, listener, &mut PlainForm, false)
 }
 
 /// Runs a script that is in memory, and puts its replies behind the output. Where the output finds no memory, no
