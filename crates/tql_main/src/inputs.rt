@@ -14,8 +14,9 @@ use tql_engine::engine::Engine;
 use tql_memory::{Memory, memory_within};
 use tql_options::options::{CommandLine, Format, Input};
 use tql_result::std_sink::StdSink;
+use tql_run::form::PlainForm;
 use tql_run::responder::Responder;
-use tql_run::runner::{Fault, Summary, run};
+use tql_run::runner::{Fault, Summary, run_in};
 use tql_run::std_source::StdSource;
 
 /// What follows a text of the command line: its last statement needs no `;`, and may end in a comment.
@@ -101,7 +102,7 @@ struct Run<'a> {
 }
 
 impl<'a> Run<'a> {
-    /// Answers an input. Plain tables that nothing ends early go through the run that is proved as a whole.
+    /// Answers an input. Plain tables go through the run that is proved as a whole, with `--bail` too.
     fn answer_reader<R: Responder, I: Read + Drop>(
         &mut self,
         responder: &mut R,
@@ -111,9 +112,17 @@ impl<'a> Run<'a> {
         let writer = BufWriter::new(rt.alloc(), io::writer(rt)).map_err(|_| Fault::Memory)?;
         let mut sink = StdSink::new(writer);
         let mut source = StdSource::new(reader);
-        if self.job.format == Format::Table && !self.job.options.bail {
+        if self.job.format == Format::Table {
             let mut complaints = Complaints::new(rt, self.job.options.quiet, self.progress);
-            let outcome = run(responder, &mut source, &mut sink, &mut complaints);
+            let bail = self.job.options.bail;
+            let outcome = run_in(
+                responder,
+                &mut source,
+                &mut sink,
+                &mut complaints,
+                &mut PlainForm,
+                bail,
+            );
             self.printer.add_run(outcome)
         } else {
             run_printed(&mut self.printer, responder, &mut source, &mut sink)
