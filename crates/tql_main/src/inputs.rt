@@ -7,12 +7,13 @@ use crate::progress::{Progress, STANDARD_INPUT, name_of};
 use crate::prompts::Prompted;
 use crate::shown::Shown;
 use crate::status::exit_status;
+use std::alloc::{AllocError, Global};
 use std::fs;
 use std::io::{self, BufWriter, ErrorKind, IsTerminal, Read};
 use tql_check::check::Checker;
 use tql_engine::engine::Engine;
 use tql_memory::{Memory, memory_within};
-use tql_options::options::{CommandLine, Format, Input};
+use tql_options::options::{Format, Input};
 use tql_result::std_sink::StdSink;
 use tql_run::form::PlainForm;
 use tql_run::responder::Responder;
@@ -20,21 +21,35 @@ use tql_run::runner::{Fault, Summary, run_in};
 use tql_run::std_source::StdSource;
 
 /// What follows a text of the command line: its last statement needs no `;`, and may end in a comment.
-static TEXT_END: &[u8] = b"\n;";
+static TEXT_END: &str = "\n;";
+
+/// Returns the script of a text of the command line. The only error is a refused allocation.
+fn script_of(alloc: Global, text: &str) -> Result<String, AllocError> {
+    let mut script = String::from_str(alloc, text)?;
+    script.push_str(TEXT_END)?;
+    Ok(script)
+}
 
 /// What a command line has the program do.
 #[derive(Clone, Copy)]
-pub(crate) struct Job<'a> {
-    pub rt: &'a HostRuntime,
-    pub options: &'a CommandLine<'a>,
+pub(crate) struct Job<'r, 'i> {
+    pub rt: &'r HostRuntime,
+    /// Whether statements are checked, and not run.
+    pub check: bool,
+    /// Whether plans are written to the standard error.
+    pub plans: bool,
+    /// Whether the standard error says nothing of what is done or refused.
+    pub quiet: bool,
+    /// Whether the first refused statement ends the run.
+    pub bail: bool,
     /// The inputs in their order.
-    pub inputs: &'a [Input<'a>],
+    pub inputs: &'i [Input<'i>],
     /// How many bytes may be in use.
     pub most: usize,
     pub format: Format,
 }
 
-impl Job<'_> {
+impl Job<'_, '_> {
     /// Returns how answers are printed. At a terminal the line of JSON alone says that a statement is refused.
     fn style(&self) -> Style {
         let rt = self.rt;
@@ -43,8 +58,8 @@ impl Job<'_> {
             && rt.stderr().is_terminal();
         Style {
             format: self.format,
-            quiet: self.options.quiet || is_told,
-            bail: self.options.bail,
+            quiet: self.quiet || is_told,
+            bail: self.bail,
         }
     }
 }
@@ -96,7 +111,7 @@ fn invite(rt: &impl Eprint, is_prompted: bool) {
 /// A run of several inputs.
 #[derive(Drop)]
 struct Run<'a> {
-    job: &'a Job<'a>,
+    job: &'a Job<'a, 'a>,
     progress: &'a Progress<'a>,
     printer: Printer<'a, HostRuntime>,
 }
@@ -113,8 +128,8 @@ impl<'a> Run<'a> {
         let mut sink = StdSink::new(writer);
         let mut source = StdSource::new(reader);
         if self.job.format == Format::Table {
-            let mut complaints = Complaints::new(rt, self.job.options.quiet, self.progress);
-            let bail = self.job.options.bail;
+            let mut complaints = Complaints::new(rt, self.job.quiet, self.progress);
+            let bail = self.job.bail;
             let outcome = run_in(
                 responder,
                 &mut source,
@@ -145,6 +160,12 @@ impl<'a> Run<'a> {
         }
     }
 
+    /// Answers a text of the command line.
+    fn answer_text<R: Responder>(&mut self, responder: &mut R, text: &str) -> Result<(), Fault> {
+        let script = script_of(self.job.rt.alloc(), text)?;
+        self.answer_reader(responder, script.as_bytes())
+    }
+
     /// Answers an input.
     fn answer_input<R: Responder>(
         &mut self,
@@ -153,7 +174,7 @@ impl<'a> Run<'a> {
     ) -> Result<(), Fault> {
         let outcome = match input {
             Input::Standard => self.answer_standard(responder),
-            Input::Text(text) => self.answer_reader(responder, text.as_bytes().chain(TEXT_END)),
+            Input::Text(text) => self.answer_text(responder, text),
             Input::File(path) => match fs::open(self.job.rt, path) {
                 Ok(file) => self.answer_reader(responder, file),
                 Err(error) => return Err(opening_fault(self.job.rt, path, &error)),
@@ -180,7 +201,7 @@ impl<'a> Run<'a> {
 
 /// Answers the inputs of a job by a responder.
 fn answer_by<'a, R: Responder>(
-    job: &'a Job<'a>,
+    job: &'a Job<'a, 'a>,
     progress: &'a Progress<'a>,
     responder: &mut R,
 ) -> Result<Summary, Fault> {
@@ -194,11 +215,11 @@ fn answer_by<'a, R: Responder>(
 }
 
 /// Runs the inputs of a job, or checks them, within a bound of memory.
-fn answer_within(job: &Job<'_>, memory: Memory) -> Result<Summary, Fault> {
+fn answer_within(job: &Job<'_, '_>, memory: Memory) -> Result<Summary, Fault> {
     let progress = Progress::new(job.inputs);
-    if job.options.check {
+    if job.check {
         answer_by(job, &progress, &mut Checker::new(memory))
-    } else if job.options.plans {
+    } else if job.plans {
         let mut told = PlansTold::new(job.rt, Engine::new(memory), &progress);
         answer_by(job, &progress, &mut told)
     } else {
@@ -207,7 +228,7 @@ fn answer_within(job: &Job<'_>, memory: Memory) -> Result<Summary, Fault> {
 }
 
 /// Runs the inputs of a job, or checks them, and returns the exit status.
-pub(crate) fn answer_job(job: &Job<'_>) -> u8 {
+pub(crate) fn answer_job(job: &Job<'_, '_>) -> u8 {
     match memory_within(job.rt.alloc(), job.most) {
         Ok(memory) => exit_status(&answer_within(job, memory)),
         Err(_) => end_lack(job.rt),

@@ -57,7 +57,10 @@ fn run_within(rt: &HostRuntime, options: &CommandLine<'_>, most: usize, format: 
     match options.inputs(rt.alloc()) {
         Ok(inputs) => answer_job(&Job {
             rt,
-            options,
+            check: options.check,
+            plans: options.plans,
+            quiet: options.quiet,
+            bail: options.bail,
             inputs: inputs.as_slice(),
             most,
             format,
