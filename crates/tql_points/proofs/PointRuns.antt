@@ -239,8 +239,9 @@ module _ (defs : List TableDef) (all : ArePointTables defs) where
     sound_goes x (AtTree m) h k e = bound_goes x (AtTree m) h refl refl
     sound_goes x (PruneTree m) h k e = bound_goes x (PruneTree m) h refl refl
 
-    -- a statement
-    said_goes : (x : Piece) (t : Statement) → HasSense x (Says t) → is_statement_in_scope defs t ≡ true
+    -- a statement, in scope where it has no fault
+    said_goes : (x : Piece) (t : Statement) → HasSense x (Says t)
+        → ((bind defs t).faults ≡ [] → is_statement_in_scope defs t ≡ true)
         → Goes x (respond s t).0 (respond s t).1
     said_goes x t h k = by_faults (first (bind s.definitions t).faults) refl
       where
@@ -253,7 +254,7 @@ module _ (defs : List TableDef) (all : ArePointTables defs) where
             let same : respond s t ≡ step s (bind defs t).value =
             bound_steps s t e ∙ ap (λ ds. step s (bind ds t).value) here in
             let sound = none_first (bind defs t).faults (sym (ap (λ ds. first (bind ds t).faults) here) ∙ e) in
-            subst (λ (z : Reply × State). Goes x z.0 z.1) (sym same) (sound_goes x t h k sound)
+            subst (λ (z : Reply × State). Goes x z.0 z.1) (sym same) (sound_goes x t h (k sound) sound)
         by_faults (Some f) e =
             let y = faulty defs all s t f e in
             let w = refusal_of (respond s t).0 y.0 in
@@ -272,8 +273,8 @@ module _ (defs : List TableDef) (all : ArePointTables defs) where
 
     -- an answer
     answer_goes : (x : Piece) (reply : Reply) (mid : State)
-        → ((t : Statement) → HasSense x (Says t) → IsTrue (is_statement_in_scope defs t))
-        → Answers s x reply mid → Goes x reply mid
+        → ((t : Statement) → HasSense x (Says t) → (bind defs t).faults ≡ []
+        → IsTrue (is_statement_in_scope defs t)) → Answers s x reply mid → Goes x reply mid
     answer_goes x reply mid scope (inr e) = subst (λ z. Goes x z mid) (sym e.0)
         (stays x (Refused OutOfMemory) mid e.1 (refl, inl refl))
     answer_goes x reply mid scope (inl a) =

@@ -49,7 +49,7 @@ use Rattle.tql_points.proofs.Views.{both_true}
 
 -- ---- where the faults of rows stand in the order of report
 
-abbrev Within : List Refusal → Type 0
+abbrev pub Within : List Refusal → Type 0
 Within xs = (f : Refusal) → In f xs → (17 ≤ place f) × (place f ≤ 21)
 
 within_append : (xs ys : List Refusal) → Within xs → Within ys → Within (xs ++ ys)
@@ -83,11 +83,11 @@ within_check None f (inl q) = (omega (arith, ap place q), omega (arith, ap place
 within_check None f (inr n) = absurd n
 within_check (Some t) f n = within_if (is_false t) CheckFailed (omega arith) (omega arith) f n
 
-within_flat : {A : Type 0} (g : A → List Refusal) (xs : List A) → ((x : A) → Within (g x)) → Within (flat_map g xs)
+pub within_flat : {A : Type 0} (g : A → List Refusal) (xs : List A) → ((x : A) → Within (g x)) → Within (flat_map g xs)
 within_flat g [] h f n = absurd n
 within_flat g (x ∷ xs) h f n = within_append (g x) (flat_map g xs) (h x) (within_flat g xs h) f n
 
-within_row : (d : TableDef) (row : Row) → Within (row_faults d row)
+pub within_row : (d : TableDef) (row : Row) → Within (row_faults d row)
 within_row d row =
     within_append (cell_faults d.columns row ++ period_faults_by d.application d row)
     (flat_map (λ c. check_fault (judge [] row c)) d.checks)
@@ -95,7 +95,7 @@ within_row d row =
     (within_period d.application d row))
     (within_flat (λ c. check_fault (judge [] row c)) d.checks (λ c. within_check (judge [] row c)))
 
-within_out : Within (ValueOutOfRange ∷ [])
+pub within_out : Within (ValueOutOfRange ∷ [])
 within_out f (inl q) = (omega (arith, ap place q), omega (arith, ap place q))
 within_out f (inr n) = absurd n
 
@@ -127,15 +127,15 @@ within_outcome s m copy (Modify t portion work conds) =
 -- ---- marks
 
 -- one for a fault at this place
-abbrev mark : ℕ → Refusal → ℕ
+abbrev pub mark : ℕ → Refusal → ℕ
 mark n f = one_if (place f == n)
 
-marked : (f : Refusal) (xs : List Refusal) → In f xs → 0 < sum_by (mark (place f)) xs
+pub marked : (f : Refusal) (xs : List Refusal) → In f xs → 0 < sum_by (mark (place f)) xs
 marked f xs n =
     let one : mark (place f) f ≡ 1 = ap one_if (equal_test (place f) (place f) refl) in
     omega (arith, one, sum-least (mark (place f)) f xs n)
 
-found_mark : (n : ℕ) (xs : List Refusal) → 0 < sum_by (mark n) xs → (f : Refusal) × In f xs × (place f ≡ n)
+pub found_mark : (n : ℕ) (xs : List Refusal) → 0 < sum_by (mark n) xs → (f : Refusal) × In f xs × (place f ≡ n)
 found_mark n xs l =
     let k = find_positive (mark n) xs l in (k.0, k.1, there k.0 (place k.0 == n) refl k.2)
   where
@@ -144,7 +144,7 @@ found_mark n xs l =
     there f false q z = let e : one_if (place f == n) ≡ 0 = ap one_if q in absurd (omega (arith, z, e))
 
 -- two faults at one place are one
-one_fault : (a b : Refusal) → place a ≡ place b → a ≡ b
+pub one_fault : (a b : Refusal) → place a ≡ place b → a ≡ b
 one_fault a b e = let q = one_place a b e in cc
 
 -- a fault of a test

@@ -81,10 +81,12 @@ pub record IsAtStart (s : State) : Type 0 where
 abbrev pub ArePreparing : List Piece → Type 0
 ArePreparing pieces = (x : Piece) → In x pieces → (t : Statement) → HasSense x (Says t) → IsTrue (prepares t)
 
--- each piece that says a statement says one in scope
+-- each piece that says a statement says one in scope, or one with a fault of its names, kinds, forms or literals: such
+-- a statement is refused, and the machines are not given it
 abbrev pub AreInScope : List TableDef → List Piece → Type 0
 AreInScope defs pieces =
-    (x : Piece) → In x pieces → (t : Statement) → HasSense x (Says t) → IsTrue (is_statement_in_scope defs t)
+    (x : Piece) → In x pieces → (t : Statement) → HasSense x (Says t) → (bind defs t).faults ≡ []
+    → IsTrue (is_statement_in_scope defs t)
 
 -- the law: statements that make tables or set the clock or the horizon keep this, and such a state is the beginning of
 -- its tables, its clock, its horizon and its open readers

@@ -2,6 +2,7 @@
 #![tactic(auto)]
 
 ghost use Rattle.tql_points.specs.ChangeLaw.{SlicesAreThere, InsertionsReduce, ModificationsReduce, BesideStays};
+ghost use Rattle.tql_points.specs.FaultLaw.{ModificationRefusals, InsertionRefusals};
 ghost use Rattle.tql_points.specs.PointMachine.{SnapshotsReduce};
 ghost use Rattle.tql_points.specs.RefusalLaw.{RefusalsReduce};
 ghost use Rattle.tql_points.specs.PointRun.{StartsAreKept, RunsAgreeAtPoints};
@@ -15,6 +16,13 @@ pub fn changes_at_each_point()
     ensures insertions { InsertionsReduce }
     ensures modifications { ModificationsReduce }
     ensures beside { BesideStays }
+{}
+
+/// A change of a table is refused exactly where the change that some point is given is refused, with the first of their
+/// refusals: a value out of range (E30), NULL (E32) or a CHECK (E34).
+pub fn changes_are_refused_at_points()
+    ensures modifications { ModificationRefusals }
+    ensures insertions { InsertionRefusals }
 {}
 
 /// At each point the machine of the point takes all statements that were not refused, and its answers, now and as of
