@@ -26,9 +26,9 @@ pub fn table_named<'c>(
     name: Name<'_>,
 ) -> Result<Option<&'c TableDef>, AllocError> {
     let meant = name.meant(memory)?;
-    match catalog.place_of(meant.as_str()) {
-        Some(place) => Ok(Some(&catalog.table(place).definition)),
-        None => Ok(None),
+    match catalog.find(meant.as_str()) {
+        Ok(table) => Ok(Some(&table.definition)),
+        Err(_) => Ok(None),
     }
 }
 

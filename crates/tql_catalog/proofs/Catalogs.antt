@@ -102,6 +102,11 @@ no_fault true false h = absurd (cc)
 no_fault false true h = absurd (cc)
 no_fault false false h = (refl, refl)
 
+-- no table has the name then
+pub not_placed : (defs : List TableDef) (n : Name) → first (creation_faults defs n) ≡ None
+    → is_some (place_of n defs) ≡ false
+not_placed defs n f = (no_fault (is_some (place_of n defs)) (nat_le 1000 (length defs)) f).0
+
 not_there : (b : Bool) (o : Option ℕ) → is_some (if b then Some 0 else next_place o) ≡ false
     → (b ≡ false) × (is_some o ≡ false)
 not_there true o h = absurd (cc)

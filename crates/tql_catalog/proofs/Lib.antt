@@ -6,4 +6,6 @@ pub mod Parents
 pub mod StoredNumbers
 pub mod Definitions
 pub mod Catalogs
+pub mod Rests
 pub mod SoughtLists
+pub mod ReferringLists

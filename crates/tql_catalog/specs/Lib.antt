@@ -5,3 +5,4 @@ pub mod Codes
 pub mod Defined
 pub mod Columns
 pub mod Tables
+pub mod Referring

@@ -1,11 +1,12 @@
 -- The tables that are there, in the order of their creation.
-use Rattle.std.specs.Prelude.{◌≡◌, ◌≢◌, ◌≤◌, refl, ℕ, ◌++◌, List, [], ◌∷◌, map, length, nat_le, is_some, String}
-use Rattle.std.specs.Prelude.{string_bytes, Bool, true, false, ◌&&◌, IsTrue}
+use Rattle.std.specs.Prelude.{◌≡◌, ◌≢◌, ◌≤◌, refl, ℕ, ◌++◌, List, [], ◌∷◌, map, length, nat_le, is_some, is_none}
+use Rattle.std.specs.Prelude.{String, string_bytes, Bool, true, false, ◌&&◌, IsTrue}
 use Rattle.std.specs.Prelude.{All, Option, Some, None, Result, Ok, Err, ⊤}
 use Rattle.std.specs.List.{AllPairs, list_all}
 use Rattle.std.specs.Coded.{Coded, code_by, coded×, coded_ℕ, coded_list}
 use Rattle.tql_spec.specs.Refusal as spec
-use Rattle.tql_spec.specs.Refusal.{TooManyTablesOrReaders, TableUnknownOrAlreadyThere, fault_if}
+use Rattle.tql_spec.specs.Binding.{is_referenced}
+use Rattle.tql_spec.specs.Refusal.{TooManyTablesOrReaders, TableUnknownOrAlreadyThere, TableIsReferenced, fault_if}
 use Rattle.tql_spec.specs.Definition.{Name, TableDef, Reference, place_of, table_at}
 use Rattle.tql_spec.specs.Creation.{is_declared_key}
 use Rattle.tql_value.specs.Refusals.{refusal_of}
@@ -61,6 +62,25 @@ abbrev pub creation_faults : List TableDef → Name → List spec.Refusal
 creation_faults defs n =
     fault_if (is_some (place_of n defs)) TableUnknownOrAlreadyThere ++ fault_if (nat_le 1000 (length defs))
     TooManyTablesOrReaders
+
+-- the fault of a name that no table has
+abbrev pub absence_faults : List TableDef → Name → List spec.Refusal
+absence_faults defs n = fault_if (is_none (place_of n defs)) TableUnknownOrAlreadyThere
+
+-- the fault of a DROP of a table that a reference names
+abbrev pub reference_faults : List TableDef → Name → List spec.Refusal
+reference_faults defs n = fault_if (is_referenced n defs) TableIsReferenced
+
+-- the faults of a DROP of the table of this name
+abbrev pub drop_faults : List TableDef → Name → List spec.Refusal
+drop_faults defs n = absence_faults defs n ++ reference_faults defs n
+
+-- the fault is the refusal; where there is none, nothing is refused
+abbrev pub Refuses : {A : Type 0} → Option spec.Refusal → Result A Refusal → Type 0
+Refuses None (Ok x) = ⊤
+Refuses None (Err e) = ⊥
+Refuses (Some fault) (Ok x) = ⊥
+Refuses (Some fault) (Err e) = refusal_of e ≡ fault
 
 -- a fault is told; where there is none, only memory is refused
 abbrev pub Tells : {A : Type 0} → Option spec.Refusal → Result A Refusal → Type 0

@@ -1,6 +1,6 @@
 //! The tables that are there.
 ghost use Rattle.std.specs.Prelude.{◌≡◌, ◌≢◌, ◌↔◌, ◌<◌, ◌++◌, [], ◌∷◌, length, slice_get, All, IsTrue, OnOk, OnErr};
-ghost use Rattle.std.specs.Prelude.{Some, option_map, is_some, remove, false};
+ghost use Rattle.std.specs.Prelude.{IfOk, Some, option_map, is_some, remove};
 ghost use Rattle.std.specs.List.{list_all};
 ghost use Rattle.std.specs.Option.{ForSome};
 ghost use Rattle.tql_spec.specs.Binding as binding;
@@ -8,9 +8,12 @@ ghost use Rattle.tql_spec.specs.Definition as spec;
 ghost use Rattle.tql_spec.specs.Refusal.{first};
 ghost use Rattle.tql_value.specs.Refusals.{refusal_of};
 ghost use Rattle.tql_catalog.specs.Definitions.{reference_of};
+ghost use Rattle.tql_catalog.specs.Referring.{referring_to};
 ghost use Rattle.tql_catalog.specs.Tables.{can_have, definitions_of, IsFree, IsCatalog, creation_faults, Tells};
+ghost use Rattle.tql_catalog.specs.Tables.{absence_faults, drop_faults, reference_faults, Refuses};
 
 use crate::constraint::Reference;
+use crate::referring::{close_each, note, reserve_each};
 use crate::table_def::TableDef;
 use indexmap::IndexMap;
 use std::hash::{BuildHasherDefault, FoldHasher};
@@ -34,19 +37,22 @@ impl Drop for Table {
 }
 
 /// Tables in order, each under its name.
-type Tables = IndexMap<String<Memory>, Table, BuildHasherDefault<FoldHasher>, Memory>;
+pub(crate) type Tables = IndexMap<String<Memory>, Table, BuildHasherDefault<FoldHasher>, Memory>;
 
 /// The tables that are there, in the order of their creation: at most 1,000, each of a name and with a number of its
 /// own; each reference of a table is to a key of an earlier one. Contracts see the list of them. A table is found by
-/// its name in a time that on average does not grow with their number.
+/// its name in a time that on average does not grow with their number, and the tables that refer to it by its place.
 pub struct Catalog {
     tables: Tables,
+    /// For each table the places of those that have a reference to it.
+    referring: Vec<Vec<usize, Memory>, Memory>,
 }
 
 impl Drop for Catalog {
     fn drop(self) {
-        let Catalog { tables } = self;
+        let Catalog { tables, referring } = self;
         drop(tables);
+        drop(referring);
     }
 }
 
@@ -54,6 +60,7 @@ impl Model for Catalog {
     ghost use Rattle.std.specs.Prelude.{List};
     ghost use Rattle.tql_catalog.specs.declared.catalog.Table.{Table};
     ghost use Rattle.indexmap.specs.IndexMap.{values};
+    ghost use Rattle.tql_catalog.specs.Referring.{AreReferring};
     ghost use Rattle.tql_catalog.specs.Tables.{tables_code, IsCatalog, IsByName};
 
     ghost Value = { List Table };
@@ -62,7 +69,8 @@ impl Model for Catalog {
 
     ghost view = { λ c. values c.tables };
 
-    ghost invariant = { λ c. IsCatalog (values c.tables) × IsByName c.tables.entries };
+    ghost invariant = { λ c. IsCatalog (values c.tables) × IsByName c.tables.entries
+        × AreReferring (values c.tables) c.referring.items };
 }
 
 impl Catalog {
@@ -72,6 +80,7 @@ impl Catalog {
     {
         Catalog {
             tables: IndexMap::new(memory),
+            referring: Vec::new(memory),
         }
     }
 
@@ -98,6 +107,18 @@ impl Catalog {
         ensures definition { spec.table_at (definitions_of self.now) place ≡ result.now.definition }
     {
         &self.tables[place]
+    }
+
+    /// Returns the table of this name: its definition and its number. Refused where no such table is there.
+    pub fn find(&self, name: &str) -> Result<&Table, Refusal>
+        ensures found { IfOk result (λ table. ForSome (spec.place_of name.now (definitions_of self.now))
+            (λ place. slice_get self.now place ≡ Some table.now)) }
+        ensures told { Refuses (first (absence_faults (definitions_of self.now) name.now)) result }
+    {
+        match self.place_of(name) {
+            Some(place) => Ok(self.table(place)),
+            None => Err(Refusal::TableUnknownOrAlreadyThere),
+        }
     }
 
     /// The definition of the table at a place; where none is there, what is given for it.
@@ -178,29 +199,81 @@ impl Catalog {
         if let Some(fault) = self.creation_fault(definition.name()) {
             return Err(fault);
         }
-        let name = String::from_str(*self.tables.allocator(), definition.name())?;
+        let memory = *self.tables.allocator();
+        let name = String::from_str(memory, definition.name())?;
+        self.referring.reserve(1)?;
+        reserve_each(&mut self.referring)?;
+        let place = self.tables.len();
         self.tables.insert(name, Table { definition, id })?;
+        note(&self.tables, place, &mut self.referring);
+        self.referring.push_reserved(Vec::new(memory));
         Ok(())
     }
 
-    /// Whether a reference of some table names the table of this name.
-    pub fn is_referenced(&self, name: &str) -> bool
-        ensures { result ≡ binding.is_referenced name.now (definitions_of self.now) }
+    /// Returns the places of the tables that have a reference to the table at a place, in their order. Takes a time
+    /// that does not grow with the number of tables.
+    pub fn referring(&self, place: usize) -> &[usize]
+        requires { place < length self.now }
+        ensures referring { result.now
+            ≡ referring_to (spec.table_at (definitions_of self.now) place).name (definitions_of self.now) }
+        ensures within { All (λ child. child < length self.now) result.now }
     {
-        self.tables
-            .values()
-            .any(|table| table.definition.is_referring_to(name))
+        self.referring[place].as_slice()
     }
 
-    /// Takes the table at a place out, which no reference names; the others stay in their order. Takes no memory.
-    pub fn remove(&mut self, place: usize) -> Table
-        requires within { place < length self.old }
-        requires unreferenced { binding.is_referenced (spec.table_at (definitions_of self.old) place).name
-            (definitions_of self.old) ≡ false }
-        ensures taken { slice_get self.old place ≡ Some result }
-        ensures others { self.new ≡ remove self.old place }
+    /// Whether a reference of some table names the table at a place.
+    fn is_referenced(&self, place: usize) -> bool
+        requires { place < length self.now }
+        ensures { result
+            ≡ binding.is_referenced (spec.table_at (definitions_of self.now) place).name (definitions_of self.now) }
     {
+        !self.referring(place).is_empty()
+    }
+
+    /// Returns the first fault of a DROP of the table of this name: no such table is there, or a reference of some
+    /// table names it. `drop_table` refuses exactly these.
+    pub fn drop_fault(&self, name: &str) -> Option<Refusal>
+        ensures { option_map refusal_of result ≡ first (drop_faults (definitions_of self.now) name.now) }
+    {
+        match self.place_of(name) {
+            None => Some(Refusal::TableUnknownOrAlreadyThere),
+            Some(place) if self.is_referenced(place) => Some(Refusal::TableIsReferenced),
+            Some(_) => None,
+        }
+    }
+
+    /// Removes the table at a place and returns it. The others stay in their order. Refused, with nothing changed,
+    /// where a reference of some table names it. Takes no memory.
+    pub fn drop_at(&mut self, place: usize) -> Result<Table, Refusal>
+        requires { place < length self.old }
+        ensures taken { IfOk result (λ table. slice_get self.old place ≡ Some table) }
+        ensures others { OnOk result (self.new ≡ remove self.old place) }
+        ensures kept { OnErr result (self.new ≡ self.old) }
+        ensures told { Refuses (first (reference_faults (definitions_of self.old)
+            (spec.table_at (definitions_of self.old) place).name)) result }
+    {
+        if self.is_referenced(place) {
+            return Err(Refusal::TableIsReferenced);
+        }
         let (_, table) = self.tables.shift_remove_index(place).unwrap();
-        table
+        self.referring.remove(place);
+        close_each(&mut self.referring, place);
+        Ok(table)
+    }
+
+    /// Removes the table of this name and returns it. The others stay in their order. Refused, with nothing changed,
+    /// for the first of these: no such table is there; a reference of some table names it. Takes no memory.
+    pub fn drop_table(&mut self, name: &str) -> Result<Table, Refusal>
+        ensures taken { IfOk result (λ table. ForSome (spec.place_of name.now (definitions_of self.old))
+            (λ place. slice_get self.old place ≡ Some table)) }
+        ensures others { OnOk result (ForSome (spec.place_of name.now (definitions_of self.old))
+            (λ place. self.new ≡ remove self.old place)) }
+        ensures kept { OnErr result (self.new ≡ self.old) }
+        ensures told { Refuses (first (drop_faults (definitions_of self.old) name.now)) result }
+    {
+        match self.place_of(name) {
+            Some(place) => self.drop_at(place),
+            None => Err(Refusal::TableUnknownOrAlreadyThere),
+        }
     }
 }

@@ -6,5 +6,6 @@ pub mod catalog;
 pub mod constraint;
 mod definable;
 pub mod definition;
+mod referring;
 mod sought;
 pub mod table_def;

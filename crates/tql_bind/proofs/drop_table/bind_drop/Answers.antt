@@ -1,6 +1,8 @@
-use Rattle.std.proofs.Common.{◌∙◌, List, ℕ, ap}
-use Rattle.tql_spec.specs.Binding.{is_referenced}
-use Rattle.tql_catalog.specs.Tables.{definitions_of}
+use Rattle.std.proofs.Common.{◌∙◌, ap}
+use Rattle.tql_spec.specs.Definition.{place_of}
+use Rattle.tql_spec.specs.Refusal.{first}
+use Rattle.std.specs.Prelude.{unwrap_or}
+use Rattle.tql_catalog.specs.Tables.{definitions_of, drop_faults}
 use Rattle.tql_syntax_tree.specs.Expressions.{name_of}
 use Rattle.tql_bind.proofs.Gathered.{drop_bound}
 use Rattle.tql_bind.proofs.drop_table.bind_drop.Goals as goal
@@ -9,7 +11,7 @@ pub returns : goal.returns
 returns c =
     let defs = definitions_of c.args.tables.now in
     let named = c.deref.ensures ∙ c.in_ok-name.ensures in
-    drop_bound defs (name_of c.args.name) c.args.faults.now c.table_number.new.faults c.refuse_if.new.self
-    c.in_ok-place.place c.is_referenced.result
-    c.in_ok-place.ensures (c.is_referenced.ensures
-    ∙ ap (λ (n : List ℕ). is_referenced n defs) named) c.refuse_if.ensures
+    let sought = c.deref-2.ensures ∙ c.in_ok-name.ensures in
+    drop_bound defs (name_of c.args.name) c.args.faults.now c.refuse_for.new.faults _ _
+    (c.unwrap_or.ensures ∙ ap (λ o. unwrap_or o 0) (c.place_of.ensures.place ∙ ap (λ n. place_of n defs) sought))
+    (c.drop_fault.ensures ∙ ap (λ n. first (drop_faults defs n)) named) c.refuse_for.ensures
