@@ -1,6 +1,6 @@
 -- The greatest end and the height of a branch.
 use Rattle.std.specs.Prelude.{◌≡◌, refl, ℕ, zero, suc, ◌+◌, ◌*◌, ◌^◌, ◌<◌, ◌≤◌, max, List, [], ◌∷◌, ◌++◌, length, ℤ}
-use Rattle.std.specs.Prelude.{pos, neg_ℤ, ◌≤ℤ◌}
+use Rattle.std.specs.Prelude.{◌≤ℤ◌}
 use Rattle.std.specs.Int.{int_max}
 use Rattle.std.proofs.Common.{◌⊎◌, arith, inl, inr, ap, ◌∙◌, add-one, length-append}
 use Rattle.std.proofs.Math.Nat.{pow-suc}
@@ -8,9 +8,10 @@ use Rattle.std.proofs.Math.Pow.{pow_mono}
 use Rattle.std.proofs.lemmas.Int.{ints, clamps}
 use Rattle.std.proofs.lemmas.Bool.{cases_lt}
 use Rattle.tql_index.specs.Entry.{Entry}
+use Rattle.tql_index.specs.Line.{first_place}
 use Rattle.tql_index.specs.Tree.{Contents, greatest_end, IsAround, IsBranch, IsShallow, DifferByAtMost}
 
-pub least_below : (es : List Entry) → neg_ℤ (pos (2 ^ 63)) ≤ℤ greatest_end es
+pub least_below : (es : List Entry) → first_place ≤ℤ greatest_end es
 least_below [] = omega (arith, ints)
 least_below (e ∷ es) = let h = least_below es in omega (arith, ints, clamps, h)
 

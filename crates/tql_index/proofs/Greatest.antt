@@ -1,11 +1,12 @@
 -- The greatest end of the same bag.
-use Rattle.std.specs.Prelude.{◌≡◌, refl, ◌^◌, Bool, true, false, List, [], ◌∷◌, ◌++◌, count_by, ℤ, pos, neg_ℤ, ◌≤ℤ◌}
+use Rattle.std.specs.Prelude.{◌≡◌, refl, Bool, true, false, List, [], ◌∷◌, ◌++◌, count_by, ℤ, ◌≤ℤ◌}
 use Rattle.std.specs.Prelude.{int_lt}
 use Rattle.std.specs.Int.{int_max}
 use Rattle.std.proofs.Common.{arith, cond, sym, ap, ◌∙◌}
 use Rattle.std.proofs.lemmas.Int.{ints, clamps, by_lt_z}
 use Rattle.tql_spec.specs.Bag.{SameBag}
 use Rattle.tql_index.specs.Entry.{Entry, Removes}
+use Rattle.tql_index.specs.Line.{first_place}
 use Rattle.tql_index.specs.Tree.{greatest_end, WasGreatest}
 use Rattle.tql_index.proofs.Around.{count-cons, bit_none, bit_of_none}
 use Rattle.tql_index.proofs.Branches.{least_below, greatest_end-append}
@@ -31,7 +32,7 @@ none_ends_after g (e ∷ es) h =
       none_ends_after g es (omega (arith, ints, clamps, h)),
     )
 
-at_most : (g : ℤ) (es : List Entry) → neg_ℤ (pos (2 ^ 63)) ≤ℤ g → count_by (ends_after g) es ≡ 0 → greatest_end es ≤ℤ g
+at_most : (g : ℤ) (es : List Entry) → first_place ≤ℤ g → count_by (ends_after g) es ≡ 0 → greatest_end es ≤ℤ g
 at_most g [] l h = l
 at_most g (e ∷ es) l h =
     let c = count-cons (ends_after g) e es in

@@ -1,7 +1,8 @@
 -- The trees of the code, level by level.
 use Rattle.std.specs.Prelude.{◌≡◌, ◌+◌, ◌≤◌, max, [], ◌∷◌, ◌++◌}
-use Rattle.tql_period.specs.Points.{points_of}
 use Rattle.tql_index.specs.Entry.{Entry}
+use Rattle.tql_index.specs.Line.{place_of}
+use Rattle.tql_index.specs.Spans.{span_of}
 use Rattle.tql_index.specs.Tree.{Contents, IsBranch, IsAround, DifferByAtMost}
 use Rattle.tql_index.specs.declared.tree.Branch.{Branch}
 use Rattle.tql_index.specs.declared.tree.Parts.{Parts}
@@ -10,7 +11,7 @@ use Rattle.tql_index.specs.declared.tree.Root.TheVariants.{Empty, At}
 
 -- the entry at a branch
 abbrev pub entry_of : {A : Type 0} → Branch A → Entry
-entry_of b = record { period = points_of b.period; id = b.id }
+entry_of b = record { period = span_of b.span; id = b.id }
 
 -- the entries and the height that a branch stands for
 abbrev pub contents_of : {A : Type 0} → Root A → Contents
@@ -23,7 +24,7 @@ contents_of (At h b) = record {
 -- what holds at the top of a tree
 abbrev pub IsTree : {A : Type 0} → Root A → Type 0
 IsTree Empty = Unit {0}
-IsTree (At h b) = IsBranch b.value.left (entry_of b.value) h b.value.greatest b.value.right
+IsTree (At h b) = IsBranch b.value.left (entry_of b.value) h (place_of b.value.greatest) b.value.right
 
 -- the parts of a tree
 pub record IsParted {A : Type 0} (tree : Contents) (parts : Parts A) : Type 0 where
@@ -35,7 +36,7 @@ pub record IsParted {A : Type 0} (tree : Contents) (parts : Parts A) : Type 0 wh
 -- the top of a tree
 pub record IsTop {A : Type 0} (tree : Contents) (top : Branch A) : Type 0 where
   pub entries : tree.entries ≡ top.left.entries ++ entry_of top ∷ top.right.entries
-  pub branch : IsBranch top.left (entry_of top) tree.height top.greatest top.right
+  pub branch : IsBranch top.left (entry_of top) tree.height (place_of top.greatest) top.right
 
 -- a tree without its first entry, which stands before none of the others
 pub record IsWithoutLeast (tree : Contents) (least : Entry) (rest : Contents) : Type 0 where

@@ -1,11 +1,11 @@
 -- What a tree of entries is seen as, and what holds at each of its branches.
 use Rattle.std.specs.Prelude.{◌≡◌, ℕ, ◌+◌, ◌*◌, ◌^◌, ◌<◌, ◌≤◌, max, Bool, true, false, List, [], ◌∷◌, ◌++◌, length}
 use Rattle.std.specs.Prelude.{count_by, ℤ}
-use Rattle.std.specs.Prelude.{pos, neg_ℤ}
 use Rattle.std.specs.Int.{int_max}
 use Rattle.std.specs.declared.cmp.Ordering.{Ordering}
 use Rattle.std.specs.Ordering.{nat_cmp, int_cmp, is_lt, ordering_then}
 use Rattle.tql_index.specs.Entry.{Entry}
+use Rattle.tql_index.specs.Line.{first_place}
 
 -- the entries in order, and how many branches lie on the longest way down
 pub record Contents : Type 0 where
@@ -26,9 +26,9 @@ pub record IsAround (e : Entry) (left right : List Entry) : Type 0 where
   pub none_after : count_by (λ x. is_before e x) left ≡ 0
   pub none_before : count_by (λ x. is_before x e) right ≡ 0
 
--- the greatest end, and the least of 64 bits where there is none
+-- the greatest end, and the first place of the line where there is none
 abbrev pub greatest_end : List Entry → ℤ
-greatest_end [] = neg_ℤ (pos (2 ^ 63))
+greatest_end [] = first_place
 greatest_end (e ∷ es) = int_max e.period.end (greatest_end es)
 
 -- what the greatest end was before an entry that ends here was taken, if one was

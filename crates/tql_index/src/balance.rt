@@ -1,8 +1,10 @@
 //! Trees from sides whose heights differ by at most two.
 ghost use Rattle.std.specs.Prelude.{◌≡◌, ◌+◌, ◌≤◌, max, ◌∷◌, ◌++◌};
+ghost use Rattle.tql_index.specs.Line.{place_of};
 ghost use Rattle.tql_index.specs.Tree.{greatest_end, DifferByAtMost, IsAround, IsHeightAfterBalance, WasGreatest};
 ghost use Rattle.tql_index.specs.Nodes.{entry_of};
 
+use crate::line::Place;
 use crate::tree::{Branch, Parts, Tree, hold, link};
 use std::alloc::Allocator;
 use std::mem;
@@ -12,7 +14,7 @@ pub fn settle<A: Allocator>(top: Box<Branch<A>, A>) -> Tree<A>
     requires around { IsAround (entry_of top.value) top.value.left.entries top.value.right.entries }
     requires near { DifferByAtMost 2 top.value.left.height top.value.right.height }
     requires room { max top.value.left.height top.value.right.height ≤ 200 }
-    requires greatest { top.value.greatest ≡ greatest_end
+    requires greatest { place_of top.value.greatest ≡ greatest_end
         (top.value.left.entries ++ entry_of top.value ∷ top.value.right.entries) }
     ensures entries { result.entries
         ≡ top.value.left.entries ++ entry_of top.value ∷ top.value.right.entries }
@@ -43,17 +45,17 @@ fn turn<A: Allocator>(mut top: Box<Branch<A>, A>) -> Tree<A>
 
 // As `settle`, where an entry that ends here was taken from a side, if one was found. The branch knows the
 // greatest end from before, which is found anew only where that entry may have been the last to end.
-pub fn settle_less<A: Allocator>(mut top: Box<Branch<A>, A>, found: bool, end: i64) -> Tree<A>
+pub fn settle_less<A: Allocator>(mut top: Box<Branch<A>, A>, found: bool, end: Place) -> Tree<A>
     requires around { IsAround (entry_of top.value) top.value.left.entries top.value.right.entries }
     requires near { DifferByAtMost 2 top.value.left.height top.value.right.height }
     requires room { max top.value.left.height top.value.right.height ≤ 200 }
-    requires greatest { WasGreatest found end top.value.greatest
+    requires greatest { WasGreatest found (place_of end) (place_of top.value.greatest)
         (top.value.left.entries ++ entry_of top.value ∷ top.value.right.entries) }
     ensures entries { result.entries
         ≡ top.value.left.entries ++ entry_of top.value ∷ top.value.right.entries }
     ensures height { IsHeightAfterBalance top.value.left.height top.value.right.height result.height }
 {
-    if found && end >= top.greatest {
+    if found && !end.is_before(top.greatest) {
         top.greatest = top.greatest_end();
     }
     settle(top)

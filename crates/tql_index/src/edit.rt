@@ -1,17 +1,17 @@
 //! One entry more, and one less, in place: a branch changes where a side of it does.
 ghost use Rattle.std.specs.Prelude.{◌≡◌, ◌+◌, ◌≤◌, max, [], ◌∷◌, ◌++◌, IfSome, IfNone};
 ghost use Rattle.tql_spec.specs.Bag.{SameBag};
-ghost use Rattle.tql_period.specs.Points.{points_of};
 ghost use Rattle.tql_index.specs.Entry.{Removes};
+ghost use Rattle.tql_index.specs.Spans.{span_of};
 ghost use Rattle.tql_index.specs.Tree.{DifferByAtMost, IsAround};
 ghost use Rattle.tql_index.specs.Nodes.{entry_of, IsWithoutLeast};
 
 use crate::balance::{balance, settle, settle_less};
+use crate::span::Span;
 use crate::tree::{Branch, Tree, link};
 use std::alloc::Allocator;
 use std::cmp::Ordering;
 use std::mem;
-use tql_period::period::Period;
 
 // The tree of one entry.
 #[inline(never)]
@@ -32,8 +32,8 @@ pub fn insert<A: Allocator>(tree: &mut Tree<A>, entry: Box<Branch<A>, A>)
         *tree = alone(entry);
         return;
     };
-    top.greatest = top.greatest.max(entry.period.end);
-    if top.compare(entry.period, entry.id).is_gt() {
+    top.greatest = top.greatest.later(entry.span.end());
+    if top.compare(entry.span, entry.id).is_gt() {
         insert(&mut top.right, entry);
         *tree = settle(top);
     } else {
@@ -53,7 +53,7 @@ fn take_least<A: Allocator>(tree: &mut Tree<A>) -> Option<Box<Branch<A>, A>>
         *tree = mem::replace(&mut top.right, Tree::new());
         return Some(top);
     };
-    *tree = settle_less(top, true, least.period.end);
+    *tree = settle_less(top, true, least.span.end());
     Some(least)
 }
 
@@ -76,9 +76,9 @@ fn without_top<A: Allocator>(mut top: Box<Branch<A>, A>) -> Tree<A>
 }
 
 // One such entry less, where there is one; it tells whether there was.
-pub fn remove<A: Allocator>(tree: &mut Tree<A>, period: Period, id: usize) -> bool
+pub fn remove<A: Allocator>(tree: &mut Tree<A>, span: Span, id: usize) -> bool
     requires room { tree.old.height ≤ 199 }
-    ensures entries { Removes result (record { period = points_of period; id = id })
+    ensures entries { Removes result (record { period = span_of span; id = id })
         tree.old.entries tree.new.entries }
     ensures not_higher { tree.new.height ≤ tree.old.height }
     ensures at_most_one_lower { tree.old.height ≤ tree.new.height + 1 }
@@ -86,10 +86,10 @@ pub fn remove<A: Allocator>(tree: &mut Tree<A>, period: Period, id: usize) -> bo
     let Some(mut top) = tree.take() else {
         return false;
     };
-    match top.compare(period, id) {
+    match top.compare(span, id) {
         Ordering::Less => {
-            let found = remove(&mut top.left, period, id);
-            *tree = settle_less(top, found, period.end);
+            let found = remove(&mut top.left, span, id);
+            *tree = settle_less(top, found, span.end());
             found
         }
         Ordering::Equal => {
@@ -97,8 +97,8 @@ pub fn remove<A: Allocator>(tree: &mut Tree<A>, period: Period, id: usize) -> bo
             true
         }
         Ordering::Greater => {
-            let found = remove(&mut top.right, period, id);
-            *tree = settle_less(top, found, period.end);
+            let found = remove(&mut top.right, span, id);
+            *tree = settle_less(top, found, span.end());
             found
         }
     }

@@ -1,19 +1,34 @@
 //! The index as a plain list.
 ghost use Rattle.std.specs.Prelude.{◌≡◌, ◌↔◌, ◌<◌, [], length, map, slice_index_or, Contains, IsTrue, IfSome, IfNone};
+ghost use Rattle.std.specs.Bool.{OnTrue, OnFalse};
 ghost use Rattle.tql_index.specs.ListEntries.{entry_held};
 
 use crate::index::{Id, IntervalIndex};
+use crate::line::Place;
 use crate::search::push_if;
+use crate::span::Span;
 use std::alloc::AllocError;
 use std::marker::Model;
 use tql_memory::Memory;
 use tql_period::period::Period;
 
 // An entry of the list.
-#[derive(Clone, Copy, PartialEq, Eq)]
+#[derive(Clone, Copy)]
 struct ListEntry {
-    period: Period,
+    span: Span,
     id: Id,
+}
+
+// Whether two entries are the same.
+fn is_same(entry: ListEntry, wanted: ListEntry) -> bool
+    ensures same { OnTrue result (entry_held entry ≡ entry_held wanted) }
+    ensures other { OnFalse result (¬ (entry_held entry ≡ entry_held wanted)) }
+{
+    entry
+        .span
+        .compare(wanted.span)
+        .then(entry.id.cmp(&wanted.id))
+        .is_eq()
 }
 
 // The first place of an entry.
@@ -24,7 +39,7 @@ fn place_of(entries: &[ListEntry], wanted: ListEntry) -> Option<usize>
     ensures missing { IfNone result (¬ Contains (map entry_held entries.now) (entry_held wanted)) }
 {
     for (place, entry) in entries.iter().enumerate() {
-        if *entry == wanted {
+        if is_same(*entry, wanted) {
             return Some(place);
         }
     }
@@ -41,6 +56,7 @@ pub struct ListIndex {
 impl Model for ListIndex {
     ghost use Rattle.std.specs.Prelude.{List, map};
     ghost use Rattle.tql_index.specs.Entry.{Entry};
+    ghost use Rattle.std.specs.Bool.{OnTrue, OnFalse};
     ghost use Rattle.tql_index.specs.ListEntries.{entry_held};
 
     ghost Value = { List Entry };
@@ -75,30 +91,42 @@ impl IntervalIndex for ListIndex {
     }
 
     fn add(&mut self, period: Period, id: Id) -> Result<(), AllocError> {
-        self.held.push(ListEntry { period, id })?;
-        Ok(())
+        self.add_span(Span::of(period), id)
     }
 
     fn remove(&mut self, period: Period, id: Id) -> bool {
-        let Some(place) = place_of(&self.held, ListEntry { period, id }) else {
+        self.remove_span(Span::of(period), id)
+    }
+
+    fn stab(&self, point: i64) -> Result<Vec<Id, Memory>, AllocError> {
+        let mut found = Vec::new(self.memory);
+        for held in &self.held {
+            push_if(&mut found, held.span.holds(Place::of(point)), held.id)?;
+        }
+        Ok(found)
+    }
+
+    fn overlapping(&self, period: Period) -> Result<Vec<Id, Memory>, AllocError> {
+        self.sharing(Span::of(period))
+    }
+
+    fn add_span(&mut self, span: Span, id: Id) -> Result<(), AllocError> {
+        self.held.push(ListEntry { span, id })?;
+        Ok(())
+    }
+
+    fn remove_span(&mut self, span: Span, id: Id) -> bool {
+        let Some(place) = place_of(&self.held, ListEntry { span, id }) else {
             return false;
         };
         self.held.swap_remove(place);
         true
     }
 
-    fn stab(&self, point: i64) -> Result<Vec<Id, Memory>, AllocError> {
+    fn sharing(&self, span: Span) -> Result<Vec<Id, Memory>, AllocError> {
         let mut found = Vec::new(self.memory);
         for held in &self.held {
-            push_if(&mut found, held.period.holds(point), held.id)?;
-        }
-        Ok(found)
-    }
-
-    fn overlapping(&self, period: Period) -> Result<Vec<Id, Memory>, AllocError> {
-        let mut found = Vec::new(self.memory);
-        for held in &self.held {
-            push_if(&mut found, held.period.shares_a_point(period), held.id)?;
+            push_if(&mut found, held.span.shares_a_point(span), held.id)?;
         }
         Ok(found)
     }

@@ -1,12 +1,14 @@
 //! What a tree answers: the numbers of the entries at a point, and of those that share one with a period.
 ghost use Rattle.std.specs.Prelude.{◌≡◌, ◌++◌, OnOk, OnErr};
-ghost use Rattle.tql_period.specs.Points.{points_of};
 ghost use Rattle.tql_index.specs.Entry.{id_if, ids_at, ids_sharing};
+ghost use Rattle.tql_index.specs.Line.{place_of};
+ghost use Rattle.tql_index.specs.Spans.{span_of};
 
+use crate::line::Place;
+use crate::span::Span;
 use crate::tree::Tree;
 use std::alloc::{AllocError, Allocator};
 use tql_memory::Memory;
-use tql_period::period::Period;
 
 // Adds the number where it is asked for.
 pub fn push_if(found: &mut Vec<usize, Memory>, wanted: bool, id: usize) -> Result<(), AllocError>
@@ -23,43 +25,43 @@ pub fn push_if(found: &mut Vec<usize, Memory>, wanted: bool, id: usize) -> Resul
 // each right side that starts too late.
 pub fn stab<A: Allocator>(
     tree: &Tree<A>,
-    point: i64,
+    place: Place,
     found: &mut Vec<usize, Memory>,
 ) -> Result<(), AllocError>
-    ensures { OnOk result (found.new.items ≡ found.old.items ++ ids_at point tree.now.entries) }
+    ensures { OnOk result (found.new.items ≡ found.old.items ++ ids_at (place_of place) tree.now.entries) }
 {
     let Some(top) = tree.top() else {
         return Ok(());
     };
-    if top.greatest <= point {
+    if !place.is_before(top.greatest) {
         return Ok(());
     }
-    stab(&top.left, point, found)?;
-    if point < top.period.start {
+    stab(&top.left, place, found)?;
+    if place.is_before(top.span.start()) {
         return Ok(());
     }
-    push_if(found, top.period.holds(point), top.id)?;
-    stab(&top.right, point, found)
+    push_if(found, top.span.holds(place), top.id)?;
+    stab(&top.right, place, found)
 }
 
 // Adds the numbers of the entries that share a point with the period, passing by as `stab` does.
 pub fn overlapping<A: Allocator>(
     tree: &Tree<A>,
-    period: Period,
+    span: Span,
     found: &mut Vec<usize, Memory>,
 ) -> Result<(), AllocError>
-    ensures { OnOk result (found.new.items ≡ found.old.items ++ ids_sharing (points_of period) tree.now.entries) }
+    ensures { OnOk result (found.new.items ≡ found.old.items ++ ids_sharing (span_of span) tree.now.entries) }
 {
     let Some(top) = tree.top() else {
         return Ok(());
     };
-    if top.greatest <= period.start {
+    if !span.start().is_before(top.greatest) {
         return Ok(());
     }
-    overlapping(&top.left, period, found)?;
-    if period.end <= top.period.start {
+    overlapping(&top.left, span, found)?;
+    if !top.span.start().is_before(span.end()) {
         return Ok(());
     }
-    push_if(found, top.period.shares_a_point(period), top.id)?;
-    overlapping(&top.right, period, found)
+    push_if(found, top.span.shares_a_point(span), top.id)?;
+    overlapping(&top.right, span, found)
 }

@@ -1,15 +1,17 @@
 //! A balanced tree of entries, seen as its entries in order and its height. Only `hold` puts a branch into a
 //! tree; `take` takes it out, to be changed in place, and `unlink` takes it apart.
 ghost use Rattle.std.specs.Prelude.{◌≡◌, ◌+◌, ◌^◌, ◌<◌, max, [], ◌∷◌, ◌++◌, length, IfSome, IfNone};
-ghost use Rattle.tql_period.specs.Points.{points_of};
+ghost use Rattle.tql_index.specs.Line.{place_of};
+ghost use Rattle.tql_index.specs.Spans.{span_of};
 ghost use Rattle.tql_index.specs.Tree.{entry_cmp, greatest_end, DifferByAtMost, IsAround, IsShallow};
 ghost use Rattle.tql_index.specs.Nodes.{entry_of, IsParted, IsTop};
 
+use crate::line::Place;
+use crate::span::Span;
 use std::alloc::Allocator;
 use std::cmp::Ordering;
 use std::marker::Model;
 use std::mem;
-use tql_period::period::Period;
 
 #[cycle(tree)]
 #[derive(Drop)]
@@ -30,9 +32,9 @@ pub enum Root<A: Allocator> {
 #[derive(Drop)]
 pub struct Branch<A: Allocator> {
     pub left: Tree<A>,
-    pub period: Period,
+    pub span: Span,
     pub id: usize,
-    pub greatest: i64,
+    pub greatest: Place,
     pub right: Tree<A>,
 }
 
@@ -65,38 +67,34 @@ impl<A: Allocator> Model for Tree<A> {
 
 impl<A: Allocator> Branch<A> {
     // A branch with nothing at its sides.
-    pub fn new(period: Period, id: usize) -> Branch<A>
-        ensures { entry_of result ≡ record { period = points_of period; id = id } }
+    pub fn new(span: Span, id: usize) -> Branch<A>
+        ensures { entry_of result ≡ record { period = span_of span; id = id } }
     {
         Branch {
             left: Tree::new(),
-            period,
+            span,
             id,
-            greatest: period.end,
+            greatest: span.end(),
             right: Tree::new(),
         }
     }
 
     // The order of an entry and this one: by start, then end, then number.
-    pub fn compare(&self, period: Period, id: usize) -> Ordering
-        ensures { result ≡ entry_cmp (record { period = points_of period; id = id }) (entry_of self.now) }
+    pub fn compare(&self, span: Span, id: usize) -> Ordering
+        ensures { result ≡ entry_cmp (record { period = span_of span; id = id }) (entry_of self.now) }
     {
-        let starts = period.start.cmp(&self.period.start);
-        if starts.is_ne() {
-            return starts;
-        }
-        period.end.cmp(&self.period.end).then(id.cmp(&self.id))
+        span.compare(self.span).then(id.cmp(&self.id))
     }
 
     // The greatest end of its entry and of those at its sides, found anew.
-    pub fn greatest_end(&self) -> i64
-        ensures { result ≡ greatest_end
+    pub fn greatest_end(&self) -> Place
+        ensures { place_of result ≡ greatest_end
             (self.now.left.entries ++ entry_of self.now ∷ self.now.right.entries) }
     {
         self.left
             .greatest()
-            .max(self.period.end)
-            .max(self.right.greatest())
+            .later(self.span.end())
+            .later(self.right.greatest())
     }
 }
 
@@ -125,12 +123,12 @@ impl<A: Allocator> Tree<A> {
         let _root = &self.root;
     }
 
-    // The greatest end of its entries, and the least number where it has none.
-    pub fn greatest(&self) -> i64
-        ensures { result ≡ greatest_end self.now.entries }
+    // The greatest end of its entries, and the first place of the line where it has none.
+    pub fn greatest(&self) -> Place
+        ensures { place_of result ≡ greatest_end self.now.entries }
     {
         match &self.root {
-            Root::Empty => i64::MIN,
+            Root::Empty => Place::first(),
             Root::At { top, .. } => top.greatest,
         }
     }
@@ -179,7 +177,7 @@ pub fn hold<A: Allocator>(top: Box<Branch<A>, A>, height: u8) -> Tree<A>
     requires around { IsAround (entry_of top.value) top.value.left.entries top.value.right.entries }
     requires balanced { DifferByAtMost 1 top.value.left.height top.value.right.height }
     requires height { height ≡ max top.value.left.height top.value.right.height + 1 }
-    requires greatest { top.value.greatest ≡ greatest_end
+    requires greatest { place_of top.value.greatest ≡ greatest_end
         (top.value.left.entries ++ entry_of top.value ∷ top.value.right.entries) }
     ensures { result ≡ record {
       entries = top.value.left.entries ++ entry_of top.value ∷ top.value.right.entries;

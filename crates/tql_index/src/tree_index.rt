@@ -4,7 +4,9 @@ ghost use Rattle.tql_index.specs.Tree.{IsShallow};
 
 use crate::edit::{insert, remove};
 use crate::index::{Id, IntervalIndex};
+use crate::line::Place;
 use crate::search::{overlapping, stab};
+use crate::span::Span;
 use crate::tree::{Branch, Tree};
 use std::alloc::AllocError;
 use std::marker::Model;
@@ -73,41 +75,53 @@ impl IntervalIndex for TreeIndex {
     }
 
     fn add(&mut self, period: Period, id: Id) -> Result<(), AllocError> {
+        self.add_span(Span::of(period), id)
+    }
+
+    fn remove(&mut self, period: Period, id: Id) -> bool {
+        self.remove_span(Span::of(period), id)
+    }
+
+    fn stab(&self, point: i64) -> Result<Vec<Id, Memory>, AllocError> {
+        let mut found = Vec::new(self.memory);
+        stab(&self.tree, Place::of(point), &mut found)?;
+        Ok(found)
+    }
+
+    fn overlapping(&self, period: Period) -> Result<Vec<Id, Memory>, AllocError> {
+        self.sharing(Span::of(period))
+    }
+
+    fn add_span(&mut self, span: Span, id: Id) -> Result<(), AllocError> {
         let TreeIndex {
             memory,
             tree,
             count,
         } = self;
         let counted = one_more(*count)?;
-        let entry = Box::new(*memory, Branch::new(period, id))?;
+        let entry = Box::new(*memory, Branch::new(span, id))?;
         tree.know();
         insert(tree, entry);
         *count = counted;
         Ok(())
     }
 
-    fn remove(&mut self, period: Period, id: Id) -> bool {
+    fn remove_span(&mut self, span: Span, id: Id) -> bool {
         let TreeIndex { tree, count, .. } = self;
         if *count == 0 {
             return false;
         }
         tree.know();
-        let found = remove(tree, period, id);
+        let found = remove(tree, span, id);
         if found {
             *count -= 1;
         }
         found
     }
 
-    fn stab(&self, point: i64) -> Result<Vec<Id, Memory>, AllocError> {
+    fn sharing(&self, span: Span) -> Result<Vec<Id, Memory>, AllocError> {
         let mut found = Vec::new(self.memory);
-        stab(&self.tree, point, &mut found)?;
-        Ok(found)
-    }
-
-    fn overlapping(&self, period: Period) -> Result<Vec<Id, Memory>, AllocError> {
-        let mut found = Vec::new(self.memory);
-        overlapping(&self.tree, period, &mut found)?;
+        overlapping(&self.tree, span, &mut found)?;
         Ok(found)
     }
 }

@@ -1,7 +1,7 @@
 //! The store: the versions of all tables, what a change is to it, and how a transaction begins and ends.
 ghost use Rattle.std.specs.Prelude.{◌≡◌, ◌↔◌, Bool, ℕ, ℤ, ◌||◌, ◌<◌, ◌++◌, ◌+◌, ◌<ℤ◌, ◌≤ℤ◌, nat_eq, if◌then◌else◌, []};
 ghost use Rattle.std.specs.Prelude.{map, filter, length, All, IsNone, IsSome, IsTrue, is_some, Some, None, IfOk, OnOk};
-ghost use Rattle.std.specs.Prelude.{OnErr, IfErr, Err, IfSome, option_map};
+ghost use Rattle.std.specs.Prelude.{◌&&◌, OnErr, IfErr, Err, IfSome, option_map};
 ghost use Rattle.tql_spec.specs.Calendar.{first_moment, high};
 ghost use Rattle.tql_spec.specs.Bag.{SameBag};
 ghost use Rattle.tql_spec.specs.Definition.{Stamped, period_between};
@@ -482,6 +482,28 @@ impl<I: IntervalIndex> Store<I> {
             (λ found. IsFound self.now table Now (is_at columns.now (map datum_of_view tuple.now)) found.items) }
     {
         self.search(table, When::Now, Sought::With(columns, tuple))
+    }
+
+    /// Of the current rows of a table with these values in these columns, those whose period, from the first of two
+    /// columns to the second, shares a point with this one.
+    pub fn with_key_in(
+        &self,
+        table: TableId,
+        columns: &[usize],
+        tuple: &[View<'_>],
+        ends: (usize, usize),
+        period: Period,
+    ) -> Result<Vec<Version<'_>, Memory>, AllocError>
+        requires { IsTrue (table_there self.now table) }
+        ensures { IfOk result (λ found. IsFound self.now table Now
+            (λ row. is_at columns.now (map datum_of_view tuple.now) row
+            && share_a_point (period_between row ends.0 ends.1) (points_of period)) found.items) }
+    {
+        self.search(
+            table,
+            When::Now,
+            Sought::WithIn(columns, tuple, ends.0, ends.1, period),
+        )
     }
 
     /// The versions of a table that are asked for (FOR SYSTEM_TIME, ISO/IEC 9075-2:2011, 7.6), with these values in

@@ -1,15 +1,17 @@
-//! The values in some columns of a row: whether they are those of a tuple, and a period of one point for them.
-ghost use Rattle.std.specs.Prelude.{◌≡◌, map, option_map};
+//! The values in some columns of a row: whether they are those of a tuple, and the group in which they stand.
+ghost use Rattle.std.specs.Prelude.{◌≡◌, if◌then◌else◌, None, Some, map, option_map};
 ghost use Rattle.std.specs.List.{fold, list_any};
 ghost use Rattle.tql_spec.specs.Truth.{is_true as holds_true};
 ghost use Rattle.tql_spec.specs.Datum.{compare as compared, Equals, is_null as null_of};
 ghost use Rattle.tql_spec.specs.Definition.{cell as cell_of};
 ghost use Rattle.tql_period.specs.Points.{points_of};
 ghost use Rattle.tql_value.specs.Views.{datum_of_value, datum_of_view};
-ghost use Rattle.tql_store_index.specs.Tuple.{is_at, mixed as mixed_of, mixed_with as mixed_with_of, digest, point_for};
-ghost use Rattle.tql_store_index.specs.Tuple.{point_of, in_columns};
-ghost use Rattle.tql_store_index.specs.Basis.{ByValues, stands_by};
+ghost use Rattle.tql_index.specs.Spans.{span_of, in_group};
+ghost use Rattle.tql_store_index.specs.Places.{fitting, fitting_if};
+ghost use Rattle.tql_store_index.specs.Tuple.{is_at, mixed as mixed_of, mixed_with as mixed_with_of, digest};
+ghost use Rattle.tql_store_index.specs.Tuple.{group_of, in_columns};
 
+use tql_index::span::Span;
 use tql_period::period::Period;
 use tql_value::comparison::{Comparison, compare};
 use tql_value::truth::Truth;
@@ -76,17 +78,6 @@ fn mixed_with(number: u64, value: View<'_>) -> u64
     }
 }
 
-/// The period of a number: it starts there, or one before at the highest.
-fn period_for(number: u64) -> Period
-    ensures { points_of result ≡ point_for number }
-{
-    let start = number.cast_signed().min(i64::MAX - 1);
-    Period {
-        start,
-        end: start + 1,
-    }
-}
-
 /// A number with the values in these columns of a row.
 fn digest_of_row(number: u64, columns: &[usize], row: &[Value]) -> u64
     ensures { result ≡ digest number (in_columns columns.now (map datum_of_value row.now)) }
@@ -119,22 +110,47 @@ fn has_null(columns: &[usize], row: &[Value]) -> bool
     }
 }
 
-/// The period under which a row stands by its values in these columns; none where one of them is NULL. Rows with the
-/// same values stand under the same one; others may.
-pub(crate) fn point_of_row(columns: &[usize], row: &[Value]) -> Option<Period>
-    ensures { option_map points_of result
-        ≡ stands_by (ByValues columns.now) (map datum_of_value row.now) }
+/// The group in which a row stands by its values in these columns; none where one of them is NULL. Rows with the same
+/// values stand in the same one; others may.
+pub(crate) fn group_of_row(columns: &[usize], row: &[Value]) -> Option<i64>
+    ensures { result ≡ (if list_any null_of (in_columns columns.now (map datum_of_value row.now)) then None
+        else Some (group_of (in_columns columns.now (map datum_of_value row.now)))) }
 {
     if has_null(columns, row) {
         None
     } else {
-        Some(period_for(digest_of_row(0, columns, row)))
+        Some(digest_of_row(0, columns, row).cast_signed())
     }
 }
 
-/// The period under which the rows with the values of this tuple stand.
-pub(crate) fn point_of_tuple(tuple: &[View<'_>]) -> Period
-    ensures { points_of result ≡ point_of (map datum_of_view tuple.now) }
+/// The group in which the rows with the values of this tuple stand.
+fn group_of_tuple(tuple: &[View<'_>]) -> i64
+    ensures { result ≡ group_of (map datum_of_view tuple.now) }
 {
-    period_for(digest_of_tuple(0, tuple))
+    digest_of_tuple(0, tuple).cast_signed()
+}
+
+/// Where a period stands in a group.
+fn placed(group: i64, period: Period) -> Span
+    ensures { span_of result ≡ in_group group (fitting (points_of period)) }
+{
+    Span::within(group, period)
+}
+
+/// Where a period stands in a group; where there is none, all of the group.
+pub(crate) fn placed_if(group: i64, period: Option<Period>) -> Span
+    ensures { span_of result ≡ in_group group (fitting_if (option_map points_of period)) }
+{
+    match period {
+        Some(period) => placed(group, period),
+        None => Span::all(group),
+    }
+}
+
+/// Where a period stands in the group of the values of this tuple; where there is none, all of the group.
+pub(crate) fn span_of_tuple(tuple: &[View<'_>], period: Option<Period>) -> Span
+    ensures { span_of result
+        ≡ in_group (group_of (map datum_of_view tuple.now)) (fitting_if (option_map points_of period)) }
+{
+    placed_if(group_of_tuple(tuple), period)
 }

@@ -1,23 +1,26 @@
 //! Where rows stand by each of several bases: their values in lists of columns, their application period.
 ghost use Rattle.std.specs.Prelude.{◌≡◌, ◌≢◌, ◌<◌, ◌≤◌, ◌+◌, ◌==◌, ◌++◌, [], ◌∷◌, All, OnOk, OnErr, IfOk, IfSome};
-ghost use Rattle.std.specs.Prelude.{None, length, map, slice_set};
+ghost use Rattle.std.specs.Prelude.{None, length, map, option_map, slice_set};
 ghost use Rattle.tql_spec.specs.Bag.{SameBag};
-ghost use Rattle.tql_store_index.specs.Basis.{basis_for, basis_of, meets, sought_of, stands_by};
+ghost use Rattle.tql_period.specs.Points.{points_of};
+ghost use Rattle.tql_store_index.specs.Basis.{Serves, With, WithIn, basis_of, filed, meets, sought_of, stands_by};
 ghost use Rattle.tql_store_index.specs.Seating.{seat_at};
 ghost use Rattle.tql_store_index.specs.Standing.{passes, seats_if, stands};
 ghost use Rattle.tql_store_index.specs.ValueIndexes.{Each, IsGrown, IsTurned, IsLinked, DiffersIn, AreLoose, bare};
-ghost use Rattle.tql_store_index.specs.ValueIndexes.{index_at};
-ghost use Rattle.tql_value.specs.Views.{datum_of_value};
+ghost use Rattle.tql_store_index.specs.ValueIndexes.{IsFoundBy, index_at};
+ghost use Rattle.tql_value.specs.Views.{datum_of_value, datum_of_view};
 
 use crate::basis::{Basis, Sought};
 use crate::seat_index::SeatIndex;
 use crate::seats::Seats;
-use crate::tuple::point_of_tuple;
+use crate::tuple::span_of_tuple;
 use std::alloc::AllocError;
 use std::marker::Model;
 use tql_index::index::IntervalIndex;
+use tql_index::span::Span;
 use tql_memory::Memory;
-use tql_value::value::Value;
+use tql_period::period::Period;
+use tql_value::value::{Value, View};
 
 /// Where rows stand by one basis.
 #[derive(Drop)]
@@ -58,17 +61,18 @@ impl<I: IntervalIndex> ValueIndex<I> {
     }
 
     /// Puts a row where it stands. Refused where memory is, and then nothing is changed.
-    fn enter(&mut self, seat: usize, row: &[Value]) -> Result<(), AllocError>
+    fn enter(&mut self, seat: usize, row: &[Value], during: Period) -> Result<(), AllocError>
         requires there { seat < length self.old.standing }
         requires loose { stands self.old.standing seat ≡ None }
         ensures ok { OnOk result (self.new ≡ record {
           basis = self.old.basis;
-          standing = slice_set self.old.standing seat (stands_by self.old.basis (map datum_of_value row.now));
+          standing = slice_set self.old.standing seat (stands_by self.old.basis
+              (filed (map datum_of_value row.now) (points_of during)));
         }) }
         ensures err { OnErr result (self.new ≡ self.old) }
     {
-        let period = self.basis.period(row);
-        self.index.link(seat, period)
+        let span = self.basis.span(row, during);
+        self.index.link(seat, span)
     }
 
     /// Leaves the rows between two places under nothing. Takes no memory.
@@ -81,24 +85,79 @@ impl<I: IntervalIndex> ValueIndex<I> {
         unlink_each(&mut self.index, seats, from, to);
     }
 
+    /// The seats of the rows with these values that may be sought.
+    fn seats_with(
+        &self,
+        columns: &[usize],
+        tuple: &[View<'_>],
+        during: Option<Period>,
+    ) -> Result<Vec<usize, Memory>, AllocError>
+        ensures { IfOk result (λ seats. SameBag seats.items (seats_if (passes
+            (meets self.now.basis (With columns.now (map datum_of_view tuple.now)) (option_map points_of during)))
+            0 self.now.standing)) }
+    {
+        let _columns = columns;
+        match &self.basis {
+            Basis::ValuesDuring(_) => self.index.sharing(span_of_tuple(tuple, during)),
+            _ => self.index.sharing(span_of_tuple(tuple, None)),
+        }
+    }
+
+    /// The seats of the rows with these values that may be sought for their period between two columns; where a period
+    /// is told beside the rows, by that one instead.
+    fn seats_within(
+        &self,
+        columns: &[usize],
+        tuple: &[View<'_>],
+        ends: (usize, usize),
+        period: Period,
+        during: Option<Period>,
+    ) -> Result<Vec<usize, Memory>, AllocError>
+        ensures { IfOk result (λ seats. SameBag seats.items (seats_if (passes
+            (meets self.now.basis
+            (WithIn columns.now (map datum_of_view tuple.now) ends.0 ends.1 (points_of period))
+            (option_map points_of during))) 0 self.now.standing)) }
+    {
+        let _columns = columns;
+        let _ends = ends;
+        match &self.basis {
+            Basis::ValuesDuring(_) => self.index.sharing(span_of_tuple(tuple, during)),
+            _ => self.index.sharing(span_of_tuple(tuple, Some(period))),
+        }
+    }
+
     /// The seats of the rows that may be sought: all that are, and seldom others.
-    fn seats_of(&self, sought: Sought<'_>) -> Result<Vec<usize, Memory>, AllocError>
-        ensures { IfOk result
-            (λ seats. SameBag seats.items (seats_if (passes (meets (sought_of sought.entry))) 0 self.now.standing)) }
+    fn seats_of(
+        &self,
+        sought: Sought<'_>,
+        during: Option<Period>,
+    ) -> Result<Vec<usize, Memory>, AllocError>
+        ensures { IfOk result (λ seats. SameBag seats.items (seats_if
+            (passes (meets self.now.basis (sought_of sought.entry) (option_map points_of during)))
+            0 self.now.standing)) }
     {
         match sought {
-            Sought::With(_, tuple) => self.index.overlapping(point_of_tuple(tuple)),
+            Sought::With(columns, tuple) => self.seats_with(columns, tuple, during),
+            Sought::WithIn(columns, tuple, start, end, period) => {
+                self.seats_within(columns, tuple, (start, end), period, during)
+            }
             Sought::Holding(_, _, point) => self.index.stab(point),
-            Sought::Sharing(_, _, period) => self.index.overlapping(period),
+            Sought::Sharing(_, _, period) => self.index.sharing(Span::of(period)),
         }
     }
 
     /// The places of the rows that may be sought: all that are, and seldom others.
-    fn find(&self, seats: &Seats, sought: Sought<'_>) -> Result<Vec<usize, Memory>, AllocError>
+    fn find(
+        &self,
+        seats: &Seats,
+        sought: Sought<'_>,
+        during: Option<Period>,
+    ) -> Result<Vec<usize, Memory>, AllocError>
         ensures { IfOk result (λ places. (what : _) → IsLinked what seats.now self.now.standing
-            → SameBag places.items (seats_if (passes (meets (sought_of sought.entry))) 0 what)) }
+            → SameBag places.items (seats_if
+            (passes (meets self.now.basis (sought_of sought.entry) (option_map points_of during))) 0 what)) }
     {
-        let mut found = self.seats_of(sought)?;
+        let mut found = self.seats_of(sought, during)?;
         seats.place_each(&mut found);
         Ok(found)
     }
@@ -125,6 +184,7 @@ fn enter_each<I: IntervalIndex>(
     seats: &Seats,
     place: usize,
     row: &[Value],
+    during: Period,
 ) -> Result<(), AllocError>
     requires there { place < length seats.now.seats }
     requires wide { (i : _) → i < length indexes.old
@@ -134,11 +194,11 @@ fn enter_each<I: IntervalIndex>(
     ensures each { Each (IsTurned place (place + 1) seats.now) indexes.old indexes.new }
     ensures came { OnOk result ((i : _) → i < length indexes.old
         → stands (index_at indexes.new i).standing (seat_at seats.now place)
-        ≡ stands_by (index_at indexes.old i).basis (map datum_of_value row.now)) }
+        ≡ stands_by (index_at indexes.old i).basis (filed (map datum_of_value row.now) (points_of during))) }
 {
     let seat = seats.seat(place);
     for i in 0..indexes.len() {
-        indexes[i].enter(seat, row)?;
+        indexes[i].enter(seat, row, during)?;
     }
     Ok(())
 }
@@ -229,7 +289,13 @@ impl<I: IntervalIndex> ValueIndexes<I> {
     }
 
     /// Puts the row of a place where it stands by each basis. Refused where memory is, and then it stands by some.
-    pub fn enter(&mut self, seats: &Seats, place: usize, row: &[Value]) -> Result<(), AllocError>
+    pub fn enter(
+        &mut self,
+        seats: &Seats,
+        place: usize,
+        row: &[Value],
+        during: Period,
+    ) -> Result<(), AllocError>
         requires there { place < length seats.now.seats }
         requires wide { (i : _) → i < length self.old → length seats.now.seats ≤ length (index_at self.old i).standing }
         requires loose { (i : _) → i < length self.old
@@ -237,9 +303,9 @@ impl<I: IntervalIndex> ValueIndexes<I> {
         ensures each { Each (IsTurned place (place + 1) seats.now) self.old self.new }
         ensures came { OnOk result ((i : _) → i < length self.old
             → stands (index_at self.new i).standing (seat_at seats.now place)
-            ≡ stands_by (index_at self.old i).basis (map datum_of_value row.now)) }
+            ≡ stands_by (index_at self.old i).basis (filed (map datum_of_value row.now) (points_of during))) }
     {
-        enter_each(&mut self.indexes, seats, place, row)
+        enter_each(&mut self.indexes, seats, place, row, during)
     }
 
     /// Leaves the rows between two places under nothing, by each basis. Takes no memory.
@@ -252,23 +318,23 @@ impl<I: IntervalIndex> ValueIndexes<I> {
         leave_each(&mut self.indexes, seats, from, to);
     }
 
-    /// The places of the rows that may be sought: all that are, and seldom others. None only where no rows stand by the
-    /// basis for it. Refused where memory is.
+    /// The places of the rows that may be sought: all that are, and seldom others. Where rows are found by their
+    /// values alone, and the index has the period that is told beside each, only those that stood in this one, if
+    /// there is one. None only where no rows stand by a basis for it. Refused where memory is.
     pub fn find(
         &self,
         seats: &Seats,
         sought: Sought<'_>,
+        during: Option<Period>,
     ) -> Result<Option<Vec<usize, Memory>>, AllocError>
-        ensures places { IfOk result (λ r. IfSome r (λ places. (what : _)
-            → ((i : _) → i < length self.now → (index_at self.now i).basis ≡ basis_for (sought_of sought.entry)
-            → IsLinked what seats.now (index_at self.now i).standing)
-            → SameBag places.items (seats_if (passes (meets (sought_of sought.entry))) 0 what))) }
+        ensures places { IfOk result (λ r. IfSome r (λ places.
+            IsFoundBy seats.now self.now (sought_of sought.entry) (option_map points_of during) places.items)) }
         ensures none { IfOk result (λ r. r ≡ None → (i : _) → i < length self.now
-            → (index_at self.now i).basis ≢ basis_for (sought_of sought.entry)) }
+            → ¬ Serves (sought_of sought.entry) (index_at self.now i).basis) }
     {
         for index in &self.indexes {
             if index.basis.serves(sought) {
-                let places = index.find(seats, sought)?;
+                let places = index.find(seats, sought, during)?;
                 return Ok(Some(places));
             }
         }

@@ -1,62 +1,85 @@
--- Rows of closed versions stand by their values, and behind them those of what the open transaction ended.
+-- Rows of closed versions stand by their values and periods, and behind them those of what the open transaction ended.
 use Rattle.std.proofs.Common.{◌≡◌, ℕ, zero, suc, ◌+◌, ◌<◌, ◌≤◌, Bool, true, false, List, [], ◌∷◌, ◌++◌, map, get_or}
 use Rattle.std.proofs.Common.{length, length-append, append-nil, append_assoc, refl, sym, ap, subst, ◌∙◌, arith}
 use Rattle.std.proofs.Common.{inl, inr, take}
-use Rattle.std.specs.Prelude.{◌⊎◌, All, ℤ, Vec, max, nat_lt, not, if◌then◌else◌}
+use Rattle.std.specs.Prelude.{◌⊎◌, All, Contains, ℤ, Option, Some, None, Vec, max, nat_lt, not, if◌then◌else◌}
 use Rattle.std.proofs.lemmas.List.{map-append, length-map, get_or_append_left, get_or-map}
-use Rattle.std.proofs.lemmas.List.Elements.{All-append, All-filter, All-nil, filter_passes}
+use Rattle.std.proofs.lemmas.List.Elements.{All-append, All-filter, All-nil, Contains-get_or, filter_passes}
 use Rattle.std.proofs.lemmas.Bool.Decides.{nat_tests}
-use Rattle.tql_spec.specs.Datum.{Row}
 use Rattle.tql_spec.specs.Definition.{Version}
+use Rattle.tql_spec.specs.Period.{Period}
 use Rattle.tql_value.specs.Views.{datum_of_value}
 use Rattle.tql_value.specs.declared.value.Value.{Value}
-use Rattle.tql_store_index.specs.Basis.{stands_by}
+use Rattle.tql_store_index.specs.Basis.{Filed, filed, stands_by}
 use Rattle.tql_store_index.specs.Seating.{Seating, AreGrown}
 use Rattle.tql_store_index.specs.ValueIndexes.{ValueIndex, index_at, Each, AreLoose, IsGrown, IsTurned}
 use Rattle.tql_store_rows.proofs.Counting.{times}
-use Rattle.tql_store_rows.proofs.Ending.{closing_rows, fresh_rows}
 use Rattle.tql_store_rows.proofs.Numbering.{taken-is}
-use Rattle.tql_store_rows.proofs.RowsStanding.{rows-length, standing_back, standing_less, standing_longer}
+use Rattle.tql_store_rows.proofs.RowsStanding.{standing_back, standing_less, standing_longer}
 use Rattle.tql_store_rows.proofs.RowsStanding.{standing_more, standing_nil, standing_none}
-use Rattle.tql_store_rows.specs.Changes.{closing, fresh, nothing, taken}
+use Rattle.tql_store_rows.proofs.Turns.{at-closing, length-closing}
+use Rattle.tql_store_rows.specs.Changes.{closing, ended, fresh, nothing, taken}
 use Rattle.tql_store_rows.specs.Marks.{below, from}
-use Rattle.tql_store_rows.specs.RowsStanding.{AllStand, AreStanding, IsComing, IsFilled, past_rows, rows_at, rows_of}
+use Rattle.tql_store_rows.specs.RowsStanding.{AllStand, AreStanding, IsComing, IsFilled, Rises, ending, past_of}
+use Rattle.tql_store_rows.specs.RowsStanding.{past_rows, pasts_at, pasts_of, rows_of, version_at}
 use Rattle.tql_store_rows.specs.TableModel.{TableModel, InTurn}
 use Rattle.tql_store_rows.specs.Views.{version_of, versions_of}
 use Rattle.tql_store_rows.specs.declared.kept.Kept.{Kept}
 
 -- ---- rows at places
 
-pub at_rows : (vs : List Version) (i : ℕ) → get_or (rows_of vs) i [] ≡ (get_or vs i nothing).row.cells
-at_rows [] i = refl
-at_rows (v ∷ vs) zero = refl
-at_rows (v ∷ vs) (suc i) = at_rows vs i
+-- the version that is read at a place
+pub at_read : (ks : List Kept) (i : ℕ) (v : Kept) → i < length ks → v ≡ get_or ks i v
+    → version_at (versions_of ks) i ≡ version_of v
+at_read ks i v l read = get_or-map version_of ks i v nothing l ∙ ap version_of (sym read)
 
--- rows that come behind are none of these
-front_rows : (is : List ℕ) (rows more : List Row) → All (λ i. i < length rows) is
-    → rows_at is (rows ++ more) ≡ rows_at is rows
-front_rows [] rows more h = refl
-front_rows (i ∷ is) rows more h =
-    ap (λ r. r ∷ rows_at is (rows ++ more)) (get_or_append_left rows more [] i (h 0 i (omega arith)))
-    ∙ ap (λ rs. get_or rows i [] ∷ rs) (front_rows is rows more (λ k d l. h (suc k) d (omega (arith, l))))
+-- the row that is read at the next place, and the period beside it
+pub place_read : (ks : List Kept) (places : List ℕ) (j : ℕ) (v : Kept) (until : Option ℤ) (now : List Value)
+    (x : Period) (none : Filed) → j < length places → get_or places j 0 < length ks
+    → v ≡ get_or ks (get_or places j 0) v → now ≡ v.row.items → x ≡ (past_of (ending until (version_of v))).during
+    → filed (map datum_of_value now) x ≡ get_or (pasts_at until places (versions_of ks)) j none
+place_read ks places j v until now x none l within read is e =
+    ap (λ (vs : List Value). filed (map datum_of_value vs) x) is ∙ ap (filed (version_of v).row.cells) e
+    ∙ cells until (version_of v)
+    ∙ ap (λ (w : Version). past_of (ending until w)) (sym (at_read ks (get_or places j 0) v within read))
+    ∙ sym (get_or-map (λ i. past_of (ending until (version_at (versions_of ks) i))) places j 0 none l)
+  where
+    cells : (m : Option ℤ) (w : Version) → filed w.row.cells (past_of (ending m w)).during ≡ past_of (ending m w)
+    cells None w = refl
+    cells (Some m) w = refl
 
--- the row that is read at the next place
-pub place_read : (ks : List Kept) (places : List ℕ) (j : ℕ) (v : Kept) → j < length places
-    → get_or places j 0 < length ks
-    → map datum_of_value (get_or ks (get_or places j 0) v).row.items
-    ≡ get_or (rows_at places (rows_of (versions_of ks))) j []
-place_read ks places j v l within =
-    ap (λ (x : Version). x.row.cells) (sym (get_or-map version_of ks (get_or places j 0) v nothing within))
-    ∙ sym (at_rows (versions_of ks) (get_or places j 0))
-    ∙ sym (get_or-map (λ i. get_or (rows_of (versions_of ks)) i []) places j 0 [] l)
+-- the version there holds a moment
+pub rises_there : (ks : List Kept) (places : List ℕ) (j : ℕ) (v : Kept) (until : Option ℤ) → j < length places
+    → get_or places j 0 < length ks → v ≡ get_or ks (get_or places j 0) v
+    → All (λ i. Rises (ending until (version_at (versions_of ks) i))) places → Rises (ending until (version_of v))
+rises_there ks places j v until l within read early =
+    subst (λ (w : Version). Rises (ending until w)) (at_read ks (get_or places j 0) v within read) (early j 0 l)
 
-pub at-length : (is : List ℕ) (rows : List Row) → length (rows_at is rows) ≡ length is
-at-length is rows = length-map is (λ i. get_or rows i [])
+pub at-length : (until : Option ℤ) (is : List ℕ) (vs : List Version) → length (pasts_at until is vs) ≡ length is
+at-length until is vs = length-map is (λ i. past_of (ending until (version_at vs i)))
+
+pub pasts-length : (vs : List Version) → length (pasts_of vs) ≡ length vs
+pasts-length vs = length-map vs past_of
+
+-- the same rows, told otherwise
+pub same_pasts : (a b : Option ℤ) (is : List ℕ) (vs us : List Version)
+    → All (λ i. past_of (ending a (version_at vs i)) ≡ past_of (ending b (version_at us i))) is
+    → pasts_at a is vs ≡ pasts_at b is us
+same_pasts a b [] vs us h = refl
+same_pasts a b (i ∷ is) vs us h =
+    ap (λ r. r ∷ pasts_at a is vs) (h 0 i (omega arith))
+    ∙ ap (λ rs. past_of (ending b (version_at us i)) ∷ rs)
+    (same_pasts a b is vs us (λ k d l. h (suc k) d (omega (arith, l))))
+
+-- and of the versions that are there
+pub pasts_there : (is : List ℕ) (vs : List Version) → pasts_at None is vs ≡ pasts_of (map (version_at vs) is)
+pasts_there [] vs = refl
+pasts_there (i ∷ is) vs = ap (λ rs. past_of (version_at vs i) ∷ rs) (pasts_there is vs)
 
 -- ---- rows come
 
 -- rows stand behind others, where seats and indexes have grown for them
-pub past_entered : (s t : Seating) (old grown new : List ValueIndex) (rows added : List Row) (n count to : ℕ)
+pub past_entered : (s t : Seating) (old grown new : List ValueIndex) (rows added : List Filed) (n count to : ℕ)
     → length rows ≡ n → length added ≡ count → to ≡ n + count → AreGrown s t
     → length t.seats ≤ max (length s.seats) to → to ≤ length t.seats → Each IsGrown old grown
     → ((i : ℕ) → i < length old → to ≤ length (index_at grown i).standing)
@@ -67,7 +90,7 @@ past_entered s t old grown new rows added n count to e c f more most room each w
     (standing_longer s t old grown rows to more most each wide h)
 
 -- where they were refused, they have gone again
-pub past_refused : (s t : Seating) (old grown now new : List ValueIndex) (rows : List Row) (n to : ℕ)
+pub past_refused : (s t : Seating) (old grown now new : List ValueIndex) (rows : List Filed) (n to : ℕ)
     → length rows ≡ n → AreGrown s t → length t.seats ≤ max (length s.seats) to → Each IsGrown old grown
     → ((i : ℕ) → i < length old → to ≤ length (index_at grown i).standing)
     → Each (IsTurned n to t) grown now → Each (IsTurned n to t) now new
@@ -79,7 +102,7 @@ past_refused s t old grown now new rows n to e more most each wide one two gone 
 -- ---- rows go
 
 -- with an index there is a seat for each row
-seat_each : (s : Seating) (indexes : List ValueIndex) (rows : List Row) → AreStanding s indexes rows
+seat_each : (s : Seating) (indexes : List ValueIndex) (rows : List Filed) → AreStanding s indexes rows
     → 0 < length indexes → length rows ≤ length s.seats
 seat_each s indexes rows h l =
     let r = (h.each 0 l).room in omega (arith, r, length-map rows (stands_by (index_at indexes 0).basis))
@@ -89,7 +112,7 @@ none_or_some zero = inl refl
 none_or_some (suc n) = inr (omega arith)
 
 -- what came behind the rows has gone
-pub past_left : (s : Seating) (old new : List ValueIndex) (rows more : List Row) (from cut : ℕ) → length rows ≡ from
+pub past_left : (s : Seating) (old new : List ValueIndex) (rows more : List Filed) (from cut : ℕ) → length rows ≡ from
     → (length (rows ++ more) ≤ length s.seats → length (rows ++ more) ≤ cut) → Each (IsTurned from cut s) old new
     → ((i : ℕ) → i < length old → AreLoose from cut s (index_at new i).standing) → AreStanding s old (rows ++ more)
     → AreStanding s new rows
@@ -100,7 +123,7 @@ past_left s old new rows more from cut e most turned gone h = elim (none_or_some
 ]
 
 -- nothing came behind them
-pub past_alone : (s : Seating) (indexes : List ValueIndex) (rows more : List Row) (from : ℕ) → length rows ≡ from
+pub past_alone : (s : Seating) (indexes : List ValueIndex) (rows more : List Filed) (from : ℕ) → length rows ≡ from
     → (length (rows ++ more) ≤ length s.seats → length (rows ++ more) ≤ from) → AreStanding s indexes (rows ++ more)
     → AreStanding s indexes rows
 past_alone s indexes rows more from e most h = elim (none_or_some (length indexes)) [
@@ -110,41 +133,56 @@ past_alone s indexes rows more from e most h = elim (none_or_some (length indexe
       omega (arith, m, e, length-append rows more))) ∙ append-nil rows) h
 ]
   where
-    no_more : (rs : List Row) → length rs ≤ 0 → rs ≡ []
+    no_more : (rs : List Filed) → length rs ≤ 0 → rs ≡ []
     no_more [] l = refl
     no_more (r ∷ rs) l = absurd (omega (arith, l))
 
 -- ---- a change
 
--- what is ended now stands behind what was ended before
-pub past_more : (keeps : Bool) (current : List Version) (ended more : List ℕ) (closed : List Version)
-    → past_rows keeps current ended closed ++ (if keeps then rows_at more (rows_of current) else [])
-    ≡ past_rows keeps current (ended ++ more) closed
-past_more true current ended more closed =
-    append_assoc (rows_of closed) (rows_at ended (rows_of current)) (rows_at more (rows_of current))
-    ∙ ap (λ rs. rows_of closed ++ rs) (sym (map-append (λ i. get_or (rows_of current) i []) ended more))
-past_more false current ended more closed = append-nil (rows_of closed ++ [])
-
 pub past-length : (keeps : Bool) (current : List Version) (ended : List ℕ) (closed : List Version) → keeps ≡ true
     → length (past_rows keeps current ended closed) ≡ length closed + length ended
 past-length true current ended closed e =
-    length-append (rows_of closed) (rows_at ended (rows_of current))
-    ∙ ap (λ n. n + length (rows_at ended (rows_of current))) (rows-length closed)
-    ∙ ap (λ n. length closed + n) (at-length ended (rows_of current))
+    length-append (pasts_of closed) (pasts_at None ended current)
+    ∙ ap (λ n. n + length (pasts_at None ended current)) (pasts-length closed)
+    ∙ ap (λ n. length closed + n) (at-length None ended current)
 past-length false current ended closed e = absurd (cc)
 
--- rows stay what they are when they end, and when others come
-pub past_changed : {A : Type 0} (keeps : Bool) (m : ℤ) (removed : List ℕ) (rows : List (Vec Value A))
-    (old new : List Version) (ended : List ℕ) (closed : List Version) → All (λ i. i < length old) ended
+-- versions that have ended, and those that end now, in the versions as they were and as they are
+past_changed : {A : Type 0} (keeps : Bool) (m : ℤ) (removed more : List ℕ) (rows : List (Vec Value A))
+    (old new : List Version) (gone : List ℕ) (closed : List Version) → All (λ i. i < length old) gone
+    → All (λ i. (version_at old i).end ≡ m) gone → All (λ i. i < length old) more → All (Contains removed) more
     → new ≡ closing m removed old ++ map (λ row. fresh m (map datum_of_value row.items)) rows
-    → past_rows keeps new ended closed ≡ past_rows keeps old ended closed
-past_changed true m removed rows old new ended closed within e =
-    ap (λ rs. rows_of closed ++ rows_at ended rs)
-    (ap rows_of e ∙ fresh_rows m (closing m removed old) rows
-    ∙ ap (λ rs. rs ++ map (λ row. map datum_of_value row.items) rows) (closing_rows m removed old))
-    ∙ ap (λ rs. rows_of closed ++ rs) (front_rows ended (rows_of old) (map (λ row. map datum_of_value row.items) rows)
-    (λ k d l. let w = within k d l in omega (arith, w, rows-length old)))
-past_changed false m removed rows old new ended closed within e = refl
+    → past_rows keeps old gone closed ++ (if keeps then pasts_at (Some m) more old else [])
+    ≡ past_rows keeps new (gone ++ more) closed
+past_changed true m removed more rows old new gone closed low shut within listed e =
+    append_assoc (pasts_of closed) (pasts_at None gone old) (pasts_at (Some m) more old)
+    ∙ ap (λ rs. pasts_of closed ++ rs)
+    (ap (λ rs. rs ++ pasts_at (Some m) more old) (same_pasts None None gone old new
+    (λ k d l. kept (get_or gone k d) (low k d l) (shut k d l)))
+    ∙ ap (λ rs. pasts_at None gone new ++ rs) (same_pasts (Some m) None more old new
+    (λ k d l. now (get_or more k d) (within k d l) (listed k d l)))
+    ∙ sym (map-append (λ i. past_of (version_at new i)) gone more))
+  where
+    here : (k : ℕ) → k < length old → version_at new k ≡ version_at (closing m removed old) k
+    here k l = ap (λ vs. version_at vs k) e
+        ∙ get_or_append_left (closing m removed old) (map (λ row. fresh m (map datum_of_value row.items)) rows) nothing
+        k (let n = length-closing m removed old in omega (arith, n, l))
+
+    kept : (k : ℕ) → k < length old → (version_at old k).end ≡ m
+        → past_of (version_at old k) ≡ past_of (version_at new k)
+    kept k l z = elim (at-closing m removed old k l) [
+      | inl x ↦ ap (λ (y : ℤ). past_of (ended y (version_at old k))) z ∙ ap past_of (sym (here k l ∙ x.0))
+      | inr x ↦ ap past_of (sym (here k l ∙ x.0))
+    ]
+
+    now : (k : ℕ) → k < length old → Contains removed k
+        → past_of (ended m (version_at old k)) ≡ past_of (version_at new k)
+    now k l c = elim (at-closing m removed old k l) [
+      | inl x ↦ ap past_of (sym (here k l ∙ x.0))
+      | inr x ↦ absurd (x.1 c)
+    ]
+past_changed false m removed more rows old new gone closed low shut within listed e =
+    append-nil (pasts_of closed ++ [])
 
 -- ---- the end of a transaction
 
@@ -153,29 +191,23 @@ pub past_kept : (keeps : Bool) (m : ℤ) (current after : List Version) (ended :
     → ((k : ℕ) → times k ended ≤ 1) → new ≡ closed ++ (if keeps then taken m ended current else [])
     → past_rows keeps after [] new ≡ past_rows keeps current ended closed
 past_kept true m current after ended closed new once e =
-    append-nil (rows_of new) ∙ ap rows_of e
-    ∙ map-append (λ (v : Version). v.row.cells) closed (taken m ended current)
-    ∙ ap (λ rs. rows_of closed ++ rs) (ap rows_of (taken-is m ended current current once (λ k d l. refl))
-    ∙ same ended)
-  where
-    same : (is : List ℕ) → rows_of (map (λ i. get_or current i nothing) is) ≡ rows_at is (rows_of current)
-    same [] = refl
-    same (i ∷ is) = ap (λ r. r ∷ rows_of (map (λ j. get_or current j nothing) is)) (sym (at_rows current i))
-        ∙ ap (λ rs. get_or (rows_of current) i [] ∷ rs) (same is)
+    append-nil (pasts_of new) ∙ ap pasts_of e ∙ map-append past_of closed (taken m ended current)
+    ∙ ap (λ rs. pasts_of closed ++ rs) (ap pasts_of (taken-is m ended current current once (λ k d l. refl))
+    ∙ sym (pasts_there ended current))
 past_kept false m current after ended closed new once e =
-    ap (λ vs. rows_of vs ++ []) (e ∙ append-nil closed)
+    ap (λ vs. pasts_of vs ++ []) (e ∙ append-nil closed)
 
 -- a rollback leaves the closed versions
 pub past_alone_rows : (keeps : Bool) (current : List Version) (closed : List Version)
-    → rows_of closed ≡ past_rows keeps current [] closed
-past_alone_rows true current closed = sym (append-nil (rows_of closed))
-past_alone_rows false current closed = sym (append-nil (rows_of closed))
+    → pasts_of closed ≡ past_rows keeps current [] closed
+past_alone_rows true current closed = sym (append-nil (pasts_of closed))
+past_alone_rows false current closed = sym (append-nil (pasts_of closed))
 
 past-most : (keeps : Bool) (current : List Version) (ended : List ℕ) (closed : List Version)
     → length (past_rows keeps current ended closed) ≤ length closed + length ended
 past-most true current ended closed = let n = past-length true current ended closed refl in omega (arith, n)
 past-most false current ended closed =
-    omega (arith, length-append (rows_of closed) [], rows-length closed)
+    omega (arith, length-append (pasts_of closed) [], pasts-length closed)
 
 -- ---- the invariant
 
@@ -202,43 +234,44 @@ none_stand keeps s t indexes past current closed ended base dead e f all all' no
   behind = none_behind base dead empty;
 }
 
--- what a change ends stands behind what was ended before, in the versions as they were
-pub more_stand : (keeps : Bool) (t : Seating) (past : List ValueIndex) (before versions : List Kept)
-    (removed : List ℕ) (base : ℕ) (ended places all : List ℕ) (closed later : List Kept) → versions ≡ before
-    → places ≡ below base removed → all ≡ ended ++ below base removed → later ≡ closed
+-- what a change ends stands behind what was ended before, told of the versions as they were
+pub more_stand : (keeps : Bool) (n m : ℤ) (t : Seating) (past : List ValueIndex) (before versions : List Kept)
+    (more places ended : List ℕ) (closed later : List Kept) → n ≡ m → versions ≡ before → places ≡ more → later ≡ closed
     → AreStanding t past (past_rows keeps (versions_of before) ended (versions_of closed)
-    ++ (if keeps then rows_at places (rows_of (versions_of versions)) else []))
-    → AreStanding t past (past_rows keeps (versions_of before) all (versions_of later))
-more_stand keeps t past before versions removed base ended places all closed later e f g k h =
+    ++ (if keeps then pasts_at (Some n) places (versions_of versions) else []))
+    → AreStanding t past (past_rows keeps (versions_of before) ended (versions_of later)
+    ++ (if keeps then pasts_at (Some m) more (versions_of before) else []))
+more_stand keeps n m t past before versions more places ended closed later at e f g h =
     subst (AreStanding t past)
-    (ap (λ is. past_rows keeps (versions_of before) ended (versions_of closed)
-    ++ (if keeps then rows_at is (rows_of (versions_of versions)) else [])) f
-    ∙ ap (λ ks. past_rows keeps (versions_of before) ended (versions_of closed)
-    ++ (if keeps then rows_at (below base removed) (rows_of (versions_of ks)) else [])) e
-    ∙ past_more keeps (versions_of before) ended (below base removed) (versions_of closed)
-    ∙ sym (ap (λ is. past_rows keeps (versions_of before) is (versions_of closed)) g)
-    ∙ sym (ap (λ ks. past_rows keeps (versions_of before) all (versions_of ks)) k)) h
+    (ap (λ (x : ℤ). past_rows keeps (versions_of before) ended (versions_of closed)
+    ++ (if keeps then pasts_at (Some x) places (versions_of versions) else [])) at
+    ∙ ap (λ (ks : List Kept). past_rows keeps (versions_of before) ended (versions_of closed)
+    ++ (if keeps then pasts_at (Some m) places (versions_of ks) else [])) e
+    ∙ ap (λ is. past_rows keeps (versions_of before) ended (versions_of closed)
+    ++ (if keeps then pasts_at (Some m) is (versions_of before) else [])) f
+    ∙ sym (ap (λ (ks : List Kept). past_rows keeps (versions_of before) ended (versions_of ks)
+    ++ (if keeps then pasts_at (Some m) more (versions_of before) else [])) g)) h
 
--- and in the versions as they are after it
-pub change_past : {A : Type 0} (keeps : Bool) (m n : ℤ) (h : TableModel) (t : Seating) (past : List ValueIndex)
-    (before old new : List Kept) (removed : List ℕ) (base : ℕ) (ended all : List ℕ) (closed : List Kept)
+-- and of the versions as they are after it
+pub change_past : {A : Type 0} (keeps : Bool) (m : ℤ) (h : TableModel) (t : Seating) (past : List ValueIndex)
+    (before : List Kept) (new : List Version) (removed : List ℕ) (base : ℕ) (ended all : List ℕ) (closed : List Version)
     (rows : List (Vec Value A)) → InTurn m h → versions_of before ≡ h.current → ended ≡ h.ended
-    → All (λ i. i < length h.current) removed → all ≡ ended ++ below base removed → old ≡ before
-    → versions_of new ≡ closing n removed (versions_of old)
-    ++ map (λ row. fresh n (map datum_of_value row.items)) rows
-    → AreStanding t past (past_rows keeps (versions_of before) all (versions_of closed))
-    → AreStanding t past (past_rows keeps (versions_of new) all (versions_of closed))
-change_past keeps m n h t past before old new removed base ended all closed rows turn is e within g same made stand =
+    → All (λ i. i < length h.current) removed → all ≡ ended ++ below base removed
+    → new ≡ closing m removed h.current ++ map (λ row. fresh m (map datum_of_value row.items)) rows
+    → AreStanding t past (past_rows keeps (versions_of before) ended closed
+    ++ (if keeps then pasts_at (Some m) (below base removed) (versions_of before) else []))
+    → AreStanding t past (past_rows keeps new all closed)
+change_past keeps m h t past before new removed base ended all closed rows turn is e within g made stand =
     subst (AreStanding t past)
-    (sym (past_changed keeps n removed rows (versions_of before) (versions_of new) all (versions_of closed)
-    (subst (λ (js : List ℕ). All (λ i. i < length (versions_of before)) js) (sym g)
-    (subst (λ (vs : List Version). All (λ i. i < length vs) (ended ++ below base removed)) (sym is)
-    (All-append (λ i. i < length h.current) ended (below base removed)
-    (subst (λ (js : List ℕ). All (λ i. i < length h.current) js) (sym e)
-    (λ k d l. let w = turn.within k d l in let b = turn.based in omega (arith, w, b)))
-    (All-filter (λ i. nat_lt i base) (λ i. i < length h.current) removed within))))
-    (made ∙ ap (λ (ks : List Kept). closing n removed (versions_of ks)
-    ++ map (λ row. fresh n (map datum_of_value row.items)) rows) same))) stand
+    (ap (λ (vs : List Version). past_rows keeps vs ended closed
+    ++ (if keeps then pasts_at (Some m) (below base removed) vs else [])) is
+    ∙ ap (λ js. past_rows keeps h.current js closed
+    ++ (if keeps then pasts_at (Some m) (below base removed) h.current else [])) e
+    ∙ past_changed keeps m removed (below base removed) rows h.current new h.ended closed
+    (λ k d l. let w = turn.within k d l in let b = turn.based in omega (arith, w, b)) (λ k d l. turn.shut k d l)
+    (All-filter (λ i. nat_lt i base) (λ i. i < length h.current) removed within)
+    (All-filter (λ i. nat_lt i base) (Contains removed) removed (λ k d l. Contains-get_or removed k d l)) made
+    ∙ sym (ap (λ js. past_rows keeps new js closed) (g ∙ ap (λ js. js ++ below base removed) e))) stand
 
 -- what it notes as dead lies behind the rows that were there before
 pub change_behind : (base : ℕ) (old removed dead : List ℕ) → dead ≡ old ++ from base removed
@@ -269,7 +302,7 @@ commit_past keeps m n h t past current opened after ended again none closed new 
 pub rollback_past : (keeps : Bool) (t : Seating) (past left : List ValueIndex) (current after : List Version)
     (ended none : List ℕ) (closed : List Kept) (from to : ℕ) → from ≡ length closed → to ≡ from + length ended
     → none ≡ []
-    → ((rows more : List Row) → length rows ≡ from → length (rows ++ more) ≤ to → AreStanding t past (rows ++ more)
+    → ((rows more : List Filed) → length rows ≡ from → length (rows ++ more) ≤ to → AreStanding t past (rows ++ more)
     → AreStanding t left rows)
     → AreStanding t past (past_rows keeps current ended (versions_of closed))
     → AreStanding t left (past_rows keeps after none (versions_of closed))
@@ -277,8 +310,8 @@ rollback_past keeps t past left current after ended none closed from to e f nil 
     subst (AreStanding t left)
     (past_alone_rows keeps after (versions_of closed)
     ∙ sym (ap (λ js. past_rows keeps after js (versions_of closed)) nil))
-    (goes (rows_of (versions_of closed)) (if keeps then rows_at ended (rows_of current) else [])
-    (rows-length (versions_of closed) ∙ count_of closed ∙ sym e)
+    (goes (pasts_of (versions_of closed)) (if keeps then pasts_at None ended current else [])
+    (pasts-length (versions_of closed) ∙ count_of closed ∙ sym e)
     (let n = past-most keeps current ended (versions_of closed) in omega (arith, n, count_of closed, e, f)) stand)
 
 -- the number of the next row that is ended

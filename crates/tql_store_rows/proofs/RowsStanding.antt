@@ -9,7 +9,6 @@ use Rattle.std.specs.List.{swap_remove}
 use Rattle.std.proofs.lemmas.List.{get_or_default, get_or-take, take_more, length-take, length-set}
 use Rattle.std.proofs.lemmas.List.{get_or-set_same, get_or-set_other}
 use Rattle.std.proofs.lemmas.List.Elements.{Contains-append_cases, Contains-append_left, Contains-append_right}
-use Rattle.tql_spec.specs.Datum.{Row}
 use Rattle.tql_spec.specs.Definition.{Version}
 use Rattle.tql_spec.specs.Period.{Period}
 use Rattle.tql_value.specs.Views.{datum_of_value}
@@ -18,11 +17,12 @@ use Rattle.tql_store_index.proofs.Linking.{same_turned}
 use Rattle.tql_store_index.proofs.Seated.{apart}
 use Rattle.tql_store_index.specs.ValueIndexes.{ValueIndex, index_at, Each, IsLinked, DiffersIn, AreLoose, IsGrown}
 use Rattle.tql_store_index.specs.ValueIndexes.{IsTurned, nowhere}
-use Rattle.tql_store_index.specs.Basis.{Basis, stands_by}
+use Rattle.tql_store_index.specs.Basis.{Basis, Filed, filed, stands_by}
+use Rattle.tql_store_index.specs.Places.{whole}
 use Rattle.tql_store_index.specs.Seating.{Seating, seat_at, AreGrown, AreSwapped}
 use Rattle.tql_store_index.specs.Standing.{stands}
 use Rattle.tql_store_rows.specs.RowsStanding.{AreStanding, AreHeld, IsShut, IsShutAt, version_at, rows_of}
-use Rattle.tql_store_rows.specs.RowsStanding.{all_of, held_in, held_of}
+use Rattle.tql_store_rows.specs.RowsStanding.{all_of, held_in, held_of, stands_ever}
 use Rattle.tql_store_rows.specs.RowsStanding.{IsComing, cells_of}
 use Rattle.tql_store_rows.specs.Changes.{is_current, emptied, moved_out, nothing}
 use Rattle.tql_store_rows.specs.Views.{version_of, versions_of}
@@ -34,9 +34,9 @@ past_end (x ∷ xs) zero l = absurd (omega (arith, l))
 past_end (x ∷ xs) (suc j) l = past_end xs j (omega (arith, l))
 
 pub rows-length : (vs : List Version) → length (rows_of vs) ≡ length vs
-rows-length vs = length-map vs (λ (v : Version). v.row.cells)
+rows-length vs = length-map vs (λ (v : Version). filed v.row.cells whole)
 
-all-length : (basis : Basis) (rows : List Row) → length (all_of basis rows) ≡ length rows
+all-length : (basis : Basis) (rows : List Filed) → length (all_of basis rows) ≡ length rows
 all-length basis rows = length-map rows (stands_by basis)
 
 -- ---- no row
@@ -55,7 +55,7 @@ standing_none s indexes e h = rw e (record {
 })
 
 -- without indexes nothing has to stand
-pub standing_nil : (s : Seating) (indexes : List ValueIndex) (rows : List Row) → length indexes ≡ 0
+pub standing_nil : (s : Seating) (indexes : List ValueIndex) (rows : List Filed) → length indexes ≡ 0
     → AreStanding s indexes rows
 standing_nil s indexes rows e = record { each = λ i l. absurd (omega (arith, e, l)) }
 
@@ -88,7 +88,8 @@ grown_key what s t old new g kept wide h = record {
   beyond = λ seat l. kept seat ∙ h.beyond seat (let b = g.longer in omega (arith, b, l));
 }
 
-pub standing_grown : (s t : Seating) (old new : List ValueIndex) (rows : List Row) → AreGrown s t → Each IsGrown old new
+pub standing_grown : (s t : Seating) (old new : List ValueIndex) (rows : List Filed) → AreGrown s t
+    → Each IsGrown old new
     → ((i : ℕ) → i < length old → length t.seats ≤ length (index_at new i).standing) → AreStanding s old rows
     → AreStanding t new rows
 standing_grown s t old new rows g e wide h = record {
@@ -107,13 +108,13 @@ grown_none s = record {
 }
 
 -- where the indexes alone have grown
-pub standing_wider : (s : Seating) (old new : List ValueIndex) (rows : List Row) → Each IsGrown old new
+pub standing_wider : (s : Seating) (old new : List ValueIndex) (rows : List Filed) → Each IsGrown old new
     → AreStanding s old rows → AreStanding s new rows
 standing_wider s old new rows e h = standing_grown s s old new rows (grown_none s) e
     (λ i l. let a = (h.each i l).wide in let b = (e.1 i l).longer in omega (arith, a, b)) h
 
 -- where the seats have too
-pub standing_longer : (s t : Seating) (old new : List ValueIndex) (rows : List Row) (to : ℕ) → AreGrown s t
+pub standing_longer : (s t : Seating) (old new : List ValueIndex) (rows : List Filed) (to : ℕ) → AreGrown s t
     → length t.seats ≤ max (length s.seats) to → Each IsGrown old new
     → ((i : ℕ) → i < length old → to ≤ length (index_at new i).standing) → AreStanding s old rows
     → AreStanding t new rows
@@ -122,13 +123,13 @@ standing_longer s t old new rows to g most e wide h = standing_grown s t old new
 
 -- ---- rows come
 
-past_is : (basis : Basis) (rows : List Row) (j : ℕ) → j < length rows
-    → stands (all_of basis rows) j ≡ stands_by basis (get_or rows j [])
-past_is basis [] j l = absurd (omega (arith, l))
-past_is basis (r ∷ rows) zero l = refl
-past_is basis (r ∷ rows) (suc j) l = past_is basis rows j (omega (arith, l))
+past_is : (basis : Basis) (rows : List Filed) (j : ℕ) (none : Filed) → j < length rows
+    → stands (all_of basis rows) j ≡ stands_by basis (get_or rows j none)
+past_is basis [] j none l = absurd (omega (arith, l))
+past_is basis (r ∷ rows) zero none l = refl
+past_is basis (r ∷ rows) (suc j) none l = past_is basis rows j none (omega (arith, l))
 
-pub coming_none : (from : ℕ) (rows : List Row) (s : Seating) (indexes : List ValueIndex)
+pub coming_none : (from : ℕ) (rows : List Filed) (s : Seating) (indexes : List ValueIndex)
     → Each (IsComing from 0 rows s) indexes indexes
 coming_none from rows s indexes = (
   refl,
@@ -153,40 +154,41 @@ turned_on from j n s old now new l a t = record {
   };
 }
 
-coming_one : (from j : ℕ) (rows : List Row) (s : Seating) (old now new : ValueIndex) (row : Row)
-    → from + j < length s.seats → j < length rows → row ≡ get_or rows j []
+coming_one : (from j : ℕ) (rows : List Filed) (s : Seating) (old now new : ValueIndex) (row none : Filed)
+    → from + j < length s.seats → j < length rows → row ≡ get_or rows j none
     → IsTurned (from + j) (from + j + 1) s now new
     → stands new.standing (seat_at s (from + j)) ≡ stands_by now.basis row → IsComing from j rows s old now
     → IsComing from (j + 1) rows s old new
-coming_one from j rows s old now new row room l read t is a = record {
+coming_one from j rows s old now new row none room l read t is a = record {
   turned = turned_on from j (j + 1) s old now new (omega arith) a.turned t;
   came = λ i m. elim (cases_lt i j) [
     | inl b ↦ t.differs.others (from + i) (omega (arith, b, room)) (inl (omega (arith, b))) ∙ a.came i b
     | inr b ↦
         let q : i ≡ j = omega (arith, b, m) in
         ap (λ k. stands new.standing (seat_at s (from + k))) q ∙ is
-        ∙ ap (λ b. stands_by b row) a.turned.basis ∙ ap (stands_by old.basis) read ∙ sym (past_is old.basis rows j l)
+        ∙ ap (λ b. stands_by b row) a.turned.basis ∙ ap (stands_by old.basis) read
+        ∙ sym (past_is old.basis rows j none l)
         ∙ ap (λ k. stands (all_of old.basis rows) k) (sym q)
   ];
 }
 
 -- one row more has come to each
-pub all_coming : (from j : ℕ) (rows : List Row) (s : Seating) (old now new : List ValueIndex) (row : Row)
-    → from + j < length s.seats → j < length rows → row ≡ get_or rows j []
+pub all_coming : (from j : ℕ) (rows : List Filed) (s : Seating) (old now new : List ValueIndex) (row none : Filed)
+    → from + j < length s.seats → j < length rows → row ≡ get_or rows j none
     → Each (IsTurned (from + j) (from + j + 1) s) now new
     → ((i : ℕ) → i < length now → stands (index_at new i).standing (seat_at s (from + j))
     ≡ stands_by (index_at now i).basis row)
     → Each (IsComing from j rows s) old now → Each (IsComing from (j + 1) rows s) old new
-all_coming from j rows s old now new row room l read t is a = (
+all_coming from j rows s old now new row none room l read t is a = (
   t.0 ∙ a.0,
   λ i m.
       let n : i < length now = let e = a.0 in omega (arith, e, m) in
-      coming_one from j rows s (index_at old i) (index_at now i) (index_at new i) row room l read (t.1 i n) (is i n)
-      (a.1 i m),
+      coming_one from j rows s (index_at old i) (index_at now i) (index_at new i) row none room l read (t.1 i n)
+      (is i n) (a.1 i m),
 )
 
 -- it was refused to some
-pub all_stopped : (from j n : ℕ) (rows : List Row) (s : Seating) (old now new : List ValueIndex) → j < n
+pub all_stopped : (from j n : ℕ) (rows : List Filed) (s : Seating) (old now new : List ValueIndex) → j < n
     → Each (IsTurned (from + j) (from + j + 1) s) now new → Each (IsComing from j rows s) old now
     → Each (IsTurned from (from + n) s) old new
 all_stopped from j n rows s old now new l t a = (
@@ -198,16 +200,16 @@ all_stopped from j n rows s old now new l t a = (
 
 -- the row that is read
 pub cells_read : {A : Type 0} (rows items : List (Vec Value A)) (j : ℕ) (r : Vec Value A) (now : List Value)
-    → j < length items → items ≡ rows → r ≡ get_or items j r → now ≡ r.items
-    → map datum_of_value now ≡ get_or (cells_of rows) j []
-cells_read rows items j r now l e read is =
-    ap (λ (vs : List Value). map datum_of_value vs) is
-    ∙ ap (λ (v : Vec Value _). map datum_of_value v.items) read
-    ∙ sym (get_or-map (λ (v : Vec Value _). map datum_of_value v.items) items j r [] l)
-    ∙ ap (λ rs. get_or (cells_of rs) j []) e
+    (none : Filed) → j < length items → items ≡ rows → r ≡ get_or items j r → now ≡ r.items
+    → filed (map datum_of_value now) whole ≡ get_or (cells_of rows) j none
+cells_read rows items j r now none l e read is =
+    ap (λ (vs : List Value). filed (map datum_of_value vs) whole) is
+    ∙ ap (λ (v : Vec Value _). filed (map datum_of_value v.items) whole) read
+    ∙ sym (get_or-map (λ (v : Vec Value _). filed (map datum_of_value v.items) whole) items j r none l)
+    ∙ ap (λ rs. get_or (cells_of rs) j none) e
 
 -- the next place is still under nothing
-pub still_loose : (from j : ℕ) (rows : List Row) (s : Seating) (old now : List ValueIndex) → from + j < length s.seats
+pub still_loose : (from j : ℕ) (rows : List Filed) (s : Seating) (old now : List ValueIndex) → from + j < length s.seats
     → ((i : ℕ) → i < length old → AreLoose from (length s.seats) s (index_at old i).standing)
     → Each (IsComing from j rows s) old now → (i : ℕ) → i < length now
     → stands (index_at now i).standing (seat_at s (from + j)) ≡ None
@@ -216,7 +218,7 @@ still_loose from j rows s old now room loose a i l =
     (a.1 i m).turned.differs.others (from + j) room (inr (omega arith)) ∙ loose i m (from + j) (omega arith) room
 
 -- and there is room for it
-pub still_wide : (from j : ℕ) (rows : List Row) (s : Seating) (old now : List ValueIndex)
+pub still_wide : (from j : ℕ) (rows : List Filed) (s : Seating) (old now : List ValueIndex)
     → ((i : ℕ) → i < length old → length s.seats ≤ length (index_at old i).standing)
     → Each (IsComing from j rows s) old now → (i : ℕ) → i < length now
     → length s.seats ≤ length (index_at now i).standing
@@ -225,7 +227,7 @@ still_wide from j rows s old now wide a i l =
     let w = wide i m in let d = (a.1 i m).turned.differs.even in omega (arith, w, d)
 
 -- all have come
-pub all_turned : (from n : ℕ) (rows : List Row) (s : Seating) (old new : List ValueIndex)
+pub all_turned : (from n : ℕ) (rows : List Filed) (s : Seating) (old new : List ValueIndex)
     → Each (IsComing from n rows s) old new → Each (IsTurned from (from + n) s) old new
 all_turned from n rows s old new a = (a.0, λ i l. (a.1 i l).turned)
 
@@ -254,7 +256,7 @@ come_key what points from s old new e room d came h = record {
   beyond = λ seat l. d.beyond seat l ∙ h.beyond seat l;
 }
 
-pub standing_more : (s : Seating) (old new : List ValueIndex) (rows added : List Row) (from : ℕ) → length rows ≡ from
+pub standing_more : (s : Seating) (old new : List ValueIndex) (rows added : List Filed) (from : ℕ) → length rows ≡ from
     → from + length added ≤ length s.seats → Each (IsComing from (length added) added s) old new
     → AreStanding s old rows → AreStanding s new (rows ++ added)
 standing_more s old new rows added from e room coming h = record {
@@ -273,7 +275,7 @@ standing_more s old new rows added from e room coming h = record {
 }
 
 pub cells-length : {A : Type 0} (rows : List (Vec Value A)) → length (cells_of rows) ≡ length rows
-cells-length rows = length-map rows (λ row. map datum_of_value row.items)
+cells-length rows = length-map rows (λ row. filed (map datum_of_value row.items) whole)
 
 kept-rows : (ks : List Kept) → length (rows_of (versions_of ks)) ≡ length ks
 kept-rows [] = refl
@@ -293,14 +295,14 @@ standing_entered s t old grown new ks added from to e f more most room each wide
     (standing_longer s t old grown (rows_of (versions_of ks)) to more most each wide h)
 
 -- the seats behind the rows are loose
-pub loose_behind : (s : Seating) (indexes : List ValueIndex) (rows : List Row) (from : ℕ) → length rows ≡ from
+pub loose_behind : (s : Seating) (indexes : List ValueIndex) (rows : List Filed) (from : ℕ) → length rows ≡ from
     → AreStanding s indexes rows → (i : ℕ) → i < length indexes
     → AreLoose from (length s.seats) s (index_at indexes i).standing
 loose_behind s indexes rows from e h i l = λ k a b.
     (h.each i l).each k b ∙ past_end (all_of (index_at indexes i).basis rows) k
     (omega (arith, a, e, all-length (index_at indexes i).basis rows))
 
-pub wide_enough : (s : Seating) (indexes : List ValueIndex) (rows : List Row) → AreStanding s indexes rows → (i : ℕ)
+pub wide_enough : (s : Seating) (indexes : List ValueIndex) (rows : List Filed) → AreStanding s indexes rows → (i : ℕ)
     → i < length indexes → length s.seats ≤ length (index_at indexes i).standing
 wide_enough s indexes rows h i l = (h.each i l).wide
 
@@ -332,7 +334,7 @@ differs_twice from to s xs ys zs a b = record {
 }
 
 -- what came behind the rows in part has gone again
-pub standing_back : (s : Seating) (old now new : List ValueIndex) (rows : List Row) (from to : ℕ) → length rows ≡ from
+pub standing_back : (s : Seating) (old now new : List ValueIndex) (rows : List Filed) (from to : ℕ) → length rows ≡ from
     → Each (IsTurned from to s) old now → Each (IsTurned from to s) now new
     → ((i : ℕ) → i < length now → AreLoose from to s (index_at new i).standing) → AreStanding s old rows
     → AreStanding s new rows
@@ -351,7 +353,7 @@ standing_back s old now new rows from to e a b gone h = record {
 }
 
 -- rows behind others have gone
-pub standing_less : (s : Seating) (old new : List ValueIndex) (rows more all : List Row) (from to : ℕ)
+pub standing_less : (s : Seating) (old new : List ValueIndex) (rows more all : List Filed) (from to : ℕ)
     → length rows ≡ from
     → all ≡ rows ++ more → length all ≤ to → Each (IsTurned from to s) old new
     → ((i : ℕ) → i < length old → AreLoose from to s (index_at new i).standing) → AreStanding s old all
@@ -382,7 +384,7 @@ rows-parts : (from : ℕ) (ks : List Kept)
     → rows_of (versions_of ks) ≡ rows_of (versions_of (take from ks)) ++ rows_of (versions_of (drop from ks))
 rows-parts zero ks = refl
 rows-parts (suc n) [] = refl
-rows-parts (suc n) (k ∷ ks) = ap (λ xs. (version_of k).row.cells ∷ xs) (rows-parts n ks)
+rows-parts (suc n) (k ∷ ks) = ap (λ xs. filed (version_of k).row.cells whole ∷ xs) (rows-parts n ks)
 
 front-length : (from : ℕ) (ks : List Kept) → from ≤ length ks → length (rows_of (versions_of (take from ks))) ≡ from
 front-length zero ks l = refl
@@ -521,7 +523,7 @@ held-length : (test : Version → Bool) (basis : Basis) (vs : List Version) → 
 held-length test basis vs = length-map vs (held_in test basis)
 
 at_all : (basis : Basis) (vs : List Version) (k : ℕ) → k < length vs
-    → stands (all_of basis (rows_of vs)) k ≡ stands_by basis (version_at vs k).row.cells
+    → stands (all_of basis (rows_of vs)) k ≡ stands_ever basis (version_at vs k).row.cells
 at_all basis [] k l = absurd (omega (arith, l))
 at_all basis (v ∷ vs) zero l = refl
 at_all basis (v ∷ vs) (suc k) l = at_all basis vs k (omega (arith, l))
@@ -533,11 +535,11 @@ at_held test basis (v ∷ vs) zero l = refl
 at_held test basis (v ∷ vs) (suc k) l = at_held test basis vs k (omega (arith, l))
 
 all_held : (test : Version → Bool) (basis : Basis) (v : Version) → test v ≡ true
-    → held_in test basis v ≡ stands_by basis v.row.cells
-all_held test basis v t = ap (λ (b : Bool). if b then stands_by basis v.row.cells else None) t
+    → held_in test basis v ≡ stands_ever basis v.row.cells
+all_held test basis v t = ap (λ (b : Bool). if b then stands_ever basis v.row.cells else None) t
 
 none_held : (test : Version → Bool) (basis : Basis) (v : Version) → test v ≡ false → held_in test basis v ≡ None
-none_held test basis v f = ap (λ (b : Bool). if b then stands_by basis v.row.cells else None) f
+none_held test basis v f = ap (λ (b : Bool). if b then stands_ever basis v.row.cells else None) f
 
 -- a version passes the test and is left alone, or it does not and is closed and listed
 abbrev pub IsTold : (Version → Bool) → List Version → List ℕ → ℕ → Type 0
@@ -757,8 +759,8 @@ held_all : (test : Version → Bool) (basis : Basis) (vs : List Version)
     → held_of test basis vs ≡ all_of basis (rows_of vs)
 held_all test basis [] h = refl
 held_all test basis (v ∷ vs) h =
-    ap (λ (b : Bool). (if b then stands_by basis v.row.cells else None) ∷ held_of test basis vs) (h 0 (omega arith))
-    ∙ ap (λ xs. stands_by basis v.row.cells ∷ xs) (held_all test basis vs (λ k l. h (suc k) (omega (arith, l))))
+    ap (λ (b : Bool). (if b then stands_ever basis v.row.cells else None) ∷ held_of test basis vs) (h 0 (omega arith))
+    ∙ ap (λ xs. stands_ever basis v.row.cells ∷ xs) (held_all test basis vs (λ k l. h (suc k) (omega (arith, l))))
 
 pub standing_all : (test : Version → Bool) (s : Seating) (indexes : List ValueIndex) (vs : List Version)
     → ((k : ℕ) → k < length vs → test (version_at vs k) ≡ true) → AreHeld test s indexes vs

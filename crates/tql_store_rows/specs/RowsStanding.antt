@@ -1,6 +1,6 @@
 -- Where the rows of a table stand by each of its bases.
 use Rattle.std.specs.Prelude.{◌≡◌, ℕ, ◌+◌, ◌<◌, ◌≤◌, ◌⊎◌, false, if◌then◌else◌, List, [], ◌++◌, map, length}
-use Rattle.std.specs.Prelude.{All, Bool, Option, None, filter}
+use Rattle.std.specs.Prelude.{All, Bool, Option, Some, None, filter, ℤ, ◌<ℤ◌}
 use Rattle.std.specs.Prelude.{Contains, Vec, slice_index_or}
 use Rattle.tql_spec.specs.Bag.{SameBag}
 use Rattle.tql_spec.specs.Datum.{Row}
@@ -8,50 +8,76 @@ use Rattle.tql_spec.specs.Definition.{Version}
 use Rattle.tql_spec.specs.Period.{Period}
 use Rattle.tql_value.specs.Views.{datum_of_value}
 use Rattle.tql_value.specs.declared.value.Value.{Value}
-use Rattle.tql_store_index.specs.Basis.{Basis, stands_by}
+use Rattle.tql_store_index.specs.Basis.{Basis, Filed, filed, stands_by}
+use Rattle.tql_store_index.specs.Places.{whole}
 use Rattle.tql_store_index.specs.Seating.{Seating, seat_at}
 use Rattle.tql_store_index.specs.Standing.{stands}
 use Rattle.tql_store_index.specs.ValueIndexes.{ValueIndex, index_at, IsLinked, IsTurned}
-use Rattle.tql_store_rows.specs.Changes.{is_current, nothing}
+use Rattle.tql_store_rows.specs.Changes.{ended, is_current, nothing}
 
--- the cells of versions
-abbrev pub rows_of : List Version → List Row
-rows_of vs = map (λ (v : Version). v.row.cells) vs
+-- the version at a place
+abbrev pub version_at : List Version → ℕ → Version
+version_at vs k = slice_index_or vs k nothing
 
--- the cells of rows that come
-abbrev pub cells_of : {A : Type 0} → List (Vec Value A) → List Row
-cells_of rows = map (λ row. map datum_of_value row.items) rows
+-- the cells of versions, and beside them every moment
+abbrev pub rows_of : List Version → List Filed
+rows_of vs = map (λ (v : Version). filed v.row.cells whole) vs
 
--- the rows at these places
-abbrev pub rows_at : List ℕ → List Row → List Row
-rows_at is rows = map (λ i. slice_index_or rows i []) is
+-- the cells of rows that come, and beside them every moment
+abbrev pub cells_of : {A : Type 0} → List (Vec Value A) → List Filed
+cells_of rows = map (λ row. filed (map datum_of_value row.items) whole) rows
+
+-- the cells of a version, and beside them its period
+abbrev pub past_of : Version → Filed
+past_of v = filed v.row.cells (record { start = v.row.start; end = v.end })
+
+abbrev pub pasts_of : List Version → List Filed
+pasts_of vs = map past_of vs
+
+-- a version once it ends at a moment, if there is one
+abbrev pub ending : Option ℤ → Version → Version
+ending None v = v
+ending (Some m) v = ended m v
+
+-- those of the versions at these places, once they have ended
+abbrev pub pasts_at : Option ℤ → List ℕ → List Version → List Filed
+pasts_at until is vs = map (λ i. past_of (ending until (version_at vs i))) is
+
+-- it holds a moment
+abbrev pub Rises : Version → Type 0
+Rises v = v.row.start <ℤ v.end
+
+-- under what a row stands beside which every moment is told
+abbrev pub stands_ever : Basis → Row → Option Period
+stands_ever basis row = stands_by basis (filed row whole)
 
 -- under what rows stand, place by place
-abbrev pub all_of : Basis → List Row → List (Option Period)
+abbrev pub all_of : Basis → List Filed → List (Option Period)
 all_of basis rows = map (stands_by basis) rows
 
 -- under what a version stands that passes a test
 abbrev pub held_in : (Version → Bool) → Basis → Version → Option Period
-held_in test basis v = if test v then stands_by basis v.row.cells else None
+held_in test basis v = if test v then stands_ever basis v.row.cells else None
 
 -- under what those stand that pass it
 abbrev pub held_of : (Version → Bool) → Basis → List Version → List (Option Period)
 held_of test basis vs = map (held_in test basis) vs
 
 -- each row stands, in its seat, where each basis puts it
-pub record AreStanding (s : Seating) (indexes : List ValueIndex) (rows : List Row) : Type 0 where
+pub record AreStanding (s : Seating) (indexes : List ValueIndex) (rows : List Filed) : Type 0 where
   pub each : (i : ℕ) → i < length indexes
       → IsLinked (all_of (index_at indexes i).basis rows) s (index_at indexes i).standing
 
 -- so many rows stand
 pub record IsFilled (n : ℕ) (s : Seating) (indexes : List ValueIndex) : Type 0 where
-  pub rows : List Row
+  pub rows : List Filed
   pub size : length rows ≡ n
   pub standing : AreStanding s indexes rows
 
--- the rows of closed versions, and behind them those of what the open transaction ended, where the history is kept
-abbrev pub past_rows : Bool → List Version → List ℕ → List Version → List Row
-past_rows keeps current ended closed = rows_of closed ++ (if keeps then rows_at ended (rows_of current) else [])
+-- the rows of closed versions, and behind them those of what the open transaction ended, where the history is kept;
+-- beside each the period of its version
+abbrev pub past_rows : Bool → List Version → List ℕ → List Version → List Filed
+past_rows keeps current ended closed = pasts_of closed ++ (if keeps then pasts_at None ended current else [])
 
 -- each current row stands, and each past one; what the open transaction added and ended is none of the rows that were
 -- there before
@@ -67,13 +93,9 @@ pub record AreHeld (test : Version → Bool) (s : Seating) (indexes : List Value
       → IsLinked (held_of test (index_at indexes i).basis vs) s (index_at indexes i).standing
 
 -- so many of the rows have come, the first to a place
-pub record IsComing (from j : ℕ) (rows : List Row) (s : Seating) (old new : ValueIndex) : Type 0 where
+pub record IsComing (from j : ℕ) (rows : List Filed) (s : Seating) (old new : ValueIndex) : Type 0 where
   pub turned : IsTurned from (from + j) s old new
   pub came : (i : ℕ) → i < j → stands new.standing (seat_at s (from + i)) ≡ stands (all_of old.basis rows) i
-
--- the version at a place
-abbrev pub version_at : List Version → ℕ → Version
-version_at vs k = slice_index_or vs k nothing
 
 -- a closed version stands at a place
 abbrev pub IsShutAt : List Version → ℕ → Type 0

@@ -9,21 +9,37 @@ use crate::kept::{Kept, is_open};
 use std::alloc::AllocError;
 use tql_index::index::IntervalIndex;
 use tql_memory::Memory;
+use tql_period::period::Period;
 use tql_store_index::basis::Basis;
 use tql_store_index::seats::Seats;
 use tql_store_index::value_indexes::ValueIndexes;
 use tql_value::value::Value;
 
+/// Every moment and day: what is told beside a row that stands now, where nothing is found by it.
+const EVER: Period = Period {
+    start: i64::MIN,
+    end: i64::MAX,
+};
+
+/// The basis for these columns: with the period from the first of two columns to the second, if there are two.
+fn basis_for(columns: Vec<usize, Memory>, application: Option<(usize, usize)>) -> Basis {
+    match application {
+        Some((start, end)) => Basis::ValuesIn(columns, start, end),
+        None => Basis::Values(columns),
+    }
+}
+
 /// Indexes of the values in each of these lists of columns, in which no row stands yet.
-pub fn value_indexes<I: IntervalIndex>(
+fn value_indexes<I: IntervalIndex>(
     memory: Memory,
     lists: Vec<Vec<usize, Memory>, Memory>,
+    application: Option<(usize, usize)>,
 ) -> Result<ValueIndexes<I>, AllocError>
     ensures { IfOk result (All (λ k. k.standing ≡ [])) }
 {
     let mut indexes = ValueIndexes::new(memory);
     for columns in lists {
-        indexes.add(memory, Basis::Values(columns))?;
+        indexes.add(memory, basis_for(columns, application))?;
     }
     Ok(indexes)
 }
@@ -37,7 +53,7 @@ pub fn row_indexes<I: IntervalIndex>(
 ) -> Result<ValueIndexes<I>, AllocError>
     ensures { IfOk result (All (λ k. k.standing ≡ [])) }
 {
-    let mut indexes = value_indexes(memory, lists)?;
+    let mut indexes = value_indexes(memory, lists, application)?;
     if let Some((start, end)) = application {
         indexes.add(memory, Basis::Period(start, end))?;
     }
@@ -62,7 +78,7 @@ fn enter_each<I: IntervalIndex>(
         (Each (IsComing from (length rows.now.items) (cells_of rows.now.items) seats.now) indexes.old indexes.new) }
 {
     for (j, row) in rows.iter().enumerate() {
-        indexes.enter(seats, from + j, row)?;
+        indexes.enter(seats, from + j, row, EVER)?;
     }
     Ok(())
 }

@@ -1,6 +1,7 @@
-use Rattle.std.proofs.Common.{arith, ap, sym, subst, to_z, of_z, w64, ◌∙◌, ◌≡◌, ℤ}
+use Rattle.std.proofs.Common.{ap, sym, subst, ◌∙◌, ◌≡◌}
 use Rattle.std.specs.Int.{int_max}
-use Rattle.std.proofs.lemmas.Int.{ints}
+use Rattle.tql_index.specs.Line.{place_of}
+use Rattle.tql_index.specs.Spans.{span_of}
 use Rattle.tql_index.specs.Tree.{entry_cmp}
 use Rattle.tql_index.specs.Nodes.{entry_of}
 use Rattle.tql_index.specs.declared.tree.Branch.{Branch}
@@ -10,10 +11,6 @@ use Rattle.tql_index.proofs.Greatest.{more_left, more_right}
 use Rattle.tql_index.proofs.Order.{not_after, after_is}
 use Rattle.tql_index.proofs.Tops.{was_top, named}
 use Rattle.tql_index.proofs.edit.+insert.Goals as goal
-
--- a number as a callee has it
-abbrev passed : ℤ → ℤ
-passed z = to_z w64 (of_z w64 z)
 
 pub settle-requires-clause-around : goal.settle-requires-clause-around
 settle-requires-clause-around g t c =
@@ -37,14 +34,14 @@ settle-requires-clause-greatest g t c =
     let d = c.deref_mut-then-is_gt.result.now in
     let p = named _ _ _ _ c.deref_mut-then-is_gt.ensures.value (named _ _ _ _ c.deref_mut.ensures.value
     (was_top _ _ c.in-Some.ensures.some)) in
-    let e = ap (λ (b : Branch g.row.A.Denot). b.period.end) c.deref-2.ensures in
-    let f = ap (λ (b : Branch g.row.A.Denot). b.greatest) c.deref.ensures in
-    let u = ap (λ (b : Branch g.row.A.Denot). b.greatest) c.deref_mut-then-is_gt.ensures.value in
-    let n : d.greatest ≡ int_max top.greatest x.period.end =
-    greater_of c.max.result d.greatest top.greatest x.period.end (passed c.deref.result.now.greatest)
-    (passed c.deref-2.result.now.period.end) c.max.ensures.value (omega (arith, ints, u)) (omega (arith, ints, f))
-    (omega (arith, ints, e)) in
-    more_right x (entry_of d) d.left.entries d.right.entries c.insert.new.tree.entries top.greatest d.greatest
+    let e = ap (λ (b : Branch g.row.A.Denot). (span_of b.span).end) c.deref-2.ensures in
+    let f = ap (λ (b : Branch g.row.A.Denot). place_of b.greatest) c.deref.ensures in
+    let u = ap (λ (b : Branch g.row.A.Denot). place_of b.greatest) c.deref_mut-then-is_gt.ensures.value in
+    let n : place_of d.greatest ≡ int_max (place_of top.greatest) x.period.end =
+    greater_of (place_of c.later.result) (place_of d.greatest) (place_of top.greatest) x.period.end
+    (place_of c.deref.result.now.greatest) (place_of c.end.result) c.later.ensures u f (c.end.ensures ∙ e) in
+    more_right x (entry_of d) d.left.entries d.right.entries c.insert.new.tree.entries (place_of top.greatest)
+    (place_of d.greatest)
     p.1.greatest_is c.insert.ensures.entries n
 
 pub returns-then-is_gt-clause-entries : goal.returns-then-is_gt-clause-entries
@@ -78,14 +75,14 @@ settle-requires-else-is_gt-clause-greatest g t c =
     let d = c.deref_mut-else-is_gt.result.now in
     let p = named _ _ _ _ c.deref_mut-else-is_gt.ensures.value (named _ _ _ _ c.deref_mut.ensures.value
     (was_top _ _ c.in-Some.ensures.some)) in
-    let e = ap (λ (b : Branch g.row.A.Denot). b.period.end) c.deref-2.ensures in
-    let f = ap (λ (b : Branch g.row.A.Denot). b.greatest) c.deref.ensures in
-    let u = ap (λ (b : Branch g.row.A.Denot). b.greatest) c.deref_mut-else-is_gt.ensures.value in
-    let n : d.greatest ≡ int_max top.greatest x.period.end =
-    greater_of c.max.result d.greatest top.greatest x.period.end (passed c.deref.result.now.greatest)
-    (passed c.deref-2.result.now.period.end) c.max.ensures.value (omega (arith, ints, u)) (omega (arith, ints, f))
-    (omega (arith, ints, e)) in
-    more_left x (entry_of d) d.left.entries d.right.entries c.insert-else-is_gt.new.tree.entries top.greatest d.greatest
+    let e = ap (λ (b : Branch g.row.A.Denot). (span_of b.span).end) c.deref-2.ensures in
+    let f = ap (λ (b : Branch g.row.A.Denot). place_of b.greatest) c.deref.ensures in
+    let u = ap (λ (b : Branch g.row.A.Denot). place_of b.greatest) c.deref_mut-else-is_gt.ensures.value in
+    let n : place_of d.greatest ≡ int_max (place_of top.greatest) x.period.end =
+    greater_of (place_of c.later.result) (place_of d.greatest) (place_of top.greatest) x.period.end
+    (place_of c.deref.result.now.greatest) (place_of c.end.result) c.later.ensures u f (c.end.ensures ∙ e) in
+    more_left x (entry_of d) d.left.entries d.right.entries c.insert-else-is_gt.new.tree.entries
+    (place_of top.greatest) (place_of d.greatest)
     p.1.greatest_is c.insert-else-is_gt.ensures.entries n
 
 pub returns-else-is_gt-clause-entries : goal.returns-else-is_gt-clause-entries

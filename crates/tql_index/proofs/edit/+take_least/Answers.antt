@@ -1,6 +1,6 @@
 use Rattle.std.specs.Prelude.{[], ◌∷◌, ◌++◌}
 use Rattle.std.proofs.Common.{arith, ap, sym, ◌∙◌}
-use Rattle.std.proofs.lemmas.Int.{ints}
+use Rattle.tql_index.specs.Spans.{span_of}
 use Rattle.tql_index.specs.Nodes.{entry_of}
 use Rattle.tql_index.specs.declared.tree.Branch.{Branch}
 use Rattle.tql_index.proofs.Around.{to_right, past_first}
@@ -18,8 +18,8 @@ pub settle_less-requires-clause-greatest : goal.settle_less-requires-clause-grea
 settle_less-requires-clause-greatest g t c =
     let p = named_top _ _ _ c.deref_mut.ensures.value c.in_ok-top.ensures.some in
     let q = c.in-Some.ensures.some in
-    let e = ap (λ (b : Branch g.row.A.Denot). b.period.end) c.deref.ensures in
-    first_before _ _ _ _ _ _ _ q.entries p.branch.greatest_is (omega (arith, ints, e))
+    let e = ap (λ (b : Branch g.row.A.Denot). (span_of b.span).end) c.deref.ensures in
+    first_before _ _ _ _ _ _ _ q.entries p.branch.greatest_is (c.end.ensures ∙ e)
 
 pub returns-clause-some : goal.returns-clause-some
 returns-clause-some g t c =

@@ -1,37 +1,37 @@
-use Rattle.std.proofs.Common.{arith, to_z, of_z, w64}
+use Rattle.std.specs.Prelude.{◌≡◌, false, int_lt}
+use Rattle.std.proofs.Common.{arith}
 use Rattle.std.proofs.lemmas.Int.{ints}
-use Rattle.std.specs.Prelude.{ℤ}
 use Rattle.tql_spec.specs.Period.{share_a_point}
-use Rattle.tql_period.specs.Points.{points_of}
+use Rattle.tql_index.specs.Line.{place_of}
+use Rattle.tql_index.specs.Spans.{span_of}
 use Rattle.tql_index.specs.Entry.{Entry}
-use Rattle.tql_index.proofs.Finding.{nothing_here, left_alone, all_parts, in_period, on_ok}
+use Rattle.tql_index.proofs.Finding.{not_early, nothing_here, left_alone, all_parts, in_period, on_ok}
 use Rattle.tql_index.proofs.search.+overlapping.Goals as goal
 
--- a number as a callee has it
-abbrev passed : ℤ → ℤ
-passed z = to_z w64 (of_z w64 z)
-
-pub returns-then-top-period : goal.returns-then-top-period
-returns-then-top-period g t c =
+pub returns-then-not-is_before : goal.returns-then-not-is_before
+returns-then-not-is_before g t c =
     let p = c.in-Some.ensures.some in
-    let x = points_of c.args.period in
+    let x = span_of c.args.span in
     let q = λ (e : Entry). share_a_point e.period x in
-    nothing_here q c.args.period.start c.args.period.end _ _ _ _ _ (passed c.in-Some.top.now.greatest)
-    (passed c.args.period.start) _ _ (in_period x) p.branch p.entries c.if-top-period.true (omega (arith, ints))
-    (omega (arith, ints))
+    let n : int_lt (place_of c.start.result) (place_of c.in-Some.top.now.greatest) ≡ false =
+    grind (arith, ints, c.is_before.ensures, c.if-not-is_before.true) in
+    nothing_here q x.start x.end _ _ _ _ (place_of c.in-Some.top.now.greatest) (place_of c.start.result) _ _
+    (in_period x) p.branch p.entries n c.start.ensures
 
-pub returns-then-period-top : goal.returns-then-period-top
-returns-then-period-top g t c =
+pub returns-then-not-is_before-2 : goal.returns-then-not-is_before-2
+returns-then-not-is_before-2 g t c =
     let p = c.in-Some.ensures.some in
-    let x = points_of c.args.period in
+    let x = span_of c.args.span in
     let q = λ (e : Entry). share_a_point e.period x in
-    left_alone q c.args.period.start c.args.period.end _ _ _ _ _ _ _ _ (in_period x) p.branch p.entries
-    (grind (arith, ints, c.if-period-top.true)) c.in_ok-overlapping.ensures
+    let n : int_lt (place_of c.start-2.result) (place_of c.end.result) ≡ false =
+    grind (arith, ints, c.is_before-2.ensures, c.if-not-is_before-2.true) in
+    left_alone q x.start x.end _ _ _ _ _ _ _ _ (in_period x) p.branch p.entries
+    (not_early _ _ _ _ n c.start-2.ensures c.end.ensures) c.in_ok-overlapping.ensures
 
 pub returns : goal.returns
 returns g t c =
     let p = c.in-Some.ensures.some in
-    let x = points_of c.args.period in
+    let x = span_of c.args.span in
     let q = λ (e : Entry). share_a_point e.period x in
     on_ok c.overlapping-2.result
     (λ h. all_parts q c.shares_a_point.result c.in-Some.top.now.left c.in-Some.top.now.right _ _ _ _ _ _ p.entries

@@ -1,0 +1,48 @@
+//! Where a point of a group lies on the line of all groups.
+ghost use Rattle.std.specs.Prelude.{◌≡◌, int_lt};
+ghost use Rattle.std.specs.Int.{int_max};
+ghost use Rattle.tql_index.specs.Line.{place_of, first_place};
+
+// A point of a group. Places are in the order of their groups, and those of a group in that of their points.
+#[derive(Clone, Copy)]
+pub struct Place {
+    pub group: i64,
+    pub point: i64,
+}
+
+impl Place {
+    // The place of a point in group 0.
+    pub fn of(point: i64) -> Place
+        ensures { place_of result ≡ point }
+    {
+        Place { group: 0, point }
+    }
+
+    // The first place of the line.
+    pub fn first() -> Place
+        ensures { place_of result ≡ first_place }
+    {
+        Place {
+            group: i64::MIN,
+            point: i64::MIN,
+        }
+    }
+
+    // Whether it lies before another.
+    pub fn is_before(self, other: Place) -> bool
+        ensures { result ≡ int_lt (place_of self) (place_of other) }
+    {
+        if self.group == other.group {
+            self.point < other.point
+        } else {
+            self.group < other.group
+        }
+    }
+
+    // The later of two places.
+    pub fn later(self, other: Place) -> Place
+        ensures { place_of result ≡ int_max (place_of self) (place_of other) }
+    {
+        if self.is_before(other) { other } else { self }
+    }
+}

@@ -1,0 +1,91 @@
+//! Periods in groups: those of different groups share no point.
+ghost use Rattle.std.specs.Prelude.{◌≡◌};
+ghost use Rattle.std.specs.Ordering.{int_cmp, ordering_then};
+ghost use Rattle.tql_spec.specs.Period.{holds as held, share_a_point};
+ghost use Rattle.tql_period.specs.Points.{points_of};
+ghost use Rattle.tql_index.specs.Line.{place_of};
+ghost use Rattle.tql_index.specs.Spans.{span_of, in_group, all_of_group};
+
+use crate::line::Place;
+use std::cmp::Ordering;
+use tql_period::period::Period;
+
+/// A period in a group.
+#[derive(Clone, Copy, PartialEq, Eq, Debug)]
+pub struct Span {
+    group: i64,
+    period: Period,
+}
+
+impl Span {
+    /// The points of a period, in group 0: these are their own numbers.
+    pub fn of(period: Period) -> Span
+        ensures { span_of result ≡ points_of period }
+    {
+        Span { group: 0, period }
+    }
+
+    /// The points of a period, in a group.
+    pub fn within(group: i64, period: Period) -> Span
+        ensures { span_of result ≡ in_group group (points_of period) }
+    {
+        Span { group, period }
+    }
+
+    /// All points of a group.
+    pub fn all(group: i64) -> Span
+        ensures { span_of result ≡ all_of_group group }
+    {
+        Span {
+            group,
+            period: Period {
+                start: i64::MIN,
+                end: i64::MAX,
+            },
+        }
+    }
+
+    /// Whether the point lies in the span.
+    pub(crate) fn holds(self, place: Place) -> bool
+        ensures { result ≡ held (span_of self) (place_of place) }
+    {
+        self.group == place.group && self.period.holds(place.point)
+    }
+
+    /// Whether some point lies in both.
+    pub fn shares_a_point(self, other: Span) -> bool
+        ensures { result ≡ share_a_point (span_of self) (span_of other) }
+    {
+        self.group == other.group && self.period.shares_a_point(other.period)
+    }
+
+    /// Its first point.
+    pub(crate) fn start(self) -> Place
+        ensures { place_of result ≡ (span_of self).start }
+    {
+        Place {
+            group: self.group,
+            point: self.period.start,
+        }
+    }
+
+    /// The point after its last.
+    pub(crate) fn end(self) -> Place
+        ensures { place_of result ≡ (span_of self).end }
+    {
+        Place {
+            group: self.group,
+            point: self.period.end,
+        }
+    }
+
+    /// The order of spans: by start, then by end.
+    pub(crate) fn compare(self, other: Span) -> Ordering
+        ensures { result ≡ ordering_then (int_cmp (span_of self).start (span_of other).start)
+            (int_cmp (span_of self).end (span_of other).end) }
+    {
+        let starts = self.group.cmp(&other.group);
+        let starts = starts.then(self.period.start.cmp(&other.period.start));
+        starts.then(self.period.end.cmp(&other.period.end))
+    }
+}
