@@ -1,6 +1,6 @@
 -- Tests over lists: joined, kept, mapped, exchanged.
 use Rattle.std.proofs.Common.{◌≡◌, refl, sym, ap, ◌∙◌, Bool, true, false, cond, List, [], ◌∷◌, ◌++◌, map, filter}
-use Rattle.std.specs.Prelude.{◌&&◌, not}
+use Rattle.std.specs.Prelude.{◌&&◌, ◌||◌, not}
 use Rattle.std.specs.List.{list_all}
 use Rattle.tql_spec.specs.Words.{all_pairs}
 use Rattle.tql_spec.proofs.Members.{both}
@@ -13,6 +13,10 @@ and_assoc false b c = refl
 pub and_yes : (a : Bool) → a && true ≡ a
 and_yes true = refl
 and_yes false = refl
+
+pub or_no : (a : Bool) → a || false ≡ a
+or_no true = refl
+or_no false = refl
 
 -- two tests that imply each other
 pub same_bool : (a b : Bool) → (a ≡ true → b ≡ true) → (b ≡ true → a ≡ true) → a ≡ b

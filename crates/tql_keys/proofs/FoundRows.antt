@@ -47,7 +47,7 @@ tuple_as (c ∷ cs) [] row = refl
 tuple_as (c ∷ cs) (v ∷ vs) row = ap (λ b. is_true (compare Equals (cell row c) v) && b) (tuple_as cs vs row)
 
 -- a row of its table's width has a tuple where its stored cells have
-stored_tuple : (d : TableDef) (cs ks : List ℕ) (vs : List Datum) (r : Stamped) → AreStoredAt d cs ks
+pub stored_tuple : (d : TableDef) (cs ks : List ℕ) (vs : List Datum) (r : Stamped) → AreStoredAt d cs ks
     → length r.cells ≡ stored_width d → is_at ks vs r.cells ≡ has_tuple cs vs (shown d r)
 stored_tuple d cs ks vs r stored wide =
     at_as ks vs r.cells ∙ ap (λ xs. all_equal xs vs) (sym (stored r.cells r.start high wide))
@@ -87,29 +87,29 @@ images : (found : List Version) → map row_found found
 images [] = refl
 images (v ∷ found) = ap (λ rs. row_found v ∷ rs) (images found)
 
+-- those whose stored cells pass
+pub rows_passing : (h : StoreModel) (table : Table) (p q : Row → Bool) (found : List Version)
+    → ((r : Stamped) → length r.cells ≡ stored_width table.definition → p r.cells ≡ q (shown table.definition r))
+    → IsFound h table.id Now p found → (rows : List Stamped) → AreRowsOf h table rows
+    → SameBag (map row_found found) (filter (λ r. q (shown table.definition r)) rows)
+rows_passing h table p q found alike is rows of = record {
+  totals = λ w.
+      ap (sum_by w) (images found)
+      ∙ (same-map (λ (v : definition.Version). v.row) is.versions).totals w
+      ∙ ap (sum_by w) (sym (kept_images (λ (v : definition.Version). v.row) is_current (λ r. p r.cells)
+      (live h table.id)))
+      ∙ (same-filter (λ r. p r.cells) (same-sym of.same)).totals w
+      ∙ ap (sum_by w) (kept_alike (λ r. p r.cells) (λ r. q (shown table.definition r)) rows
+      (λ k d l. alike (get_or rows k d) (of.wide k d l)));
+}
+
 -- the rows of the tuple
 pub rows_are_found : (h : StoreModel) (table : Table) (cs ks : List ℕ) (vs : List Datum) (found : List Version)
     → AreStoredAt table.definition cs ks → IsFound h table.id Now (is_at ks vs) found → (rows : List Stamped)
     → AreRowsOf h table rows → SameBag (map row_found found) (rows_with table.definition cs vs rows)
-rows_are_found h table cs ks vs found stored is rows of = record {
-  totals = λ w.
-      ap (sum_by w) (images found)
-      ∙ (same-map (λ (v : definition.Version). v.row) is.versions).totals w
-      ∙ ap (sum_by w) (sym (kept_images (λ (v : definition.Version). v.row) is_current (λ r. is_at ks vs r.cells)
-      (live h table.id)))
-      ∙ (same-filter (λ r. is_at ks vs r.cells) (same-sym of.same)).totals w
-      ∙ ap (sum_by w) (kept_alike (λ r. is_at ks vs r.cells) (λ r. has_tuple cs vs (shown table.definition r)) rows
-      (λ k d l. stored_tuple table.definition cs ks vs (get_or rows k d) stored (of.wide k d l)));
-}
-
--- the same under other names of the columns and values
-pub found_as : (d : TableDef) (cs ks : List ℕ) (vs ws : List Datum) (rows : List Stamped) (found : List Version)
-    → cs ≡ ks → vs ≡ ws → SameBag (map row_found found) (rows_with d cs vs rows)
-    → SameBag (map row_found found) (rows_with d ks ws rows)
-found_as d cs ks vs ws rows found p q h = record {
-  totals = λ w. h.totals w ∙ ap (λ c. sum_by w (rows_with d c vs rows)) p
-      ∙ ap (λ v. sum_by w (rows_with d ks v rows)) q;
-}
+rows_are_found h table cs ks vs found stored =
+    rows_passing h table (is_at ks vs) (has_tuple cs vs) found
+    (λ r wide. stored_tuple table.definition cs ks vs r stored wide)
 
 -- ---- the ids of what is found
 

@@ -4,20 +4,18 @@ use Rattle.std.proofs.Common.{arith}
 use Rattle.std.specs.Prelude.{◌&&◌, ◌||◌, not, All, Option, Some, ℤ}
 use Rattle.std.specs.List.{list_all, list_any}
 use Rattle.std.proofs.lemmas.List.{map-append}
-use Rattle.std.proofs.lemmas.List.Elements.{filter-append}
-use Rattle.std.proofs.lemmas.List.Folds.{list_any-append}
 use Rattle.tql_spec.specs.Bag.{SameBag}
-use Rattle.tql_spec.specs.Datum.{Datum, Row}
-use Rattle.tql_spec.specs.Definition.{TableDef, Key, Stamped, shown}
+use Rattle.tql_spec.specs.Datum.{Row}
+use Rattle.tql_spec.specs.Definition.{TableDef, Key, Stamped, period_of, shown}
 use Rattle.tql_spec.specs.Constraint.{key_holds, shown_rows}
-use Rattle.tql_keys.specs.Touched.{tuple, has_tuple, with_tuple, collide, is_free}
+use Rattle.tql_keys.specs.Touched.{tuple, has_tuple, collide, is_free}
 use Rattle.tql_store.specs.StoreModel.{is_among}
 use Rattle.tql_store.specs.Changes.{starting, rows_after}
-use Rattle.tql_keys.specs.Asked.{row_found, rows_with, IsJudged, new_rows, staying}
-use Rattle.tql_keys.specs.Parents.{any_left, any_with}
+use Rattle.tql_keys.specs.Asked.{row_found, rows_in, IsJudged, new_rows, staying}
+use Rattle.tql_keys.specs.Parents.{any_left}
 use Rattle.tql_store_rows.specs.declared.version.Version.{Version}
-use Rattle.tql_keys.proofs.Bools.{all_map, all_same}
-use Rattle.tql_keys.proofs.Wheres.{all_where_map, all_staying, all_bag}
+use Rattle.tql_keys.proofs.Bools.{all_map, all_premised, all_same, or_no}
+use Rattle.tql_keys.proofs.Wheres.{all_where, all_where_map, all_staying, all_bag}
 use Rattle.tql_keys.proofs.KeyLaw.{key_joined, key_kept}
 
 -- ---- what a store finds
@@ -34,33 +32,46 @@ found_goes q named gone removed (f ∷ found) h j =
     ∙ ap (λ b. (gone (row_found f) || q (row_found f)) && b)
     (found_goes q named gone removed found (λ k d l. h (suc k) d (omega arith)) j)
 
--- a test of what was found and does not go is one of the rows of the tuple that stay
-pub found_all : (d : TableDef) (columns : List ℕ) (values : List Datum) (q : Row → Bool) (rows : List Stamped)
+-- a test of what was found and does not go is one of the rows that stay of those that were asked for
+pub found_all : (d : TableDef) (h q : Row → Bool) (rows : List Stamped)
     (named : ℕ → Option Stamped) (gone : Stamped → Bool) (removed : List ℕ) (found : List Version)
-    → SameBag (map row_found found) (rows_with d columns values rows)
+    → SameBag (map row_found found) (filter (λ r. h (shown d r)) rows)
     → All (λ f. named f.id ≡ Some (row_found f)) found → IsJudged named gone removed
     → list_all (λ (f : Version). is_among f.id removed || q (shown d (row_found f))) found
-    ≡ list_all q (with_tuple columns values (shown_rows d (staying gone rows)))
-found_all d columns values q rows named gone removed found bag names judged =
+    ≡ list_all q (filter h (shown_rows d (staying gone rows)))
+found_all d h q rows named gone removed found bag names judged =
     let s : Stamped → Bool = λ r. q (shown d r) in
-    let h : Stamped → Bool = λ r. has_tuple columns values (shown d r) in
+    let k : Stamped → Bool = λ r. h (shown d r) in
     found_goes s named gone removed found names judged
     ∙ sym (all_map (λ r. gone r || s r) row_found found)
     ∙ all_bag (λ r. gone r || s r) bag
-    ∙ all_staying gone h s rows
-    ∙ sym (all_where_map (shown d) (has_tuple columns values) q (staying gone rows))
+    ∙ all_staying gone k s rows
+    ∙ sym (all_where_map (shown d) h q (staying gone rows))
 
--- a new row is free where it collides with nothing that was found and does not go
+-- none of a sort, as none of those of a sort that are of another
+none_left : {A : Type 0} (h q : A → Bool) (xs : List A)
+    → list_all (λ x. false) (filter (λ x. h x && q x) xs) ≡ list_all (λ x. not (q x)) (filter h xs)
+none_left h q xs =
+    all_where (λ x. h x && q x) (λ x. false) xs
+    ∙ all_same (λ x. not (h x && q x) || false) (λ x. not (h x && q x)) xs (λ x. or_no (not (h x && q x)))
+    ∙ all_premised h q xs
+
+-- a new row is free where each that was found, as it collides with it, goes
 pub found_free : (d : TableDef) (k : Key) (a : Row) (rows : List Stamped) (named : ℕ → Option Stamped)
     (gone : Stamped → Bool) (removed : List ℕ) (found : List Version)
-    → SameBag (map row_found found) (rows_with d k.columns (tuple k.columns a) rows)
+    → SameBag (map row_found found) (rows_in d k.columns (tuple k.columns a) k.by_period (period_of d a) rows)
     → All (λ f. named f.id ≡ Some (row_found f)) found → IsJudged named gone removed
-    → list_all (λ (f : Version). is_among f.id removed || not (collide d k.by_period (shown d (row_found f)) a)) found
-    ≡ is_free d k (shown_rows d (staying gone rows)) a
-found_free d k a = found_all d k.columns (tuple k.columns a) (λ r. not (collide d k.by_period r a))
+    → list_all (λ (f : Version). is_among f.id removed) found ≡ is_free d k (shown_rows d (staying gone rows)) a
+found_free d k a rows named gone removed found bag names judged =
+    all_same (λ (f : Version). is_among f.id removed) (λ (f : Version). is_among f.id removed || false) found
+    (λ f. sym (or_no (is_among f.id removed)))
+    ∙ found_all d (λ r. has_tuple k.columns (tuple k.columns a) r && collide d k.by_period r a) (λ r. false) rows named
+    gone removed found bag names judged
+    ∙ none_left (has_tuple k.columns (tuple k.columns a)) (λ r. collide d k.by_period r a)
+    (shown_rows d (staying gone rows))
 
 -- some pass where not all fail
-some_passes : {A : Type 0} (p : A → Bool) (xs : List A) → list_any p xs ≡ not (list_all (λ x. not (p x)) xs)
+pub some_passes : {A : Type 0} (p : A → Bool) (xs : List A) → list_any p xs ≡ not (list_all (λ x. not (p x)) xs)
 some_passes p [] = refl
 some_passes p (x ∷ xs) = ap (λ b. p x || b) (some_passes p xs) ∙ turned (p x) (list_all (λ y. not (p y)) xs)
   where
@@ -69,18 +80,18 @@ some_passes p (x ∷ xs) = ap (λ b. p x || b) (some_passes p xs) ∙ turned (p 
     turned false b = refl
 
 -- whether some of those that were found and do not go passes a test
-pub found_any : (d : TableDef) (columns : List ℕ) (values : List Datum) (q : Row → Bool) (rows : List Stamped)
+pub found_any : (d : TableDef) (h q : Row → Bool) (rows : List Stamped)
     (named : ℕ → Option Stamped) (gone : Stamped → Bool) (removed : List ℕ) (found : List Version)
-    → SameBag (map row_found found) (rows_with d columns values rows)
+    → SameBag (map row_found found) (filter (λ r. h (shown d r)) rows)
     → All (λ f. named f.id ≡ Some (row_found f)) found → IsJudged named gone removed
-    → any_left d removed q found ≡ list_any q (with_tuple columns values (shown_rows d (staying gone rows)))
-found_any d columns values q rows named gone removed found bag names judged =
+    → any_left d removed q found ≡ list_any q (filter h (shown_rows d (staying gone rows)))
+found_any d h q rows named gone removed found bag names judged =
     some_passes (λ (f : Version). not (is_among f.id removed) && q (shown d (row_found f))) found
     ∙ ap not (all_same (λ (f : Version). not (not (is_among f.id removed) && q (shown d (row_found f))))
     (λ (f : Version). is_among f.id removed || not (q (shown d (row_found f)))) found
     (λ f. turned (is_among f.id removed) (q (shown d (row_found f))))
-    ∙ found_all d columns values (λ r. not (q r)) rows named gone removed found bag names judged)
-    ∙ sym (some_passes q (with_tuple columns values (shown_rows d (staying gone rows))))
+    ∙ found_all d h (λ r. not (q r)) rows named gone removed found bag names judged)
+    ∙ sym (some_passes q (filter h (shown_rows d (staying gone rows))))
   where
     turned : (a b : Bool) → not (not a && b) ≡ a || not b
     turned true b = refl
@@ -94,21 +105,6 @@ any_kept h q (x ∷ xs) = ap (λ b. (h x && q x) || b) (any_kept h q xs) ∙ kep
     kept : (b : Bool) (y : _) (ys : List _) → (b && q y) || list_any q ys ≡ list_any q (cond b (y ∷ ys) ys)
     kept true y ys = refl
     kept false y ys = refl
-
--- whether some row of the tuple passes a test after the change: of those that stay, or of those that come
-pub any_after : (d : TableDef) (columns : List ℕ) (values : List Datum) (q : Row → Bool) (m : ℤ)
-    (gone : Stamped → Bool) (added : List Row) (rows : List Stamped)
-    → list_any q (with_tuple columns values (shown_rows d (rows_after m gone added rows)))
-    ≡ list_any q (with_tuple columns values (shown_rows d (staying gone rows)))
-    || any_with columns values q (new_rows d m added)
-any_after d columns values q m gone added rows =
-    ap (λ (rs : List Row). list_any q (with_tuple columns values rs))
-    (map-append (shown d) (staying gone rows) (map (starting m) added))
-    ∙ ap (list_any q) (filter-append (has_tuple columns values) (shown_rows d (staying gone rows)) (new_rows d m added))
-    ∙ list_any-append q (with_tuple columns values (shown_rows d (staying gone rows)))
-    (with_tuple columns values (new_rows d m added))
-    ∙ ap (λ b. list_any q (with_tuple columns values (shown_rows d (staying gone rows))) || b)
-    (sym (any_kept (has_tuple columns values) q (new_rows d m added)))
 
 -- ---- a key after a change
 

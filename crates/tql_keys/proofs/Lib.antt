@@ -31,3 +31,7 @@ pub mod KeptRows
 pub mod KeptKeys
 pub mod KeptReferences
 pub mod KeptLists
+pub mod FoundIn
+pub mod Near
+pub mod InTurn
+pub mod Touching

@@ -5,30 +5,29 @@ use Rattle.std.specs.List.{list_all}
 use Rattle.std.proofs.lemmas.List.{map-append}
 use Rattle.tql_spec.specs.Bag.{SameBag}
 use Rattle.tql_spec.specs.Datum.{Row}
-use Rattle.tql_spec.specs.Definition.{TableDef, Reference, Stamped, shown}
+use Rattle.tql_spec.specs.Definition.{TableDef, Reference, Stamped, period_of, shown}
 use Rattle.tql_spec.specs.Constraint.{ReferenceTestIsRight, reference_holds, shown_rows}
 use Rattle.tql_store.specs.Changes.{starting, rows_after}
-use Rattle.tql_keys.specs.Asked.{row_found, rows_with, new_rows, staying, IsJudged}
+use Rattle.tql_keys.specs.Asked.{row_found, rows_in, new_rows, staying, IsJudged}
 use Rattle.tql_keys.specs.Named.{of_named, AreNamed}
-use Rattle.tql_keys.specs.Touched.{tuple, with_tuple, is_spared}
+use Rattle.tql_keys.specs.Touched.{tuple, is_child_of, is_spared}
 use Rattle.tql_store_rows.specs.declared.version.Version.{Version}
 use Rattle.tql_keys.proofs.Children.{all_stay, none_judged}
 use Rattle.tql_keys.proofs.Freely.{found_all}
 use Rattle.tql_keys.proofs.NamedRows.{gone_by_ids}
 use Rattle.tql_keys.proofs.RefLaw.{parent_changed}
 
--- a test of the child rows that were found is one of those of the tuple
-pub children_told : (d : TableDef) (f : Reference) (t : Row) (children : List Stamped)
+-- a test of the child rows that were found is one of those that the parent row may have met
+pub children_told : (c p : TableDef) (f : Reference) (g : Row) (children : List Stamped)
     (named : ℕ → Option Stamped) (found : List Version)
-    → SameBag (map row_found found) (rows_with d f.columns (tuple f.parent_columns t) children)
+    → SameBag (map row_found found)
+    (rows_in c f.columns (tuple f.parent_columns g) f.by_period (period_of p g) children)
     → All (λ x. named x.id ≡ Some (row_found x)) found → (q : Row → Bool)
-    → list_all (λ (x : Version). q (shown d (row_found x))) found
-    ≡ list_all q (with_tuple f.columns (tuple f.parent_columns t) (shown_rows d children))
-children_told d f t children named found bag names q =
-    found_all d f.columns (tuple f.parent_columns t) q children named (λ r. false) [] found bag names
-    (none_judged named)
-    ∙ ap (λ (rs : List Stamped). list_all q
-    (with_tuple f.columns (tuple f.parent_columns t) (shown_rows d rs))) (all_stay children)
+    → list_all (λ (x : Version). q (shown c (row_found x))) found
+    ≡ list_all q (filter (is_child_of c p f g) (shown_rows c children))
+children_told c p f g children named found bag names q =
+    found_all c (is_child_of c p f g) q children named (λ r. false) [] found bag names (none_judged named)
+    ∙ ap (λ (rs : List Stamped). list_all q (filter (is_child_of c p f g) (shown_rows c rs))) (all_stay children)
 
 -- a reference that held is told by the rows that go
 pub parent_after : ReferenceTestIsRight → (c p : TableDef) (f : Reference) (m : ℤ) (gone : Stamped → Bool)

@@ -4,15 +4,16 @@ use Rattle.std.specs.Prelude.{◌&&◌, ◌||◌, not}
 use Rattle.std.specs.List.{list_all, list_any}
 use Rattle.std.proofs.lemmas.List.Elements.{filter-append}
 use Rattle.tql_spec.specs.Datum.{Row}
-use Rattle.tql_spec.specs.Definition.{TableDef, Reference, Stamped, shown}
+use Rattle.tql_spec.specs.Definition.{TableDef, Reference, Stamped, period_of, shown}
 use Rattle.tql_spec.specs.Constraint.{ReferenceTestIsRight, match_on, parents_of, has_null, is_met, is_met_by}
 use Rattle.tql_spec.specs.Constraint.{reference_holds, shown_rows}
 use Rattle.tql_spec.proofs.Members.{both, by_bool}
-use Rattle.tql_keys.specs.Touched.{tuple, has_tuple, is_spared}
+use Rattle.tql_keys.specs.Touched.{tuple, has_tuple, is_child_of, is_spared, is_touched}
 use Rattle.tql_keys.proofs.Bools.{all_app, all_map, all_same, all_kept, all_swap}
 use Rattle.tql_keys.proofs.Wheres.{all_where}
 use Rattle.tql_keys.proofs.Tuples.{match_tuple}
 use Rattle.tql_keys.proofs.Covering.{met_by_more}
+use Rattle.tql_keys.proofs.Near.{met_near_all, touched_turned}
 
 -- ---- the child table
 
@@ -52,7 +53,7 @@ all_or t b (x ∷ xs) = ap (λ c. (not (t x) || b) && c) (all_or t b xs) ∙ joi
     joined false false false = refl
 
 -- two tests that agree where a third passes, as it does of all
-all_agree : {A : Type 0} (p q r : A → Bool) (xs : List A) → list_all p xs ≡ true
+pub all_agree : {A : Type 0} (p q r : A → Bool) (xs : List A) → list_all p xs ≡ true
     → ((x : A) → p x ≡ true → q x ≡ r x) → list_all q xs ≡ list_all r xs
 all_agree p q r [] e h = refl
 all_agree p q r (x ∷ xs) e h =
@@ -85,10 +86,11 @@ none_goes s h gone (x ∷ xs) e =
         neither true c w = absurd (cc)
     parted false y ys q = ((λ w. absurd (cc)), q)
 
--- a child row that was met, and that no parent that goes matches, is met by those that stay and others
+-- a child row that was met, and of whose tuple no parent goes that it shares a point with where periods count, is met
+-- by those that stay and others
 still_met : ReferenceTestIsRight → (child parent : TableDef) (f : Reference) (gone : Stamped → Bool)
     (old : List Stamped) (new : List Row) (c : Row)
-    → list_any (λ g. match_on f.columns c f.parent_columns (shown parent g)) (filter gone old) ≡ false
+    → list_any (λ g. is_child_of child parent f (shown parent g) c) (filter gone old) ≡ false
     → is_met child parent f (shown_rows parent old) c ≡ true
     → is_met child parent f (shown_rows parent (filter (λ r. not (gone r)) old) ++ new) c ≡ true
 still_met law child parent f gone old new c n e = by_bool (has_null f.columns c)
@@ -104,6 +106,19 @@ still_met law child parent f gone old new c n e = by_bool (has_null f.columns c)
     of_child : Row → Bool
     of_child s = match_on f.columns c f.parent_columns s
 
+    near : Row → Bool
+    near s = of_child s && is_touched parent f.by_period (period_of child c) s
+
+    none_near : list_any (λ g. near (shown parent g)) (filter gone old) ≡ false
+    none_near =
+        ap (λ (p : Stamped → Bool). list_any p (filter gone old))
+        (λ i g.
+        (ap (λ b. b && is_touched parent f.by_period (period_of child c) (shown parent g))
+        (match_tuple f.columns c f.parent_columns (shown parent g))
+        ∙ ap (λ b. has_tuple f.columns (tuple f.parent_columns (shown parent g)) c && b)
+        (sym (touched_turned child parent f.by_period c (shown parent g)))) i)
+        ∙ n
+
     before : has_null f.columns c ≡ false
         → is_met_by child parent f.by_period (parents_of f (shown_rows parent old) c) c ≡ true
     before z =
@@ -113,11 +128,13 @@ still_met law child parent f gone old new c n e = by_bool (has_null f.columns c)
     met z =
         ap (λ (ps : List Row). is_met_by child parent f.by_period ps c) (filter-append of_child kept new)
         ∙ met_by_more law child parent f.by_period (parents_of f kept c) (parents_of f new c) c
-        (ap (λ (ps : List Row). is_met_by child parent f.by_period ps c)
-        (sym (none_goes (shown parent) of_child gone old n)) ∙ before z)
+        (sym (met_near_all law child parent of_child kept c f.by_period)
+        ∙ ap (λ (ps : List Row). is_met_by child parent f.by_period ps c)
+        (sym (none_goes (shown parent) near gone old none_near))
+        ∙ met_near_all law child parent of_child (shown_rows parent old) c f.by_period ∙ before z)
 
 -- after a change of the parent's rows a reference that held holds where each child row is met whose tuple a row that
--- goes has
+-- goes has, and with PERIOD a point of its period
 pub parent_changed : ReferenceTestIsRight → (child parent : TableDef) (f : Reference) (gone : Stamped → Bool)
     (old : List Stamped) (new children : List Row)
     → reference_holds child parent f (shown_rows parent old) children ≡ true
@@ -130,18 +147,14 @@ parent_changed law child parent f gone old new children h =
     (λ a. ap (λ b. not b || met c) a)
     (λ n. ap (λ b. not b || met c) n ∙ sym (still_met law child parent f gone old new c n e))))
     ∙ all_same (λ c. not (any_gone c) || met c)
-    (λ c. list_all (λ g. not (match_on f.columns c f.parent_columns (shown parent g)) || met c) (filter gone old))
+    (λ c. list_all (λ g. not (is_child_of child parent f (shown parent g) c) || met c) (filter gone old))
     children
-    (λ c. sym (all_or (λ g. match_on f.columns c f.parent_columns (shown parent g)) (met c) (filter gone old)))
-    ∙ all_swap (λ c g. not (match_on f.columns c f.parent_columns (shown parent g)) || met c) children
-    (filter gone old)
+    (λ c. sym (all_or (λ g. is_child_of child parent f (shown parent g) c) (met c) (filter gone old)))
+    ∙ all_swap (λ c g. not (is_child_of child parent f (shown parent g) c) || met c) children (filter gone old)
     ∙ all_same
-    (λ g. list_all (λ c. not (match_on f.columns c f.parent_columns (shown parent g)) || met c) children)
+    (λ g. list_all (λ c. not (is_child_of child parent f (shown parent g) c) || met c) children)
     (λ g. is_spared child parent f after children (shown parent g)) (filter gone old)
-    (λ g. all_same (λ c. not (match_on f.columns c f.parent_columns (shown parent g)) || met c)
-    (λ c. not (has_tuple f.columns (tuple f.parent_columns (shown parent g)) c) || met c) children
-    (λ c. ap (λ b. not b || met c) (match_tuple f.columns c f.parent_columns (shown parent g)))
-    ∙ sym (all_where (has_tuple f.columns (tuple f.parent_columns (shown parent g))) met children))
+    (λ g. sym (all_where (is_child_of child parent f (shown parent g)) met children))
   where
     after : List Row
     after = shown_rows parent (filter (λ r. not (gone r)) old) ++ new
@@ -150,4 +163,4 @@ parent_changed law child parent f gone old new children h =
     met c = is_met child parent f after c
 
     any_gone : Row → Bool
-    any_gone c = list_any (λ g. match_on f.columns c f.parent_columns (shown parent g)) (filter gone old)
+    any_gone c = list_any (λ g. is_child_of child parent f (shown parent g) c) (filter gone old)

@@ -1,10 +1,11 @@
 -- What the rows of a store are asked for: those of a tuple, and the one that an id names.
-use Rattle.std.specs.Prelude.{◌≡◌, ℕ, ℤ, Bool, not, List, map, filter, length, All, Option, Some, option_map}
+use Rattle.std.specs.Prelude.{◌≡◌, ℕ, ℤ, Bool, not, ◌&&◌, List, map, filter, length, All, Option, Some, option_map}
 use Rattle.std.specs.List.{list_all}
 use Rattle.tql_spec.specs.Bag.{SameBag}
 use Rattle.tql_spec.specs.Constraint.{key_holds, shown_rows}
 use Rattle.tql_spec.specs.Datum.{Datum, Row}
 use Rattle.tql_spec.specs.Definition.{TableDef, Stamped, Version, shown}
+use Rattle.tql_spec.specs.Period.{Period}
 use Rattle.tql_catalog.specs.Rows.{stored_width}
 use Rattle.tql_catalog.specs.declared.catalog.Table.{Table}
 use Rattle.tql_store.specs.Changes.{starting}
@@ -13,7 +14,7 @@ use Rattle.tql_store.specs.Views.{current_named}
 use Rattle.tql_store_rows.specs.Changes.{is_current}
 use Rattle.tql_store_rows.specs.Readings.{version_shown}
 use Rattle.tql_store_rows.specs.declared.version.Version as code
-use Rattle.tql_keys.specs.Touched.{has_tuple}
+use Rattle.tql_keys.specs.Touched.{has_tuple, is_touched}
 
 -- ---- the rows of a table
 
@@ -37,6 +38,11 @@ row_found v = (version_shown v).row
 -- the rows of a tuple
 abbrev pub rows_with : TableDef → List ℕ → List Datum → List Stamped → List Stamped
 rows_with d columns values rows = filter (λ r. has_tuple columns values (shown d r)) rows
+
+-- of these, where periods count, those that share a point with a period
+abbrev pub rows_in : TableDef → List ℕ → List Datum → Bool → Period → List Stamped → List Stamped
+rows_in d columns values by_period x rows =
+    filter (λ r. has_tuple columns values (shown d r) && is_touched d by_period x (shown d r)) rows
 
 -- ---- rows that go, stay and come
 

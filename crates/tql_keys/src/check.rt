@@ -150,7 +150,8 @@ fn references_of<I: IntervalIndex>(
     Ok(true)
 }
 
-/// Whether the references of all tables, which held, hold after a change of the table at a place.
+/// Whether the references of all tables, which held, hold after a change of the table at a place. Its own are tested,
+/// and those of the tables that refer to it.
 fn references_after<I: IntervalIndex>(
     memory: Memory,
     catalog: &Catalog,
@@ -166,8 +167,13 @@ fn references_after<I: IntervalIndex>(
         → holds ≡ references_hold (definitions_of catalog.now)
         (copy_after change.now.moment place gone (rows_of change.now.added.now) copy)) }
 {
-    for child in 0..catalog.len() {
-        if !references_of(memory, catalog, store, place, child, change)? {
+    let own = references_of(memory, catalog, store, place, place, change)?;
+    if !own {
+        return Ok(false);
+    }
+    for child in catalog.referring(place) {
+        let theirs = references_of(memory, catalog, store, place, *child, change)?;
+        if !theirs {
             return Ok(false);
         }
     }

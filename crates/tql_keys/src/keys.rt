@@ -16,7 +16,7 @@ ghost use Rattle.tql_keys.specs.Touched.{is_free as free_in};
 use crate::change::Change;
 use crate::finding::SoughtColumns;
 use crate::keeping::are_kept;
-use crate::reading::{collides, current_row, tuple_of};
+use crate::reading::{current_row, period, tuple_of};
 use crate::rivals::are_apart;
 use std::alloc::AllocError;
 use tql_catalog::catalog::Table;
@@ -26,7 +26,7 @@ use tql_index::index::IntervalIndex;
 use tql_memory::Memory;
 use tql_store::store::Store;
 
-/// Whether a new row clashes with none of its tuple that stays in the table.
+/// Whether a new row clashes with none of its tuple that stays in the table: each that it clashes with goes.
 fn is_free<I: IntervalIndex>(
     memory: Memory,
     store: &Store<I>,
@@ -45,18 +45,9 @@ fn is_free<I: IntervalIndex>(
 {
     let definition = &sought.table.definition;
     let tuple = tuple_of(memory, row, sought.columns)?;
-    let found = sought.find(store, &tuple)?;
-    Ok(
-        found.iter().all(|other| {
-            change.removes(other.id)
-                || !collides(
-                    definition,
-                    key.by_period,
-                    &current_row(definition, other.row, other.start),
-                    row,
-                )
-        }),
-    )
+    let period = period(definition, row);
+    let found = sought.find_in(memory, store, &tuple, key.by_period, period)?;
+    Ok(found.iter().all(|other| change.removes(other.id)))
 }
 
 /// Whether a key that held holds after a change: of the rows that stay, those with the tuples of rows that come are

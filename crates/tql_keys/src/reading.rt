@@ -10,7 +10,7 @@ ghost use Rattle.tql_period.specs.Points.{points_of};
 ghost use Rattle.tql_value.specs.Views.{datum_of_view, row_of, rows_of};
 ghost use Rattle.tql_store.specs.Changes.{starting};
 ghost use Rattle.tql_keys.specs.Asked.{new_rows};
-ghost use Rattle.tql_keys.specs.Touched.{tuple, collide, has_tuple as tuple_in, share as share_in};
+ghost use Rattle.tql_keys.specs.Touched.{tuple, has_tuple as tuple_in, is_touched, share as share_in};
 
 use std::alloc::AllocError;
 use tql_catalog::constraint::Key;
@@ -89,6 +89,21 @@ pub(crate) fn has_tuple(columns: &[usize], tuple: &[View<'_>], row: &StoredRow<'
         })
 }
 
+/// Whether a row has in these columns the values that another has in those, as many. A NULL equals nothing.
+pub(crate) fn agrees(
+    columns: &[usize],
+    row: &StoredRow<'_>,
+    others: &[usize],
+    other: &StoredRow<'_>,
+) -> bool
+    ensures { result ≡ tuple_in columns.now (tuple others.now (shown_by other.now)) (shown_by row.now) }
+{
+    columns.len() == others.len()
+        && columns.iter().zip(others).all(|(column, from)| {
+            compare(Comparison::Equal, row.column(*column), other.column(*from)).is_true()
+        })
+}
+
 /// The point that a value is, in days or microseconds since 1970-01-01; 0 for what is none.
 pub(crate) fn point(value: View<'_>) -> i64
     ensures { result ≡ point_of (datum_of_view value.entry) }
@@ -120,24 +135,25 @@ fn share(x: Option<Period>, y: Option<Period>) -> bool
     }
 }
 
-/// Whether two rows of one tuple clash: without a period always, else where they share a point.
-pub(crate) fn collides(
-    definition: &TableDef,
+/// Whether the periods of two rows share a point, where periods count; the rows may be of two tables.
+pub(crate) fn touches(
     by_period: bool,
+    definition: &TableDef,
     r: &StoredRow<'_>,
+    other: &TableDef,
     s: &StoredRow<'_>,
 ) -> bool
-    ensures { result ≡ collide definition.now by_period (shown_by r.now) (shown_by s.now) }
+    ensures { result ≡ is_touched definition.now by_period (period_of other.now (shown_by s.now)) (shown_by r.now) }
 {
     if !by_period {
         return true;
     }
-    share(period(definition, r), period(definition, s))
+    share(period(definition, r), period(other, s))
 }
 
 /// Whether two rows clash in a key.
 pub(crate) fn clash(definition: &TableDef, key: &Key, r: &StoredRow<'_>, s: &StoredRow<'_>) -> bool
     ensures { result ≡ clash_in definition.now (key_of key.now) (shown_by r.now) (shown_by s.now) }
 {
-    match_in(&key.columns, r, s) && collides(definition, key.by_period, r, s)
+    match_in(&key.columns, r, s) && touches(key.by_period, definition, r, definition, s)
 }

@@ -1,6 +1,7 @@
 //! Whether a child row is met after a change of its parent table, and references after a change of either table.
-ghost use Rattle.std.specs.Prelude.{◌≡◌, ◌||◌, ◌&&◌, ℤ, Bool, true, not, map, List, IfOk, IsTrue, OnOk};
-ghost use Rattle.std.specs.List.{list_any};
+ghost use Rattle.std.specs.Prelude.{◌≡◌, ◌<◌, ◌||◌, ◌&&◌, ℤ, Bool, true, not, map, drop, length, List, IfOk};
+ghost use Rattle.std.specs.Prelude.{IsTrue, OnOk};
+ghost use Rattle.std.specs.List.{list_all, list_any};
 ghost use Rattle.tql_spec.specs.Bag.{SameBag};
 ghost use Rattle.tql_spec.specs.Datum.{Row};
 ghost use Rattle.tql_spec.specs.Definition.{Stamped, shown, period_of};
@@ -19,13 +20,16 @@ ghost use Rattle.tql_keys.specs.Asked.{AreRowsOf, IsJudged, new_rows, row_found,
 ghost use Rattle.tql_keys.specs.Coming.{TuplesRise};
 ghost use Rattle.tql_keys.specs.Named.{of_named};
 ghost use Rattle.tql_keys.specs.Parents.{any_holds, row_holds, any_left, any_with};
-ghost use Rattle.tql_keys.specs.Touched.{has_tuple as tuple_in, is_spared as spared_in};
+ghost use Rattle.tql_keys.specs.Touched.{has_tuple as tuple_in, is_child_of as child_of, is_spared_but};
+ghost use Rattle.tql_keys.specs.Touched.{is_child_of_first as child_of_first, is_first_spared};
+ghost use Rattle.tql_keys.specs.Touched.{are_spared as are_spared_in};
 
 use crate::change::Change;
 use crate::coming::{sorted_coming, with_tuple};
 use crate::finding::SoughtColumns;
 use crate::keeping::are_kept;
-use crate::reading::{current_row, has_tuple, period, tuple_of};
+use crate::ranks::sort_by_ranks;
+use crate::reading::{agrees, current_row, has_tuple, period, touches, tuple_of};
 use std::alloc::AllocError;
 use tql_catalog::catalog::Table;
 use tql_catalog::constraint::Reference;
@@ -254,11 +258,13 @@ fn is_met<I: IntervalIndex>(
         (shown_rows parents.now.table.now.definition
         (rows_after change.now.moment gone (rows_of change.now.added.now) rows)) (shown_by row.now)) }
 {
+    references_at_each_point();
     if has_null(&reference.columns, row) {
         return Ok(true);
     }
     let tuple = tuple_of(memory, row, &reference.columns)?;
-    let found = parents.find(store, &tuple)?;
+    let within = period(child, row);
+    let found = parents.find_in(memory, store, &tuple, reference.by_period, within)?;
     let others = with_tuple(parents.columns, &tuple, coming);
     meets(
         memory,
@@ -329,7 +335,76 @@ fn child_holds_after<I: IntervalIndex>(
     Ok(true)
 }
 
-/// Whether each child row of the tuple of a parent row is met by the rows of the parent table after a change of that.
+/// Whether a child row has the tuple of a parent row, and with PERIOD shares a point with it.
+fn is_child_of(
+    child: &TableDef,
+    parent: &TableDef,
+    reference: &Reference,
+    of: &StoredRow<'_>,
+    row: &StoredRow<'_>,
+) -> bool
+    ensures { result ≡ child_of child.now parent.now (reference_of reference.now) (shown_by of.now)
+        (shown_by row.now) }
+{
+    agrees(&reference.columns, row, &reference.parent_columns, of)
+        && touches(reference.by_period, child, row, parent, of)
+}
+
+/// Whether a child row is one of the first of these parent rows.
+fn is_child_of_first(
+    child: &TableDef,
+    parent: &TableDef,
+    reference: &Reference,
+    others: &[StoredRow<'_>],
+    row: &StoredRow<'_>,
+) -> bool
+    ensures { result ≡ child_of_first child.now parent.now (reference_of reference.now) (map shown_by others.now)
+        (shown_by row.now) }
+{
+    match others.first() {
+        Some(of) => is_child_of(child, parent, reference, of, row),
+        None => false,
+    }
+}
+
+/// Whether a child row is one of the first of these parent rows, or met by the rows of the parent table after a change
+/// of that.
+fn is_left_or_met<I: IntervalIndex>(
+    memory: Memory,
+    store: &Store<I>,
+    child: &TableDef,
+    row: &StoredRow<'_>,
+    reference: &Reference,
+    parents: &SoughtColumns<'_>,
+    others: &[StoredRow<'_>],
+    change: &Change<'_>,
+    coming: &[StoredRow<'_>],
+) -> Result<bool, AllocError>
+    requires there { IsTrue (has_table store.now parents.now.table.now.id) }
+    requires columns { parents.now.columns.now ≡ (reference_of reference.now).parent_columns }
+    requires rise { TuplesRise parents.now.columns.now coming.now }
+    requires coming { SameBag (map shown_by coming.now)
+        (new_rows parents.now.table.now.definition change.now.moment (rows_of change.now.added.now)) }
+    ensures { IfOk result (λ met. (rows : List Stamped) (gone : Stamped → Bool)
+        → AreRowsOf store.now parents.now.table.now rows
+        → IsJudged (row_named store.now parents.now.table.now.id) gone change.now.removed.now
+        → met ≡ child_of_first child.now parents.now.table.now.definition (reference_of reference.now)
+        (map shown_by others.now) (shown_by row.now)
+        || met_in child.now parents.now.table.now.definition (reference_of reference.now)
+        (shown_rows parents.now.table.now.definition
+        (rows_after change.now.moment gone (rows_of change.now.added.now) rows)) (shown_by row.now)) }
+{
+    let parent = &parents.table.definition;
+    if is_child_of_first(child, parent, reference, others, row) {
+        return Ok(true);
+    }
+    is_met(
+        memory, store, child, row, reference, parents, change, coming,
+    )
+}
+
+/// Whether each child row of a parent row, but for those that are also of the first of others, is met by the rows of
+/// the parent table after a change of that.
 fn is_spared<I: IntervalIndex>(
     memory: Memory,
     store: &Store<I>,
@@ -337,6 +412,7 @@ fn is_spared<I: IntervalIndex>(
     children: &SoughtColumns<'_>,
     parents: &SoughtColumns<'_>,
     row: &StoredRow<'_>,
+    behind: &[StoredRow<'_>],
     change: &Change<'_>,
     coming: &[StoredRow<'_>],
 ) -> Result<bool, AllocError>
@@ -351,20 +427,21 @@ fn is_spared<I: IntervalIndex>(
         → AreRowsOf store.now parents.now.table.now rows
         → IsJudged (row_named store.now parents.now.table.now.id) gone change.now.removed.now
         → AreRowsOf store.now children.now.table.now others
-        → spared ≡ spared_in children.now.table.now.definition parents.now.table.now.definition
+        → spared ≡ is_spared_but children.now.table.now.definition parents.now.table.now.definition
         (reference_of reference.now)
         (shown_rows parents.now.table.now.definition
         (rows_after change.now.moment gone (rows_of change.now.added.now) rows))
-        (shown_rows children.now.table.now.definition others) (shown_by row.now)) }
+        (shown_rows children.now.table.now.definition others) (map shown_by behind.now) (shown_by row.now)) }
 {
     let child = &children.table.definition;
     let tuple = tuple_of(memory, row, &reference.parent_columns)?;
-    let found = children.find(store, &tuple)?;
+    let lost = period(&parents.table.definition, row);
+    let found = children.find_in(memory, store, &tuple, reference.by_period, lost)?;
     let others = found.as_slice();
     for other in others {
         let row = current_row(child, other.row, other.start);
-        let met = is_met(
-            memory, store, child, &row, reference, parents, change, coming,
+        let met = is_left_or_met(
+            memory, store, child, &row, reference, parents, behind, change, coming,
         )?;
         if !met {
             return Ok(false);
@@ -373,15 +450,55 @@ fn is_spared<I: IntervalIndex>(
     Ok(true)
 }
 
-/// Whether each child row of the tuple of the parent row that an id names is met by the rows of the parent table after
-/// a change of that; so where it names none.
-fn is_spared_by<I: IntervalIndex>(
+/// Whether each child row of the parent row at a place, but for those that are also of the next one, is met by the rows
+/// of the parent table after a change of that.
+fn is_spared_at<I: IntervalIndex>(
     memory: Memory,
     store: &Store<I>,
     reference: &Reference,
     children: &SoughtColumns<'_>,
     parents: &SoughtColumns<'_>,
-    id: usize,
+    going: &[StoredRow<'_>],
+    place: usize,
+    change: &Change<'_>,
+    coming: &[StoredRow<'_>],
+) -> Result<bool, AllocError>
+    requires within { place < length going.now }
+    requires there { IsTrue (has_table store.now parents.now.table.now.id) }
+    requires columns { parents.now.columns.now ≡ (reference_of reference.now).parent_columns }
+    requires child_there { IsTrue (has_table store.now children.now.table.now.id) }
+    requires child_columns { children.now.columns.now ≡ (reference_of reference.now).columns }
+    requires rise { TuplesRise parents.now.columns.now coming.now }
+    requires coming { SameBag (map shown_by coming.now)
+        (new_rows parents.now.table.now.definition change.now.moment (rows_of change.now.added.now)) }
+    ensures { IfOk result (λ spared. (rows others : List Stamped) (gone : Stamped → Bool)
+        → AreRowsOf store.now parents.now.table.now rows
+        → IsJudged (row_named store.now parents.now.table.now.id) gone change.now.removed.now
+        → AreRowsOf store.now children.now.table.now others
+        → spared ≡ is_first_spared children.now.table.now.definition parents.now.table.now.definition
+        (reference_of reference.now)
+        (shown_rows parents.now.table.now.definition
+        (rows_after change.now.moment gone (rows_of change.now.added.now) rows))
+        (shown_rows children.now.table.now.definition others) (map shown_by (drop place going.now))) }
+{
+    let (_, left) = going.split_at(place);
+    match left.split_first() {
+        Some((row, behind)) => is_spared(
+            memory, store, reference, children, parents, row, behind, change, coming,
+        ),
+        None => Ok(true),
+    }
+}
+
+/// Whether each child row of some parent rows is met by the rows of the parent table after a change of that. One that
+/// is of two neighbours is tested at the later of them alone.
+fn are_spared<I: IntervalIndex>(
+    memory: Memory,
+    store: &Store<I>,
+    reference: &Reference,
+    children: &SoughtColumns<'_>,
+    parents: &SoughtColumns<'_>,
+    going: &[StoredRow<'_>],
     change: &Change<'_>,
     coming: &[StoredRow<'_>],
 ) -> Result<bool, AllocError>
@@ -396,24 +513,74 @@ fn is_spared_by<I: IntervalIndex>(
         → AreRowsOf store.now parents.now.table.now rows
         → IsJudged (row_named store.now parents.now.table.now.id) gone change.now.removed.now
         → AreRowsOf store.now children.now.table.now others
-        → spared ≡ of_named (λ r. spared_in children.now.table.now.definition parents.now.table.now.definition
+        → spared ≡ are_spared_in children.now.table.now.definition parents.now.table.now.definition
         (reference_of reference.now)
         (shown_rows parents.now.table.now.definition
         (rows_after change.now.moment gone (rows_of change.now.added.now) rows))
-        (shown_rows children.now.table.now.definition others) (shown parents.now.table.now.definition r))
-        (row_named store.now parents.now.table.now.id id)) }
+        (shown_rows children.now.table.now.definition others) (map shown_by going.now)) }
 {
-    let Some(gone) = store.row(parents.table.id, id) else {
-        return Ok(true);
-    };
-    let row = current_row(&parents.table.definition, gone.row, gone.start);
-    is_spared(
-        memory, store, reference, children, parents, &row, change, coming,
-    )
+    for place in 0..going.len() {
+        let spared = is_spared_at(
+            memory, store, reference, children, parents, going, place, change, coming,
+        )?;
+        if !spared {
+            return Ok(false);
+        }
+    }
+    Ok(true)
+}
+
+/// Adds the current row that an id names, if there is one.
+fn add_named<'s, I: IntervalIndex>(
+    store: &'s Store<I>,
+    table: &Table,
+    id: usize,
+    rows: &mut Vec<StoredRow<'s>, Memory>,
+) -> Result<(), AllocError>
+    requires { IsTrue (has_table store.now table.now.id) }
+    ensures { OnOk result ((test : Row → Bool) → list_all test (map shown_by rows.new.items)
+        ≡ (list_all test (map shown_by rows.old.items)
+        && of_named (λ r. test (shown table.now.definition r)) (row_named store.now table.now.id id))) }
+{
+    if let Some(named) = store.row(table.id, id) {
+        rows.push(current_row(&table.definition, named.row, named.start))?;
+    }
+    Ok(())
+}
+
+/// The rows of a table that go.
+fn rows_that_go<'s, I: IntervalIndex>(
+    memory: Memory,
+    store: &'s Store<I>,
+    table: &Table,
+    change: &Change<'_>,
+) -> Result<Vec<StoredRow<'s>, Memory>, AllocError>
+    requires { IsTrue (has_table store.now table.now.id) }
+    ensures { IfOk result (λ rows. (test : Row → Bool) → list_all test (map shown_by rows.items)
+        ≡ list_all (λ id. of_named (λ r. test (shown table.now.definition r)) (row_named store.now table.now.id id))
+        change.now.removed.now) }
+{
+    let mut rows = Vec::with_capacity(memory, change.removed.len())?;
+    for id in change.removed {
+        add_named(store, table, *id, &mut rows)?;
+    }
+    Ok(rows)
+}
+
+/// Sorts the rows of the parent table that go by their ranks, where periods count: those of a tuple that share points
+/// with a child row then stand one behind the other.
+#[tactic(auto, using(crate::proofs::InTurn::same_rows))]
+fn sort_going(parent: &TableDef, reference: &Reference, going: &mut Vec<StoredRow<'_>, Memory>)
+    ensures { SameBag (map shown_by going.new.items) (map shown_by going.old.items) }
+{
+    if reference.by_period {
+        sort_by_ranks(parent, &reference.parent_columns, going);
+    }
 }
 
 /// Whether a reference that held holds after a change of its parent table. Of the child table the rows with the tuples
-/// of those that go are looked at alone.
+/// of those that go, and with PERIOD a point of theirs, are looked at alone. Those that go are sorted by their ranks: a
+/// child row that shares points with several of them, which are apart, is tested once.
 fn parent_holds_after<I: IntervalIndex>(
     memory: Memory,
     store: &Store<I>,
@@ -440,15 +607,11 @@ fn parent_holds_after<I: IntervalIndex>(
     let children = SoughtColumns::of(memory, child, &reference.columns)?;
     let parents = SoughtColumns::of(memory, parent, &reference.parent_columns)?;
     let coming = sorted_coming(memory, &parents.table.definition, parents.columns, change)?;
-    for id in change.removed {
-        let spared = is_spared_by(
-            memory, store, reference, &children, &parents, *id, change, &coming,
-        )?;
-        if !spared {
-            return Ok(false);
-        }
-    }
-    Ok(true)
+    let mut going = rows_that_go(memory, store, parent, change)?;
+    sort_going(&parent.definition, reference, &mut going);
+    are_spared(
+        memory, store, reference, &children, &parents, &going, change, &coming,
+    )
 }
 
 /// Whether a reference that held holds after a change of its child table. It is not tested where the rows that come

@@ -1,4 +1,5 @@
-use Rattle.std.proofs.Common.{◌≡◌, ◌<◌, ℕ, Bool, true}
+use Rattle.std.proofs.Common.{◌≡◌, Bool, true, drop}
+use Rattle.std.specs.List.{list_all}
 use Rattle.tql_spec.specs.Constraint.{references_hold}
 use Rattle.tql_spec.specs.Definition.{Stamped}
 use Rattle.tql_spec.specs.History.{Copy}
@@ -7,11 +8,13 @@ use Rattle.tql_value.specs.Views.{rows_of}
 use Rattle.tql_keys.specs.Checked.{AreJudged, IsCopyOf, copy_after, references_hold_of}
 use Rattle.tql_keys.proofs.check.references_after.Given as goal
 
--- the references of the tables before hold
+-- the tables that are left decide
 abbrev pub invariant-loop-child : goal.invariant-loop-child
 invariant-loop-child g l =
     (copy : Copy) (gone : Stamped → Bool) → IsCopyOf l.store l.catalog copy
     → AreJudged l.store l.catalog l.place gone l.change.removed.now
-    → references_hold (definitions_of l.catalog) copy ≡ true → (t : ℕ) → t < l.child
-    → references_hold_of (definitions_of l.catalog)
-    (copy_after l.change.moment l.place gone (rows_of l.change.added.now) copy) t ≡ true
+    → references_hold (definitions_of l.catalog) copy ≡ true
+    → list_all (references_hold_of (definitions_of l.catalog)
+    (copy_after l.change.moment l.place gone (rows_of l.change.added.now) copy)) (drop l.child-index l.child-items)
+    ≡ list_all (references_hold_of (definitions_of l.catalog)
+    (copy_after l.change.moment l.place gone (rows_of l.change.added.now) copy)) l.child-items

@@ -18,10 +18,10 @@ returns-then-columns-tuple c =
     c.all.new.self _ c.all.result c.all.ensures.ran
     (YieldsList-from_zip (YieldsList-from_slice c.args.columns.now cc) (YieldsList-from_slice c.args.tuple.now cc))
     (λ x b q k. search (rules, tests))
-    ∙ all_zipped r c.args.columns.now c.args.tuple.now n
+    ∙ all_zipped datum_of_view r c.args.columns.now c.args.tuple.now n
 
 pub returns-else-columns-tuple : goal.returns-else-columns-tuple
 returns-else-columns-tuple c =
     let other : nat_eq (length c.args.columns.now) (length c.args.tuple.now) ≡ false = search (rules, tests) in
-    other ∙ sym (not_as_many (shown_by c.args.row.now) c.args.columns.now c.args.tuple.now
+    other ∙ sym (not_as_many datum_of_view (shown_by c.args.row.now) c.args.columns.now c.args.tuple.now
     (λ n. omega (arith, n, c.if-columns-tuple.false)))
