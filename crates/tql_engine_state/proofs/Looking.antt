@@ -19,7 +19,7 @@ use Rattle.tql_dml.specs.Alters as dml
 use Rattle.tql_dml.specs.Alters.{IsVersionOf, conds_in, is_yes, portion_in}
 use Rattle.tql_dml.proofs.Modified.{touches}
 use Rattle.tql_keys.proofs.NamedRows.{store_names}
-use Rattle.tql_plan_access.specs.Access.{IsShown, ServesTable}
+use Rattle.tql_plan_access.specs.Access.{IsShown, ServesChange}
 use Rattle.tql_plan_access.proofs.Untouched.{IsPassedOver, passed_over, seen_and_unseen, unseen_of, untouched}
 use Rattle.tql_store.proofs.StoreLaws.{answers-found}
 use Rattle.tql_store.specs.Represents.{Answers, AnswersBy}
@@ -206,12 +206,12 @@ version_seen h s t p i v st e at now =
 
 -- a current version whose row is not looked at is not touched
 pub version_untouched : SafeConditionsAreJudged → (h : EngineModel) (s : State) (p : Table) (x : Modification)
-    (o : Option Sought) → ServesTable p.definition (conds_in x) o → AreShown h.store p → StandsFor h s
+    (o : Option Sought) → ServesChange p.definition (portion_in x) (conds_in x) o → AreShown h.store p → StandsFor h s
     → slice_get h.tables x.table ≡ Some p → (i : ℕ) (v : Version) → named h.store p.id i ≡ Some v
     → (alive v && is_current v) ≡ true → is_looked_at o v.row.cells ≡ false
     → touches p.definition (portion_in x) (conds_in x) v.row ≡ false
 version_untouched law h s p x o serves shown st e i v at now unseen =
     let row = of_members (IsShown p.definition) (working_rows s x.table) (working_shown h s x.table p st e shown) v.row
     (version_seen h s x.table p i v st e at now) in
-    ap is_yes (untouched law p.definition (conds_in x) o serves (portion_in x) v.row
+    ap is_yes (untouched law p.definition (portion_in x) (conds_in x) o serves v.row
     (record { row = row; unseen = unseen }))

@@ -23,7 +23,7 @@ use Rattle.tql_catalog.specs.declared.catalog.Table.{Table}
 use Rattle.tql_dml.specs.Alters.{Gives, gone, fates, coming, modified, portion_in, conds_in}
 use Rattle.tql_dml.specs.Alters as dml
 use Rattle.tql_dml.proofs.Modified.{touches, rows_made}
-use Rattle.tql_plan_access.specs.Access.{ServesTable}
+use Rattle.tql_plan_access.specs.Access.{ServesChange}
 use Rattle.tql_plan_access.proofs.Untouched.{SameNews, news_count, news_faults, same_news, unseen_of}
 use Rattle.tql_result.specs.Replies.{plain_verb}
 use Rattle.tql_result.specs.declared.reply.Verb.{Verb}
@@ -82,8 +82,8 @@ module _ (law : SafeConditionsAreJudged) (no_order : ChangesKeepNoOrder) (by_par
       (definition_law h s x.table p st there)
 
   -- what it makes of the versions that were looked at
-  module _ (o : Option Sought) (serves : ServesTable p.definition (conds_in x) o) (are_shown : AreShown h.store p)
-      (seen : List code.Version) (answers : IsSeen h p o seen) where
+  module _ (o : Option Sought) (serves : ServesChange p.definition (portion_in x) (conds_in x) o)
+      (are_shown : AreShown h.store p) (seen : List code.Version) (answers : IsSeen h p o seen) where
     -- their rows, and those that were not
     abbrev all : List Stamped
     all = dml.rows_in seen ++ unseen_of o rows
@@ -95,7 +95,7 @@ module _ (law : SafeConditionsAreJudged) (no_order : ChangesKeepNoOrder) (by_par
     whole = modify p.definition moment all (portion_in x) work (conds_in x)
 
     news : SameNews (fates_of (dml.rows_in seen)) (fates_of all)
-    news = same_news law p.definition (conds_in x) o serves moment (portion_in x) work (dml.rows_in seen)
+    news = same_news law p.definition (portion_in x) (conds_in x) o serves moment work (dml.rows_in seen)
         (unseen_of o rows) (rest_passed h s x.table p o st there are_shown)
 
     same : SameOutcome whole outcome

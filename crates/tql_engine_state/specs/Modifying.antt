@@ -6,8 +6,8 @@ use Rattle.tql_spec.specs.Definition as kept
 use Rattle.tql_bound.specs.declared.change.Modification.{Modification}
 use Rattle.tql_catalog.specs.Rows.{IsRowOf}
 use Rattle.tql_catalog.specs.declared.catalog.Table.{Table}
-use Rattle.tql_dml.specs.Alters.{Alters, gone, fates, coming, conds_in, modified, IsVersionOf, AreTyped}
-use Rattle.tql_plan_access.specs.Access.{IsShown, ServesTable}
+use Rattle.tql_dml.specs.Alters.{Alters, gone, fates, coming, conds_in, portion_in, modified, IsVersionOf, AreTyped}
+use Rattle.tql_plan_access.specs.Access.{IsShown, ServesChange}
 use Rattle.tql_value.specs.Views.{rows_of}
 use Rattle.tql_store.specs.StoreModel.{StoreModel, live}
 use Rattle.tql_store_rows.specs.Changes.{is_current}
@@ -25,10 +25,10 @@ AreShown h p =
     (r : Stamped) → In r (map (λ (v : kept.Version). v.row) (filter is_current (live h p.id))) → IsShown p.definition r
 
 -- the change, or its fault, by the versions that were looked at: of the table's current ones those that are sought,
--- which are all that WHERE can be true of
+-- which are all that it can touch
 pub record Made (h : StoreModel) (p : Table) (x : Modification) (result : Result Delta Refusal) : Type 0 where
   pub sought : Option Sought
-  pub serves : ServesTable p.definition (conds_in x) sought
+  pub serves : ServesChange p.definition (portion_in x) (conds_in x) sought
   pub shown : AreShown h p
   pub seen : List Version
   pub found : IsFound h p.id Now (is_looked_at sought) seen

@@ -16,7 +16,7 @@ pub struct Counts {
     pub maps: usize,
     /// Joins and products that name a key or a reference, and the first scan where its rows are found by one.
     pub keys: usize,
-    /// Scans whose rows are found by their application period, which holds a point or shares one with a period.
+    /// Scans whose rows are found by their application period alone, which holds a point or shares one with a period.
     pub intervals: usize,
 }
 
@@ -106,17 +106,17 @@ fn with_products_keys(count: usize, products: &[Product<'_>]) -> usize
     keys
 }
 
-/// One where rows are found by their values.
+/// One where rows are found by their values, within a period or not.
 fn key_count(sought: Option<Sought<'_>>) -> usize
     ensures { result ≡ (if is_by_key (option_map sought_of sought.entry) then 1 else 0) }
 {
     match sought {
-        Some(Sought::With(_, _)) => 1,
+        Some(Sought::With(_, _) | Sought::WithIn(_, _, _, _, _)) => 1,
         _ => 0,
     }
 }
 
-/// One where rows are found by their application period.
+/// One where rows are found by their application period alone.
 fn interval_count(sought: Option<Sought<'_>>) -> usize
     ensures { result ≡ (if is_by_period (option_map sought_of sought.entry) then 1 else 0) }
 {

@@ -1,5 +1,5 @@
 -- Rows that are found by the values that conjuncts give to columns.
-use Rattle.std.proofs.Common.{◌≡◌, refl, sym, subst, ℕ, ◌+◌, Bool, true, false, ◌&&◌, List, [], ◌∷◌, map, length}
+use Rattle.std.proofs.Common.{◌≡◌, refl, subst, ℕ, ◌+◌, Bool, true, false, ◌&&◌, List, [], ◌∷◌, map, length}
 use Rattle.std.proofs.Common.{cond, arith}
 use Rattle.std.specs.Prelude.{ℤ, nat_lt, insert, Option, Some, None, is_some, unwrap_or}
 use Rattle.tql_spec.specs.Words.{with_front}
@@ -11,12 +11,11 @@ use Rattle.tql_expr.proofs.Inserted.{length_inserted}
 use Rattle.tql_catalog.specs.Defined.{IsDefinition}
 use Rattle.tql_catalog.specs.Rows.{AreStoredAt, stored_width}
 use Rattle.tql_catalog.proofs.StoredNumbers.{stored_count}
-use Rattle.tql_plan_laws.specs.Conjuncts.{AreSafe, meets}
+use Rattle.tql_plan_laws.specs.Conjuncts.{meets}
 use Rattle.tql_plan_laws.specs.Equalities.{agree}
 use Rattle.tql_plan_laws.specs.Constants.{value_in, tuple_in, ValuesAreMet}
-use Rattle.tql_store_index.specs.Basis.{With}
 use Rattle.tql_store_index.specs.Tuple.{is_at}
-use Rattle.tql_plan_access.specs.Access.{ServesTable, are_given, value_or_null}
+use Rattle.tql_plan_access.specs.Access.{are_given, value_or_null}
 
 -- ---- how wide a row is
 
@@ -74,15 +73,12 @@ found_at law conds row cells m (c ∷ cs) (k ∷ ks) g e =
     (law conds row m c (value_or_null conds c) (is_given (value_in c conds) p.0)))
     (found_at law conds row cells m cs ks p.1 more)
 
--- no other row has to be looked at
-pub serves_key : ValuesAreMet → (d : TableDef) → IsDefinition d → (conds : List Cond) (columns stored : List ℕ)
-    (tuple : List Datum) → AreSafe conds → are_given conds columns ≡ true → AreStoredAt d columns stored
-    → tuple ≡ map (value_or_null conds) columns
-    → ServesTable d conds (Some (With stored tuple))
-serves_key law d r conds columns stored tuple safe given at is = record {
-  safe = λ s e. safe;
-  all = λ cells start end row m.
-      subst (λ t. is_at stored t cells ≡ true) (sym is)
-      (found_at law conds (with_generated d.system cells start end) cells m columns stored given
-      (at cells start end (stored_long d r cells start end row.wide)));
-}
+-- so has a row of a table, of what it stores
+pub given_found : ValuesAreMet → (d : TableDef) → IsDefinition d → (conds : List Cond) (columns stored : List ℕ)
+    → are_given conds columns ≡ true → AreStoredAt d columns stored → (cells : Row) (start end : ℤ)
+    → length (with_generated d.system cells start end) ≡ length d.columns
+    → meets conds (with_generated d.system cells start end) ≡ true
+    → is_at stored (map (value_or_null conds) columns) cells ≡ true
+given_found law d r conds columns stored given at cells start end wide m =
+    found_at law conds (with_generated d.system cells start end) cells m columns stored given
+    (at cells start end (stored_long d r cells start end wide))

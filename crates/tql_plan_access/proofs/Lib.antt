@@ -3,5 +3,6 @@ pub mod ByKey
 pub mod Chosen
 pub mod GivenLists
 pub mod Looked
+pub mod Serving
 pub mod Untouched
 pub mod ByPeriod

@@ -2,25 +2,24 @@
 -- all: the same new rows in the place of as many, and the same fault.
 use Rattle.std.proofs.Common.{◌≡◌, refl, ap, sym, subst, ◌∙◌, suc, Bool, true, false, cond, List, [], ◌∷◌, ◌++◌}
 use Rattle.std.proofs.Common.{filter, flat_map}
-use Rattle.std.specs.Prelude.{ℤ, not, Option, Some, None, if◌then◌else◌}
-use Rattle.std.specs.List.{AllByRecursion}
+use Rattle.std.specs.Prelude.{ℤ, not, ◌&&◌, ◌||◌, Option, Some, None, if◌then◌else◌}
+use Rattle.std.specs.List.{AllByRecursion, list_all}
 use Rattle.std.proofs.lemmas.List.Filters.{sum_by-filter_both}
 use Rattle.std.proofs.lemmas.List.Sums.{sum_by-append}
 use Rattle.tql_spec.specs.Bag.{SameBag}
 use Rattle.tql_spec.specs.Calendar.{high}
 use Rattle.tql_spec.specs.Change.{Fate, Untouched, Replaced, Work, fate, fate_where, is_touched, new_rows, outcome_of}
 use Rattle.tql_spec.specs.Change.{replacement, row_faults, touched_count}
-use Rattle.tql_spec.specs.Datum.{Row}
 use Rattle.tql_spec.specs.Definition.{Stamped, TableDef, period_of, shown}
-use Rattle.tql_spec.specs.Expression.{Cond, passes, SafeConditionsAreJudged}
+use Rattle.tql_spec.specs.Expression.{Cond, is_safe, passes, SafeConditionsAreJudged}
 use Rattle.tql_spec.specs.Period.{Period, share_a_point}
 use Rattle.tql_spec.specs.Words.{◌>>=◌, map_all, with_front}
 use Rattle.tql_spec.proofs.Bags.{same-refl, same-trans, same-append}
 use Rattle.tql_spec.proofs.Members.{by_bool}
-use Rattle.tql_plan_laws.specs.Conjuncts.{AreSafe, meets}
+use Rattle.tql_plan_laws.specs.Conjuncts.{meets}
 use Rattle.tql_plan_laws.proofs.Conjuncts.{passes_is}
 use Rattle.tql_store_index.specs.Basis.{Sought, is_looked_at}
-use Rattle.tql_plan_access.specs.Access.{IsShown, ServesTable}
+use Rattle.tql_plan_access.specs.Access.{IsShown, ServesChange, may_touch}
 
 -- ---- the rows that are not looked at
 
@@ -59,49 +58,52 @@ seen_and_unseen o seen rows b =
 
 -- ---- what becomes of them
 
--- where not all rows are looked at, no conjunct is out of range
-safe_then : (conds : List Cond) (o : Option Sought) → ((s : Sought) → o ≡ Some s → AreSafe conds) → (cells : Row)
-    → is_looked_at o cells ≡ false → AreSafe conds
-safe_then conds None safe cells e = absurd (cc)
-safe_then conds (Some s) safe cells e = safe s refl
-
 -- the same new rows, and as many that are touched; or none, since an evaluation is out of range
 abbrev pub SameNews : Option (List Fate) → Option (List Fate) → Type 0
 SameNews None None = Unit {0}
 SameNews (Some fs) (Some gs) = (new_rows fs ≡ new_rows gs) × (touched_count fs ≡ touched_count gs)
 SameNews _ _ = ⊥
 
-module _ (law : SafeConditionsAreJudged) (d : TableDef) (conds : List Cond) (o : Option Sought)
-    (serves : ServesTable d conds o) where
-  -- such a row does not meet WHERE
-  unmet : (r : Stamped) → IsPassedOver d o r → meets conds (shown d r) ≡ false
-  unmet r p = by_bool (meets conds (shown d r))
-      (λ e. absurd (let k : true ≡ false = sym (serves.all r.cells r.start high p.row e) ∙ p.unseen in cc))
+module _ (law : SafeConditionsAreJudged) (d : TableDef) (portion : Option Period) (conds : List Cond)
+    (o : Option Sought) (serves : ServesChange d portion conds o) where
+  -- no change touches such a row, nor is refused for it
+  unmet : (r : Stamped) → IsPassedOver d o r → may_touch d portion conds (shown d r) ≡ false
+  unmet r p = by_bool (may_touch d portion conds (shown d r))
+      (λ e. absurd (let k : true ≡ false = sym (serves r.cells r.start high p.row e) ∙ p.unseen in cc))
       (λ e. e)
 
-  -- which is evaluated on it all the same
-  not_passed : (r : Stamped) → IsPassedOver d o r → passes [] (shown d r) conds ≡ Some false
-  not_passed r p =
-      passes_is law conds (shown d r) (safe_then conds o serves.safe r.cells p.unseen)
-      ∙ ap {B = Option Bool} (λ b. Some b) (unmet r p)
+  -- on one within the portion WHERE can be evaluated, and is not met
+  not_passed : (r : Stamped) → not (list_all is_safe conds) || meets conds (shown d r) ≡ false
+      → passes [] (shown d r) conds ≡ Some false
+  not_passed r e =
+      let parts = neither (list_all is_safe conds) (meets conds (shown d r)) e in
+      passes_is law conds (shown d r) parts.0 ∙ ap {B = Option Bool} (λ b. Some b) parts.1
+    where
+      neither : (a b : Bool) → not a || b ≡ false → (a ≡ true) × (b ≡ false)
+      neither true b h = (refl, h)
+      neither false b h = absurd (cc)
 
   -- so it is not touched
-  pub untouched : (portion : Option Period) (r : Stamped) → IsPassedOver d o r
-      → is_touched d portion conds (shown d r) ≡ Some false
-  untouched None r p = not_passed r p
-  untouched (Some portion) r p = either (share_a_point (period_of d (shown d r)) portion) (not_passed r p)
+  pub untouched : (r : Stamped) → IsPassedOver d o r → is_touched d portion conds (shown d r) ≡ Some false
+  untouched r p = by_portion portion (unmet r p)
     where
-      either : (b : Bool) {q : Option Bool} → q ≡ Some false → (if b then q else Some false) ≡ Some false
-      either true e = e
-      either false e = refl
+      by_portion : (q : Option Period) → may_touch d q conds (shown d r) ≡ false
+          → is_touched d q conds (shown d r) ≡ Some false
+      by_portion None h = not_passed r h
+      by_portion (Some x) h = either (share_a_point (period_of d (shown d r)) x) h
+        where
+          either : (b : Bool) → b && (not (list_all is_safe conds) || meets conds (shown d r)) ≡ false
+              → (if b then passes [] (shown d r) conds else Some false) ≡ Some false
+          either true e = not_passed r e
+          either false e = refl
 
-  module _ (m : ℤ) (portion : Option Period) (work : Work) where
+  module _ (m : ℤ) (work : Work) where
     abbrev fate_of : Stamped → Option Fate
     fate_of r = fate d m portion work conds (shown d r)
 
     stays : (r : Stamped) → IsPassedOver d o r → fate_of r ≡ Some Untouched
     stays r p =
-        ap (λ q. q >>= λ b. fate_where b (replacement d m portion work (shown d r))) (untouched portion r p)
+        ap (λ q. q >>= λ b. fate_where b (replacement d m portion work (shown d r))) (untouched r p)
 
     rest_stays : (rest : List Stamped) → AllByRecursion (IsPassedOver d o) rest
         → SameNews (Some []) (map_all fate_of rest)

@@ -1,16 +1,18 @@
--- Which rows of a table are looked at, and that no other passes the conjuncts that are asked of each.
-use Rattle.std.specs.Prelude.{◌≡◌, ℕ, ℤ, Bool, true, false, ◌&&◌, List, length, IsTrue, Option, Some, None, is_some}
-use Rattle.std.specs.Prelude.{unwrap_or, option_map, not, ◌||◌, if◌then◌else◌, [], ◌∷◌}
+-- Which rows of a table are looked at, and that no other passes the conjuncts that are asked of each, or is touched
+-- by a change.
+use Rattle.std.specs.Prelude.{◌≡◌, ℕ, ◌^◌, ◌-◌, ℤ, pos, ◌+ℤ◌, int_lt, Bool, true, false, ◌&&◌, ◌||◌, not, IsTrue}
+use Rattle.std.specs.Prelude.{List, [], ◌∷◌, length, Option, Some, None, is_some, unwrap_or, option_map, if◌then◌else◌}
 use Rattle.std.specs.List.{list_all, list_any}
 use Rattle.tql_spec.specs.Datum.{Datum, Null, Row}
-use Rattle.tql_spec.specs.Definition.{Application, Stamped, System, TableDef, period_between, shown, with_generated}
+use Rattle.tql_spec.specs.Definition.{Application, Stamped, System, TableDef, period_between, period_of, shown}
+use Rattle.tql_spec.specs.Definition.{with_generated}
 use Rattle.tql_spec.specs.Expression.{Cond, is_safe}
-use Rattle.tql_spec.specs.Period.{Period, rises}
+use Rattle.tql_spec.specs.Period.{Period, rises, share_a_point}
 use Rattle.tql_catalog.specs.Sought.{sought_columns}
 use Rattle.tql_plan_laws.specs.Conjuncts.{AreSafe, meets}
 use Rattle.tql_plan_laws.specs.Constants.{ArePoints, point_in, stretch_in, value_in, tuple_in}
 use Rattle.tql_period.specs.Points.{points_of}
-use Rattle.tql_store_index.specs.Basis.{Sought, With, Holding, Sharing, is_looked_at}
+use Rattle.tql_store_index.specs.Basis.{Sought, With, WithIn, Holding, Sharing, is_looked_at}
 use Rattle.tql_plan_access.specs.declared.access.Manner.{Manner}
 use Rattle.tql_plan_access.specs.declared.access.Manner.TheVariants as manner
 
@@ -18,12 +20,18 @@ use Rattle.tql_plan_access.specs.declared.access.Manner.TheVariants as manner
 abbrev pub sought_by : Manner → List ℕ → List Datum → Option Sought
 sought_by manner.Whole columns tuple = None
 sought_by manner.Key columns tuple = Some (With columns tuple)
+sought_by (manner.KeyWithin start end period) columns tuple = Some (WithIn columns tuple start end (points_of period))
 sought_by (manner.Point start end point) columns tuple = Some (Holding start end point)
 sought_by (manner.Stretch start end stretch) columns tuple = Some (Sharing start end (points_of stretch))
 
--- whether rows are found by their values, whether by their period
+-- the same where the manner is none by values
+abbrev pub sought_in : Manner → Option Sought
+sought_in m = sought_by m [] []
+
+-- whether rows are found by their values, within a period or not; whether by their period alone
 abbrev pub is_by_key : Option Sought → Bool
 is_by_key (Some (With columns tuple)) = true
+is_by_key (Some (WithIn columns tuple start end period)) = true
 is_by_key _ = false
 
 abbrev pub is_by_period : Option Sought → Bool
@@ -60,6 +68,25 @@ pub record Serves (system : Option System) (period : Option (ℕ × ℕ)) (width
 -- that of the rows of a table
 abbrev pub ServesTable : TableDef → List Cond → Option Sought → Type 0
 ServesTable d conds o = Serves d.system (period_columns d) (length d.columns) conds o
+
+-- ---- a change
+
+-- whether a row shares a point with the portion of a change, where there is one
+abbrev pub is_within : TableDef → Option Period → Row → Bool
+is_within d None row = true
+is_within d (Some portion) row = share_a_point (period_of d row) portion
+
+-- whether a change may touch a row, or be refused for it: it is within the portion, and meets WHERE or WHERE may be out
+-- of range
+abbrev pub may_touch : TableDef → Option Period → List Cond → Row → Bool
+may_touch d portion conds row = is_within d portion row && (not (list_all is_safe conds) || meets conds row)
+
+-- each such row of a table is looked at, whichever moments stand in its generated columns
+abbrev pub ServesChange : TableDef → Option Period → List Cond → Option Sought → Type 0
+ServesChange d portion conds o =
+    (cells : Row) (start end : ℤ)
+    → IsRow (period_columns d) (length d.columns) (with_generated d.system cells start end)
+    → IsTrue (may_touch d portion conds (with_generated d.system cells start end)) → IsTrue (is_looked_at o cells)
 
 -- ---- a key
 
@@ -106,3 +133,21 @@ say_of conds (Some a) = is_some (point_in a.start a.end conds) || is_some (stret
 -- whether no conjunct can be out of range, they name no key, and they say so of the table's application period
 abbrev pub names_period : TableDef → List Cond → Bool
 names_period d conds = list_all is_safe conds && (not (names_key d conds) && say_of conds d.application)
+
+-- ---- a key and a period
+
+-- the period of one point alone; none where its end is no number of 64 bits
+abbrev pub alone : ℤ → Option Period
+alone p = if int_lt p (pos (2 ^ 63 - 1)) then Some (record { start = p; end = p +ℤ pos 1 }) else None
+
+-- the rows with these values, of them those whose period between two columns shares a point with this one, if there is
+-- one
+abbrev pub with_in : List ℕ → List Datum → ℕ → ℕ → Option Period → Sought
+with_in columns tuple start end None = With columns tuple
+with_in columns tuple start end (Some period) = WithIn columns tuple start end period
+
+-- the rows with these values, of them those that are sought for their period
+abbrev pub narrowed : List ℕ → List Datum → Option Sought → Sought
+narrowed columns tuple (Some (Holding start end point)) = with_in columns tuple start end (alone point)
+narrowed columns tuple (Some (Sharing start end period)) = WithIn columns tuple start end period
+narrowed columns tuple _ = With columns tuple

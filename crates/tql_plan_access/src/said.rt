@@ -1,17 +1,19 @@
-//! What conjuncts say of a table's application period.
-ghost use Rattle.std.specs.Prelude.{◌≡◌, ℕ, All, List, map};
-ghost use Rattle.tql_spec.specs.Datum.{Datum};
+//! What conjuncts, or a portion, say of a table's application period.
+ghost use Rattle.std.specs.Prelude.{◌≡◌, All, map, if◌then◌else◌, None};
+ghost use Rattle.tql_catalog.specs.Defined.{IsDefinition};
 ghost use Rattle.tql_expr.specs.Meaning.{cond, HasCond};
+ghost use Rattle.tql_period.specs.Points.{points_of};
 ghost use Rattle.tql_plan_laws.specs.Constants.{point_in, stretch_in};
-ghost use Rattle.tql_plan_access.specs.Access.{sought_between, sought_by};
-ghost use Rattle.tql_plan_access.specs.Said.{IsSaid};
+ghost use Rattle.tql_plan_access.specs.Access.{sought_between, sought_in};
+ghost use Rattle.tql_plan_access.specs.Said.{IsPortionBy, IsSaidBy};
 
 use crate::access::Manner;
 use tql_catalog::table_def::TableDef;
 use tql_expr::terms::{CondId, Terms};
+use tql_period::period::Period;
 
-/// By what rows are looked at for what conjuncts say of the period between these columns, which are stored at those
-/// numbers.
+/// In which manner rows are sought for what conjuncts say of the period between these columns, which are stored at
+/// those numbers.
 fn manner_between(
     terms: &Terms,
     conjuncts: &[CondId],
@@ -19,7 +21,7 @@ fn manner_between(
     stored: (usize, usize),
 ) -> Manner
     requires { All (HasCond terms.now) conjuncts.now }
-    ensures { (listed : List ℕ) (tuple : List Datum) → sought_by result listed tuple ≡ sought_between stored
+    ensures { sought_in result ≡ sought_between stored
         (point_in columns.0 columns.1 (map (cond terms.now) conjuncts.now))
         (stretch_in columns.0 columns.1 (map (cond terms.now) conjuncts.now)) }
 {
@@ -32,17 +34,46 @@ fn manner_between(
     }
 }
 
-/// By what rows of a table are looked at for what conjuncts say of its application period.
-pub(crate) fn said_manner(definition: &TableDef, terms: &Terms, conjuncts: &[CondId]) -> Manner
+/// In which manner rows of a table are sought for what conjuncts say of its application period.
+fn said_manner(definition: &TableDef, terms: &Terms, conjuncts: &[CondId]) -> Manner
     requires { All (HasCond terms.now) conjuncts.now }
-    ensures { (listed : List ℕ) (tuple : List Datum)
-        → IsSaid definition.now (map (cond terms.now) conjuncts.now) (sought_by result listed tuple) }
+    ensures { IsSaidBy definition.now (map (cond terms.now) conjuncts.now) definition.now.application
+        (sought_in result) }
 {
     match (definition.application(), definition.sought_period()) {
         (Some(application), Some(stored)) => {
             let columns = (application.start, application.end);
             manner_between(terms, conjuncts, columns, stored)
         }
+        _ => Manner::Whole,
+    }
+}
+
+/// The same of current rows; of others all are looked at.
+pub(crate) fn current_manner(
+    definition: &TableDef,
+    terms: &Terms,
+    conjuncts: &[CondId],
+    is_current: bool,
+) -> Manner
+    requires { All (HasCond terms.now) conjuncts.now }
+    ensures { IsSaidBy definition.now (map (cond terms.now) conjuncts.now)
+        (if is_current then definition.now.application else None) (sought_in result) }
+{
+    if is_current {
+        said_manner(definition, terms, conjuncts)
+    } else {
+        Manner::Whole
+    }
+}
+
+/// In which manner rows of a table are sought that share a point with a portion.
+pub(crate) fn portion_manner(definition: &TableDef, portion: Period) -> Manner
+    ensures said { IsPortionBy definition.now (points_of portion) definition.now.application (sought_in result) }
+    ensures right { IsDefinition definition.now }
+{
+    match (definition.application(), definition.sought_period()) {
+        (Some(_), Some((start, end))) => Manner::Stretch(start, end, portion),
         _ => Manner::Whole,
     }
 }

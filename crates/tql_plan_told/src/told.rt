@@ -87,13 +87,23 @@ fn say_columns(
     words.say(")")
 }
 
+/// Says the key or the reference of a table by whose columns rows are found.
+fn say_key(definition: &TableDef, stored: &[usize], words: &mut Words) -> Result<(), AllocError> {
+    words.say(if is_key(definition, stored) {
+        " by its key"
+    } else {
+        " by its reference"
+    })?;
+    say_columns(definition, stored, words)
+}
+
 /// Says the application period of a table by which rows are found.
-fn say_period(definition: &TableDef, test: &str, words: &mut Words) -> Result<(), AllocError> {
+fn say_period(definition: &TableDef, means: &str, words: &mut Words) -> Result<(), AllocError> {
+    words.say(means)?;
     match definition.application() {
-        Some(application) => words.show(" by its period ", application.name.as_str())?,
-        None => words.say(" by its period")?,
+        Some(application) => words.show(" its period ", application.name.as_str()),
+        None => words.say(" its period"),
     }
-    words.say(test)
 }
 
 /// Says by what the rows of the first reference are found.
@@ -104,16 +114,19 @@ fn say_sought(
 ) -> Result<(), AllocError> {
     match sought {
         None => words.say(" read whole"),
-        Some(Sought::With(stored, _)) => {
-            words.say(if is_key(definition, stored) {
-                " by its key"
-            } else {
-                " by its reference"
-            })?;
-            say_columns(definition, stored, words)
+        Some(Sought::With(stored, _)) => say_key(definition, stored, words),
+        Some(Sought::WithIn(stored, _, _, _, _)) => {
+            say_key(definition, stored, words)?;
+            say_period(definition, " and", words)
         }
-        Some(Sought::Holding(_, _, _)) => say_period(definition, " (CONTAINS)", words),
-        Some(Sought::Sharing(_, _, _)) => say_period(definition, " (OVERLAPS)", words),
+        Some(Sought::Holding(_, _, _)) => {
+            say_period(definition, " by", words)?;
+            words.say(" (CONTAINS)")
+        }
+        Some(Sought::Sharing(_, _, _)) => {
+            say_period(definition, " by", words)?;
+            words.say(" (OVERLAPS)")
+        }
     }
 }
 

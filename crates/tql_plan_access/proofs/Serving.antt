@@ -1,0 +1,146 @@
+-- What is sought serves: no other row passes the conjuncts, or is touched by a change.
+use Rattle.std.proofs.Common.{◌≡◌, ◌∙◌, refl, sym, ap, ℕ, ◌^◌, ◌-◌, Bool, true, false, List, map, length, cond, arith}
+use Rattle.std.specs.Prelude.{IfOk, Result, Ok, Err, ℤ, pos, ◌+ℤ◌, int_le, int_lt, ◌&&◌, ◌||◌, not, if◌then◌else◌}
+use Rattle.std.specs.Prelude.{Option, Some, None}
+use Rattle.std.specs.Int.{int_max, int_min}
+use Rattle.std.specs.List.{list_all}
+use Rattle.std.proofs.lemmas.Bool.{and_from}
+use Rattle.std.proofs.lemmas.Int.{ints, clamps}
+use Rattle.tql_spec.proofs.Members.{both}
+use Rattle.tql_spec.specs.Datum.{Datum, Row}
+use Rattle.tql_spec.specs.Definition.{TableDef, period_between, with_generated}
+use Rattle.tql_spec.specs.Expression.{Cond, is_safe}
+use Rattle.tql_spec.specs.Period.{Period, share_a_point}
+use Rattle.tql_catalog.specs.Defined.{IsDefinition}
+use Rattle.tql_catalog.specs.Sought.{sought_columns}
+use Rattle.tql_plan_laws.specs.Conjuncts.{AreSafe, meets}
+use Rattle.tql_plan_laws.specs.Constants.{PointsAreMet, StretchesAreMet, ValuesAreMet}
+use Rattle.tql_store_index.specs.Basis.{Sought, With, WithIn, Holding, Sharing, is_looked_at, is_sought}
+use Rattle.tql_store_index.specs.Tuple.{is_at}
+use Rattle.tql_plan_access.specs.Access.{IsRow, ServesChange, ServesTable, first_given, is_within}
+use Rattle.tql_plan_access.specs.Access.{narrowed, period_columns, value_or_null, with_in}
+use Rattle.tql_plan_access.specs.Said.{IsPortionBy, IsSaidBy, IsSoughtBy, IsSoughtForChange}
+use Rattle.tql_plan_access.proofs.ByKey.{given_found}
+use Rattle.tql_plan_access.proofs.ByPeriod.{portion_found, said_found}
+use Rattle.tql_plan_access.proofs.GivenLists.{given_first}
+
+-- of a result, what follows from what it is
+pub ok_then : {A E : Type 0} {P Q : A → Type 0} (result : Result A E) → ((x : A) → P x → Q x) → IfOk result P
+    → IfOk result Q
+ok_then (Ok x) f h = f x h
+ok_then (Err e) f h = h
+
+-- ---- a key and a period
+
+-- a period that holds a point shares it with the period of that point alone
+point_shared : (a b p : ℤ) → int_le a p && int_lt p b ≡ true
+    → int_lt (int_max a p) (int_min b (p +ℤ pos 1)) ≡ true
+point_shared a b p h = let t = both (int_le a p) (int_lt p b) h in shared a b p t.0 t.1
+  where
+    shared : (a b p : ℤ) → int_le a p ≡ true → int_lt p b ≡ true
+        → int_lt (int_max a p) (int_min b (p +ℤ pos 1)) ≡ true
+    shared a b p l m = grind (arith, ints, clamps)
+
+-- a row with these values, that is sought for its period, is sought by both
+pub narrowed_found : (columns : List ℕ) (tuple : List Datum) (said : Option Sought) (cells : Row)
+    → is_at columns tuple cells ≡ true → is_looked_at said cells ≡ true
+    → is_sought (narrowed columns tuple said) cells ≡ true
+narrowed_found columns tuple None cells at seen = at
+narrowed_found columns tuple (Some (With other values)) cells at seen = at
+narrowed_found columns tuple (Some (WithIn other values start end x)) cells at seen = at
+narrowed_found columns tuple (Some (Sharing start end x)) cells at seen =
+    and_from (is_at columns tuple cells) (share_a_point (period_between cells start end) x) at seen
+narrowed_found columns tuple (Some (Holding start end p)) cells at seen = either (int_lt p (pos (2 ^ 63 - 1)))
+  where
+    x : Period
+    x = period_between cells start end
+
+    either : (b : Bool)
+        → is_sought (with_in columns tuple start end (cond b (Some (record { start = p; end = p +ℤ pos 1 })) None))
+        cells ≡ true
+    either true =
+        and_from (is_at columns tuple cells) (share_a_point x (record { start = p; end = p +ℤ pos 1 })) at
+        (point_shared x.start x.end p seen)
+    either false = at
+
+-- ---- what is said of the period, and by which key
+
+module _ (d : TableDef) (conds : List Cond) where
+  -- what is so by one predicate of what is said is so by a weaker
+  pub by_weaker : (first : Option (List ℕ)) (P Q : Option Sought → Type 0) → ((o : Option Sought) → P o → Q o)
+      → (o : Option Sought) → IsSoughtBy d conds first P o → IsSoughtBy d conds first Q o
+  by_weaker None P Q h o s = h o s
+  by_weaker (Some columns) P Q h o s = record {
+    stored = s.stored;
+    there = s.there;
+    said = s.said;
+    by = h s.said s.by;
+    is = s.is;
+  }
+
+  -- rows that meet the conjuncts, and are looked at for what is said, are looked at
+  sought_found : ValuesAreMet → IsDefinition d → (first : Option (List ℕ))
+      → first_given conds (sought_columns d) ≡ first
+      → (IsSaid : Option Sought → Type 0) (o : Option Sought) → IsSoughtBy d conds first IsSaid o
+      → (cells : Row) (start end : ℤ) → length (with_generated d.system cells start end) ≡ length d.columns
+      → meets conds (with_generated d.system cells start end) ≡ true
+      → ((said : Option Sought) → IsSaid said → is_looked_at said cells ≡ true) → is_looked_at o cells ≡ true
+  sought_found law right None e IsSaid o s cells start end wide m seen = seen o s
+  sought_found law right (Some columns) e IsSaid o s cells start end wide m seen =
+      let tuple = map (value_or_null conds) columns in
+      ap (λ q. is_looked_at q cells) s.is
+      ∙ narrowed_found s.stored tuple s.said cells
+      (given_found law d right conds columns s.stored (given_first conds d right columns e) s.there cells start end wide
+      m)
+      (seen s.said s.by)
+
+  module _ (values : ValuesAreMet) (points : PointsAreMet) (stretches : StretchesAreMet) where
+    -- for conjuncts of which none is out of range
+    pub serves_safe : AreSafe conds → IsDefinition d → (is_current : Bool) (o : Option Sought)
+        → IsSoughtBy d conds (first_given conds (sought_columns d))
+        (IsSaidBy d conds (if is_current then d.application else None)) o → ServesTable d conds o
+    serves_safe safe right is_current o s = record {
+      safe = λ t e. safe;
+      all = λ cells start end r m.
+          sought_found values right (first_given conds (sought_columns d)) refl
+          (IsSaidBy d conds (if is_current then d.application else None)) o s cells start end r.wide m
+          (λ said by. seen is_current said by cells start end r m);
+    }
+      where
+        seen : (b : Bool) (said : Option Sought) → IsSaidBy d conds (if b then d.application else None) said
+            → (cells : Row) (start end : ℤ)
+            → IsRow (period_columns d) (length d.columns) (with_generated d.system cells start end)
+            → meets conds (with_generated d.system cells start end) ≡ true → is_looked_at said cells ≡ true
+        seen true said by cells start end r m =
+            said_found d right points stretches conds d.application refl said by cells start end r m
+        seen false said by cells start end r m = ap (λ q. is_looked_at q cells) by
+
+    -- ---- changes
+
+    -- a change of no portion touches rows that meet WHERE
+    pub serves_plain : (o : Option Sought) → ServesTable d conds o → ServesChange d None conds o
+    serves_plain None serves cells start end r m = refl
+    serves_plain (Some s) serves cells start end r m =
+        serves.all cells start end r
+        (ap (λ b. not b || meets conds (with_generated d.system cells start end)) (sym (serves.safe s refl)) ∙ m)
+
+    -- one of a portion those of them that share a point with it
+    portion_serves : IsDefinition d → (portion : Period) (safe : Bool) → list_all is_safe conds ≡ safe
+        → (o : Option Sought)
+        → IsSoughtBy d conds (cond safe (first_given conds (sought_columns d)) None)
+        (IsPortionBy d portion d.application) o
+        → ServesChange d (Some portion) conds o
+    portion_serves right portion true e o s cells start end r m =
+        let row = with_generated d.system cells start end in
+        let parts = both (is_within d (Some portion) row) (not (list_all is_safe conds) || meets conds row) m in
+        sought_found values right (first_given conds (sought_columns d)) refl (IsPortionBy d portion d.application) o s
+        cells start end r.wide (ap (λ b. not b || meets conds row) (sym e) ∙ parts.1)
+        (λ said by. portion_found d right portion d.application refl said by cells start end r.wide parts.0)
+    portion_serves right portion false e o s cells start end r m =
+        let row = with_generated d.system cells start end in
+        portion_found d right portion d.application refl o s cells start end r.wide
+        (both (is_within d (Some portion) row) (not (list_all is_safe conds) || meets conds row) m).0
+
+    pub serves_portion : IsDefinition d → (portion : Period) (o : Option Sought)
+        → IsSoughtForChange d (Some portion) conds o → ServesChange d (Some portion) conds o
+    serves_portion right portion o s = portion_serves right portion (list_all is_safe conds) refl o s
