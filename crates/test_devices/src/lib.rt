@@ -1,6 +1,8 @@
-//! Readers and writers of bytes that give and take so many at once, and fail or end where they are told to: the devices
-//! of the crates of tests.
+//! What the crates of tests share: readers and writers of bytes that give and take so many at once, and fail or end
+//! where they are told to, and an index that refuses memory for each question.
 #![tactic(auto)]
+
+pub mod mute;
 
 use std::alloc::Global;
 use std::io::{self, Error, ErrorKind, Read, Write};

@@ -5,6 +5,7 @@ use crate::stop::Stop;
 use std::alloc::AllocError;
 use tql_index::index::{Id, IntervalIndex};
 use tql_index::list_index::ListIndex;
+use tql_index::span::Span;
 use tql_index::tree_index::TreeIndex;
 use tql_memory::Memory;
 use tql_period::period::Period;
@@ -36,14 +37,44 @@ fn add<I: IntervalIndex>(index: &mut I, rest: &str) -> Result<(), Stop> {
     Ok(())
 }
 
+/// A group, and what is written after it.
+fn grouped(text: &str) -> Result<(i64, &str), Stop> {
+    let (group, rest) = text.split_once(' ').ok_or(Stop::Form)?;
+    Ok((int(group)?, rest))
+}
+
+/// The span of a period in a group.
+fn span(text: &str) -> Result<Span, Stop> {
+    let (group, ends) = grouped(text)?;
+    Ok(Span::within(group, period(ends)?))
+}
+
+fn put<I: IntervalIndex>(index: &mut I, rest: &str) -> Result<(), Stop> {
+    let (group, rest) = grouped(rest)?;
+    let (period, id) = entry(rest)?;
+    index.add_span(Span::within(group, period), id)?;
+    Ok(())
+}
+
+fn take<I: IntervalIndex>(index: &mut I, out: &mut String, rest: &str) -> Result<(), Stop> {
+    let (group, rest) = grouped(rest)?;
+    let (period, id) = entry(rest)?;
+    write_yes(out, index.remove_span(Span::within(group, period), id))?;
+    Ok(())
+}
+
 /// Makes a step, and writes what it finds.
 fn make<I: IntervalIndex>(index: &mut I, out: &mut String, step: &str) -> Result<(), Stop> {
     let (word, rest) = step.split_once(' ').ok_or(Stop::Form)?;
     match word {
         "add" => return add(index, rest),
+        "put" => return put(index, rest),
         "remove" => remove(index, out, rest)?,
+        "take" => take(index, out, rest)?,
         "at" => write_ids(out, index.stab(int(rest)?)?)?,
         "over" => write_ids(out, index.overlapping(period(rest)?)?)?,
+        "in" => write_ids(out, index.sharing(span(rest)?)?)?,
+        "all" => write_ids(out, index.sharing(Span::all(int(rest)?))?)?,
         _ => return Err(Stop::Form),
     }
     out.push(';')?;

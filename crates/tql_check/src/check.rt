@@ -1,11 +1,13 @@
 //! Checking statements: each is read alone, over the whole grammar, and none is run.
-ghost use Rattle.std.specs.Prelude.{⊤, []};
+ghost use Rattle.std.specs.Prelude.{⊤, List};
+ghost use Rattle.tql_spec.specs.Answer as run;
 ghost use Rattle.tql_spec.specs.Machine.{State};
 ghost use Rattle.tql_spec.specs.Run.{Checks, finished};
 ghost use Rattle.tql_result.specs.Replies.{answer_of, IsPrintableAnswer};
 ghost use Rattle.tql_run.specs.Hearing.{hearing_change};
 ghost use Rattle.tql_run.specs.Runs.{Runs, source_change, sink_change};
 ghost use Rattle.tql_run.specs.RunsIn.{RunsIn, manner};
+ghost use Rattle.tql_run.specs.Texts.{style_after, written_after};
 ghost use Rattle.tql_run.proofs.Faults.{checks_refuse};
 
 use tql_detail::detail::Detail;
@@ -89,7 +91,9 @@ pub fn check_script_in<I: Source<O>, O: Sink, L: Listener, F: Form>(
     form: &mut F,
     bail: bool,
 ) -> Result<Summary, Fault>
-    ensures { F.wrote form.old [] → (s : State) → RunsIn (manner Checks F.texts bail) s (λ _. ⊤)
+    ensures { (before : List run.Answer) → F.wrote form.old before → (s : State)
+        → RunsIn (manner Checks (style_after before F.texts F.reported) bail) s (λ _. ⊤)
+        (written_after before (F.wrote form.new))
         (source_change I.left I.failures I.ended source.old source.new)
         (sink_change O.written O.failures O.flushed O.flushes_fail sink.old sink.new)
         (hearing_change L.heard listener.old listener.new) result }

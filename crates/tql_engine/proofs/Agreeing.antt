@@ -12,7 +12,7 @@ use Rattle.tql_run.specs.Hearing.{HearingChange}
 use Rattle.tql_run.specs.Responding.{Standing}
 use Rattle.tql_run.specs.Runs.{SourceChange, SinkChange, answered}
 use Rattle.tql_run.specs.RunsIn.{RunsIn, manner, RunsWholeIn, RunsToRefusal, stops}
-use Rattle.tql_run.specs.Texts.{Texts}
+use Rattle.tql_run.specs.Texts.{Style, Written}
 use Rattle.tql_run.specs.declared.runner.Summary.{Summary}
 use Rattle.tql_run.specs.declared.runner.Fault.{Fault}
 use Rattle.tql_run.specs.declared.runner.Fault.TheVariants.{Read, Write, Memory}
@@ -33,24 +33,24 @@ module _ (prunes : PrunesAreUnseen) (reads : RunsReadStably) where
         unseen = λ ordered. prunes s new pieces r.replies ordered r.ran;
       }
 
-  pub runs_agreeing : (texts : Texts) (bail : Bool) (s : State) (after : Standing) (source : SourceChange)
-      (sink : SinkChange) (hearing : HearingChange) (result : Result Summary Fault)
-      → RunsIn (manner Responds texts bail) s after source sink hearing result
-      → RunsAgreeing texts bail s after source sink hearing result
-  runs_agreeing texts bail s after source sink hearing (Ok summary) r = by_case (stops bail summary) r
+  pub runs_agreeing : (style : Style) (bail : Bool) (s : State) (after : Standing) (form : Written)
+      (source : SourceChange) (sink : SinkChange) (hearing : HearingChange) (result : Result Summary Fault)
+      → RunsIn (manner Responds style bail) s after form source sink hearing result
+      → RunsAgreeing style bail s after form source sink hearing result
+  runs_agreeing style bail s after form source sink hearing (Ok summary) r = by_case (stops bail summary) r
     where
       by_case : (b : Bool)
-          → MatchBool b (RunsToRefusal (manner Responds texts bail) s after source sink hearing summary)
-          (RunsWholeIn (manner Responds texts bail) s after source sink hearing summary)
+          → MatchBool b (RunsToRefusal (manner Responds style bail) s after form source sink hearing summary)
+          (RunsWholeIn (manner Responds style bail) s after form source sink hearing summary)
           → MatchBool b
-          ((r : RunsToRefusal (manner Responds texts bail) s after source sink hearing summary)
+          ((r : RunsToRefusal (manner Responds style bail) s after form source sink hearing summary)
           × Agrees s r.done r.answers r.state)
-          ((r : RunsWholeIn (manner Responds texts bail) s after source sink hearing summary)
+          ((r : RunsWholeIn (manner Responds style bail) s after form source sink hearing summary)
           × Agrees s (answered true r.script) r.answers r.state)
       by_case true r = (r, agreeing s r.state r.done r.answers r.ran)
       by_case false r = (r, agreeing s r.state (answered true r.script) r.answers r.ran)
-  runs_agreeing texts bail s after source sink hearing (Err Read) r =
+  runs_agreeing style bail s after form source sink hearing (Err Read) r =
       (r, agreeing s r.state (answered false r.script) r.answers r.ran)
-  runs_agreeing texts bail s after source sink hearing (Err Write) r =
+  runs_agreeing style bail s after form source sink hearing (Err Write) r =
       (r, agreeing s r.state r.done r.answers r.ran)
-  runs_agreeing texts bail s after source sink hearing (Err Memory) r = r
+  runs_agreeing style bail s after form source sink hearing (Err Memory) r = r

@@ -13,7 +13,7 @@ use Rattle.tql_run.specs.Hearing.{HearingChange}
 use Rattle.tql_run.specs.Responding.{Answered}
 use Rattle.tql_run.specs.Runs.{SourceChange, SinkChange}
 use Rattle.tql_run.specs.RunsIn.{RunsIn, RunsToRefusal, RunsWholeIn, manner, stops}
-use Rattle.tql_run.specs.Texts.{Texts}
+use Rattle.tql_run.specs.Texts.{Style, Written}
 use Rattle.tql_run.specs.declared.runner.Summary.{Summary}
 use Rattle.tql_run.specs.declared.runner.Fault.{Fault}
 use Rattle.tql_run.specs.declared.runner.Fault.TheVariants.{Read, Write, Memory}
@@ -46,17 +46,18 @@ step_holds old new s p r h a = record {
 }
 
 -- a run in a form
-pub run_in_holds : (texts : Texts) (bail : Bool) (new : EngineModel) (s : State) (source : SourceChange)
-    (sink : SinkChange) (hearing : HearingChange) (result : Result Summary Fault) → HoldAtPoints s
-    → RunsIn (manner Responds texts bail) s (StandsFor new) source sink hearing result
-    → RunsIn (manner Responds texts bail) s (HoldsFor new) source sink hearing result
-run_in_holds texts bail new s source sink hearing (Ok summary) h r = by_case (stops bail summary) r
+pub run_in_holds : (style : Style) (bail : Bool) (new : EngineModel) (s : State) (form : Written)
+    (source : SourceChange) (sink : SinkChange) (hearing : HearingChange) (result : Result Summary Fault)
+    → HoldAtPoints s
+    → RunsIn (manner Responds style bail) s (StandsFor new) form source sink hearing result
+    → RunsIn (manner Responds style bail) s (HoldsFor new) form source sink hearing result
+run_in_holds style bail new s form source sink hearing (Ok summary) h r = by_case (stops bail summary) r
   where
     by_case : (b : Bool)
-        → MatchBool b (RunsToRefusal (manner Responds texts bail) s (StandsFor new) source sink hearing summary)
-        (RunsWholeIn (manner Responds texts bail) s (StandsFor new) source sink hearing summary)
-        → MatchBool b (RunsToRefusal (manner Responds texts bail) s (HoldsFor new) source sink hearing summary)
-        (RunsWholeIn (manner Responds texts bail) s (HoldsFor new) source sink hearing summary)
+        → MatchBool b (RunsToRefusal (manner Responds style bail) s (StandsFor new) form source sink hearing summary)
+        (RunsWholeIn (manner Responds style bail) s (StandsFor new) form source sink hearing summary)
+        → MatchBool b (RunsToRefusal (manner Responds style bail) s (HoldsFor new) form source sink hearing summary)
+        (RunsWholeIn (manner Responds style bail) s (HoldsFor new) form source sink hearing summary)
     by_case true r = record {
       script = r.script;
       given = r.given;
@@ -72,6 +73,7 @@ run_in_holds texts bail new s source sink hearing (Ok summary) h r = by_case (st
       ran = r.ran;
       stands = record { stands = r.stands; holds = keeps_all s r.state r.done r.answers h r.ran };
       heard = r.heard;
+      wrote = r.wrote;
       text = r.text;
       texts = r.texts;
       written = r.written;
@@ -90,6 +92,7 @@ run_in_holds texts bail new s source sink hearing (Ok summary) h r = by_case (st
       ran = r.ran;
       stands = record { stands = r.stands; holds = keeps_all s r.state _ r.answers h r.ran };
       heard = r.heard;
+      wrote = r.wrote;
       text = r.text;
       texts = r.texts;
       written = r.written;
@@ -97,7 +100,7 @@ run_in_holds texts bail new s source sink hearing (Ok summary) h r = by_case (st
       writes = r.writes;
       flushed = r.flushed;
     }
-run_in_holds texts bail new s source sink hearing (Err Read) h r = record {
+run_in_holds style bail new s form source sink hearing (Err Read) h r = record {
   script = r.script;
   given = r.given;
   cut = r.cut;
@@ -107,13 +110,14 @@ run_in_holds texts bail new s source sink hearing (Err Read) h r = record {
   ran = r.ran;
   stands = record { stands = r.stands; holds = keeps_all s r.state _ r.answers h r.ran };
   heard = r.heard;
+  wrote = r.wrote;
   text = r.text;
   texts = r.texts;
   written = r.written;
   writes = r.writes;
   flushed = r.flushed;
 }
-run_in_holds texts bail new s source sink hearing (Err Write) h r = record {
+run_in_holds style bail new s form source sink hearing (Err Write) h r = record {
   script = r.script;
   given = r.given;
   met = r.met;
@@ -132,7 +136,7 @@ run_in_holds texts bail new s source sink hearing (Err Write) h r = record {
   written = r.written;
   cause = r.cause;
 }
-run_in_holds texts bail new s source sink hearing (Err Memory) h r = record {
+run_in_holds style bail new s form source sink hearing (Err Memory) h r = record {
   left = r.left;
   reads = r.reads;
   stands = record { stands = r.stands; holds = h };

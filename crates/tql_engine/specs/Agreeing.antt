@@ -11,7 +11,7 @@ use Rattle.tql_run.specs.Hearing.{HearingChange}
 use Rattle.tql_run.specs.Responding.{Standing}
 use Rattle.tql_run.specs.Runs.{SourceChange, SinkChange, NothingRun, answered}
 use Rattle.tql_run.specs.RunsIn.{manner, RunsWholeIn, RunsToRefusal, StopsReadingIn, StopsWritingIn, stops}
-use Rattle.tql_run.specs.Texts.{Texts}
+use Rattle.tql_run.specs.Texts.{Style, Written}
 use Rattle.tql_run.specs.declared.runner.Summary.{Summary}
 use Rattle.tql_run.specs.declared.runner.Fault.{Fault}
 use Rattle.tql_run.specs.declared.runner.Fault.TheVariants.{Read, Write, Memory}
@@ -29,17 +29,18 @@ pub record Agrees (s : State) (pieces : List Piece) (answers : List Answer) (new
 
 -- by the result of a run, written so and stopped by a refusal or not: of the pieces that ran, the whole run's or those
 -- of the one that stopped; else nothing ran
-abbrev pub RunsAgreeing : Texts → (bail : Bool) → State → Standing → SourceChange → SinkChange → HearingChange
-    → Result Summary Fault → Type 0
-RunsAgreeing texts bail s after source sink hearing (Ok summary) = MatchBool (stops bail summary)
-    ((r : RunsToRefusal (manner Responds texts bail) s after source sink hearing summary)
+abbrev pub RunsAgreeing : Style → (bail : Bool) → State → Standing → Written → SourceChange → SinkChange
+    → HearingChange → Result Summary Fault → Type 0
+RunsAgreeing style bail s after form source sink hearing (Ok summary) = MatchBool (stops bail summary)
+    ((r : RunsToRefusal (manner Responds style bail) s after form source sink hearing summary)
     × Agrees s r.done r.answers r.state)
-    ((r : RunsWholeIn (manner Responds texts bail) s after source sink hearing summary)
+    ((r : RunsWholeIn (manner Responds style bail) s after form source sink hearing summary)
     × Agrees s (answered true r.script) r.answers r.state)
-RunsAgreeing texts bail s after source sink hearing (Err Read) =
-    (r : StopsReadingIn (manner Responds texts bail) s after source sink hearing)
+RunsAgreeing style bail s after form source sink hearing (Err Read) =
+    (r : StopsReadingIn (manner Responds style bail) s after form source sink hearing)
     × Agrees s (answered false r.script) r.answers r.state
-RunsAgreeing texts bail s after source sink hearing (Err Write) =
-    (r : StopsWritingIn (manner Responds texts bail) s after source sink hearing)
+RunsAgreeing style bail s after form source sink hearing (Err Write) =
+    (r : StopsWritingIn (manner Responds style bail) s after source sink hearing)
     × Agrees s r.done r.answers r.state
-RunsAgreeing texts bail s after source sink hearing (Err Memory) = NothingRun Responds s after source sink hearing
+RunsAgreeing style bail s after form source sink hearing (Err Memory) =
+    NothingRun Responds s after source sink hearing

@@ -7,12 +7,16 @@ ghost use Rattle.tql_value.specs.Views.{datum_of_value};
 ghost use Rattle.tql_value.specs.declared.refusal.Refusal.TheVariants.{OutOfMemory};
 ghost use Rattle.tql_engine_state.specs.Committing.{CommitsRows, Undoes, ChangesRows, KeepsRows};
 
-use crate::store::Store;
-use tql_store::store::Delta;
+use tql_index::index::IntervalIndex;
+use tql_store::store::{Delta, Store};
 use tql_value::refusal::Refusal;
 
 /// Makes a change in a transaction of the moment, or leaves the store as it was.
-fn commit_rows(store: &mut Store, moment: i64, delta: Delta) -> Result<(), Refusal>
+fn commit_rows<I: IntervalIndex>(
+    store: &mut Store<I>,
+    moment: i64,
+    delta: Delta,
+) -> Result<(), Refusal>
     requires closed { IsNone store.old.working }
     requires later { Under store.old.last moment }
     requires below { moment <ℤ high }
@@ -39,7 +43,11 @@ fn commit_rows(store: &mut Store, moment: i64, delta: Delta) -> Result<(), Refus
 
 /// Makes a change in the open transaction, or in one of its own at the clock's moment, and gives the clock's moment
 /// after it; or leaves the store as it was. The only error is a refused growth.
-pub fn change_rows(store: &mut Store, clock: i64, delta: Delta) -> Result<i64, Refusal>
+pub fn change_rows<I: IntervalIndex>(
+    store: &mut Store<I>,
+    clock: i64,
+    delta: Delta,
+) -> Result<i64, Refusal>
     requires later { Under store.old.last clock }
     requires below { IsNone store.old.working → clock <ℤ high }
     requires present { IsTrue (has_table store.old delta.table) }

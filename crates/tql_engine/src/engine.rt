@@ -15,7 +15,6 @@ mod reading;
 mod transactions;
 
 use crate::sense::read_statement;
-use crate::store::Store;
 use std::marker::Model;
 use tql_bind::binder::bind;
 use tql_bind::limits::Limits;
@@ -24,10 +23,12 @@ use tql_bound::bound::Bound;
 use tql_bound::reader::Reader;
 use tql_catalog::catalog::{Catalog, Table};
 use tql_detail::detail::Detail;
+use tql_index::index::IntervalIndex;
 use tql_memory::Memory;
 use tql_result::answer::Answer;
 use tql_result::reply::Reply;
 use tql_run::responder::Responder;
+use tql_store::store::Store;
 use tql_syntax::ending::{TransactionEnd, transaction_end};
 use tql_syntax::text::read_text;
 use tql_syntax_fault::told::{depth_detail, syntax_detail};
@@ -37,15 +38,15 @@ use tql_value::refusal::Refusal;
 
 /// The engine: its tables in the order of their creation, the store of their rows, the moment of the next transaction,
 /// in microseconds since 1970-01-01, and the open readers in the order of their opening.
-pub struct Engine {
+pub struct Engine<I: IntervalIndex> {
     memory: Memory,
     tables: Catalog,
-    store: Store,
+    store: Store<I>,
     next: i64,
     readers: Vec<Reader, Memory>,
 }
 
-impl Drop for Engine {
+impl<I: IntervalIndex> Drop for Engine<I> {
     fn drop(self) {
         let Engine {
             memory: _,
@@ -60,7 +61,7 @@ impl Drop for Engine {
     }
 }
 
-impl Model for Engine {
+impl<I: IntervalIndex> Model for Engine<I> {
     ghost use Rattle.tql_index.specs.contracts.tree_index.TreeIndex.{the_row as tree_row};
     ghost use Rattle.tql_index.specs.contracts.tree_index.TreeIndexIntervalIndex.TheImpl.{ghosts};
     ghost use Rattle.tql_store.specs.contracts.store.Store.{the_row};
@@ -87,7 +88,7 @@ impl Model for Engine {
     }) };
 }
 
-impl Engine {
+impl<I: IntervalIndex> Engine<I> {
     ghost use Rattle.std.specs.Prelude.{ℕ};
     ghost use Rattle.std.specs.List.{list_all};
     ghost use Rattle.tql_spec.specs.Definition.{TableDef};
@@ -111,7 +112,7 @@ impl Engine {
 
     /// An engine without tables, whose clock stands at the first moment.
     #[tactic(auto, using(tql_engine_state::proofs::Standing::new_law, crate::proofs::HoldPoints::new_holds))]
-    pub fn new(memory: Memory) -> Engine
+    pub fn new(memory: Memory) -> Engine<I>
         ensures stands { StandsFor result new_state }
         ensures holds { HoldsFor result new_state }
     {
@@ -238,7 +239,7 @@ impl Engine {
     }
 }
 
-impl Responder for Engine {
+impl<I: IntervalIndex> Responder for Engine<I> {
     ghost use Rattle.tql_run.specs.Ending.{Responds};
     ghost use Rattle.tql_engine_state.specs.Stands.{StandsFor};
     ghost use Rattle.tql_run.proofs.Faults.{responds_refuse};

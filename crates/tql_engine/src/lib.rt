@@ -8,4 +8,3 @@ pub mod readers;
 pub mod runner;
 mod sense;
 pub mod sessions;
-mod store;

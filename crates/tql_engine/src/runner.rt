@@ -1,11 +1,12 @@
 //! A whole run of a script on an engine.
-ghost use Rattle.std.specs.Prelude.{[], false};
+ghost use Rattle.std.specs.Prelude.{List, false, ⊤};
+ghost use Rattle.tql_spec.specs.Answer as run;
 ghost use Rattle.tql_spec.specs.Machine.{State};
 ghost use Rattle.tql_spec.specs.Reached.{IsInOrder};
 ghost use Rattle.tql_run.specs.Hearing.{hearing_change};
 ghost use Rattle.tql_run.specs.Runs.{Runs, source_change, sink_change};
 ghost use Rattle.tql_run.specs.RunsIn.{RunsIn, manner};
-ghost use Rattle.tql_run.specs.Texts.{plain_texts};
+ghost use Rattle.tql_run.specs.Texts.{plain_style, style_after, written_after};
 ghost use Rattle.tql_engine.specs.Bytes.{RunsBytes};
 ghost use Rattle.tql_run.specs.Ending.{Responds};
 ghost use Rattle.tql_engine.specs.HoldPoints.{HoldsFor};
@@ -18,6 +19,7 @@ ghost use Rattle.tql_engine.specs.Unseen.{BytesPruneUnseen};
 use crate::engine::Engine;
 use crate::readers::readers_agree;
 use std::mem;
+use tql_index::index::IntervalIndex;
 use tql_memory::Memory;
 use tql_result::sink::Sink;
 use tql_result::vec_sink::VecSink;
@@ -34,8 +36,9 @@ use tql_spec::pruned_history;
 const TOO_MANY_BYTES: usize = MOST_PULLS as usize;
 
 /// Runs the statements of a script one after another, writes each reply in a form to the sink, and tells the listener
-/// of those that are refused, behind the push of the reply. Each statement runs as soon as it is whole: the source is
-/// pulled only where no whole statement is left, and where the sink has passed on all replies before. Where the source
+/// of it, behind the push of the reply. Each statement runs as soon as it is whole: the source is pulled only where no
+/// whole statement is left, and where the sink has passed on all replies before. The form may have written the answers
+/// of other scripts before: its texts are then those of replies that follow these. Where the source
 /// fails, the statements that came whole before that have run and stand, and the run says `Read`; where the sink fails,
 /// no statement runs behind the one whose reply it did not take, and the run says `Write`. Where `bail` says so, the
 /// first refusal stops the run, which ends well then: no statement behind it runs, and nothing is pulled behind it.
@@ -49,27 +52,30 @@ const TOO_MANY_BYTES: usize = MOST_PULLS as usize;
 /// seen: without the statements that pruned, or were refused for the horizon, all others are answered the same (all
 /// three by clause `agrees`). Where keys and references hold at every point of time in each copy before it, the working
 /// one too, they do behind it (clause `holds`).
-pub fn run_in<I: Source<O>, O: Sink, L: Listener, F: Form>(
-    engine: &mut Engine,
-    source: &mut I,
+pub fn run_in<I: IntervalIndex, S: Source<O>, O: Sink, L: Listener, F: Form>(
+    engine: &mut Engine<I>,
+    source: &mut S,
     sink: &mut O,
     listener: &mut L,
     form: &mut F,
     bail: bool,
 ) -> Result<Summary, Fault>
-    ensures ran { F.wrote form.old [] → (s : State) → StandsFor engine.old s
-        → RunsIn (manner Responds F.texts bail) s (StandsFor engine.new)
-        (source_change I.left I.failures I.ended source.old source.new)
+    ensures ran { (before : List run.Answer) → F.wrote form.old before → (s : State) → StandsFor engine.old s
+        → RunsIn (manner Responds (style_after before F.texts F.reported) bail) s (StandsFor engine.new)
+        (written_after before (F.wrote form.new))
+        (source_change S.left S.failures S.ended source.old source.new)
         (sink_change O.written O.failures O.flushed O.flushes_fail sink.old sink.new)
         (hearing_change L.heard listener.old listener.new) result }
-    ensures agrees { F.wrote form.old [] → (s : State) → StandsFor engine.old s
-        → RunsAgreeing F.texts bail s (StandsFor engine.new)
-        (source_change I.left I.failures I.ended source.old source.new)
+    ensures agrees { (before : List run.Answer) → F.wrote form.old before → (s : State) → StandsFor engine.old s
+        → RunsAgreeing (style_after before F.texts F.reported) bail s (StandsFor engine.new)
+        (written_after before (F.wrote form.new))
+        (source_change S.left S.failures S.ended source.old source.new)
         (sink_change O.written O.failures O.flushed O.flushes_fail sink.old sink.new)
         (hearing_change L.heard listener.old listener.new) result }
-    ensures holds { F.wrote form.old [] → (s : State) → HoldsFor engine.old s
-        → RunsIn (manner Responds F.texts bail) s (HoldsFor engine.new)
-        (source_change I.left I.failures I.ended source.old source.new)
+    ensures holds { (before : List run.Answer) → F.wrote form.old before → (s : State) → HoldsFor engine.old s
+        → RunsIn (manner Responds (style_after before F.texts F.reported) bail) s (HoldsFor engine.new)
+        (written_after before (F.wrote form.new))
+        (source_change S.left S.failures S.ended source.old source.new)
         (sink_change O.written O.failures O.flushed O.flushes_fail sink.old sink.new)
         (hearing_change L.heard listener.old listener.new) result }
 {
@@ -79,22 +85,23 @@ pub fn run_in<I: Source<O>, O: Sink, L: Listener, F: Form>(
 }
 
 /// Runs the statements of a script as `run_in` does, in the plain form; a refused statement does not stop the run.
-pub fn run<I: Source<O>, O: Sink, L: Listener>(
-    engine: &mut Engine,
-    source: &mut I,
+pub fn run<I: IntervalIndex, S: Source<O>, O: Sink, L: Listener>(
+    engine: &mut Engine<I>,
+    source: &mut S,
     sink: &mut O,
     listener: &mut L,
 ) -> Result<Summary, Fault>
     ensures ran { (s : State) → StandsFor engine.old s → Runs Responds s (StandsFor engine.new)
-        (source_change I.left I.failures I.ended source.old source.new)
+        (source_change S.left S.failures S.ended source.old source.new)
         (sink_change O.written O.failures O.flushed O.flushes_fail sink.old sink.new)
         (hearing_change L.heard listener.old listener.new) result }
-    ensures agrees { (s : State) → StandsFor engine.old s → RunsAgreeing plain_texts false s (StandsFor engine.new)
-        (source_change I.left I.failures I.ended source.old source.new)
+    ensures agrees { (s : State) → StandsFor engine.old s
+        → RunsAgreeing plain_style false s (StandsFor engine.new) (λ _. ⊤)
+        (source_change S.left S.failures S.ended source.old source.new)
         (sink_change O.written O.failures O.flushed O.flushes_fail sink.old sink.new)
         (hearing_change L.heard listener.old listener.new) result }
     ensures holds { (s : State) → HoldsFor engine.old s → Runs Responds s (HoldsFor engine.new)
-        (source_change I.left I.failures I.ended source.old source.new)
+        (source_change S.left S.failures S.ended source.old source.new)
         (sink_change O.written O.failures O.flushed O.flushes_fail sink.old sink.new)
         (hearing_change L.heard listener.old listener.new) result }
 {
@@ -113,8 +120,8 @@ pub fn run<I: Source<O>, O: Sink, L: Listener>(
 /// written since (clause `readers`); that is said of each that is not refused for the horizon, the reader or memory.
 /// Where keys and references hold at every point of time in each copy before it, the working one too, they do behind
 /// it (clause `holds`).
-pub fn run_bytes(
-    engine: &mut Engine,
+pub fn run_bytes<I: IntervalIndex>(
+    engine: &mut Engine<I>,
     script: &[u8],
     output: &mut Vec<u8, Memory>,
 ) -> Result<Summary, Fault>

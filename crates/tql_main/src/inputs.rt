@@ -1,26 +1,25 @@
-//! The inputs of a command line, answered one after another by one engine.
-use crate::complaints::Complaints;
-use crate::formats::run_printed;
+//! The inputs of a command line, answered in order by one engine.
+use crate::complaints::{Complaints, Style};
+use crate::engine::Engine;
+use crate::output::Output;
 use crate::plans::PlansTold;
-use crate::printer::{Printer, Style};
 use crate::progress::{Progress, STANDARD_INPUT, name_of};
 use crate::prompts::Prompted;
+use crate::runner::Runner;
 use crate::shown::Shown;
 use crate::status::exit_status;
 use std::alloc::{AllocError, Global};
 use std::fs;
 use std::io::{self, BufWriter, ErrorKind, IsTerminal, Read};
 use tql_check::check::Checker;
-use tql_engine::engine::Engine;
 use tql_memory::{Memory, memory_within};
 use tql_options::options::{Format, Input};
 use tql_result::std_sink::StdSink;
-use tql_run::form::PlainForm;
 use tql_run::responder::Responder;
-use tql_run::runner::{Fault, Summary, run_in};
+use tql_run::runner::{Fault, Summary};
 use tql_run::std_source::StdSource;
 
-/// What follows a text of the command line: its last statement needs no `;`, and may end in a comment.
+/// The end that is added to a text of the command line: its last statement needs no `;`, and may end in a comment.
 static TEXT_END: &str = "\n;";
 
 /// Returns the script of a text of the command line. The only error is a refused allocation.
@@ -30,7 +29,7 @@ fn script_of(alloc: Global, text: &str) -> Result<String, AllocError> {
     Ok(script)
 }
 
-/// What a command line has the program do.
+/// The work that a command line asks for.
 #[derive(Clone, Copy)]
 pub(crate) struct Job<'r, 'i> {
     pub rt: &'r HostRuntime,
@@ -38,7 +37,7 @@ pub(crate) struct Job<'r, 'i> {
     pub check: bool,
     /// Whether plans are written to the standard error.
     pub plans: bool,
-    /// Whether the standard error says nothing of what is done or refused.
+    /// Whether the standard error has no lines about statements that are done or refused.
     pub quiet: bool,
     /// Whether the first refused statement ends the run.
     pub bail: bool,
@@ -50,17 +49,25 @@ pub(crate) struct Job<'r, 'i> {
 }
 
 impl Job<'_, '_> {
-    /// Returns how answers are printed. At a terminal the line of JSON alone says that a statement is refused.
+    /// Whether the standard output and the standard error are both terminals.
+    fn is_at_terminal(&self) -> bool {
+        self.rt.stdout().is_terminal() && self.rt.stderr().is_terminal()
+    }
+
+    /// Returns which lines the standard error has. At a terminal it has none about a refusal in JSON, which has it all.
     fn style(&self) -> Style {
-        let rt = self.rt;
-        let is_told = self.format == Format::Json
-            && rt.stdout().is_terminal()
-            && rt.stderr().is_terminal();
+        let is_said = self.format == Format::Json && self.is_at_terminal();
         Style {
             format: self.format,
-            quiet: self.quiet || is_told,
-            bail: self.bail,
+            quiet: self.quiet || is_said,
         }
+    }
+
+    /// Returns the form of the replies, which has written nothing. At a terminal a line of the standard error says more
+    /// of a refusal than its reply in plain text.
+    fn output(&self, memory: Memory) -> Output {
+        let is_shown = !self.quiet && self.is_at_terminal();
+        Output::new(self.format, memory, is_shown)
     }
 }
 
@@ -95,7 +102,7 @@ fn opening_fault(rt: &impl Eprint, path: &str, error: &io::Error) -> Fault {
     }
 }
 
-/// Says to whoever sits at a terminal that statements are awaited.
+/// Invites whoever is at a terminal to type statements.
 fn invite(rt: &impl Eprint, is_prompted: bool) {
     let _ = if is_prompted {
         eprintln!(rt;
@@ -113,12 +120,28 @@ fn invite(rt: &impl Eprint, is_prompted: bool) {
 struct Run<'a> {
     job: &'a Job<'a, 'a>,
     progress: &'a Progress<'a>,
-    printer: Printer<'a, HostRuntime>,
+    output: Output,
+    /// The statements of all inputs so far.
+    summary: Summary,
 }
 
 impl<'a> Run<'a> {
-    /// Answers an input. Plain tables go through the run that is proved as a whole, with `--bail` too.
-    fn answer_reader<R: Responder, I: Read + Drop>(
+    /// Whether the run is to end here: some statement was refused, and the first one ends it.
+    fn is_done(&self) -> bool {
+        self.job.bail && self.summary.refused != 0
+    }
+
+    /// Counts the statements of an input.
+    fn add(&mut self, summary: Summary) {
+        self.summary = Summary {
+            statements: self.summary.statements.saturating_add(summary.statements),
+            refused: self.summary.refused.saturating_add(summary.refused),
+        };
+        self.progress.set_statements(self.summary.statements);
+    }
+
+    /// Answers an input.
+    fn answer_reader<R: Runner, I: Read + Drop>(
         &mut self,
         responder: &mut R,
         reader: I,
@@ -127,25 +150,17 @@ impl<'a> Run<'a> {
         let writer = BufWriter::new(rt.alloc(), io::writer(rt)).map_err(|_| Fault::Memory)?;
         let mut sink = StdSink::new(writer);
         let mut source = StdSource::new(reader);
-        if self.job.format == Format::Table {
-            let mut complaints = Complaints::new(rt, self.job.quiet, self.progress);
-            let bail = self.job.bail;
-            let outcome = run_in(
-                responder,
-                &mut source,
-                &mut sink,
-                &mut complaints,
-                &mut PlainForm,
-                bail,
-            );
-            self.printer.add_run(outcome)
-        } else {
-            run_printed(&mut self.printer, responder, &mut source, &mut sink)
-        }
+        let mut complaints = Complaints::new(rt, self.job.style(), self.progress);
+        let bail = self.job.bail;
+        let summary = self
+            .output
+            .run(responder, &mut source, &mut sink, &mut complaints, bail)?;
+        self.add(summary);
+        Ok(())
     }
 
     /// Answers the standard input, with prompts at a terminal.
-    fn answer_standard<R: Responder>(&mut self, responder: &mut R) -> Result<(), Fault> {
+    fn answer_standard<R: Runner>(&mut self, responder: &mut R) -> Result<(), Fault> {
         let rt = self.job.rt;
         let input = rt.reader();
         if !input.is_terminal() {
@@ -161,13 +176,13 @@ impl<'a> Run<'a> {
     }
 
     /// Answers a text of the command line.
-    fn answer_text<R: Responder>(&mut self, responder: &mut R, text: &str) -> Result<(), Fault> {
+    fn answer_text<R: Runner>(&mut self, responder: &mut R, text: &str) -> Result<(), Fault> {
         let script = script_of(self.job.rt.alloc(), text)?;
         self.answer_reader(responder, script.as_bytes())
     }
 
     /// Answers an input.
-    fn answer_input<R: Responder>(
+    fn answer_input<R: Runner>(
         &mut self,
         responder: &mut R,
         input: Input<'_>,
@@ -187,29 +202,32 @@ impl<'a> Run<'a> {
     }
 
     /// Answers the inputs in their order, until one fails or the run is to end.
-    fn answer_inputs<R: Responder>(&mut self, responder: &mut R) -> Result<Summary, Fault> {
+    fn answer_inputs<R: Runner>(&mut self, responder: &mut R) -> Result<Summary, Fault> {
         for (place, input) in self.job.inputs.iter().enumerate() {
             self.progress.begin(place);
             self.answer_input(responder, *input)?;
-            if self.printer.is_done() {
+            if self.is_done() {
                 break;
             }
         }
-        Ok(self.printer.summary())
+        Ok(self.summary)
     }
 }
 
 /// Answers the inputs of a job by a responder.
-fn answer_by<'a, R: Responder>(
+fn answer_by<'a, R: Runner>(
     job: &'a Job<'a, 'a>,
     progress: &'a Progress<'a>,
     responder: &mut R,
 ) -> Result<Summary, Fault> {
-    let printer = Printer::new(job.rt, responder.memory(), job.style(), progress);
     let mut run = Run {
         job,
         progress,
-        printer,
+        output: job.output(responder.memory()),
+        summary: Summary {
+            statements: 0,
+            refused: 0,
+        },
     };
     run.answer_inputs(responder)
 }

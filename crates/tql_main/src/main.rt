@@ -8,12 +8,13 @@
 #![tactic(auto)]
 
 mod complaints;
-mod formats;
+mod engine;
 mod inputs;
+mod output;
 mod plans;
-mod printer;
 mod progress;
 mod prompts;
+mod runner;
 mod shown;
 mod status;
 
@@ -45,7 +46,7 @@ fn end_format(rt: &impl Eprint, word: &str) -> u8 {
     2
 }
 
-/// Ends a program that is to check a script and to write plans, of which there are none then.
+/// Ends a program that is asked for both `--check` and `--plans`: a check has no plans.
 fn end_plans(rt: &impl Eprint) -> u8 {
     let _ = eprintln!(rt; "error: '--plans' cannot be used with '--check', which runs no query");
     2
@@ -84,8 +85,8 @@ fn run_options(rt: &HostRuntime, options: &CommandLine<'_>) -> u8 {
     }
 }
 
-/// Prints what a command line is answered that starts no run: help and the version go to the standard output, and a
-/// fault to the standard error.
+/// Prints the message of a command line that starts no run: help and the version to the standard output, and a fault
+/// to the standard error.
 fn print_line(rt: &(impl Print + Eprint), error: &Error) -> u8 {
     let status = line_status(error);
     if error.print(rt).is_err() && status == 0 {

@@ -1,7 +1,7 @@
-//! What a run writes to the standard error about the plans of its queries.
+//! Lines on the standard error about the plans of queries.
+use crate::engine::Engine;
 use crate::progress::Progress;
 use tql_detail::detail::Detail;
-use tql_engine::engine::Engine;
 use tql_memory::Memory;
 use tql_result::answer::Answer;
 use tql_run::responder::Responder;
@@ -18,7 +18,7 @@ pub(crate) struct PlansTold<'a, E: Eprint> {
 }
 
 impl<'a, E: Eprint> PlansTold<'a, E> {
-    /// An engine over this standard error, in a run of this progress.
+    /// Returns an engine that writes to this standard error, in a run of this progress.
     pub(crate) fn new(rt: &'a E, engine: Engine, progress: &'a Progress<'a>) -> PlansTold<'a, E> {
         PlansTold {
             rt,

@@ -1,13 +1,13 @@
-//! Where a run is.
+//! The progress of a run.
 use crate::shown::Shown;
 use std::cell::Cell;
 use std::fmt;
 use tql_options::options::Input;
 
-/// What the standard input is called.
+/// The name of the standard input.
 pub(crate) static STANDARD_INPUT: &str = "the standard input";
 
-/// What a text of the command line is called.
+/// The name of a text of the command line.
 static TEXT: &str = "-c";
 
 /// The name of an input, where lines on the standard error give it.
@@ -26,7 +26,7 @@ impl fmt::Display for Label<'_> {
     }
 }
 
-/// Returns what an input is called.
+/// Returns the name of an input.
 pub(crate) fn name_of(input: Input<'_>) -> &str {
     match input {
         Input::Standard => STANDARD_INPUT,
@@ -35,18 +35,18 @@ pub(crate) fn name_of(input: Input<'_>) -> &str {
     }
 }
 
-/// Where a run is: how many statements it has met, and which input it reads. All that writes to the standard error
-/// shares it.
+/// The progress of a run: the number of statements so far, and the input that is read. Whatever writes to the standard
+/// error shares it.
 #[derive(Drop)]
 pub(crate) struct Progress<'a> {
     inputs: &'a [Input<'a>],
-    /// The place of the input that is read.
+    /// The index of the input that is read.
     place: Cell<usize>,
     statements: Cell<u64>,
 }
 
 impl<'a> Progress<'a> {
-    /// The progress of a run over these inputs that has read nothing.
+    /// Returns the progress of a run over these inputs that has read nothing.
     pub(crate) fn new(inputs: &'a [Input<'a>]) -> Progress<'a> {
         Progress {
             inputs,
@@ -55,22 +55,22 @@ impl<'a> Progress<'a> {
         }
     }
 
-    /// Begins the input at a place.
+    /// Begins the input at an index.
     pub(crate) fn begin(&self, place: usize) {
         self.place.set(place);
     }
 
-    /// Returns how many statements the run has met, over all inputs.
+    /// Returns the number of statements so far, over all inputs.
     pub(crate) fn statements(&self) -> u64 {
         self.statements.get()
     }
 
-    /// Sets how many statements the run has met.
+    /// Sets the number of statements so far.
     pub(crate) fn set_statements(&self, count: u64) {
         self.statements.set(count);
     }
 
-    /// Returns what names the input in a line: its name where there are several inputs, and else nothing.
+    /// Returns the label of the input in a line: its name where there are several inputs, and otherwise nothing.
     pub(crate) fn label(&self) -> Label<'a> {
         match self.inputs.get(self.place.get()) {
             Some(input) if self.inputs.len() > 1 => Label(Some(name_of(*input))),

@@ -1,17 +1,17 @@
-//! What is written at a terminal before each read of a script, and what may be typed there besides statements.
+//! Prompts at a terminal before each read of a script, and the orders that may be typed there besides statements.
 ghost use Rattle.std.specs.Prelude.{◌≡◌};
 ghost use Rattle.tql_spec.specs.Script as script;
 ghost use Rattle.tql_main.specs.Prompting.{begun_by, place_of};
 
 use std::io::{self, Read};
 
-/// What `help` writes.
+/// The text that `help` writes.
 static HELP: &str = "tql: each statement ends with `;`, and may take several lines.
      help writes this; quit, exit or Ctrl-D leaves. Each stands alone on a line, with or without a `;`.
      The language is described in LANGUAGE.md: in docs/ of the sources, or in share/doc/tql/ where tql is installed.
      `tql --help` describes the command line.";
 
-/// Where in a script the next byte is.
+/// The lexical context of the next byte of a script.
 #[derive(Clone, Copy, PartialEq, Eq, Debug)]
 enum Place {
     Outside,
@@ -60,7 +60,7 @@ fn is_begun_by(place: Place, is_begun: bool, byte: u8) -> bool
     }
 }
 
-/// What was typed of a script: where the next byte is, and whether a statement is begun.
+/// The script typed so far: the context of the next byte, and whether a statement is begun.
 #[derive(Clone, Copy)]
 struct Typed {
     place: Place,
@@ -74,7 +74,7 @@ impl Typed {
     }
 }
 
-/// Returns what was typed, once more bytes were.
+/// Returns the state after more bytes were typed.
 fn typed_with(before: Typed, bytes: &[u8]) -> Typed {
     let mut typed = before;
     for byte in bytes {
@@ -106,7 +106,7 @@ fn order_of(line: &[u8]) -> Option<Order> {
     }
 }
 
-/// A reader at a terminal: before each read it writes to the standard error what it waits for, a statement or more of
+/// A reader at a terminal. Before each read it writes a prompt to the standard error, for a statement or for more of
 /// one, and at the end of the input a line feed. It takes the orders that are typed where nothing is begun: `help` is
 /// answered on the standard error, and `quit` and `exit` end the input.
 #[derive(Drop)]
@@ -117,7 +117,7 @@ pub(crate) struct Prompted<'a, E: Eprint, R> {
 }
 
 impl<'a, E: Eprint, R: Read + Drop> Prompted<'a, E, R> {
-    /// A reader of which nothing was read yet.
+    /// Returns a reader of which nothing was read yet.
     pub(crate) fn new(rt: &'a E, reader: R) -> Prompted<'a, E, R> {
         let typed = Typed {
             place: Place::Outside,
@@ -126,7 +126,7 @@ impl<'a, E: Eprint, R: Read + Drop> Prompted<'a, E, R> {
         Prompted { rt, reader, typed }
     }
 
-    /// Writes what is waited for.
+    /// Writes the prompt.
     fn prompt(&self) {
         let prompt = if self.typed.is_begun {
             "...> "
@@ -136,7 +136,7 @@ impl<'a, E: Eprint, R: Read + Drop> Prompted<'a, E, R> {
         let _ = eprint!(self.rt; "{prompt}");
     }
 
-    /// Returns the order in what was read, where nothing was begun before.
+    /// Returns the order in the bytes that were read, where nothing was begun before.
     fn order_in(&self, bytes: &[u8]) -> Option<Order> {
         if self.typed.is_empty() {
             order_of(bytes)
@@ -145,7 +145,7 @@ impl<'a, E: Eprint, R: Read + Drop> Prompted<'a, E, R> {
         }
     }
 
-    /// Keeps what was read of the script, and ends the last line at the end of the input.
+    /// Records the bytes that were read of the script, and ends the last line at the end of the input.
     fn keep(&mut self, bytes: &[u8]) {
         if bytes.is_empty() {
             let _ = eprintln!(self.rt; "");

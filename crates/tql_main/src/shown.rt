@@ -5,7 +5,7 @@ ghost use Rattle.tql_main.specs.Showing.{shown_as};
 use std::alloc::{AllocError, Global};
 use std::fmt;
 
-/// Returns what a line shows of a character: itself, or `?` for a control character, which a terminal may obey.
+/// Returns the character that a line shows for another: itself, or `?` for a control character.
 fn shown_character(character: char) -> char
     ensures { result ≡ shown_as character }
 {
@@ -15,7 +15,7 @@ fn shown_character(character: char) -> char
     }
 }
 
-/// A word in a line: `?` stands for each of its control characters.
+/// A word in a line, with `?` in place of each of its control characters.
 #[derive(Clone, Copy)]
 pub(crate) struct Shown<'a>(pub &'a str);
 

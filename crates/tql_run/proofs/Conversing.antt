@@ -13,7 +13,7 @@ use Rattle.tql_lex.specs.Holding.{Holds}
 use Rattle.tql_run.specs.Hearing.{HearingChange}
 use Rattle.tql_run.specs.Responding.{Standing}
 use Rattle.tql_run.specs.Reads.{ReadsSoFar, Pulls}
-use Rattle.tql_run.specs.Texts.{Written}
+use Rattle.tql_run.specs.Texts.{Written, written_after}
 use Rattle.tql_run.specs.Runs.{SourceChange, SinkChange, Gives, MeetsEnd, MissesEnd, answered, most_pulls}
 use Rattle.tql_run.specs.RunsIn.{Manner}
 use Rattle.tql_run.specs.Runs.{most_bytes}
@@ -37,20 +37,22 @@ abbrev pub after_run : SinkChange → HearingChange → Shown
 after_run sink hearing = record { held = sink.held_new; writes = sink.failures_new; heard = hearing.heard_new }
 
 -- so many pulls were made, and what is whole in the bytes that they gave before the last was answered
-pub record Converses (M : Manner) (start : Standing) (had : Written) (pulls : ℕ) (stream : Stream) (after : Standing)
-    (form : Written) (summary : Summary) (source : SourceChange) (from now : Shown) : Type 0 where
+pub record Converses (M : List Answer → Manner) (start : Standing) (had : Written) (pulls : ℕ) (stream : Stream)
+    (after : Standing) (form : Written) (summary : Summary) (source : SourceChange) (from now : Shown) : Type 0 where
   pub script : List ℕ
   pub reads : ReadsSoFar pulls script source
-  pub wrote : had [] → (s : State) → start s → WroteTo M s script stream after form summary from now
+  pub wrote : (before : List Answer) → had before → (s : State) → start s
+      → WroteTo (M before) s script stream after (written_after before form) summary from now
   pub unended : stream.ended ≡ false
   pub room : summary.statements + to_do stream ≤ pulls * 65_536 + 1
   pub fewer : summary.refused ≤ summary.statements
-  pub going : IsTrue M.bail → summary.refused ≡ 0
+  pub going : IsTrue (M []).bail → summary.refused ≡ 0
   pub before : List ℕ
   pub last : List ℕ
   pub parts : script ≡ before ++ last
   pub small : length last ≤ 65_536
-  pub asked : had [] → (s : State) → start s → length (answered false before) ≤ summary.statements
+  pub asked : (earlier : List Answer) → had earlier → (s : State) → start s
+      → length (answered false before) ≤ summary.statements
 
 pub gives_none : (left : Option (List ℕ)) → Gives left [] left
 gives_none left = record { told = λ xs e. (xs, refl, e) }
@@ -64,7 +66,7 @@ gives_on a b c xs ys p q = record {
   );
 }
 
-pub converse_first : (M : Manner) (start : Standing) (had : Written) (stream : Stream) (summary : Summary)
+pub converse_first : (M : List Answer → Manner) (start : Standing) (had : Written) (stream : Stream) (summary : Summary)
     (left : Option (List ℕ)) (failures : ℕ) (ended : Bool) (from : Shown)
     → Holds stream [] [] → stream.ready ≡ [] → stream.ended ≡ false → summary.statements ≡ 0 → summary.refused ≡ 0
     → Converses M start had 0 stream start had summary (record {
@@ -83,7 +85,8 @@ converse_first M start had stream summary left failures ended from holds ready u
     grown = omega arith;
     short = omega arith;
   };
-  wrote = λ fresh s st. wrote_first M s stream start had summary from holds st fresh a b;
+  wrote = λ before written s st. wrote_first (M before) s stream start (written_after before had) summary from holds st
+      (subst had (sym (append-nil before)) written) a b;
   unended = unended;
   room = let few = one_at_most (is_begun (kept_now stream.given stream.kept)) in omega (arith, a, few, ap length ready);
   fewer = omega (arith, a, b);
@@ -92,7 +95,7 @@ converse_first M start had stream summary left failures ended from holds ready u
   last = [];
   parts = refl;
   small = omega arith;
-  asked = λ fresh s st. let none : length (answered false []) ≡ 0 = refl in omega (arith, none);
+  asked = λ earlier written s st. let none : length (answered false []) ≡ 0 = refl in omega (arith, none);
 }
   where
     one_at_most : (t : Bool) → one_if t ≤ 1
@@ -156,7 +159,7 @@ pub failed_reading : (M : Manner) (s : State) (script : List ℕ) (stream : Stre
     → stops M.bail summary ≡ false
     → Gives source.left_old script source.left_new → MissesEnd source script → IsTrue sink.flushed
     → WroteAll M s script stream after form summary (before_run sink hearing) (after_run sink hearing)
-    → StopsReadingIn M s after source sink hearing
+    → StopsReadingIn M s after form source sink hearing
 failed_reading M s script stream after form summary source sink hearing unended going given misses passed_on t =
     let w = t.to.wrote in
     let from = before_run sink hearing in
@@ -173,6 +176,7 @@ failed_reading M s script stream after form summary source sink hearing unended 
       ran = subst (λ (ps : List Piece). RunBy M.answering s ps w.answers w.state) (sym all) w.ran;
       stands = w.stands;
       heard = to_told M s script stream after form summary from to t.to;
+      wrote = w.wrote;
       text = w.text;
       texts = to_texts M s script stream after form summary from to t.to;
       written = w.written;
@@ -181,14 +185,14 @@ failed_reading M s script stream after form summary source sink hearing unended 
     }
 
 -- a refusal stopped the run
-refused_run : (M : Manner) (s : State) (script : List ℕ) (met : Bool) (after : Standing) (summary : Summary)
-    (source : SourceChange) (sink : SinkChange) (hearing : HearingChange) (before last : List ℕ)
+refused_run : (M : Manner) (s : State) (script : List ℕ) (met : Bool) (after : Standing) (form : Written)
+    (summary : Summary) (source : SourceChange) (sink : SinkChange) (hearing : HearingChange) (before last : List ℕ)
     → script ≡ before ++ last → length last ≤ 65_536 → length (answered false before) < summary.statements
     → Gives source.left_old script source.left_new
     → MatchBool met (MeetsEnd source) (source.failures_new ≡ source.failures_old)
-    → RefusedAt M s script met after summary sink.flushed (before_run sink hearing) (after_run sink hearing)
-    → RunsToRefusal M s after source sink hearing summary
-refused_run M s script met after summary source sink hearing before last parts small fewer given read f = record {
+    → RefusedAt M s script met after form summary sink.flushed (before_run sink hearing) (after_run sink hearing)
+    → RunsToRefusal M s after form source sink hearing summary
+refused_run M s script met after form summary source sink hearing before last parts small fewer given read f = record {
   script = script;
   given = given;
   met = met;
@@ -203,6 +207,7 @@ refused_run M s script met after summary source sink hearing before last parts s
   ran = f.ran;
   stands = f.stands;
   heard = f.heard;
+  wrote = f.wrote;
   text = f.text;
   texts = f.texts;
   written = f.written;
@@ -233,25 +238,27 @@ one_counted true had counted stopped going grown =
     at_least (suc n) e = omega arith
 
 -- it stopped the run before the end was met
-pub stopped_run : (M : Manner) (s : State) (start : Standing) (had : Written) (pulls : ℕ)
-    (stream later : Stream) (h after : Standing) (form wrote : Written) (summary counted : Summary)
+pub stopped_run : (M : List Answer → Manner) (earlier : List Answer) (s : State) (start : Standing) (had : Written)
+    (pulls : ℕ) (stream later : Stream) (h after : Standing) (form all : Written) (summary counted : Summary)
     (source : SourceChange) (sink : SinkChange) (hearing : HearingChange) (now : Shown)
-    → (i : Converses M start had pulls stream h form summary source (before_run sink hearing) now) → had [] → start s
+    → (i : Converses M start had pulls stream h form summary source (before_run sink hearing) now) → had earlier
+    → start s → (M earlier).bail ≡ (M []).bail
     → later.ended ≡ stream.ended → counted.refused + summary.statements ≤ counted.statements + summary.refused
-    → stops M.bail counted ≡ true → IsTrue sink.flushed
-    → WroteReady M s i.script later after wrote counted (before_run sink hearing) (after_run sink hearing)
-    → RunsIn M s after source sink hearing (Ok counted)
-stopped_run M s start had pulls stream later h after form wrote summary counted source sink hearing now i fresh st
-    same grown stopped passed_on t =
+    → stops (M earlier).bail counted ≡ true → IsTrue sink.flushed
+    → WroteReady (M earlier) s i.script later after all counted (before_run sink hearing)
+    (after_run sink hearing)
+    → RunsIn (M earlier) s after all source sink hearing (Ok counted)
+stopped_run M earlier s start had pulls stream later h after form all summary counted source sink hearing now i written
+    st bails same grown stopped passed_on t =
     let from = before_run sink hearing in
     let to = after_run sink hearing in
-    let more = one_counted M.bail summary counted stopped i.going grown in
-    as_stop (RunsToRefusal M s after source sink hearing counted) (RunsWholeIn M s after source sink hearing counted)
-    (stops M.bail counted) stopped
-    (refused_run M s i.script false after counted source sink hearing i.before i.last i.parts i.small
-    (let few = i.asked fresh s st in omega (arith, few, more)) i.reads.given i.reads.steady
-    (refused_at M s i.script later false after wrote counted sink.flushed from to (same ∙ i.unended) passed_on
-    (at_stop _ _ (stops M.bail counted) stopped t.is)))
+    let more = one_counted (M earlier).bail summary counted stopped (λ b. i.going (sym bails ∙ b)) grown in
+    as_stop (RunsToRefusal (M earlier) s after all source sink hearing counted)
+    (RunsWholeIn (M earlier) s after all source sink hearing counted) (stops (M earlier).bail counted) stopped
+    (refused_run (M earlier) s i.script false after all counted source sink hearing i.before i.last i.parts i.small
+    (let few = i.asked earlier written s st in omega (arith, few, more)) i.reads.given i.reads.steady
+    (refused_at (M earlier) s i.script later false after all counted sink.flushed from to (same ∙ i.unended) passed_on
+    (at_stop _ _ (stops (M earlier).bail counted) stopped t.is)))
 
 -- a pull that gave nothing
 pub gives_kept : (a b c : Option (List ℕ)) (xs bytes : List ℕ) → bytes ≡ [] → Gives a xs b → Gives b bytes c
@@ -327,20 +334,20 @@ pub room_more : (pulls n statements counted before after : ℕ) → statements +
 room_more pulls n statements counted before after had less few is = omega (arith, had, less, few, is)
 
 -- the end was met, and the rest was answered
-pub ended_run : (M : Manner) (s : State) (script : List ℕ) (after : Standing) (had : Summary)
+pub ended_run : (M : Manner) (s : State) (script : List ℕ) (after : Standing) (form : Written) (had : Summary)
     (result : Result Summary Fault) (source : SourceChange) (sink : SinkChange) (hearing : HearingChange)
     → length (answered false script) ≡ had.statements → (IsTrue M.bail → had.refused ≡ 0)
     → IfOk result (λ all. all.refused + had.statements ≤ all.statements + had.refused)
     → Gives source.left_old script source.left_new → MeetsEnd source
-    → WroteScriptOrFailed M result s script after sink.flushes_fail sink.flushed (before_run sink hearing)
+    → WroteScriptOrFailed M result s script after form sink.flushes_fail sink.flushed (before_run sink hearing)
     (after_run sink hearing)
-    → RunsIn M s after source sink hearing result
-ended_run M s script after had (Ok summary) source sink hearing asked going grown given meets w =
+    → RunsIn M s after form source sink hearing result
+ended_run M s script after form had (Ok summary) source sink hearing asked going grown given meets w =
     by_case (stops M.bail summary) refl w
   where
     whole : stops M.bail summary ≡ false
-        → WroteScript M s script after summary sink.flushed (before_run sink hearing) (after_run sink hearing)
-        → RunsWholeIn M s after source sink hearing summary
+        → WroteScript M s script after form summary sink.flushed (before_run sink hearing) (after_run sink hearing)
+        → RunsWholeIn M s after form source sink hearing summary
     whole e w = record {
       script = script;
       given = given;
@@ -351,6 +358,7 @@ ended_run M s script after had (Ok summary) source sink hearing asked going grow
       ran = w.ran;
       stands = w.stands;
       heard = w.heard;
+      wrote = w.wrote;
       text = w.text;
       texts = w.texts;
       written = w.written;
@@ -361,16 +369,17 @@ ended_run M s script after had (Ok summary) source sink hearing asked going grow
 
     by_case : (b : Bool) → stops M.bail summary ≡ b
         → MatchBool b
-        (RefusedAt M s script true after summary sink.flushed (before_run sink hearing) (after_run sink hearing))
-        (WroteScript M s script after summary sink.flushed (before_run sink hearing) (after_run sink hearing))
-        → MatchBool b (RunsToRefusal M s after source sink hearing summary)
-        (RunsWholeIn M s after source sink hearing summary)
+        (RefusedAt M s script true after form summary sink.flushed (before_run sink hearing) (after_run sink hearing))
+        (WroteScript M s script after form summary sink.flushed (before_run sink hearing) (after_run sink hearing))
+        → MatchBool b (RunsToRefusal M s after form source sink hearing summary)
+        (RunsWholeIn M s after form source sink hearing summary)
     by_case true e w =
         let more = one_counted M.bail had summary e going grown in
-        refused_run M s script true after summary source sink hearing script [] (sym (append-nil script)) (omega arith)
+        refused_run M s script true after form summary source sink hearing script [] (sym (append-nil script)) (omega
+        arith)
         (omega (arith, asked, more)) given meets w
     by_case false e w = whole e w
-ended_run M s script after had (Err Write) source sink hearing asked going grown given meets f = record {
+ended_run M s script after form had (Err Write) source sink hearing asked going grown given meets f = record {
   script = script;
   given = given;
   met = true;
@@ -389,5 +398,5 @@ ended_run M s script after had (Err Write) source sink hearing asked going grown
   written = f.written;
   cause = f.cause;
 }
-ended_run M s script after had (Err Read) source sink hearing asked going grown given meets f = absurd f
-ended_run M s script after had (Err Memory) source sink hearing asked going grown given meets f = absurd f
+ended_run M s script after form had (Err Read) source sink hearing asked going grown given meets f = absurd f
+ended_run M s script after form had (Err Memory) source sink hearing asked going grown given meets f = absurd f

@@ -16,7 +16,7 @@ use Rattle.tql_lex.specs.Pieces.{MayFollow, HasNone}
 use Rattle.tql_result.specs.Devices.{Appends}
 use Rattle.tql_run.specs.Hearing.{Heard, Hears, note_of, notes_from, notes_of}
 use Rattle.tql_run.specs.Runs.{answered, is_refused, most_bytes}
-use Rattle.tql_run.specs.Texts.{Texts, Written, AreTexts, AreTextsFrom, Writes, line_behind}
+use Rattle.tql_run.specs.Texts.{Texts, Style, Written, AreTexts, AreTextsFrom, PassesOn, line_after}
 
 -- ---- lists
 
@@ -117,7 +117,7 @@ texts_within T earlier n (x ∷ xs) others (y ∷ ys) bytes (here, (rest, parts,
 
 -- the line of the next statement
 pub line_next : (places : List Placed) (p : Placed) (others : List Placed)
-    → line_behind (length places) (places ++ p ∷ others) ≡ line_of p
+    → line_after (length places) (places ++ p ∷ others) ≡ line_of p
 line_next [] p others = refl
 line_next (x ∷ xs) p others = line_next xs p others
 
@@ -137,11 +137,12 @@ hears_none a = record { told = λ zs e. (zs, e, sym (append-nil zs)) }
 -- ---- devices
 
 -- a push by what it came to
-pub came_to : {X E : Type 0} {texts : Texts} {had form : Written} {number line : ℕ} {answer : Answer}
+pub came_to : {X E : Type 0} (style : Style) {fails : Bool} {had form : Written} {number line : ℕ} {answer : Answer}
     {x r : Result X E} {o n : Option (List ℕ)} {b k : ℕ} → x ≡ r
-    → Writes texts had form number line answer r o n b k → Writes texts had form number line answer x o n b k
-came_to {X} {E} {texts} {had} {form} {number} {line} {answer} {x} {r} {o} {n} {b} {k} e p =
-    subst (λ (y : Result X E). Writes texts had form number line answer y o n b k) (sym e) p
+    → PassesOn style fails had form number line answer r o n b k
+    → PassesOn style fails had form number line answer x o n b k
+came_to {X} {E} style {fails} {had} {form} {number} {line} {answer} {x} {r} {o} {n} {b} {k} e p =
+    subst (λ (y : Result X E). PassesOn style fails had form number line answer y o n b k) (sym e) p
 
 pub appends_none : (a : Option (List ℕ)) → Appends a [] a
 appends_none a = record { holds = λ xs e. e ∙ ap Some (sym (append-nil xs)) }

@@ -1,6 +1,6 @@
 -- In the plain manner what was written is the text of the answers.
 use Rattle.std.proofs.Common.{◌≡◌, sym, ◌∙◌, ap, subst, ℕ, suc, true, false, inl, inr, List, [], ◌∷◌, Ok, Err}
-use Rattle.std.specs.Prelude.{◌++◌, ◌⊎◌, IsTrue, Result}
+use Rattle.std.specs.Prelude.{◌++◌, ◌⊎◌, IsTrue, Result, ⊤}
 use Rattle.tql_spec.specs.Answer.{Answer}
 use Rattle.tql_spec.specs.Lines.{Placed, placed_statements}
 use Rattle.tql_spec.specs.Machine.{State}
@@ -10,7 +10,7 @@ use Rattle.tql_result.specs.Devices.{Appends}
 use Rattle.tql_run.specs.Hearing.{HearingChange}
 use Rattle.tql_run.specs.Responding.{Standing}
 use Rattle.tql_run.specs.Runs.{CutsLast, SourceChange, SinkChange, Runs}
-use Rattle.tql_run.specs.RunsIn.{CutsLastIn, FailsFlush, GoesOn, EndsRefused, RunsIn, plainly}
+use Rattle.tql_run.specs.RunsIn.{CutsLastIn, FailsFlush, GoesOn, EndsRefused, EndsReported, RunsIn, plainly}
 use Rattle.tql_run.specs.Texts.{AreTexts, AreTextsFrom, plain_texts}
 use Rattle.tql_run.specs.declared.runner.Summary.{Summary}
 use Rattle.tql_run.specs.declared.runner.Fault.{Fault}
@@ -46,7 +46,8 @@ cuts_plain A places answers text c = record {
 
 -- a run in the plain manner
 pub runs_plain : (A : Answering) (s : State) (after : Standing) (source : SourceChange) (sink : SinkChange)
-    (hearing : HearingChange) (result : Result Summary Fault) → RunsIn (plainly A) s after source sink hearing result
+    (hearing : HearingChange) (result : Result Summary Fault)
+    → RunsIn (plainly A) s after (λ _. ⊤) source sink hearing result
     → Runs A s after source sink hearing result
 runs_plain A s after source sink hearing (Ok summary) r = record {
   script = r.script;
@@ -98,11 +99,13 @@ runs_plain A s after source sink hearing (Err Write) r = record {
 }
   where
     flushing : FailsFlush (plainly A) sink.flushes_fail r.rest (placed_statements r.script) r.answers r.text
-        → ((r.rest ≡ []) × GoesOn false r.answers) ⊎ (IsTrue false × EndsRefused r.answers)
+        → ((r.rest ≡ []) × GoesOn false r.answers)
+        ⊎ ((IsTrue false × EndsRefused r.answers) ⊎ EndsReported (plainly A) r.answers)
         → (r.rest ≡ []) × (r.text ≡ answers_text r.answers) × IsTrue sink.flushes_fail
     flushing f (inl (none, going)) =
         (none, texts_plain (placed_statements r.script) r.answers r.text f.texts, f.allowed)
-    flushing f (inr (bail, last)) = let bad : false ≡ true = bail in absurd cc
+    flushing f (inr (inl (bail, last))) = let bad : false ≡ true = bail in absurd cc
+    flushing f (inr (inr left)) = let bad : false ≡ true = left.is_reported in absurd cc
 
     by_case : CutsLastIn (plainly A) (placed_statements r.script) r.answers r.text
         ⊎ FailsFlush (plainly A) sink.flushes_fail r.rest (placed_statements r.script) r.answers r.text

@@ -20,11 +20,11 @@ use Rattle.tql_result.specs.declared.answer.Answer as code
 use Rattle.tql_run.specs.Hearing.{Heard, Hears, note_of, notes_of}
 use Rattle.tql_run.specs.Responding.{Standing}
 use Rattle.tql_run.specs.Runs.{answered, count_of, is_refused, most_bytes}
-use Rattle.tql_run.specs.RunsIn.{Manner, stops, GoesOn, EndsRefused}
+use Rattle.tql_run.specs.RunsIn.{Manner, stops, CutsLastIn, FailsFlush, GoesOn, EndsRefused, EndsReported}
 use Rattle.tql_run.specs.RunsIn.{NoneRefused}
-use Rattle.tql_run.specs.Texts.{Written, AreTexts, Writes, line_behind}
-use Rattle.tql_run.specs.Writing.{AnswersNext, AnswersOne, AnswersNone, Shown, WroteTo, WroteAll, WroteRefusal}
-use Rattle.tql_run.specs.Writing.{SinkFailed, WroteScript, RefusedAt, WroteReady}
+use Rattle.tql_run.specs.Texts.{Written, AreTexts, Passes, PassesOn, line_after}
+use Rattle.tql_run.specs.Writing.{AnswersNext, AnswersOne, AnswersNone, Shown, Wrote, WroteTo, WroteAll}
+use Rattle.tql_run.specs.Writing.{WroteRefusal, SinkFailed, WroteScript, RefusedAt, WroteReady}
 use Rattle.tql_run.specs.declared.runner.Summary.{Summary}
 use Rattle.tql_run.proofs.OneMore.{run_on, length_on, count_on, texts_on, line_next, hears_none, appends_none}
 use Rattle.tql_run.proofs.OneMore.{appends_on, are_finished, finished_on, asked_none, asked_of, now_is, placed_now}
@@ -118,16 +118,18 @@ further M s script now after h new form summary answer from to short t takes =
     must_be false ended e f = let no : true ≡ false = sym (f refl) ∙ e in absurd cc
 
 -- one more answer, whole
-wrote_one : {X E : Type 0} (M : Manner) (s : State) (script : List ℕ) (now after : Stream) (h new : Standing)
+wrote_one : {X E : Type 0} (fails : Bool) (M : Manner) (s : State) (script : List ℕ) (now after : Stream) (h new :
+    Standing)
     (had form : Written) (summary : Summary) (answer : code.Answer) (from to later : Shown) (line : ℕ)
     (t0 : X) → length script < most_bytes
     → (t : WroteTo M s script now h had summary from to) → AnswersOne M.answering now after answer h new
     → line ≡ after.line → Hears to.heard (note_of (summary.statements + 1) line (answer_of answer)) later.heard
-    → Writes {T = X} {E = E} M.texts had form (summary.statements + 1) line (answer_of answer) (Ok t0) to.held
+    → PassesOn {T = X} {E = E} M.style fails had form (summary.statements + 1) line (answer_of answer) (Ok t0) to.held
     later.held to.writes later.writes
     → (u : WroteTo M s script after new form (count_of summary (answer_of answer)) from later)
     × (u.wrote.answers ≡ t.wrote.answers ++ answer_of answer ∷ [])
-wrote_one M s script now after h new had form summary answer from to later line t0 short t takes on told prints =
+wrote_one fails M s script now after h new had form summary answer from to later line t0 short t takes on told
+    prints =
     let w = t.wrote in
     let r = answer_of answer in
     let f = further M s script now after h new had summary answer from to short t takes in
@@ -149,10 +151,11 @@ wrote_one M s script now after h new had form summary answer from to later line 
           stands = f.stands;
           wrote = p.wrote;
           text = w.text ++ p.text;
-          texts = texts_on M.texts [] 1 w.places w.answers f.place r w.text p.text w.even w.texts
-              (text_at M.texts w.answers f.place r summary.statements line p.text w.counts.statements (on ∙ f.line)
+          texts = texts_on M.style.texts [] 1 w.places w.answers f.place r w.text p.text w.even w.texts
+              (text_at M.style.texts w.answers f.place r summary.statements line p.text w.counts.statements (on ∙
+              f.line)
               p.is_text);
-          written = appends_on from.held to.held later.held w.text p.text w.written p.pushes.whole;
+          written = appends_on from.held to.held later.held w.text p.text w.written p.whole;
           even = even_more w.places w.answers f.place r w.even;
           heard = told_more w.places w.answers f.place r summary.statements line from.heard to.heard later.heard w.even
               w.counts.statements
@@ -161,46 +164,74 @@ wrote_one M s script now after h new had form summary answer from to later line 
             statements = ap suc w.counts.statements ∙ sym (length_on w.answers r);
             refused = ap (λ n. if is_refused r then suc n else n) w.counts.refused ∙ sym (count_on w.answers r);
           };
-          steady = p.pushes.no_failure ∙ w.steady;
+          steady = p.no_failure ∙ w.steady;
         };
       },
       refl,
     )
 
-pub wrote_more : {X E : Type 0} (M : Manner) (s : State) (script : List ℕ) (now after : Stream) (h new : Standing)
+pub wrote_more : {X E : Type 0} (fails : Bool) (M : Manner) (s : State) (script : List ℕ) (now after : Stream) (h new
+    : Standing)
     (had form : Written) (summary counted : Summary) (answer : code.Answer) (from to later : Shown) (line : ℕ)
     (t0 : X) → length script < most_bytes
     → WroteTo M s script now h had summary from to → AnswersOne M.answering now after answer h new
     → line ≡ after.line → Hears to.heard (note_of (summary.statements + 1) line (answer_of answer)) later.heard
     → counted ≡ count_of summary (answer_of answer)
-    → Writes {T = X} {E = E} M.texts had form (summary.statements + 1) line (answer_of answer) (Ok t0) to.held
+    → PassesOn {T = X} {E = E} M.style fails had form (summary.statements + 1) line (answer_of answer) (Ok t0) to.held
     later.held to.writes later.writes
     → WroteTo M s script after new form counted from later
-wrote_more M s script now after h new had form summary counted answer from to later line t0 short t takes on told c
-    prints =
+wrote_more fails M s script now after h new had form summary counted answer from to later line t0 short t takes on told
+    c prints =
     subst (λ (x : Summary). WroteTo M s script after new form x from later) (sym c)
-    (wrote_one M s script now after h new had form summary answer from to later line t0 short t takes on told prints).0
+    (wrote_one fails M s script now after h new had form summary answer from to later line t0 short t takes on told
+    prints).0
 
--- one more answer, of which a beginning was written
+-- one more answer, at which the sink failed
 pub wrote_cut : {X E : Type 0} (fails : Bool) (M : Manner) (s : State) (script : List ℕ) (now after : Stream)
     (h new : Standing) (had form : Written) (summary : Summary) (answer : code.Answer) (from to later : Shown)
     (line : ℕ) (e : E) → length script < most_bytes → (IsTrue M.bail → summary.refused ≡ 0)
     → WroteTo M s script now h had summary from to → AnswersOne M.answering now after answer h new
     → line ≡ after.line → Hears to.heard (note_of (summary.statements + 1) line (answer_of answer)) later.heard
-    → Writes {T = X} {E = E} M.texts had form (summary.statements + 1) line (answer_of answer) (Err e) to.held
+    → PassesOn {T = X} {E = E} M.style fails had form (summary.statements + 1) line (answer_of answer) (Err e) to.held
     later.held to.writes later.writes
     → SinkFailed M s script after.ended new fails from later
-wrote_cut fails M s script now after h new had form summary answer from to later line e short going t takes on told
-    prints =
-    let w = t.wrote in
-    let r = answer_of answer in
-    let f = further M s script now after h new had summary answer from to short t takes in
-    let p = prints w.answers w.wrote in
-    let a : AppendsBeginning to.held p.text later.held = p.pushes.cut in
-    let places = placed_now after.ended script f.passed f.left (w.places ++ f.place ∷ []) f.placed in
-    let behind : placed_statements script ≡ w.places ++ f.place ∷ placed_from f.passed f.left = places
-    ∙ append_assoc w.places (f.place ∷ []) (placed_from f.passed f.left) in
-    record {
+wrote_cut {X = X} {E = E} fails M s script now after h new had form summary answer from to later line e short going t
+    takes on told prints = by_case p.cut
+  where
+    w : Wrote M s script t.passed t.left now.ended h had summary from to
+    w = t.wrote
+
+    r : Answer
+    r = answer_of answer
+
+    f : Further M.answering s script after new r w.answers w.places
+    f = further M s script now after h new had summary answer from to short t takes
+
+    p : Passes {T = X} {E = E} M.style.texts w.answers (summary.statements + 1) line r (Err e) form
+        (IsTrue (M.style.reported r) × IsTrue fails) to.held later.held to.writes later.writes
+    p = prints w.answers w.wrote
+
+    places : placed_statements script ≡ (w.places ++ f.place ∷ []) ++ placed_from f.passed f.left
+    places = placed_now after.ended script f.passed f.left (w.places ++ f.place ∷ []) f.placed
+
+    follow : placed_statements script ≡ w.places ++ f.place ∷ placed_from f.passed f.left
+    follow = places ∙ append_assoc w.places (f.place ∷ []) (placed_from f.passed f.left)
+
+    here : M.style.texts w.answers (1 + length w.answers) (line_of f.place) r p.text
+    here = text_at M.style.texts w.answers f.place r summary.statements line p.text w.counts.statements (on ∙ f.line)
+        p.is_text
+
+    line_there : line_after (length w.answers) (placed_statements script) ≡ line_of f.place
+    line_there =
+        ap (λ (n : ℕ). line_after n (placed_statements script)) (sym w.even)
+        ∙ ap (λ (ps : List Placed). line_after (length w.places) ps) follow
+        ∙ line_next w.places f.place (placed_from f.passed f.left)
+
+    failed : (text front : List ℕ) → text ≡ w.text ++ front → Appends to.held front later.held
+        → CutsLastIn M (placed_statements script) (w.answers ++ r ∷ []) text
+        ⊎ FailsFlush M fails (answered after.ended f.left) (placed_statements script) (w.answers ++ r ∷ []) text
+        → SinkFailed M s script after.ended new fails from later
+    failed text front is appends reached = record {
       done = f.done;
       rest = answered after.ended f.left;
       parts = asked_of after.ended script f.left f.done f.finished (now_is after.ended script f.left f.done f.first);
@@ -213,36 +244,48 @@ wrote_cut fails M s script now after h new had form summary answer from to later
           later.heard places (even_more w.places w.answers f.place r w.even)
           (told_more w.places w.answers f.place r summary.statements line from.heard to.heard later.heard w.even
           w.counts.statements (on ∙ f.line) w.heard told);
-      text = w.text ++ a.front;
-      reached = inl (record {
+      text = text;
+      reached = reached;
+      written = subst (λ (xs : List ℕ). Appends from.held xs later.held) (sym is)
+          (appends_on from.held to.held later.held w.text front w.written appends);
+      cause = subst (λ n. HasFailed n later.writes) w.steady p.failure;
+    }
+
+    cut : AppendsBeginning to.held p.text later.held → SinkFailed M s script after.ended new fails from later
+    cut a = failed (w.text ++ a.front) a.front refl a.appends (inl (record {
+      earlier = w.answers;
+      last = r;
+      all = refl;
+      goes_on = λ b. sym w.counts.refused ∙ going b;
+      before = w.text;
+      texts = texts_all M.style.texts script w.places (f.place ∷ placed_from f.passed f.left) w.answers w.text follow
+          w.texts;
+      front = a.front;
+      back = a.back;
+      is_text = subst (λ (text : List ℕ). M.style.texts w.answers (1 + length w.answers)
+          (line_after (length w.answers) (placed_statements script)) r text) a.parts
+          (subst (λ (l : ℕ). M.style.texts w.answers (1 + length w.answers) l r p.text) (sym line_there) here);
+      lacks = a.lacks;
+      is = refl;
+    }))
+
+    by_case : AppendsBeginning to.held p.text later.held
+        ⊎ ((IsTrue (M.style.reported r) × IsTrue fails) × Appends to.held p.text later.held)
+        → SinkFailed M s script after.ended new fails from later
+    by_case (inl a) = cut a
+    by_case (inr ((reported, may), a)) = failed (w.text ++ p.text) p.text refl a (inr (record {
+      allowed = may;
+      texts = texts_all M.style.texts script (w.places ++ f.place ∷ []) (placed_from f.passed f.left)
+          (w.answers ++ r ∷ []) (w.text ++ p.text) places
+          (texts_on M.style.texts [] 1 w.places w.answers f.place r w.text p.text w.even w.texts here);
+      all = inr (inr (record {
         earlier = w.answers;
         last = r;
         all = refl;
         goes_on = λ b. sym w.counts.refused ∙ going b;
-        before = w.text;
-        texts = texts_all M.texts script w.places (f.place ∷ placed_from f.passed f.left) w.answers w.text behind
-            w.texts;
-        front = a.front;
-        back = a.back;
-        is_text = subst (λ (text : List ℕ). M.texts w.answers (1 + length w.answers)
-            (line_behind (length w.answers) (placed_statements script)) r text) a.parts
-            (subst (λ (l : ℕ). M.texts w.answers (1 + length w.answers) l r p.text)
-            (sym (line_there script w.places w.answers f.place (placed_from f.passed f.left) w.even behind))
-            (text_at M.texts w.answers f.place r summary.statements line p.text w.counts.statements (on ∙ f.line)
-            p.is_text));
-        lacks = a.lacks;
-        is = refl;
-      });
-      written = appends_on from.held to.held later.held w.text a.front w.written a.appends;
-      cause = subst (λ n. HasFailed n later.writes) w.steady p.pushes.failure;
-    }
-  where
-    line_there : (script : List ℕ) (places : List Placed) (answers : List Answer) (p : Placed) (others : List Placed)
-        → length places ≡ length answers → placed_statements script ≡ places ++ p ∷ others
-        → line_behind (length answers) (placed_statements script) ≡ line_of p
-    line_there script places answers p others even parts =
-        ap (λ (n : ℕ). line_behind n (placed_statements script)) (sym even)
-        ∙ ap (λ (ps : List Placed). line_behind (length places) ps) parts ∙ line_next places p others
+        is_reported = reported;
+      }));
+    }))
 
 -- what was written stands for another responder and another splitter that hold the same
 pub wrote_as : (M : Manner) (s : State) (script : List ℕ) (now after : Stream) (h new : Standing) (form : Written)
@@ -327,10 +370,10 @@ to_told M s script stream h form summary from to t =
 -- what was written of them
 pub to_texts : (M : Manner) (s : State) (script : List ℕ) (stream : Stream) (h : Standing) (form : Written)
     (summary : Summary) (from to : Shown) → (t : WroteTo M s script stream h form summary from to)
-    → AreTexts M.texts (placed_statements script) t.wrote.answers t.wrote.text
+    → AreTexts M.style.texts (placed_statements script) t.wrote.answers t.wrote.text
 to_texts M s script stream h form summary from to t =
     let w = t.wrote in
-    texts_all M.texts script w.places (placed_from t.passed t.left) w.answers w.text
+    texts_all M.style.texts script w.places (placed_from t.passed t.left) w.answers w.text
     (to_places M s script stream h form summary from to t) w.texts
 
 -- a flush
@@ -398,7 +441,8 @@ ready_unflushed fails may M s script stream h form summary from to later t a f s
   where
     failed : (t : WroteTo M s script stream h form summary from to) (rest : List Piece)
         → answered stream.ended script ≡ t.wrote.done ++ rest
-        → ((rest ≡ []) × GoesOn M.bail t.wrote.answers) ⊎ (IsTrue M.bail × EndsRefused t.wrote.answers)
+        → ((rest ≡ []) × GoesOn M.bail t.wrote.answers)
+        ⊎ ((IsTrue M.bail × EndsRefused t.wrote.answers) ⊎ EndsReported M t.wrote.answers)
         → SinkFailed M s script stream.ended h fails from later
     failed t rest parts all =
         let w = t.wrote in
@@ -434,7 +478,7 @@ ready_unflushed fails may M s script stream h form summary from to later t a f s
         failed t.to (answered stream.ended t.to.left)
         (asked_of stream.ended script t.to.left w.done w.finished
         (now_is stream.ended script t.to.left w.done w.first))
-        (inr (must_bail M.bail summary e, t.refused))
+        (inr (inl (must_bail M.bail summary e, t.refused)))
     by_case false e t =
         let w = t.to.wrote in
         failed t.to []
@@ -473,18 +517,20 @@ wrote_refusal M s script stream h form summary from to earlier last t all none s
         ∙ ap (λ (xs : List Answer). count_by is_refused xs) all ∙ count_on earlier Accepted ∙ none) stopped)
 
 -- one more answer, whole, and it is the refusal that stops the run
-pub wrote_stop : {X E : Type 0} (M : Manner) (s : State) (script : List ℕ) (now after : Stream) (h new : Standing)
+pub wrote_stop : {X E : Type 0} (fails : Bool) (M : Manner) (s : State) (script : List ℕ) (now after : Stream) (h new
+    : Standing)
     (had form : Written) (summary counted : Summary) (answer : code.Answer) (from to later : Shown) (line : ℕ)
     (t0 : X) → length script < most_bytes → (IsTrue M.bail → summary.refused ≡ 0)
     → WroteTo M s script now h had summary from to → AnswersOne M.answering now after answer h new
     → line ≡ after.line → Hears to.heard (note_of (summary.statements + 1) line (answer_of answer)) later.heard
     → counted ≡ count_of summary (answer_of answer)
-    → Writes {T = X} {E = E} M.texts had form (summary.statements + 1) line (answer_of answer) (Ok t0) to.held
+    → PassesOn {T = X} {E = E} M.style fails had form (summary.statements + 1) line (answer_of answer) (Ok t0) to.held
     later.held to.writes later.writes
     → stops M.bail counted ≡ true → WroteRefusal M s script after new form counted from later
-wrote_stop M s script now after h new had form summary counted answer from to later line t0 short going t takes on told
-    c prints stopped =
-    let one = wrote_one M s script now after h new had form summary answer from to later line t0 short t takes on told
+wrote_stop fails M s script now after h new had form summary counted answer from to later line t0 short going t takes on
+    told c prints stopped =
+    let one = wrote_one fails M s script now after h new had form summary answer from to later line t0 short t takes
+    on told
     prints in
     subst (λ (x : Summary). stops M.bail x ≡ true → WroteRefusal M s script after new form x from later) (sym c)
     (wrote_refusal M s script after new form (count_of summary (answer_of answer)) from later t.wrote.answers
@@ -542,7 +588,7 @@ wrote_ended M s script now after h form summary from to t f =
 -- every statement of the script was answered
 wrote_script : (M : Manner) (s : State) (script : List ℕ) (stream : Stream) (h : Standing) (form : Written)
     (summary : Summary) (is_flushed : Bool) (from to : Shown) → stream.ended ≡ true → IsTrue is_flushed
-    → WroteAll M s script stream h form summary from to → WroteScript M s script h summary is_flushed from to
+    → WroteAll M s script stream h form summary from to → WroteScript M s script h form summary is_flushed from to
 wrote_script M s script stream h form summary is_flushed from to ended passed_on t =
     let w = t.to.wrote in
     let all : statements script ≡ w.done = ap (λ (b : Bool). answered b script) (sym ended)
@@ -553,6 +599,7 @@ wrote_script M s script stream h form summary is_flushed from to ended passed_on
       ran = subst (λ (ps : List Piece). RunBy M.answering s ps w.answers w.state) (sym all) w.ran;
       stands = w.stands;
       heard = to_told M s script stream h form summary from to t.to;
+      wrote = w.wrote;
       text = w.text;
       texts = to_texts M s script stream h form summary from to t.to;
       written = w.written;
@@ -565,7 +612,7 @@ wrote_script M s script stream h form summary is_flushed from to ended passed_on
 pub refused_at : (M : Manner) (s : State) (script : List ℕ) (stream : Stream) (ended : Bool) (h : Standing)
     (form : Written) (summary : Summary) (is_flushed : Bool) (from to : Shown) → stream.ended ≡ ended
     → IsTrue is_flushed → WroteRefusal M s script stream h form summary from to
-    → RefusedAt M s script ended h summary is_flushed from to
+    → RefusedAt M s script ended h form summary is_flushed from to
 refused_at M s script stream ended h form summary is_flushed from to same passed_on t =
     let w = t.to.wrote in
     record {
@@ -584,6 +631,7 @@ refused_at M s script stream ended h form summary is_flushed from to same passed
       ran = w.ran;
       stands = w.stands;
       heard = to_told M s script stream h form summary from to t.to;
+      wrote = w.wrote;
       text = w.text;
       texts = to_texts M s script stream h form summary from to t.to;
       written = w.written;
@@ -596,16 +644,16 @@ refused_at M s script stream ended h form summary is_flushed from to same passed
 pub wrote_rest : (M : Manner) (s : State) (script : List ℕ) (stream : Stream) (h : Standing)
     (form : Written) (summary : Summary) (is_flushed : Bool) (from to : Shown) → stream.ended ≡ true
     → IsTrue is_flushed → WroteReady M s script stream h form summary from to
-    → MatchBool (stops M.bail summary) (RefusedAt M s script true h summary is_flushed from to)
-    (WroteScript M s script h summary is_flushed from to)
+    → MatchBool (stops M.bail summary) (RefusedAt M s script true h form summary is_flushed from to)
+    (WroteScript M s script h form summary is_flushed from to)
 wrote_rest M s script stream h form summary is_flushed from to ended passed_on t =
     by_case (stops M.bail summary) t.is
   where
     by_case : (b : Bool)
         → MatchBool b (WroteRefusal M s script stream h form summary from to)
         (WroteAll M s script stream h form summary from to)
-        → MatchBool b (RefusedAt M s script true h summary is_flushed from to)
-        (WroteScript M s script h summary is_flushed from to)
+        → MatchBool b (RefusedAt M s script true h form summary is_flushed from to)
+        (WroteScript M s script h form summary is_flushed from to)
     by_case true t = refused_at M s script stream true h form summary is_flushed from to ended passed_on t
     by_case false t = wrote_script M s script stream h form summary is_flushed from to ended passed_on t
 

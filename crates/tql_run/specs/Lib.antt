@@ -8,3 +8,4 @@ pub mod RunsIn
 pub mod Keeping
 pub mod Reads
 pub mod Writing
+pub mod Cuts

@@ -12,7 +12,7 @@ use Rattle.tql_run.specs.Hearing.{Hears, HearingChange, notes_of}
 use Rattle.tql_run.specs.Responding.{Standing}
 use Rattle.tql_run.specs.Runs.{SourceChange, SinkChange, Gives, MeetsEnd, MissesEnd, Counts, IsBeginning, NothingRun}
 use Rattle.tql_run.specs.Runs.{is_refused, answered}
-use Rattle.tql_run.specs.Texts.{Texts, AreTexts, plain_texts, line_behind}
+use Rattle.tql_run.specs.Texts.{Style, Written, AreTexts, plain_style, line_after}
 use Rattle.tql_run.specs.declared.runner.Summary.{Summary}
 use Rattle.tql_run.specs.declared.runner.Fault.{Fault}
 use Rattle.tql_run.specs.declared.runner.Fault.TheVariants.{Read, Write, Memory}
@@ -22,15 +22,15 @@ use Rattle.tql_run.specs.declared.runner.Fault.TheVariants.{Read, Write, Memory}
 -- what its answers are, how they are written, and whether it stops at the first refusal
 pub record Manner : Type 1 where
   pub answering : Answering
-  pub texts : Texts
+  pub style : Style
   pub bail : Bool
 
-abbrev pub manner : Answering → Texts → Bool → Manner
-manner answering texts bail = record { answering = answering; texts = texts; bail = bail }
+abbrev pub manner : Answering → Style → Bool → Manner
+manner answering style bail = record { answering = answering; style = style; bail = bail }
 
 -- the default: each answer has its one text, and a refusal stops nothing
 abbrev pub plainly : Answering → Manner
-plainly answering = manner answering plain_texts false
+plainly answering = manner answering plain_style false
 
 -- no answer is a refusal
 abbrev pub NoneRefused : List Answer → Type 0
@@ -62,11 +62,11 @@ pub record PullsLast (count : ℕ) (script : List ℕ) : Type 0 where
 -- ---- what a run did
 
 -- In each case the listener is told of the statements that are refused among those answered, of no others, and of each
--- by its number and its line.
+-- by its number and its line. Where no device failed at an answer, the form has written these answers (`wrote`).
 
 -- the whole script was read and each of its statements answered, no device failed, and the sink is flushed
-pub record RunsWholeIn (M : Manner) (s : State) (after : Standing) (source : SourceChange) (sink : SinkChange)
-    (hearing : HearingChange) (summary : Summary) : Type 0 where
+pub record RunsWholeIn (M : Manner) (s : State) (after : Standing) (form : Written) (source : SourceChange)
+    (sink : SinkChange) (hearing : HearingChange) (summary : Summary) : Type 0 where
   pub script : List ℕ
   pub given : Gives source.left_old script source.left_new
   pub ended : MeetsEnd source
@@ -76,8 +76,9 @@ pub record RunsWholeIn (M : Manner) (s : State) (after : Standing) (source : Sou
   pub ran : RunBy M.answering s (answered true script) answers state
   pub stands : after state
   pub heard : Hears hearing.heard_old (notes_of (placed_statements script) answers) hearing.heard_new
+  pub wrote : form answers
   pub text : List ℕ
-  pub texts : AreTexts M.texts (placed_statements script) answers text
+  pub texts : AreTexts M.style.texts (placed_statements script) answers text
   pub written : Appends sink.held_old text sink.held_new
   pub counts : Counts summary answers
   pub writes : sink.failures_new ≡ sink.failures_old
@@ -85,10 +86,10 @@ pub record RunsWholeIn (M : Manner) (s : State) (after : Standing) (source : Sou
 
 -- The run was stopped by a refusal, the first: that of the statement that ran last. The first statements of the script
 -- ran up to that one, whatever may still follow what was read; where the end was met, nothing does. No device failed,
--- and the sink is flushed. Nothing was pulled behind the refusal: what was pulled before the last pull, which gave at
+-- and the sink is flushed. Nothing was pulled after the refusal: what was pulled before the last pull, which gave at
 -- most 65,536 bytes, has fewer whole statements.
-pub record RunsToRefusal (M : Manner) (s : State) (after : Standing) (source : SourceChange) (sink : SinkChange)
-    (hearing : HearingChange) (summary : Summary) : Type 0 where
+pub record RunsToRefusal (M : Manner) (s : State) (after : Standing) (form : Written) (source : SourceChange)
+    (sink : SinkChange) (hearing : HearingChange) (summary : Summary) : Type 0 where
   pub script : List ℕ
   pub given : Gives source.left_old script source.left_new
   pub met : Bool
@@ -103,8 +104,9 @@ pub record RunsToRefusal (M : Manner) (s : State) (after : Standing) (source : S
   pub ran : RunBy M.answering s done answers state
   pub stands : after state
   pub heard : Hears hearing.heard_old (notes_of (placed_statements script) answers) hearing.heard_new
+  pub wrote : form answers
   pub text : List ℕ
-  pub texts : AreTexts M.texts (placed_statements script) answers text
+  pub texts : AreTexts M.style.texts (placed_statements script) answers text
   pub written : Appends sink.held_old text sink.held_new
   pub counts : Counts summary answers
   pub writes : sink.failures_new ≡ sink.failures_old
@@ -113,8 +115,8 @@ pub record RunsToRefusal (M : Manner) (s : State) (after : Standing) (source : S
 
 -- the end of the input was not met: the statements that are whole in what was read are answered, and the sink is
 -- flushed
-pub record StopsReadingIn (M : Manner) (s : State) (after : Standing) (source : SourceChange) (sink : SinkChange)
-    (hearing : HearingChange) : Type 0 where
+pub record StopsReadingIn (M : Manner) (s : State) (after : Standing) (form : Written) (source : SourceChange)
+    (sink : SinkChange) (hearing : HearingChange) : Type 0 where
   pub script : List ℕ
   pub given : Gives source.left_old script source.left_new
   pub cut : MissesEnd source script
@@ -124,8 +126,9 @@ pub record StopsReadingIn (M : Manner) (s : State) (after : Standing) (source : 
   pub ran : RunBy M.answering s (answered false script) answers state
   pub stands : after state
   pub heard : Hears hearing.heard_old (notes_of (placed_statements script) answers) hearing.heard_new
+  pub wrote : form answers
   pub text : List ℕ
-  pub texts : AreTexts M.texts (placed_statements script) answers text
+  pub texts : AreTexts M.style.texts (placed_statements script) answers text
   pub written : Appends sink.held_old text sink.held_new
   pub writes : sink.failures_new ≡ sink.failures_old
   pub flushed : IsTrue sink.flushed
@@ -138,25 +141,33 @@ pub record CutsLastIn (M : Manner) (places : List Placed) (answers : List Answer
   pub all : answers ≡ earlier ++ last ∷ []
   pub goes_on : GoesOn M.bail earlier
   pub before : List ℕ
-  pub texts : AreTexts M.texts places earlier before
+  pub texts : AreTexts M.style.texts places earlier before
   pub front : List ℕ
   pub back : List ℕ
-  pub is_text : M.texts earlier (1 + length earlier) (line_behind (length earlier) places) last (front ++ back)
+  pub is_text : M.style.texts earlier (1 + length earlier) (line_after (length earlier) places) last (front ++ back)
   pub lacks : 0 < length back
   pub is : text ≡ before ++ front
 
--- all answers were written whole, and then a flush failed, which may fail: where none is left to be answered, or where
--- the last is the refusal that stops the run
+-- the last answer is one to be reported; but for it, none is a refusal that stops the run
+pub record EndsReported (M : Manner) (answers : List Answer) : Type 0 where
+  pub earlier : List Answer
+  pub last : Answer
+  pub all : answers ≡ earlier ++ last ∷ []
+  pub goes_on : GoesOn M.bail earlier
+  pub is_reported : IsTrue (M.style.reported last)
+
+-- all answers were written whole, and then a flush failed, which may fail: where none is left to be answered, where
+-- the last is the refusal that stops the run, or where it is to be reported
 pub record FailsFlush (M : Manner) (flushes_fail : Bool) (rest : List Piece) (places : List Placed)
     (answers : List Answer) (text : List ℕ) : Type 0 where
   pub allowed : IsTrue flushes_fail
-  pub texts : AreTexts M.texts places answers text
-  pub all : ((rest ≡ []) × GoesOn M.bail answers) ⊎ (IsTrue M.bail × EndsRefused answers)
+  pub texts : AreTexts M.style.texts places answers text
+  pub all : ((rest ≡ []) × GoesOn M.bail answers) ⊎ ((IsTrue M.bail × EndsRefused answers) ⊎ EndsReported M answers)
 
 -- The sink failed, at an answer: the statement of that answer is the last that ran; or at a flush, where a flush of
--- this sink may fail: all ran that are whole in what was read, or all up to the refusal that stops the run. The source
--- had not failed. Those that ran are the first statements of the script, whatever may still follow what was read; where
--- the end was met, nothing does.
+-- this sink may fail: all ran that are whole in what was read, or all up to the refusal that stops the run, or up to an
+-- answer to be reported. The source had not failed. Those that ran are the first statements of the script, whatever
+-- may still follow what was read; where the end was met, nothing does.
 pub record StopsWritingIn (M : Manner) (s : State) (after : Standing) (source : SourceChange) (sink : SinkChange)
     (hearing : HearingChange) : Type 0 where
   pub script : List ℕ
@@ -178,11 +189,13 @@ pub record StopsWritingIn (M : Manner) (s : State) (after : Standing) (source : 
   pub written : Appends sink.held_old text sink.held_new
   pub cause : HasFailed sink.failures_old sink.failures_new
 
--- how a run in this manner went by its result: the state that the responder stood for, and what it stands for after it
-abbrev pub RunsIn : Manner → State → Standing → SourceChange → SinkChange → HearingChange → Result Summary Fault
-    → Type 0
-RunsIn M s after source sink hearing (Ok summary) = MatchBool (stops M.bail summary)
-    (RunsToRefusal M s after source sink hearing summary) (RunsWholeIn M s after source sink hearing summary)
-RunsIn M s after source sink hearing (Err Read) = StopsReadingIn M s after source sink hearing
-RunsIn M s after source sink hearing (Err Write) = StopsWritingIn M s after source sink hearing
-RunsIn M s after source sink hearing (Err Memory) = NothingRun M.answering s after source sink hearing
+-- how a run in this manner went by its result: the state that the responder stood for, what it stands for after it, and
+-- what the form has written then
+abbrev pub RunsIn : Manner → State → Standing → Written → SourceChange → SinkChange → HearingChange
+    → Result Summary Fault → Type 0
+RunsIn M s after form source sink hearing (Ok summary) = MatchBool (stops M.bail summary)
+    (RunsToRefusal M s after form source sink hearing summary)
+    (RunsWholeIn M s after form source sink hearing summary)
+RunsIn M s after form source sink hearing (Err Read) = StopsReadingIn M s after form source sink hearing
+RunsIn M s after form source sink hearing (Err Write) = StopsWritingIn M s after source sink hearing
+RunsIn M s after form source sink hearing (Err Memory) = NothingRun M.answering s after source sink hearing

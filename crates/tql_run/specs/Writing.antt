@@ -72,7 +72,7 @@ pub record Wrote (M : Manner) (s : State) (script passed left : List ℕ) (ended
   pub stands : after state
   pub wrote : form answers
   pub text : List ℕ
-  pub texts : AreTexts M.texts places answers text
+  pub texts : AreTexts M.style.texts places answers text
   pub written : Appends from.held text now.held
   pub even : length places ≡ length answers
   pub heard : Hears from.heard (notes_of places answers) now.heard
@@ -146,23 +146,24 @@ AnswersReady M result old new before after had form summary counted fails now la
     → WroteOrFailed M result s script new after form counted fails from later
 
 -- every statement of the script was answered, every answer written, and the sink is flushed
-pub record WroteScript (M : Manner) (s : State) (script : List ℕ) (after : Standing) (summary : Summary)
-    (is_flushed : Bool) (from now : Shown) : Type 0 where
+pub record WroteScript (M : Manner) (s : State) (script : List ℕ) (after : Standing) (form : Written)
+    (summary : Summary) (is_flushed : Bool) (from now : Shown) : Type 0 where
   pub answers : List Answer
   pub state : State
   pub ran : RunBy M.answering s (statements script) answers state
   pub stands : after state
   pub heard : Hears from.heard (notes_of (placed_statements script) answers) now.heard
+  pub wrote : form answers
   pub text : List ℕ
-  pub texts : AreTexts M.texts (placed_statements script) answers text
+  pub texts : AreTexts M.style.texts (placed_statements script) answers text
   pub written : Appends from.held text now.held
   pub counts : Counts summary answers
   pub steady : now.writes ≡ from.writes
   pub flushed : IsTrue is_flushed
 
 -- the first statements were answered up to a refusal that stops the run, every answer written, and the sink is flushed
-pub record RefusedAt (M : Manner) (s : State) (script : List ℕ) (ended : Bool) (after : Standing) (summary : Summary)
-    (is_flushed : Bool) (from now : Shown) : Type 0 where
+pub record RefusedAt (M : Manner) (s : State) (script : List ℕ) (ended : Bool) (after : Standing) (form : Written)
+    (summary : Summary) (is_flushed : Bool) (from now : Shown) : Type 0 where
   pub done : List Piece
   pub rest : List Piece
   pub parts : answered ended script ≡ done ++ rest
@@ -173,28 +174,29 @@ pub record RefusedAt (M : Manner) (s : State) (script : List ℕ) (ended : Bool)
   pub ran : RunBy M.answering s done answers state
   pub stands : after state
   pub heard : Hears from.heard (notes_of (placed_statements script) answers) now.heard
+  pub wrote : form answers
   pub text : List ℕ
-  pub texts : AreTexts M.texts (placed_statements script) answers text
+  pub texts : AreTexts M.style.texts (placed_statements script) answers text
   pub written : Appends from.held text now.held
   pub counts : Counts summary answers
   pub steady : now.writes ≡ from.writes
   pub flushed : IsTrue is_flushed
 
 -- by the result
-abbrev pub WroteScriptOrFailed : Manner → Result Summary Fault → State → (script : List ℕ) → Standing
+abbrev pub WroteScriptOrFailed : Manner → Result Summary Fault → State → (script : List ℕ) → Standing → Written
     → (flushes_fail is_flushed : Bool) → (from now : Shown) → Type 0
-WroteScriptOrFailed M (Ok summary) s script after fails is_flushed from now = MatchBool (stops M.bail summary)
-    (RefusedAt M s script true after summary is_flushed from now)
-    (WroteScript M s script after summary is_flushed from now)
-WroteScriptOrFailed M (Err Write) s script after fails is_flushed from now =
+WroteScriptOrFailed M (Ok summary) s script after form fails is_flushed from now = MatchBool (stops M.bail summary)
+    (RefusedAt M s script true after form summary is_flushed from now)
+    (WroteScript M s script after form summary is_flushed from now)
+WroteScriptOrFailed M (Err Write) s script after form fails is_flushed from now =
     SinkFailed M s script true after fails from now
-WroteScriptOrFailed M (Err Read) s script after fails is_flushed from now = ⊥
-WroteScriptOrFailed M (Err Memory) s script after fails is_flushed from now = ⊥
+WroteScriptOrFailed M (Err Read) s script after form fails is_flushed from now = ⊥
+WroteScriptOrFailed M (Err Memory) s script after form fails is_flushed from now = ⊥
 
 -- the end was met, and what is left of the script is answered
-abbrev pub EndsRun : Manner → Result Summary Fault → (old : Stream) → (before after : Standing) → (had : Written)
-    → (summary : Summary) → (flushes_fail is_flushed : Bool) → (now later : Shown) → Type 0
-EndsRun M result old before after had summary fails is_flushed now later =
+abbrev pub EndsRun : Manner → Result Summary Fault → (old : Stream) → (before after : Standing)
+    → (had form : Written) → (summary : Summary) → (flushes_fail is_flushed : Bool) → (now later : Shown) → Type 0
+EndsRun M result old before after had form summary fails is_flushed now later =
     (s : State) (script : List ℕ) (from : Shown) → length script < most_bytes
     → WroteTo M s script old before had summary from now
-    → WroteScriptOrFailed M result s script after fails is_flushed from later
+    → WroteScriptOrFailed M result s script after form fails is_flushed from later

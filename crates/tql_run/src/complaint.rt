@@ -1,10 +1,10 @@
-//! A refused statement in a line, as the program tells it.
+//! The line that reports a refused statement.
 use std::fmt;
 use tql_detail::detail::Detail;
 use tql_value::refusal::Refusal;
 
-/// What a listener is told of a refused statement, to be written as a line: its number, the line and, where it is
-/// known, the column of the fault, the refusal, and what is told beside it.
+/// A refused statement, to be written as a line: its number, the line and, where it is known, the column of the fault,
+/// the refusal, and the words of its detail.
 #[derive(Drop)]
 pub struct Complaint<'a> {
     pub statement: u64,

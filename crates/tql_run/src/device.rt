@@ -7,9 +7,9 @@ ghost use Rattle.tql_run.specs.Runs.{Gives, IsAtEnd, is_end};
 use tql_result::device::DeviceFault;
 use tql_result::sink::Sink;
 
-/// What a source tells of itself. It counts its failures, so that a run can say that no failure came from elsewhere.
+/// The state of a source. It counts its failures, so that a run can say that no failure came from elsewhere.
 pub trait Input {
-    /// The bytes that it has left; a source that does not tell them claims nothing of them.
+    /// The bytes that it has left, where they are known; of a source without them nothing is claimed.
     ghost left: { Self → Option (List ℕ) };
 
     /// How many failures it has counted.
@@ -23,11 +23,11 @@ pub trait Input {
         ensures { result ≡ failures self.now };
 }
 
-/// What gives the bytes of a script whose answers go to such a sink. Who holds the other ends of both, as a person
-/// does, may wait for an answer before going on: so a pull asks for a sink that has passed on all that it took.
+/// What gives the bytes of a script whose answers are pushed into a sink of type `O`. Whoever is at the other ends of
+/// both, as a person at a terminal, may wait for an answer before going on. So a pull requires a flushed sink.
 pub trait Source<O: Sink>: Input {
-    /// Puts the next bytes at the front of the buffer, and answers how many. None into a buffer that is not empty
-    /// says that the input has ended. An error gives nothing. The sink is only looked at.
+    /// Puts the next bytes at the front of the buffer, and returns their number. Zero for a buffer that is not empty
+    /// says that the input has ended. An error gives nothing. The sink is only read.
     fn pull(&mut self, sink: &O, buffer: &mut [u8]) -> Result<usize, DeviceFault>
         requires flushed { IsTrue (O.flushed sink.now) }
         ensures within { IfOk result (λ n. n ≤ length buffer.old) }

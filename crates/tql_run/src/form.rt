@@ -1,5 +1,6 @@
 //! How the answers of a run are written.
-ghost use Rattle.std.specs.Prelude.{⊤};
+ghost use Rattle.std.specs.Prelude.{Bool, false, ⊤, IsTrue};
+ghost use Rattle.tql_spec.specs.Answer as run;
 ghost use Rattle.tql_result.specs.Replies.{answer_of, IsPrintableAnswer};
 ghost use Rattle.tql_run.specs.Texts.{Texts, Written, Writes, plain_texts};
 
@@ -16,12 +17,23 @@ pub trait Form {
     /// What may be the text of an answer.
     ghost texts: { Texts };
 
+    /// The answers that a listener may be expected to report too.
+    ghost reported: { run.Answer → Bool };
+
     /// Whether details are to be found for it.
     fn wants_details(&self) -> bool;
 
-    /// Pushes a text of the answer to the statement of this number, on this line; both are counted from 1. What is told
-    /// beside a refusal is handed to it where it is wanted and known. After an error a beginning of the text was
-    /// pushed.
+    /// Whether a listener is expected to report this answer, in place of its text or besides it. The run then flushes
+    /// the sink before a listener that waits for that.
+    fn is_reported(&self, answer: &Answer) -> bool
+        ensures { IsTrue result → IsTrue (reported (answer_of answer.now)) };
+
+    /// Pushes a text of the answer to the statement of this number, on this line; both are counted from 1. The detail
+    /// of a refusal is passed where it is wanted and known.
+    ///
+    /// # Errors
+    ///
+    /// Fails where the sink fails; a beginning of the text was pushed then.
     fn write<O: Sink>(
         &mut self,
         sink: &mut O,
@@ -44,7 +56,13 @@ impl Form for PlainForm {
 
     ghost texts = { plain_texts };
 
+    ghost reported = { λ _. false };
+
     fn wants_details(&self) -> bool {
+        false
+    }
+
+    fn is_reported(&self, _answer: &Answer) -> bool {
         false
     }
 

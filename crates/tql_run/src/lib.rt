@@ -4,6 +4,7 @@
 pub mod complaint;
 pub mod device;
 pub mod form;
+pub mod laws;
 pub mod listener;
 pub mod note;
 pub mod notes;

@@ -13,11 +13,11 @@ pub struct Note {
     pub refusal: Refusal,
 }
 
-/// What was told of a refused statement beside the refusal.
+/// The detail of a refused statement.
 #[derive(Drop)]
 pub struct Told {
     /// The statement's number, as that of its note.
     pub statement: u64,
-    /// What was told.
+    /// The place of the fault, and words about it.
     pub detail: Detail,
 }

@@ -8,22 +8,23 @@ use crate::pushed::Pushed;
 use std::alloc::AllocError;
 use tql_detail::detail::Detail;
 use tql_memory::Memory;
+use tql_result::answer::Answer;
 use tql_value::refusal::Refusal;
 
-/// A listener that keeps a note of each refusal. Where it finds no memory for one, that note is lost, the allocator's
-/// error is kept in its place, and it is not whole from then on.
+/// A listener that keeps a note of each refusal. Where memory for one is refused, the note is lost, the allocator's
+/// error is kept, and the notes are not whole from then on.
 #[derive(Drop)]
 pub struct Notes {
     /// The notes, in the order of the statements.
     pub kept: Vec<Note, Memory>,
     /// The allocator's error where a note was lost.
     pub lost: Option<AllocError>,
-    /// What was told beside the refusals, as far as there was memory for it, in the order of the statements.
+    /// The details of the refusals, as far as there was memory for them, in the order of the statements.
     pub told: Vec<Told, Memory>,
 }
 
 impl Notes {
-    /// A listener without notes, which keeps the memory that it grows in.
+    /// Returns a listener without notes, which keeps the memory that it grows in.
     pub fn new(memory: Memory) -> Notes
         ensures { ⟦<Notes as Listener>⟧.heard result ≡ Some List.[] }
     {
@@ -49,7 +50,7 @@ impl Notes {
         Ok(())
     }
 
-    /// Keeps what was told beside a refusal; without memory for it that is lost, and nothing else.
+    /// Keeps the detail of a refusal; without memory for it the detail is lost, and nothing else.
     fn keep_detail(&mut self, statement: u64, detail: &Detail) -> Result<(), AllocError>
         ensures kept { self.new.kept.items ≡ self.old.kept.items }
         ensures lost { self.new.lost ≡ self.old.lost }
@@ -70,6 +71,10 @@ impl Listener for Notes {
 
     fn wants_details(&self) -> bool {
         true
+    }
+
+    fn waits(&self) -> bool {
+        false
     }
 
     fn refused(
@@ -98,4 +103,6 @@ impl Listener for Notes {
             let _ = self.keep_detail(statement, detail);
         }
     }
+
+    fn answered(&mut self, _answer: &Answer, _pushed: &Pushed) {}
 }

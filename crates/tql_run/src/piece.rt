@@ -1,4 +1,4 @@
-//! What a piece of a script is answered.
+//! The answer to a piece of a script.
 ghost use Rattle.tql_spec.specs.Machine.{State};
 ghost use Rattle.tql_spec.specs.Script as script;
 ghost use Rattle.tql_lex.specs.Pieces.{StandsFor};
@@ -14,7 +14,7 @@ use tql_result::answer::Answer;
 use tql_result::reply::Reply;
 use tql_value::refusal::Refusal;
 
-/// The fault of a text of not too many bytes that no `;` ends.
+/// Returns the fault of a text that is not too long and that no `;` ends.
 fn cut_fault(text: &[u8]) -> Refusal
     ensures { IsCutFault text.now (refusal_of result) }
 {
@@ -24,7 +24,7 @@ fn cut_fault(text: &[u8]) -> Refusal
     }
 }
 
-/// Answers the next piece of a script: a finished text as the responder does, and any other is refused.
+/// Answers the next piece of a script: a finished text as the responder does; any other is refused.
 pub fn answer_piece<R: Responder>(responder: &mut R, piece: Piece<'_>) -> Answer
     ensures answered { (s : State) (p : script.Piece) → R.stands responder.old s → StandsFor piece.entry p
         → Answered R.answering s p (answer_of result) (R.stands responder.new) }
@@ -38,9 +38,8 @@ pub fn answer_piece<R: Responder>(responder: &mut R, piece: Piece<'_>) -> Answer
     }
 }
 
-/// What is told of the answer to a piece beside it, where that is wanted, and a refusal of a finished text. The blocks
-/// of memory that this asks for are counted as granted to no one: what comes later finds as many as if nothing had been
-/// told.
+/// Returns the detail of the answer to a piece, where it is wanted and the answer is a refusal of a finished text. The
+/// allocations that this makes are not counted, so that later statements find the same budget with it and without it.
 pub fn detail_of<R: Responder>(
     responder: &R,
     piece: Piece<'_>,

@@ -1,7 +1,9 @@
-//! The push of an answer, before the listener is told of it.
-ghost use Rattle.std.specs.Prelude.{◌≡◌};
+//! The push of an answer, before the listener hears of it.
+ghost use Rattle.std.specs.Prelude.{◌≡◌, List, [], IsTrue, OnErr, is_err};
+ghost use Rattle.tql_spec.specs.Answer as run;
+ghost use Rattle.tql_result.specs.Devices.{Appends, Counts};
 ghost use Rattle.tql_result.specs.Replies.{answer_of, IsPrintableAnswer};
-ghost use Rattle.tql_run.specs.Texts.{Writes};
+ghost use Rattle.tql_run.specs.Texts.{PassesOn, style_after, written_after};
 
 use crate::form::Form;
 use tql_detail::detail::Detail;
@@ -9,15 +11,34 @@ use tql_result::answer::Answer;
 use tql_result::device::DeviceFault;
 use tql_result::sink::Sink;
 
-/// What the push of an answer came to. Only `Pushed::push` makes one, once the push is done: who is handed one is
-/// told behind it.
+/// Flushes the sink after an answer that a listener is to report, where `waits` says so.
+fn flush_reported<F: Form, O: Sink>(
+    form: &F,
+    sink: &mut O,
+    answer: &Answer,
+    waits: bool,
+) -> Result<(), DeviceFault>
+    ensures kept { Appends (O.written sink.old) [] (O.written sink.new) }
+    ensures counted { Counts (is_err result) (O.failures sink.old) (O.failures sink.new) }
+    ensures allowed { OnErr result (IsTrue (F.reported (answer_of answer.now)) × IsTrue O.flushes_fail) }
+{
+    if waits && form.is_reported(answer) {
+        sink.flush()
+    } else {
+        Ok(())
+    }
+}
+
+/// The outcome of the push of an answer. Only `Pushed::push` makes one, after the push, so whoever is given one is
+/// called after it.
 #[derive(Debug, Drop)]
 pub struct Pushed {
     outcome: Result<(), DeviceFault>,
 }
 
 impl Pushed {
-    /// Pushes an answer in a form, as its `write` does.
+    /// Pushes an answer in a form, as its `write` does. Where `waits` says so, the sink is flushed after an answer that
+    /// a listener is to report.
     pub fn push<F: Form, O: Sink>(
         form: &mut F,
         sink: &mut O,
@@ -25,14 +46,19 @@ impl Pushed {
         line: u64,
         answer: &Answer,
         detail: Option<&Detail>,
+        waits: bool,
     ) -> Pushed
         requires { IsPrintableAnswer (answer_of answer.now) }
-        ensures { Writes F.texts (F.wrote form.old) (F.wrote form.new) statement line (answer_of answer.now)
-            result.outcome (O.written sink.old) (O.written sink.new) (O.failures sink.old) (O.failures sink.new) }
+        ensures { (before : List run.Answer) → PassesOn (style_after before F.texts F.reported) O.flushes_fail
+            (written_after before (F.wrote form.old)) (written_after before (F.wrote form.new))
+            statement line (answer_of answer.now) result.outcome
+            (O.written sink.old) (O.written sink.new) (O.failures sink.old) (O.failures sink.new) }
     {
-        Pushed {
-            outcome: form.write(sink, statement, line, answer, detail),
-        }
+        let outcome = match form.write(sink, statement, line, answer, detail) {
+            Ok(()) => flush_reported(form, sink, answer, waits),
+            Err(fault) => Err(fault),
+        };
+        Pushed { outcome }
     }
 
     /// Whether the sink took the whole answer.

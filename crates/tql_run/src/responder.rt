@@ -10,10 +10,10 @@ use tql_memory::Memory;
 use tql_result::answer::Answer;
 use tql_value::refusal::Refusal;
 
-/// What answers the statements of a script, one after another. It may stand for states of the machine, and its
-/// answers are all of one sort: they are the machine's replies, or tell which statements are taken.
+/// What answers the statements of a script in order. It may represent states of the reference model. All its answers
+/// are of one kind: the replies of the model, or whether each statement is accepted.
 pub trait Responder {
-    /// The states of the machine that it stands for.
+    /// The states of the reference model that it represents.
     ghost stands: { Self → Standing };
 
     /// What its answers are.
@@ -28,8 +28,8 @@ pub trait Responder {
             → Answered answering s (finished text.now) (answer_of result) (stands self.new) }
         ensures printable { IsPrintableAnswer (answer_of result) };
 
-    /// What is told of a refusal beside it: of the statement of this text, which was answered last and refused so. None
-    /// where nothing more is known, or no memory is there for it.
+    /// Returns the detail of a refusal: that of the statement of this text, which was answered last. None where nothing
+    /// more is known, or its memory is refused.
     fn detail(&self, text: &[u8], refusal: Refusal) -> Option<Detail>;
 
     /// A statement that is too long, or that no `;` ends, is refused.

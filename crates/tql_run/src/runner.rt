@@ -1,5 +1,6 @@
 //! A whole run of a script.
-ghost use Rattle.std.specs.Prelude.{◌≡◌, ◌≤◌, ◌<◌, ◌+◌, [], length, IsTrue, IsFalse, IfOk, OnOk, ◌&&◌, not};
+ghost use Rattle.std.specs.Prelude.{◌≡◌, ◌≤◌, ◌<◌, ◌+◌, List, [], length, IsTrue, IsFalse, IfOk, OnOk, ◌&&◌, not};
+ghost use Rattle.tql_spec.specs.Answer as run;
 ghost use Rattle.tql_spec.specs.Machine.{State};
 ghost use Rattle.tql_result.specs.Replies.{answer_of};
 ghost use Rattle.tql_lex.specs.Stream.{to_do};
@@ -8,6 +9,7 @@ ghost use Rattle.tql_run.specs.Runs.{Runs, source_change, sink_change, count_of,
 ghost use Rattle.tql_run.specs.RunsIn.{RunsIn, manner, stops};
 ghost use Rattle.tql_run.specs.Hearing.{Hears, note_of, hearing_change};
 ghost use Rattle.tql_run.specs.Reads.{Pulls, taken};
+ghost use Rattle.tql_run.specs.Texts.{style_after, written_after};
 ghost use Rattle.tql_run.specs.Writing.{AnswersNext, AnswersReady, Tallies, EndsRun, shown};
 
 use crate::device::Source;
@@ -56,7 +58,7 @@ impl From<AllocError> for Fault {
     }
 }
 
-/// The counts with one more answer.
+/// Returns the counts with one more answer.
 fn counted(summary: Summary, answer: &Answer) -> Summary
     requires room { summary.statements < most_bytes }
     requires fewer { summary.refused ≤ summary.statements }
@@ -82,8 +84,8 @@ fn is_stopped(bail: bool, summary: &Summary) -> bool
     bail && summary.refused != 0
 }
 
-/// Takes the next statement and answers it, and keeps what is told beside the answer, at its place in the statement;
-/// None where the bytes that were fed hold no whole one.
+/// Takes the next statement and answers it. The detail of the answer is kept with its place in the statement. Returns
+/// None where the bytes that were fed hold no whole statement.
 fn answer_whole<R: Responder>(
     responder: &mut R,
     splitter: &mut Splitter,
@@ -103,8 +105,8 @@ fn answer_whole<R: Responder>(
     }
 }
 
-/// Takes the next statement and answers it, and keeps what is told beside the answer, where that is wanted, at its
-/// place in the script; None where the bytes that were fed hold no whole one. What was told before is let go first.
+/// Takes the next statement and answers it. The detail of the answer is kept where it is wanted, with its place in the
+/// script; the one before is freed first. Returns None where the bytes that were fed hold no whole statement.
 pub fn answer_next<R: Responder>(
     responder: &mut R,
     splitter: &mut Splitter,
@@ -122,8 +124,8 @@ pub fn answer_next<R: Responder>(
     answer
 }
 
-/// Tells the listener of the answer to a statement, where it is a refusal, behind its push.
-fn tell<L: Listener>(
+/// Reports the answer to a statement to the listener, after its push.
+fn report<L: Listener>(
     listener: &mut L,
     statement: u64,
     line: u64,
@@ -135,11 +137,13 @@ fn tell<L: Listener>(
 {
     if let Answer::Replied(Reply::Refused(refusal)) = answer {
         listener.refused(statement, line, *refusal, detail, pushed);
+    } else {
+        listener.answered(answer, pushed);
     }
 }
 
-/// Answers the statements that are whole, writes their answers in the form, and tells the listener of those that are
-/// refused; where a refusal is to stop the run, up to the first.
+/// Answers the statements that are whole, writes their answers in the form, and reports each to the listener; where a
+/// refusal is to stop the run, up to the first.
 fn answer_ready<R: Responder, O: Sink, L: Listener, F: Form>(
     responder: &mut R,
     splitter: &mut Splitter,
@@ -152,20 +156,23 @@ fn answer_ready<R: Responder, O: Sink, L: Listener, F: Form>(
     requires room { summary.old.statements + to_do splitter.old ≤ most_bytes }
     requires fewer { summary.old.refused ≤ summary.old.statements }
     requires going { IsTrue bail → summary.old.refused ≡ 0 }
-    ensures answers { AnswersReady (manner R.answering F.texts bail) result splitter.old splitter.new
-        (R.stands responder.old) (R.stands responder.new) (F.wrote form.old) (F.wrote form.new)
+    ensures answers { (before : List run.Answer)
+        → AnswersReady (manner R.answering (style_after before F.texts F.reported) bail) result
+        splitter.old splitter.new (R.stands responder.old) (R.stands responder.new)
+        (written_after before (F.wrote form.old)) (written_after before (F.wrote form.new))
         summary.old summary.new O.flushes_fail (shown O.written O.failures L.heard sink.old listener.old)
         (shown O.written O.failures L.heard sink.new listener.new) }
     ensures tallies { Tallies splitter.old splitter.new summary.old summary.new }
     ensures ready { OnOk result (IsFalse (stops bail summary.new) → splitter.new.ready ≡ []) }
 {
     let is_wanted = listener.wants_details() || form.wants_details();
+    let waits = listener.waits();
     let mut detail = None;
     while let Some(answer) = answer_next(responder, splitter, is_wanted, &mut detail) {
         let statement = summary.statements + 1;
         let line = splitter.line();
-        let pushed = Pushed::push(form, sink, statement, line, &answer, detail.as_ref());
-        tell(listener, statement, line, &answer, detail.as_ref(), &pushed);
+        let pushed = Pushed::push(form, sink, statement, line, &answer, detail.as_ref(), waits);
+        report(listener, statement, line, &answer, detail.as_ref(), &pushed);
         match pushed.outcome() {
             Ok(()) => *summary = counted(*summary, &answer),
             Err(fault) => return Err(fault),
@@ -177,7 +184,7 @@ fn answer_ready<R: Responder, O: Sink, L: Listener, F: Form>(
     Ok(())
 }
 
-/// Answers the statements that are whole as `answer_ready` does, and has the sink pass on what it may have kept back.
+/// Answers the statements that are whole as `answer_ready` does, and flushes the sink.
 fn answer_flushed<R: Responder, O: Sink, L: Listener, F: Form>(
     responder: &mut R,
     splitter: &mut Splitter,
@@ -190,8 +197,10 @@ fn answer_flushed<R: Responder, O: Sink, L: Listener, F: Form>(
     requires room { summary.old.statements + to_do splitter.old ≤ most_bytes }
     requires fewer { summary.old.refused ≤ summary.old.statements }
     requires going { IsTrue bail → summary.old.refused ≡ 0 }
-    ensures answers { AnswersReady (manner R.answering F.texts bail) result splitter.old splitter.new
-        (R.stands responder.old) (R.stands responder.new) (F.wrote form.old) (F.wrote form.new)
+    ensures answers { (before : List run.Answer)
+        → AnswersReady (manner R.answering (style_after before F.texts F.reported) bail) result
+        splitter.old splitter.new (R.stands responder.old) (R.stands responder.new)
+        (written_after before (F.wrote form.old)) (written_after before (F.wrote form.new))
         summary.old summary.new O.flushes_fail (shown O.written O.failures L.heard sink.old listener.old)
         (shown O.written O.failures L.heard sink.new listener.new) }
     ensures tallies { Tallies splitter.old splitter.new summary.old summary.new }
@@ -207,8 +216,8 @@ fn answer_flushed<R: Responder, O: Sink, L: Listener, F: Form>(
     }
 }
 
-/// Pulls the next bytes, which a source may wait for. So all statements that are whole have been answered, and the sink
-/// has passed their answers on: this is the one place where a run pulls.
+/// Pulls the next bytes. A source may wait for them, so all statements that are whole have been answered before, and
+/// the sink has passed their answers on. No other function of a run pulls.
 fn pull_flushed<I: Source<O>, O: Sink>(
     source: &mut I,
     splitter: &Splitter,
@@ -237,8 +246,11 @@ fn answer_rest<R: Responder, O: Sink, L: Listener, F: Form>(
     requires room { summary.statements + to_do splitter.old ≤ most_bytes }
     requires fewer { summary.refused ≤ summary.statements }
     requires going { IsTrue bail → summary.refused ≡ 0 }
-    ensures ends { EndsRun (manner R.answering F.texts bail) result splitter.old
-        (R.stands responder.old) (R.stands responder.new) (F.wrote form.old) summary O.flushes_fail (O.flushed sink.new)
+    ensures ends { (before : List run.Answer)
+        → EndsRun (manner R.answering (style_after before F.texts F.reported) bail) result
+        splitter.old (R.stands responder.old) (R.stands responder.new)
+        (written_after before (F.wrote form.old)) (written_after before (F.wrote form.new))
+        summary O.flushes_fail (O.flushed sink.new)
         (shown O.written O.failures L.heard sink.old listener.old)
         (shown O.written O.failures L.heard sink.new listener.new) }
     ensures grown { IfOk result
@@ -264,8 +276,9 @@ fn converse<R: Responder, I: Source<O>, O: Sink, L: Listener, F: Form>(
 ) -> Result<Summary, Fault>
     requires room { 0 < length buffer.old }
     requires small { length buffer.old ≤ 65_536 }
-    ensures { F.wrote form.old [] → (s : State) → R.stands responder.old s
-        → RunsIn (manner R.answering F.texts bail) s (R.stands responder.new)
+    ensures { (before : List run.Answer) → F.wrote form.old before → (s : State) → R.stands responder.old s
+        → RunsIn (manner R.answering (style_after before F.texts F.reported) bail) s (R.stands responder.new)
+        (written_after before (F.wrote form.new))
         (source_change I.left I.failures I.ended source.old source.new)
         (sink_change O.written O.failures O.flushed O.flushes_fail sink.old sink.new)
         (hearing_change L.heard listener.old listener.new) result }
@@ -300,14 +313,19 @@ fn converse<R: Responder, I: Source<O>, O: Sink, L: Listener, F: Form>(
     }
 }
 
-/// Answers the statements of a script one after another, writes each answer in a form to the sink, and tells the
-/// listener of those that are refused, behind the push of the answer: what it is handed is made by a push alone. Each
-/// statement is answered as soon as it is whole: the source is pulled only where no whole statement is left, and where
-/// the sink has passed on all answers before. Where the source fails, the statements that came whole before that are
-/// answered and stand, and the run says `Read`; where the sink fails, no statement runs behind the one whose answer it
-/// did not take, and the run says `Write`. Where `bail` says so, the first refusal stops the run, which ends well
-/// then, with the refusal written and counted: no statement behind it is answered, and nothing is pulled behind it.
-/// Else a refused statement does not stop the run.
+/// Answers the statements of a script in order, writes each answer in a form to the sink, and reports it to the
+/// listener after its push. Each statement is answered as soon as it is whole: the source is pulled only where no whole
+/// statement is left, and where the sink has passed on all answers before. The form may have written other answers
+/// before, as those of another script: then its texts are those of the answers that follow these.
+///
+/// Where `bail` says so, the first refusal stops the run, which ends well, with the refusal written and counted: no
+/// statement after it is answered, and nothing is pulled after it. Otherwise a refused statement does not stop the run.
+///
+/// # Errors
+///
+/// `Read` where the source fails: the statements that came whole before that are answered and stand. `Write` where the
+/// sink fails: no statement runs after the one whose answer it did not take. `Memory` where there is no room to read
+/// into: nothing ran.
 pub fn run_in<R: Responder, I: Source<O>, O: Sink, L: Listener, F: Form>(
     responder: &mut R,
     source: &mut I,
@@ -316,8 +334,9 @@ pub fn run_in<R: Responder, I: Source<O>, O: Sink, L: Listener, F: Form>(
     form: &mut F,
     bail: bool,
 ) -> Result<Summary, Fault>
-    ensures { F.wrote form.old [] → (s : State) → R.stands responder.old s
-        → RunsIn (manner R.answering F.texts bail) s (R.stands responder.new)
+    ensures { (before : List run.Answer) → F.wrote form.old before → (s : State) → R.stands responder.old s
+        → RunsIn (manner R.answering (style_after before F.texts F.reported) bail) s (R.stands responder.new)
+        (written_after before (F.wrote form.new))
         (source_change I.left I.failures I.ended source.old source.new)
         (sink_change O.written O.failures O.flushed O.flushes_fail sink.old sink.new)
         (hearing_change L.heard listener.old listener.new) result }

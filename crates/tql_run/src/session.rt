@@ -18,7 +18,7 @@ use tql_result::answer::Answer;
 #[derive(Drop)]
 pub struct Session {
     splitter: Splitter,
-    /// What is told beside the last answer.
+    /// The detail of the last answer.
     detail: Option<Detail>,
 }
 
@@ -33,8 +33,8 @@ impl Model for Session {
 impl Session {
     ghost use Rattle.tql_lex.specs.Holding.{Holds};
 
-    /// A session that was fed nothing. It takes room for one part of 65,536 bytes and for a statement's text of as
-    /// many, and keeps the memory that a longer text grows in.
+    /// Returns a session that was fed nothing. It allocates 65,536 bytes for a part and as many for a statement's text,
+    /// and keeps the memory that a longer text grows in.
     pub fn new(memory: Memory) -> Result<Session, AllocError>
         ensures holds { IfOk result (λ s. Holds s [] []) }
         ensures ready { IfOk result (λ s. s.ready ≡ []) }
@@ -47,8 +47,8 @@ impl Session {
         })
     }
 
-    /// Takes bytes from the front on, and answers how many: at most 65,536, and none while answers are left to be taken
-    /// or once the end was told. The host feeds the others again, behind the next answers.
+    /// Takes bytes from the front, and returns their number: at most 65,536, and zero while answers are left to be
+    /// taken or after `finish`. The host feeds the others again, after the next answers.
     pub fn feed(&mut self, bytes: &[u8]) -> usize
         ensures within { result ≤ length bytes.now }
         ensures feeds { Feeds self.old self.new (take result bytes.now) }
@@ -64,22 +64,22 @@ impl Session {
         count
     }
 
-    /// Says that no more bytes come.
+    /// Ends the script: no more bytes come.
     pub fn finish(&mut self)
         ensures { Finishes self.old self.new }
     {
         self.splitter.finish();
     }
 
-    /// The line of the statement that was answered last, of its first byte that counts; the first line is 1.
+    /// Returns the line of the statement that was answered last: that of its first byte that counts, from 1.
     pub fn line(&self) -> u64
         ensures { result ≡ self.now.line }
     {
         self.splitter.line()
     }
 
-    /// Answers the next statement. It is None where the bytes that were fed hold no whole one; once the end was told,
-    /// what no `;` ends is refused as unfinished.
+    /// Answers the next statement. Returns None where the bytes that were fed hold no whole one. After `finish`, a text
+    /// that no `;` ends is refused as unfinished.
     pub fn next_answer<R: Responder>(&mut self, responder: &mut R) -> Option<Answer>
         ensures { AnswersNext R.answering result self.old self.new
             (R.stands responder.old) (R.stands responder.new) }
@@ -87,8 +87,8 @@ impl Session {
         answer_next(responder, &mut self.splitter, true, &mut self.detail)
     }
 
-    /// What is told of the statement that was answered last, beside its refusal. It lies in the memory of what
-    /// answered, and is let go where the next answer is asked for.
+    /// Returns the detail of the refusal of the statement that was answered last. It is in the responder's memory, and
+    /// is freed by the next call of `next_answer`.
     pub fn detail(&self) -> Option<&Detail> {
         self.detail.as_ref()
     }

@@ -4,9 +4,10 @@ ghost use Rattle.std.specs.Prelude.{None};
 use crate::listener::Listener;
 use crate::pushed::Pushed;
 use tql_detail::detail::Detail;
+use tql_result::answer::Answer;
 use tql_value::refusal::Refusal;
 
-/// A listener that keeps nothing of what it is told.
+/// A listener that keeps nothing of what it hears.
 #[derive(Clone, Copy, Debug)]
 pub struct Silence;
 
@@ -14,6 +15,10 @@ impl Listener for Silence {
     ghost heard = { λ _. None };
 
     fn wants_details(&self) -> bool {
+        false
+    }
+
+    fn waits(&self) -> bool {
         false
     }
 
@@ -25,4 +30,6 @@ impl Listener for Silence {
         _detail: Option<&Detail>,
         _pushed: &Pushed,
     ) {}
+
+    fn answered(&mut self, _answer: &Answer, _pushed: &Pushed) {}
 }

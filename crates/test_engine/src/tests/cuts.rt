@@ -1,9 +1,9 @@
 //! Scripts that are cut at each byte: what came whole is answered, and then what an unfinished text is answered.
+use crate::tests::Engine;
 use crate::tests::devices::run_script;
 use crate::tests::scripts::{SCRIPTS, Script, bytes_from, cut_at};
 use std::test::Fail;
 use test_devices::{SOUND, Setting};
-use tql_engine::engine::Engine;
 use tql_engine::runner::run_bytes;
 use tql_memory::memory;
 

@@ -1,7 +1,7 @@
 //! Runs of scripts over memory, and devices that fail.
+use crate::tests::Engine;
 use std::test::Fail;
 use test_devices::Setting;
-use tql_engine::engine::Engine;
 use tql_engine::runner::run;
 use tql_memory::memory;
 use tql_result::sink::Sink;

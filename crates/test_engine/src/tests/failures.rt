@@ -1,10 +1,10 @@
 //! Devices that fail at each of their calls, over scripts of each kind: what was written then is a beginning of what
 //! the script is answered, the fault is the right one, and a second run goes on behind what was run.
+use crate::tests::Engine;
 use crate::tests::devices::{Outcome, run_on};
 use crate::tests::scripts::{Cut, SCRIPTS, Script, bytes_from, cut_at, replies_in, text_from};
 use std::test::Fail;
 use test_devices::{SOUND, Setting};
-use tql_engine::engine::Engine;
 use tql_memory::memory;
 use tql_run::runner::{Fault, Summary};
 

@@ -1,8 +1,8 @@
 //! Devices that fail.
+use crate::tests::Engine;
 use crate::tests::devices::run_script;
 use std::test::Fail;
 use test_devices::{SOUND, Setting};
-use tql_engine::engine::Engine;
 use tql_engine::runner::run_bytes;
 use tql_memory::memory;
 use tql_run::runner::{Fault, Summary};

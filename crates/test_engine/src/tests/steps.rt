@@ -1,9 +1,13 @@
-//! The calls of an engine beside scripts: COMMIT and ROLLBACK where memory has ended, and a step by a text.
+//! Statements by their texts: COMMIT and ROLLBACK where memory has ended, one with its semicolon, and questions to an
+//! index that refuses memory for them.
+use crate::tests::Engine;
 use std::process::Abort;
 use std::test::Fail;
-use tql_engine::engine::Engine;
+use test_devices::mute::Mute;
+use tql_engine::engine;
 use tql_memory::{Memory, memory};
 use tql_result::reply::{Reply, Verb};
+use tql_value::refusal::Refusal;
 
 /// More growths than the statements of these tests make.
 const MOST_GROWTHS: u64 = 4000;
@@ -42,14 +46,13 @@ fn spent_engine(rt: &(impl Abort + AllocGlobal)) -> Result<Engine, Fail> {
 
 #[test]
 fn ends_a_transaction_without_memory(rt: HostRuntime) -> Result<(), Fail> {
-    for verb in [Verb::Committed, Verb::RolledBack] {
+    for (text, verb) in [
+        ("COMMIT", Verb::Committed),
+        ("ROLLBACK WORK", Verb::RolledBack),
+    ] {
         let mut engine = spent_engine(&rt)?;
-        let reply = if verb == Verb::Committed {
-            engine.commit()
-        } else {
-            engine.rollback()
-        };
-        assert!(rt; matches!(&reply, Ok(Reply::Done(found, None)) if *found == verb));
+        let reply = engine.step(text.as_bytes());
+        assert!(rt; matches!(&reply, Reply::Done(found, None) if *found == verb));
     }
     Ok(())
 }
@@ -67,6 +70,53 @@ fn takes_no_semicolon_in_a_step(rt: HostRuntime) -> Result<(), Fail> {
             is_statement,
             "{text}"
         );
+    }
+    Ok(())
+}
+
+/// Statements for an index that refuses memory for each question, and what each is refused for.
+const QUESTIONS: [(&str, Option<Refusal>); 8] = [
+    (
+        "CREATE TABLE log (x INTEGER, s TIMESTAMP GENERATED ALWAYS AS ROW START, \
+         e TIMESTAMP GENERATED ALWAYS AS ROW END, PERIOD FOR SYSTEM_TIME (s, e)) WITH SYSTEM VERSIONING",
+        None,
+    ),
+    ("INSERT INTO log VALUES (7)", None),
+    ("DELETE FROM log", None),
+    (
+        "SELECT x FROM log FOR SYSTEM_TIME FROM TIMESTAMP '0001-01-01 00:00:00' \
+         TO TIMESTAMP '2011-01-01 00:00:00'",
+        Some(Refusal::OutOfMemory),
+    ),
+    (
+        "CREATE TABLE emp (eno INTEGER, estart DATE, eend DATE, PERIOD FOR ep (estart, eend))",
+        None,
+    ),
+    (
+        "INSERT INTO emp VALUES (1, DATE '2011-01-01', DATE '2012-01-01')",
+        None,
+    ),
+    ("SELECT eno FROM emp WHERE eno = 1", None),
+    (
+        "SELECT eno FROM emp WHERE ep CONTAINS DATE '2011-06-01'",
+        Some(Refusal::OutOfMemory),
+    ),
+];
+
+/// What a reply refuses a statement for.
+fn refusal_in(reply: &Reply) -> Option<Refusal> {
+    match reply {
+        Reply::Refused(refusal) => Some(*refusal),
+        _ => None,
+    }
+}
+
+#[test]
+fn what_the_index_refuses_is_refused(rt: HostRuntime) -> Result<(), Fail> {
+    let mut engine: engine::Engine<Mute> = engine::Engine::new(memory(rt.alloc(), u64::MAX)?);
+    for (text, refusal) in QUESTIONS {
+        let reply = engine.step(text.as_bytes());
+        assert!(rt; refusal_in(&reply) == refusal);
     }
     Ok(())
 }

@@ -5,7 +5,8 @@ ghost use Rattle.tql_store.specs.StoreModel.{has_table as table_there, AreRemova
 use std::alloc::AllocError;
 use std::process::Abort;
 use std::test::Fail;
-use tql_index::index::{Id, IntervalIndex};
+use test_devices::mute::Mute;
+use tql_index::index::IntervalIndex;
 use tql_index::list_index::ListIndex;
 use tql_index::tree_index::TreeIndex;
 use tql_memory::{Memory, memory};
@@ -220,6 +221,44 @@ fn has_period<I: IntervalIndex>(
         && finds(ample, store.sharing(table, (2, 1), sharing), None)
 }
 
+/// Whether they are found by a value and that period at once, and by no other value or period.
+fn has_values_in<I: IntervalIndex>(
+    ample: bool,
+    store: &Store<I>,
+    table: TableId,
+    current: Option<Shown>,
+) -> bool {
+    let Some(meeting) = Period::new(17, 18) else {
+        return false;
+    };
+    let Some(sharing) = Period::new(16, 18) else {
+        return false;
+    };
+    let seven = [View::Int(7)];
+    let eight = [View::Int(8)];
+    store.has_table(table)
+        && finds(
+            ample,
+            store.with_key_in(table, &[0], &seven, (1, 2), sharing),
+            current,
+        )
+        && finds(
+            ample,
+            store.with_key_in(table, &[0], &seven, (1, 2), meeting),
+            None,
+        )
+        && finds(
+            ample,
+            store.with_key_in(table, &[0], &eight, (1, 2), sharing),
+            None,
+        )
+        && finds(
+            ample,
+            store.with_key_in(table, &[2], &[View::Day(17)], (1, 2), sharing),
+            current,
+        )
+}
+
 /// Whether the versions of one number are found in the history.
 fn has_history_of<I: IntervalIndex>(
     ample: bool,
@@ -307,6 +346,7 @@ fn is_left<I: IntervalIndex>(
     finds(ample, store.found(table, When::Now), current)
         && has_values(ample, store, table, current)
         && has_period(ample, store, table, current)
+        && has_values_in(ample, store, table, current)
         && names_rows(ample, store, table, current)
         && versioned == store.is_versioned(table)
         && (!versioned
@@ -389,38 +429,6 @@ fn each_growth_is_refused_in_turn(rt: HostRuntime) -> Result<(), Fail> {
         assert!(rt; are_right && left > 0);
     }
     Ok(())
-}
-
-/// An index that answers no question: memory is wanting for each.
-#[derive(Drop)]
-struct Mute {
-    index: ListIndex,
-}
-
-impl IntervalIndex for Mute {
-    ghost entries = { λ m. m.index };
-
-    fn new(memory: Memory) -> Self {
-        Mute {
-            index: ListIndex::new(memory),
-        }
-    }
-
-    fn add(&mut self, period: Period, id: Id) -> Result<(), AllocError> {
-        self.index.add(period, id)
-    }
-
-    fn remove(&mut self, period: Period, id: Id) -> bool {
-        self.index.remove(period, id)
-    }
-
-    fn stab(&self, _point: i64) -> Result<Vec<Id, Memory>, AllocError> {
-        Err(AllocError)
-    }
-
-    fn overlapping(&self, _period: Period) -> Result<Vec<Id, Memory>, AllocError> {
-        Err(AllocError)
-    }
 }
 
 #[test]

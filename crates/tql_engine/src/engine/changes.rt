@@ -10,8 +10,9 @@ use crate::engine::Engine;
 use tql_bound::change::{Insertion, Modification, QueryInsertion, Work};
 use tql_dml::insertion::{insert_rows, insert_tuples};
 use tql_dml::modification::modify;
+use tql_index::index::IntervalIndex;
 use tql_keys::check::check;
-use tql_plan_access::choosing::access;
+use tql_plan_access::choosing::change_access;
 use tql_result::reply::{Reply, Verb};
 use tql_spec::{changes_by_parts, changes_keep_no_order, inserts_keep_no_order, safe_conditions};
 use tql_store::store::Delta;
@@ -28,7 +29,7 @@ fn verb_of(work: &Work) -> Verb
     }
 }
 
-impl Engine {
+impl<I: IntervalIndex> Engine<I> {
     ghost use Rattle.tql_spec.specs.Machine as machine;
     ghost use Rattle.tql_spec.specs.Machine.{State, step};
     ghost use Rattle.tql_spec.specs.TypingLaws.{IsTypedChange};
@@ -122,19 +123,19 @@ impl Engine {
     }
 
     /// What an UPDATE or DELETE makes of the current versions of the table, of which it looks at those alone that are
-    /// sought: WHERE is true of no other.
+    /// sought: WHERE is true of no other, or it shares no point with the portion.
     fn delta_of(&self, modification: &Modification) -> Result<Delta, Refusal>
         requires { modification.now.table < length self.now.tables }
         ensures { (p : Table) → slice_get self.now.tables modification.now.table ≡ Some p
             → Makes self.now.store p modification.now result }
     {
         let table = self.table_at(modification.table);
-        let access = access(
+        let access = change_access(
             self.memory,
             &table.definition,
             &modification.terms,
             &modification.conjuncts,
-            true,
+            modification.portion,
         )?;
         let seen = self.store.look(table.id, When::Now, access.sought())?;
         modify(self.memory, table, &seen, modification)

@@ -2,10 +2,11 @@
 ghost use Rattle.std.specs.Prelude.{◌≡◌, IfErr};
 
 use crate::engine::Engine;
+use tql_index::index::IntervalIndex;
 use tql_result::reply::{Reply, Verb};
 use tql_value::refusal::Refusal;
 
-impl Engine {
+impl<I: IntervalIndex> Engine<I> {
     ghost use Rattle.tql_spec.specs.Machine as machine;
     ghost use Rattle.tql_spec.specs.Machine.{State, step};
     ghost use Rattle.tql_value.specs.Points.{IsMoment};

@@ -9,6 +9,7 @@ use crate::sense::read_statement;
 use std::alloc::AllocError;
 use tql_bind_expr::faults::Faults;
 use tql_bind_query::query::bound_query;
+use tql_index::index::IntervalIndex;
 use tql_memory::Memory;
 use tql_syntax_tree::statement::{Query, Statement};
 use tql_value::refusal::Refusal;
@@ -37,7 +38,7 @@ fn known_kinds(memory: Memory, kinds: &[Option<Kind>]) -> Result<Vec<Kind, Memor
     Ok(known)
 }
 
-impl Engine {
+impl<I: IntervalIndex> Engine<I> {
     ghost use Rattle.std.specs.Prelude.{IsFalse, Some, [], List};
     ghost use Rattle.tql_spec.specs.Binding.{select};
     ghost use Rattle.tql_spec.specs.Machine.{State};

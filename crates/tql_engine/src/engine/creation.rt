@@ -4,10 +4,11 @@ ghost use Rattle.std.specs.Prelude.{◌≡◌, OnOk, OnErr, IfErr, IsTrue};
 
 use crate::engine::Engine;
 use tql_catalog::table_def::TableDef;
+use tql_index::index::IntervalIndex;
 use tql_result::reply::{Reply, Verb};
 use tql_value::refusal::Refusal;
 
-impl Engine {
+impl<I: IntervalIndex> Engine<I> {
     ghost use Rattle.tql_spec.specs.Machine as machine;
     ghost use Rattle.tql_spec.specs.Machine.{State, step, with_table};
     ghost use Rattle.tql_spec.specs.Typing.{IsTypedDefinition};

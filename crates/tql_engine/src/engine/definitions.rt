@@ -1,8 +1,9 @@
 //! The tables that are there, as a host asks for them.
 use crate::engine::Engine;
 use tql_catalog::table_def::TableDef;
+use tql_index::index::IntervalIndex;
 
-impl Engine {
+impl<I: IntervalIndex> Engine<I> {
     ghost use Rattle.std.specs.Prelude.{◌≡◌, length, option_map, slice_get};
     ghost use Rattle.tql_spec.specs.Machine.{State};
     ghost use Rattle.tql_catalog.specs.Tables.{definitions_of};

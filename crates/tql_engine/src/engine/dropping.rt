@@ -2,9 +2,10 @@
 ghost use Rattle.std.specs.Prelude.{◌<◌, length};
 
 use crate::engine::Engine;
+use tql_index::index::IntervalIndex;
 use tql_result::reply::{Reply, Verb};
 
-impl Engine {
+impl<I: IntervalIndex> Engine<I> {
     ghost use Rattle.tql_spec.specs.Machine as machine;
     ghost use Rattle.tql_spec.specs.Machine.{State, step};
     ghost use Rattle.tql_catalog.specs.Tables.{definitions_of};
@@ -24,7 +25,9 @@ impl Engine {
         ensures { (s : State) → StandsFor self.old s
             → Does self.new (reply_of result) (step s (machine.DropTable place)) }
     {
-        let table = self.tables.remove(place);
+        let Ok(table) = self.tables.drop_at(place) else {
+            unreachable!()
+        };
         self.store.drop_table(table.id);
         Reply::Done(Verb::DroppedTable, None)
     }

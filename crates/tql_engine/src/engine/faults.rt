@@ -9,6 +9,7 @@ use crate::engine::Engine;
 use std::alloc::AllocError;
 use tql_bind_expr::texts::unquoted;
 use tql_bound::reader::Reader;
+use tql_index::index::IntervalIndex;
 use tql_syntax_tree::statement::Statement;
 use tql_value::calendar::HIGH;
 use tql_value::literal::read_timestamp;
@@ -24,7 +25,7 @@ fn is_passed(reader: &Reader, moment: i64) -> bool
     }
 }
 
-impl Engine {
+impl<I: IntervalIndex> Engine<I> {
     ghost use Rattle.tql_spec.specs.Machine.{State, Defines, Starts, Prunes, state_faults, is_clock_at_end};
     ghost use Rattle.tql_spec.specs.Readers as machine;
     ghost use Rattle.tql_spec.specs.Refusal.{NotInThisTransactionState, MomentNotAllowed, ReadersAreOpen};

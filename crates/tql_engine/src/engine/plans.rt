@@ -4,6 +4,7 @@ use crate::sense::read_statement;
 use std::alloc::AllocError;
 use tql_bound::bound::Bound;
 use tql_bound::query::BoundQuery;
+use tql_index::index::IntervalIndex;
 use tql_memory::Memory;
 use tql_plan::planner::plan;
 use tql_plan_told::told::plan_words;
@@ -22,7 +23,7 @@ fn select_in<'s, 'a>(statement: &'s Statement<'a>) -> Option<&'s SelectTree<'a>>
     }
 }
 
-impl Engine {
+impl<I: IntervalIndex> Engine<I> {
     ghost use Rattle.std.specs.Prelude.{IsFalse};
     ghost use Rattle.tql_spec.specs.Syntax.{is_too_wide};
     ghost use Rattle.tql_bound.specs.Bounds.{IsSound};

@@ -1,8 +1,8 @@
 //! SELECT, and the rows that a query answers.
 use crate::engine::Engine;
-use crate::store::Shown;
 use tql_bound::query::BoundQuery;
 use tql_exec::running::{answer_rows, run};
+use tql_index::index::IntervalIndex;
 use tql_memory::Memory;
 use tql_plan::planner::plan;
 use tql_result::reply::Reply;
@@ -10,7 +10,7 @@ use tql_store::snapshot::Snapshot;
 use tql_value::refusal::Refusal;
 use tql_value::value::{ResultTable, Value};
 
-impl Engine {
+impl<I: IntervalIndex> Engine<I> {
     ghost use Rattle.std.specs.Prelude.{◌≡◌, map, string_bytes, IfOk};
     ghost use Rattle.tql_spec.specs.Machine as machine;
     ghost use Rattle.tql_spec.specs.Machine.{State, bag_of, step};
@@ -45,7 +45,7 @@ impl Engine {
     /// These rows under their headings, of what is shown of the store.
     pub(super) fn answered(
         &self,
-        shown: &Shown<'_>,
+        shown: &Snapshot<'_, I>,
         query: &BoundQuery,
     ) -> Result<ResultTable, Refusal>
         requires placed { IsPlacedQuery (definitions_of self.now.tables) (bound_query_of query.now) }

@@ -8,6 +8,7 @@ ghost use Rattle.tql_engine_state.specs.Readers.{KeptReader, reader_of};
 use crate::engine::Engine;
 use tql_bind_expr::texts::is_same_text;
 use tql_bound::reader::{Reader, ReaderQuery};
+use tql_index::index::IntervalIndex;
 use tql_memory::Memory;
 use tql_result::reply::{Reply, Verb};
 use tql_store::snapshot::Snapshot;
@@ -45,7 +46,7 @@ fn take_away(readers: &mut Vec<Reader, Memory>, name: &str)
     readers.retain(|reader| is_other(reader, name));
 }
 
-impl Engine {
+impl<I: IntervalIndex> Engine<I> {
     ghost use Rattle.tql_spec.specs.Machine as machine;
     ghost use Rattle.tql_spec.specs.Machine.{State, step};
     ghost use Rattle.tql_bound.specs.Placed.{IsPlacedQuery};

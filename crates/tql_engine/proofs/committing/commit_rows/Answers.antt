@@ -6,12 +6,12 @@ use Rattle.tql_store.proofs.Judging.{still-removable}
 use Rattle.tql_engine.proofs.committing.commit_rows.Goals as goal
 
 pub apply-requires-clause-removable : goal.apply-requires-clause-removable
-apply-requires-clause-removable c =
+apply-requires-clause-removable g c =
     still-removable c.args.store.now _ c.args.delta.table c.args.delta.removed.items
     (c.begin.ensures.names c.args.delta.table) c.requires.removable
 
 pub returns-in-Ok-clause-ok : goal.returns-in-Ok-clause-ok
-returns-in-Ok-clause-ok c = record {
+returns-in-Ok-clause-ok g c = record {
   opened = c.begin.new.self;
   changed = c.apply.new.self;
   begins = c.begin.ensures.copies;
@@ -26,7 +26,7 @@ returns-in-Ok-clause-ok c = record {
 }
 
 pub returns-in-Err-clause-err : goal.returns-in-Err-clause-err
-returns-in-Err-clause-err c = record {
+returns-in-Err-clause-err g c = record {
   opened = c.begin.new.self;
   begins = c.begin.ensures.copies;
   is_open = c.begin.ensures.working ∙ ap Some (to_z-of_z c.ranges.moment);

@@ -1,5 +1,6 @@
 use Rattle.std.proofs.Common.{◌∙◌, ap, sym, subst, arith, ◌≤◌}
 use Rattle.tql_result.specs.Replies.{answer_of}
+use Rattle.tql_run.specs.Texts.{style_after}
 use Rattle.tql_run.specs.declared.runner.Summary.{Summary}
 use Rattle.tql_run.proofs.OneMore.{came_to}
 use Rattle.tql_run.proofs.Writing.{wrote_more, wrote_cut, wrote_stop, wrote_all, none_answered, still_fewer}
@@ -8,31 +9,35 @@ use Rattle.tql_run.proofs.Writing.{goes_on, not_stopped, as_going, as_stop}
 use Rattle.tql_run.proofs.runner.answer_ready.Goals as goal
 
 pub returns-in-Err-clause-answers : goal.returns-in-Err-clause-answers
-returns-in-Err-clause-answers g c s script from short t =
+returns-in-Err-clause-answers g c before s script from short t =
     let i = c.loop-answer.invariant in
     wrote_cut _ _ s script _ _ _ _ _ _ _ c.in-Some.answer _ _ _ c.line-line.result _ short i.going
-    (i.wrote s script from short t) c.in-Some.ensures c.line-line.ensures c.tell.ensures
-    (came_to c.in-Err.ensures c.push-pushed.ensures)
+    (i.wrote before s script from short t) c.in-Some.ensures c.line-line.ensures c.report.ensures
+    (came_to (style_after before g.F.Form.texts g.F.Form.reported) c.in-Err.ensures (c.push-pushed.ensures before))
 
 pub returns-then-is_stopped-clause-answers : goal.returns-then-is_stopped-clause-answers
-returns-then-is_stopped-clause-answers g c s script from short t =
+returns-then-is_stopped-clause-answers g c before s script from short t =
     let i = c.loop-answer.invariant in
     let stopped = sym c.is_stopped.ensures ∙ c.if-is_stopped.true in
     record {
       is = as_stop _ _ _ stopped
-          (wrote_stop _ s script _ _ _ _ _ _ _ c.counted.result c.in-Some.answer _ _ _ c.line-line.result _ short
-          i.going (i.wrote s script from short t) c.in-Some.ensures c.line-line.ensures c.tell.ensures c.counted.ensures
-          (came_to c.in-Ok.ensures c.push-pushed.ensures) stopped);
+          (wrote_stop _ _ s script _ _ _ _ _ _ _ c.counted.result c.in-Some.answer _ _ _ c.line-line.result _ short
+          i.going (i.wrote before s script from short t) c.in-Some.ensures c.line-line.ensures c.report.ensures
+          c.counted.ensures
+          (came_to (style_after before g.F.Form.texts g.F.Form.reported) c.in-Ok.ensures (c.push-pushed.ensures
+          before)) stopped);
     }
 
 pub loop-answer-preserved : goal.loop-answer-preserved
 loop-answer-preserved g c =
     let i = c.loop-answer.invariant in
     record {
-      wrote = λ s script from short t.
-          wrote_more _ s script _ _ _ _ _ _ _ c.counted.result c.in-Some.answer _ _ _ c.line-line.result _ short
-          (i.wrote s script from short t) c.in-Some.ensures c.line-line.ensures c.tell.ensures c.counted.ensures
-          (came_to c.in-Ok.ensures c.push-pushed.ensures);
+      wrote = λ before s script from short t.
+          wrote_more _ _ s script _ _ _ _ _ _ _ c.counted.result c.in-Some.answer _ _ _ c.line-line.result _ short
+          (i.wrote before s script from short t) c.in-Some.ensures c.line-line.ensures c.report.ensures
+          c.counted.ensures
+          (came_to (style_after before g.F.Form.texts g.F.Form.reported) c.in-Ok.ensures (c.push-pushed.ensures
+          before));
       ended = c.in-Some.ensures.one.ended ∙ i.ended;
       room = omega (arith, i.room, c.in-Some.ensures.one.fewer, ap (λ (x : Summary). x.statements) c.counted.ensures);
       grown = still_grown _ _ _ _ c.counted.ensures i.grown;
@@ -42,11 +47,11 @@ loop-answer-preserved g c =
     }
 
 pub returns-clause-answers : goal.returns-clause-answers
-returns-clause-answers g c s script from short t =
+returns-clause-answers g c before s script from short t =
     let i = c.loop-answer.invariant in
     record {
       is = as_going _ _ _ (not_stopped c.args.bail c.loop-answer.summary i.going)
-          (wrote_all _ s script _ _ _ _ _ _ _ _ (i.wrote s script from short t)
+          (wrote_all _ s script _ _ _ _ _ _ _ _ (i.wrote before s script from short t)
           (none_answered _ c.answer_next.result _ _ _ _ c.answer_next.ensures c.in_default.not-Some));
     }
 

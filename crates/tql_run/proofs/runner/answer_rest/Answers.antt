@@ -3,13 +3,13 @@ use Rattle.tql_run.proofs.Writing.{wrote_ended, wrote_rest, failed_as}
 use Rattle.tql_run.proofs.runner.answer_rest.Goals as goal
 
 pub returns-in-Ok-clause-ends : goal.returns-in-Ok-clause-ends
-returns-in-Ok-clause-ends g c s script from short t =
+returns-in-Ok-clause-ends g c before s script from short t =
     let ended = wrote_ended _ s script _ _ _ _ _ _ _ t c.finish.ensures in
     wrote_rest _ s script _ _ _ _ _ _ _ (c.in-Ok.ensures.tallies.ended ∙ c.finish.ensures.ended)
-    c.in-Ok.ensures.flushed (c.in-Ok.ensures.answers s script from short ended)
+    c.in-Ok.ensures.flushed (c.in-Ok.ensures.answers before s script from short ended)
 
 pub returns-in-Err-clause-ends : goal.returns-in-Err-clause-ends
-returns-in-Err-clause-ends g c s script from short t =
+returns-in-Err-clause-ends g c before s script from short t =
     let ended = wrote_ended _ s script _ _ _ _ _ _ _ t c.finish.ensures in
     failed_as _ s script _ _ _ _ _ _ (c.in-Err.ensures.tallies.ended ∙ c.finish.ensures.ended)
-    (c.in-Err.ensures.answers s script from short ended)
+    (c.in-Err.ensures.answers before s script from short ended)

@@ -13,22 +13,22 @@ loop-pull-init g c = converse_first _ _ _ _ (record {
 }) _ _ _ _ c.in_ok-script.ensures.holds c.in_ok-script.ensures.ready c.in_ok-script.ensures.open refl refl
 
 pub returns-in-Err : goal.returns-in-Err
-returns-in-Err g c fresh s st =
+returns-in-Err g c before fresh s st =
     let i = c.loop-pull.invariant in
     let few : c.loop-pull._pull ≤ most_pulls = omega arith in
     failed_writing _ s i.script _ _ _ _ _ _ (c.in-Err.ensures.tallies.ended ∙ i.unended) i.reads
-    (c.in-Err.ensures.answers s i.script _ (script_short _ i.script _ few i.reads) (i.wrote fresh s st))
+    (c.in-Err.ensures.answers before s i.script _ (script_short _ i.script _ few i.reads) (i.wrote before fresh s st))
 
 pub returns-then-is_stopped : goal.returns-then-is_stopped
-returns-then-is_stopped g c fresh s st =
+returns-then-is_stopped g c before fresh s st =
     let i = c.loop-pull.invariant in
     let few : c.loop-pull._pull ≤ most_pulls = omega arith in
-    stopped_run _ s _ _ _ _ _ _ _ _ _ _ _ _ _ _ _ i fresh st c.in-Ok.ensures.tallies.ended
+    stopped_run _ before s _ _ _ _ _ _ _ _ _ _ _ _ _ _ _ i fresh st refl c.in-Ok.ensures.tallies.ended
     c.in-Ok.ensures.tallies.grown (sym c.is_stopped.ensures ∙ c.if-is_stopped.true) c.in-Ok.ensures.flushed
-    (c.in-Ok.ensures.answers s i.script _ (script_short _ i.script _ few i.reads) (i.wrote fresh s st))
+    (c.in-Ok.ensures.answers before s i.script _ (script_short _ i.script _ few i.reads) (i.wrote before fresh s st))
 
 pub returns-in-Err-pull_flushed : goal.returns-in-Err-pull_flushed
-returns-in-Err-pull_flushed g c fresh s st =
+returns-in-Err-pull_flushed g c before fresh s st =
     let i = c.loop-pull.invariant in
     let few : c.loop-pull._pull ≤ most_pulls = omega arith in
     let p = c.in-Err-pull_flushed.ensures.pulls in
@@ -42,23 +42,25 @@ returns-in-Err-pull_flushed g c fresh s st =
     })
     c.in-Ok.ensures.flushed
     (at_going _ _ _ (sym c.is_stopped.ensures ∙ c.if-is_stopped.false)
-    (c.in-Ok.ensures.answers s i.script _ (script_short _ i.script _ few i.reads) (i.wrote fresh s st)).is)
+    (c.in-Ok.ensures.answers before s i.script _ (script_short _ i.script _ few i.reads) (i.wrote before fresh s
+    st)).is)
 
 pub returns-then-count-eq0 : goal.returns-then-count-eq0
-returns-then-count-eq0 g c fresh s st =
+returns-then-count-eq0 g c before fresh s st =
     let i = c.loop-pull.invariant in
     let few : c.loop-pull._pull ≤ most_pulls = omega arith in
     let p = c.in-Ok-pull_flushed.ensures.pulls in
     let w = at_going _ _ _ (sym c.is_stopped.ensures ∙ c.if-is_stopped.false)
-    (c.in-Ok.ensures.answers s i.script _ (script_short _ i.script _ few i.reads) (i.wrote fresh s st)).is in
+    (c.in-Ok.ensures.answers before s i.script _ (script_short _ i.script _ few i.reads) (i.wrote before fresh s
+    st)).is in
     let unended = c.in-Ok.ensures.tallies.ended ∙ i.unended in
-    ended_run _ s i.script _ _ c.answer_rest.result _ _ _ (all_counted _ s i.script _ _ _ _ _ _ unended w)
+    ended_run _ s i.script _ _ _ c.answer_rest.result _ _ _ (all_counted _ s i.script _ _ _ _ _ _ unended w)
     (goes_on c.args.bail c.answer_flushed.new.summary (sym c.is_stopped.ensures ∙ c.if-is_stopped.false))
     c.answer_rest.ensures.grown
     (gives_kept _ _ _ i.script _ (none_taken _ _ c.if-count-eq0.true) i.reads.given p.given)
     (met_end _ _ _ i.script _ _ _ _ _ i.reads p c.if-count-eq0.true
     (omega (arith, c.requires.room, c.loop-pull.auto.buffer)))
-    (c.answer_rest.ensures.ends s i.script _ (script_short _ i.script _ few i.reads) w.to)
+    (c.answer_rest.ensures.ends before s i.script _ (script_short _ i.script _ few i.reads) w.to)
 
 pub loop-pull-preserved : goal.loop-pull-preserved
 loop-pull-preserved g c =
@@ -77,9 +79,10 @@ loop-pull-preserved g c =
       script = i.script ++ bytes;
       reads = reads_more _ _ count i.script c.pull_flushed.new.buffer bytes _ _ _ _ i.reads p c.if-count-eq0.false fits
           small refl;
-      wrote = λ fresh s st. wrote_fed _ s i.script bytes _ _ _ _ _ _ _ unended
+      wrote = λ before fresh s st. wrote_fed _ s i.script bytes _ _ _ _ _ _ _ unended
           (at_going _ _ _ (sym c.is_stopped.ensures ∙ c.if-is_stopped.false)
-          (c.in-Ok.ensures.answers s i.script _ (script_short _ i.script _ few i.reads) (i.wrote fresh s st)).is).to
+          (c.in-Ok.ensures.answers before s i.script _ (script_short _ i.script _ few i.reads) (i.wrote before fresh s
+          st)).is).to
           c.feed.ensures;
       unended = c.feed.ensures.ended ∙ unended;
       room = omega (arith, i.room, c.in-Ok.ensures.tallies.room, c.feed.ensures.more, size, fits, small);
@@ -89,24 +92,26 @@ loop-pull-preserved g c =
       last = bytes;
       parts = refl;
       small = omega (arith, size, fits, small);
-      asked = λ fresh s st.
+      asked = λ before fresh s st.
           let all = all_counted _ s i.script _ _ _ _ _ _ unended
           (at_going _ _ _ (sym c.is_stopped.ensures ∙ c.if-is_stopped.false)
-          (c.in-Ok.ensures.answers s i.script _ (script_short _ i.script _ few i.reads) (i.wrote fresh s st)).is) in
+          (c.in-Ok.ensures.answers before s i.script _ (script_short _ i.script _ few i.reads) (i.wrote before fresh s
+          st)).is) in
           omega (arith, all);
     }
 
 pub returns-in-Ok-answer_flushed : goal.returns-in-Ok-answer_flushed
-returns-in-Ok-answer_flushed g c fresh s st =
+returns-in-Ok-answer_flushed g c before fresh s st =
     let i = c.loop-pull.invariant in
     let few : c.loop-pull._pull ≤ most_pulls = omega arith in
-    stopped_run _ s _ _ _ _ _ _ _ _ _ _ _ _ _ _ _ i fresh st c.in-Ok-answer_flushed.ensures.tallies.ended
+    stopped_run _ before s _ _ _ _ _ _ _ _ _ _ _ _ _ _ _ i fresh st refl c.in-Ok-answer_flushed.ensures.tallies.ended
     c.in-Ok-answer_flushed.ensures.tallies.grown (sym c.if-is_stopped-2.ensures)
     c.in-Ok-answer_flushed.ensures.flushed
-    (c.in-Ok-answer_flushed.ensures.answers s i.script _ (script_short _ i.script _ few i.reads) (i.wrote fresh s st))
+    (c.in-Ok-answer_flushed.ensures.answers before s i.script _ (script_short _ i.script _ few i.reads) (i.wrote
+    before fresh s st))
 
 pub returns-in-Ok-2 : goal.returns-in-Ok-2
-returns-in-Ok-2 g c fresh s st =
+returns-in-Ok-2 g c before fresh s st =
     let i = c.loop-pull.invariant in
     let few : c.loop-pull._pull ≤ most_pulls = omega arith in
     let all : most_pulls ≤ length i.script = omega (arith, i.reads.grown, c.loop-pull-test.false) in
@@ -116,4 +121,13 @@ returns-in-Ok-2 g c fresh s st =
     (record { unmet = i.reads.unmet (omega (arith, c.loop-pull-test.false)); cause = inr all })
     c.in-Ok-2.ensures.flushed
     (at_going _ _ _ going
-    (c.in-Ok-2.ensures.answers s i.script _ (script_short _ i.script _ few i.reads) (i.wrote fresh s st)).is)
+    (c.in-Ok-2.ensures.answers before s i.script _ (script_short _ i.script _ few i.reads) (i.wrote before fresh s
+    st)).is)
+
+pub returns : goal.returns
+returns g c before fresh s st =
+    let i = c.loop-pull.invariant in
+    let few : c.loop-pull._pull ≤ most_pulls = omega arith in
+    failed_writing _ s i.script _ _ _ _ _ _ (c.in-Err-answer_flushed.ensures.tallies.ended ∙ i.unended) i.reads
+    (c.in-Err-answer_flushed.ensures.answers before s i.script _ (script_short _ i.script _ few i.reads)
+    (i.wrote before fresh s st))

@@ -17,7 +17,7 @@ use Rattle.tql_engine_state.proofs.Typed.{sound_after}
 use Rattle.tql_engine.proofs.engine.Engine.add_table.Goals as goal
 
 pub add_table-requires : goal.add_table-requires
-add_table-requires c =
+add_table-requires g c =
     let sound = subst (λ (h : EngineModel). IsSoundTable (definitions_of h.tables) c.args.definition)
     (sym c.self.view_is)
     c.requires.sound in
@@ -25,31 +25,31 @@ add_table-requires c =
     ∙ sym c.self.invariant.stands.count) sound.room
 
 pub create-requires-clause-free : goal.create-requires-clause-free
-create-requires-clause-free c =
+create-requires-clause-free g c =
     let table : Table = record { definition = c.args.definition; id = c.in_ok-id.id } in
     free_number c.self.inside.store c.add_table.new.self table
     (subst (λ (b : Bool). AddsTable b c.in_ok-id.id c.self.inside.store c.add_table.new.self)
     c.is_versioned.ensures.versioned c.in_ok-id.ensures.ok) c.self.inside.tables c.self.invariant.stands.placed
 
 pub create-requires-clause-parents : goal.create-requires-clause-parents
-create-requires-clause-parents c =
+create-requires-clause-parents g c =
     subst (λ (h : EngineModel). IsTrue (list_all (can_have (definitions_of h.tables)) c.args.definition.references))
     (sym c.self.view_is) c.requires.parents
 
 pub drop_table-requires-clause-closed : goal.drop_table-requires-clause-closed
-drop_table-requires-clause-closed c =
+drop_table-requires-clause-closed g c =
     subst (λ (o : Option ℤ). IsNone o) (sym c.in_ok-id.ensures.ok.working)
     (subst (λ (h : EngineModel). IsNone h.store.working) (sym c.self.view_is) c.requires.closed)
 
 pub drop_table-requires-clause-present : goal.drop_table-requires-clause-present
-drop_table-requires-clause-present c =
+drop_table-requires-clause-present g c =
     let table : Table = record { definition = c.args.definition; id = c.in_ok-id.id } in
     there_now c.self.inside.store c.add_table.new.self table
     (subst (λ (b : Bool). AddsTable b c.in_ok-id.id c.self.inside.store c.add_table.new.self)
     c.is_versioned.ensures.versioned c.in_ok-id.ensures.ok)
 
 pub invariant_of-self-in-Ok : goal.invariant_of-self-in-Ok
-invariant_of-self-in-Ok c =
+invariant_of-self-in-Ok g c =
     let d = c.args.definition in
     let table : Table = record { definition = d; id = c.in_ok-id.id } in
     let closed = subst (λ (h : EngineModel). IsNone h.store.working) (sym c.self.view_is) c.requires.closed in
@@ -61,7 +61,7 @@ invariant_of-self-in-Ok c =
     c.is_versioned.ensures.versioned c.in-Ok.ensures.created))
 
 pub invariant_of-self-in-Err : goal.invariant_of-self-in-Err
-invariant_of-self-in-Err c =
+invariant_of-self-in-Err g c =
     let d = c.args.definition in
     let table : Table = record { definition = d; id = c.in_ok-id.id } in
     let adds = subst (λ (b : Bool). AddsTable b c.in_ok-id.id c.self.inside.store c.add_table.new.self)
@@ -84,7 +84,7 @@ invariant_of-self-in-Err c =
     }
 
 pub returns-in-Ok-clause-ok : goal.returns-in-Ok-clause-ok
-returns-in-Ok-clause-ok c s st =
+returns-in-Ok-clause-ok g c s st =
     let d = c.args.definition in
     let table : Table = record { definition = d; id = c.in_ok-id.id } in
     made_law s c.self.inside.tables _ table c.self.inside.store _ _ _ _
@@ -96,7 +96,7 @@ returns-in-Ok-clause-ok c s st =
     c.is_versioned.ensures.versioned c.in-Ok.ensures.created
 
 pub returns-in-Err-clause-err : goal.returns-in-Err-clause-err
-returns-in-Err-clause-err c s st =
+returns-in-Err-clause-err g c s st =
     let d = c.args.definition in
     let table : Table = record { definition = d; id = c.in_ok-id.id } in
     let adds = subst (λ (b : Bool). AddsTable b c.in_ok-id.id c.self.inside.store c.add_table.new.self)
@@ -114,7 +114,7 @@ returns-in-Err-clause-err c s st =
     c.in_ok-id.ensures.copies)
 
 pub returns-in-Err-clause-memory : goal.returns-in-Err-clause-memory
-returns-in-Err-clause-memory c =
+returns-in-Err-clause-memory g c =
     let sound = subst (λ (h : EngineModel). IsSoundTable (definitions_of h.tables) c.args.definition)
     (sym c.self.view_is)
     c.requires.sound in

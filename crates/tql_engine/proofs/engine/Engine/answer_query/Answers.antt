@@ -11,7 +11,7 @@ use Rattle.tql_engine_state.proofs.ReadersShow.{can_now}
 use Rattle.tql_engine.proofs.engine.Engine.answer_query.Goals as goal
 
 pub answered-requires-clause-can : goal.answered-requires-clause-can
-answered-requires-clause-can c =
+answered-requires-clause-can g c =
     let q = bound_query_of c.args.query.now in
     let st = subst (λ (h : EngineModel). StandsFor h c.self.invariant.state) c.self.view_is c.self.invariant.stands in
     subst (λ (r : StoreModel). CanAnswer c.args.self.now.tables r q) (sym c.now-shown.ensures)
@@ -19,7 +19,7 @@ answered-requires-clause-can c =
     (can_now c.args.self.now c.self.invariant.state q st c.self.invariant.typed c.requires.placed c.requires.within))
 
 pub returns-in-Ok : goal.returns-in-Ok
-returns-in-Ok c s st =
+returns-in-Ok g c s st =
     let q = bound_query_of c.args.query.now in
     let shows = subst (λ (r : StoreModel). Shows c.args.self.now.tables r s) (sym c.now-shown.ensures)
     (subst (λ (h : EngineModel). Shows c.args.self.now.tables h.store s) (sym c.self.view_is)
@@ -28,7 +28,7 @@ returns-in-Ok c s st =
     (query_asked c.args.self.now s q st c.requires.within) _ _ (c.in-Ok.ensures.rows s shows) c.in-Ok.ensures.headings
 
 pub returns-in-Err : goal.returns-in-Err
-returns-in-Err c s st =
+returns-in-Err g c s st =
     let q = bound_query_of c.args.query.now in
     let shows = subst (λ (r : StoreModel). Shows c.args.self.now.tables r s) (sym c.now-shown.ensures)
     (subst (λ (h : EngineModel). Shows c.args.self.now.tables h.store s) (sym c.self.view_is)

@@ -17,7 +17,7 @@ use Rattle.tql_engine_state.proofs.Standing.{place_law}
 use Rattle.tql_engine.proofs.engine.Engine.answer_rows.Goals as goal
 
 pub plan-requires : goal.plan-requires
-plan-requires c =
+plan-requires g c =
     let x = c.args.query.now in
     let tables = c.self.inside.tables in
     let placed = subst (λ (h : EngineModel). IsPlacedQuery (definitions_of h.tables) (bound_query_of x))
@@ -30,7 +30,7 @@ plan-requires c =
     }
 
 pub answer_rows-requires-clause-readable : goal.answer_rows-requires-clause-readable
-answer_rows-requires-clause-readable c =
+answer_rows-requires-clause-readable g c =
     let x = c.args.query.now in
     let q = bound_query_of x in
     let placed = subst (λ (h : EngineModel). IsPlacedQuery (definitions_of h.tables) q) (sym c.self.view_is)
@@ -42,7 +42,7 @@ answer_rows-requires-clause-readable c =
     c.in_ok-plan.ensures.sources
 
 pub returns : goal.returns
-returns c s st =
+returns g c s st =
     let x = c.args.query.now in
     let q = bound_query_of x in
     let tables = c.self.inside.tables in

@@ -15,7 +15,7 @@ use Rattle.tql_engine_state.proofs.Standing.{place_law}
 use Rattle.tql_engine.proofs.engine.Engine.answered.Goals as goal
 
 pub plan-requires : goal.plan-requires
-plan-requires c =
+plan-requires g c =
     let x = c.args.query.now in
     let tables = c.self.inside.tables in
     let placed = subst (λ (h : EngineModel). IsPlacedQuery (definitions_of h.tables) (bound_query_of x))
@@ -28,7 +28,7 @@ plan-requires c =
     }
 
 pub run-requires-clause-readable : goal.run-requires-clause-readable
-run-requires-clause-readable c =
+run-requires-clause-readable g c =
     let x = c.args.query.now in
     let placed = subst (λ (h : EngineModel). IsPlacedQuery (definitions_of h.tables) (bound_query_of x))
     (sym c.self.view_is)
@@ -38,7 +38,7 @@ run-requires-clause-readable c =
     sources_readable c.self.inside.tables _ x c.in_ok-plan.plan placed can c.in_ok-plan.ensures.sources
 
 pub returns-clause-rows : goal.returns-clause-rows
-returns-clause-rows c s sees =
+returns-clause-rows g c s sees =
     let x = c.args.query.now in
     let tables = c.self.inside.tables in
     let placed = subst (λ (h : EngineModel). IsPlacedQuery (definitions_of h.tables) (bound_query_of x))
@@ -54,6 +54,6 @@ returns-clause-rows c s sees =
     (λ i. ordered (bound_query_of (c.in_ok-plan.ensures.query i)).ordering (means i)) given
 
 pub returns-clause-headings : goal.returns-clause-headings
-returns-clause-headings c =
+returns-clause-headings g c =
     subst (λ (x : BoundQuery). IfOk c.run.result (λ rows. map string_bytes rows.headings.items
     ≡ (bound_query_of x).headings)) c.in_ok-plan.ensures.query c.run.ensures.headings

@@ -17,11 +17,11 @@ use Rattle.tql_engine.proofs.ReaderNames.{names_kept}
 use Rattle.tql_engine.proofs.engine.Engine.bound.Goals as goal
 
 pub bind-requires-clause-tables : goal.bind-requires-clause-tables
-bind-requires-clause-tables c =
+bind-requires-clause-tables g c =
     All-from_recursion IsNarrow (definitions_of c.self.inside.tables) c.self.invariant.stands.fits.narrow
 
 pub returns-clause-binds : goal.returns-clause-binds
-returns-clause-binds c s st =
+returns-clause-binds g c s st =
     let t = statement_of c.args.statement.now in
     let back = subst (λ (h : EngineModel). StandsFor h s) (sym c.self.view_is) st in
     let fits : SFits w64 c.horizon.result = search rules in

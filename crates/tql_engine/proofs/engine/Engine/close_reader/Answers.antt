@@ -9,7 +9,7 @@ use Rattle.tql_engine_state.proofs.Typed.{sound_after}
 use Rattle.tql_engine.proofs.engine.Engine.close_reader.Goals as goal
 
 pub returns : goal.returns
-returns c s st =
+returns g c s st =
     let inside = subst (λ (h : EngineModel). StandsFor h s) (sym c.self.view_is) st in
     let within = subst (λ (h : EngineModel). IsWithin h (CloseReader c.args.name.now)) (sym c.self.view_is)
     c.requires.within in
@@ -22,7 +22,7 @@ returns c s st =
     (close_does _ s c.args.name.now inside within)
 
 pub invariant_of-self : goal.invariant_of-self
-invariant_of-self c =
+invariant_of-self g c =
     let s : State = c.self.invariant.state in
     let within = subst (λ (h : EngineModel). IsWithin h (CloseReader c.args.name.now)) (sym c.self.view_is)
     c.requires.within in

@@ -10,7 +10,7 @@ use Rattle.tql_engine.proofs.HoldPoints.{commit_holds}
 use Rattle.tql_engine.proofs.engine.Engine.commit.Goals as goal
 
 pub invariant_of-self : goal.invariant_of-self
-invariant_of-self c =
+invariant_of-self g c =
     let s : State = c.self.invariant.state in
     let st = c.self.invariant.stands in
     let is_open = sym c.has_transaction.ensures ∙ c.if-not-has_transaction.false in
@@ -21,7 +21,7 @@ invariant_of-self c =
     (c.commit.ensures.tables) (c.commit.ensures.horizon)))
 
 pub returns-clause-answered : goal.returns-clause-answered
-returns-clause-answered c s st =
+returns-clause-answered g c s st =
     let back = subst (λ h. StandsFor h s) (sym c.self.view_is) st in
     let is_open = sym c.has_transaction.ensures ∙ c.if-not-has_transaction.false in
     let e = open_entry _ s back is_open in
@@ -30,16 +30,16 @@ returns-clause-answered c s st =
     (c.commit.ensures.tables) (c.commit.ensures.horizon))
 
 pub returns-then-not-has_transaction-clause-answered : goal.returns-then-not-has_transaction-clause-answered
-returns-then-not-has_transaction-clause-answered c s st =
+returns-then-not-has_transaction-clause-answered g c s st =
     commit_refused _ s st (ap (λ (h : EngineModel). is_some h.store.working) (sym c.self.view_is)
     ∙ sym c.has_transaction.ensures ∙ c.if-not-has_transaction.true)
 
 pub returns-clause-holds : goal.returns-clause-holds
-returns-clause-holds c s h =
-    record { stands = (returns-clause-answered c s h.stands).stands; holds = commit_holds s h.holds }
+returns-clause-holds g c s h =
+    record { stands = (returns-clause-answered g c s h.stands).stands; holds = commit_holds s h.holds }
 
 pub returns-then-not-has_transaction-clause-holds : goal.returns-then-not-has_transaction-clause-holds
-returns-then-not-has_transaction-clause-holds c s h = record {
-  stands = (returns-then-not-has_transaction-clause-answered c s h.stands).stands;
+returns-then-not-has_transaction-clause-holds g c s h = record {
+  stands = (returns-then-not-has_transaction-clause-answered g c s h.stands).stands;
   holds = commit_holds s h.holds;
 }

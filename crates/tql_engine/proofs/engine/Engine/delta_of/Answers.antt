@@ -5,10 +5,10 @@ use Rattle.std.proofs.lemmas.List.Elements.{All-weaker}
 use Rattle.tql_bound.specs.declared.change.Modification.{Modification}
 use Rattle.tql_catalog.specs.Rows.{stored_width}
 use Rattle.tql_catalog.specs.declared.catalog.Table.{Table}
-use Rattle.tql_dml.specs.Alters.{IsVersionOf}
+use Rattle.tql_dml.specs.Alters.{IsVersionOf, portion_in}
 use Rattle.tql_expr.specs.Meaning.{cond}
 use Rattle.tql_expr.specs.declared.terms.CondId.{CondId}
-use Rattle.tql_plan_access.specs.Access.{ServesTable}
+use Rattle.tql_plan_access.specs.Access.{ServesChange}
 use Rattle.tql_store.specs.StoreModel.{has_table}
 use Rattle.tql_store.specs.Views.{IsFound}
 use Rattle.tql_store_index.specs.Basis.{Sought, is_looked_at}
@@ -24,7 +24,7 @@ use Rattle.tql_engine_state.proofs.Standing.{some_is, there_law}
 use Rattle.tql_engine.proofs.engine.Engine.delta_of.Goals as goal
 
 pub look-requires-clause-there : goal.look-requires-clause-there
-look-requires-clause-there c =
+look-requires-clause-there g c =
     let p : Table = c.table_at-table.result.now in
     let stands = subst (λ h. StandsFor h c.self.invariant.state) c.self.view_is c.self.invariant.stands in
     subst (λ (h : EngineModel). IsTrue (has_table h.store p.id)) (sym c.self.view_is)
@@ -32,7 +32,7 @@ look-requires-clause-there c =
     c.table_at-table.ensures)
 
 pub modify-requires : goal.modify-requires
-modify-requires c =
+modify-requires g c =
     let p : Table = c.table_at-table.result.now in
     let x : Modification = c.args.modification.now in
     let o : Option Sought = c.in_ok-access.access in
@@ -48,7 +48,7 @@ modify-requires c =
     (λ v k. sym (length-map v.row.now datum_of_value) ∙ k.cells.width) c.in_ok-seen.seen.items fit)
 
 pub returns : goal.returns
-returns c p e =
+returns g c p e =
     let q : Table = c.table_at-table.result.now in
     let x : Modification = c.args.modification.now in
     let o : Option Sought = c.in_ok-access.access in
@@ -56,8 +56,8 @@ returns c p e =
     c.table_at-table.ensures in
     let made : Made c.self.inside.store q x c.modify.result = record {
       sought = o;
-      serves = subst (λ (ids : List CondId). ServesTable q.definition (map (cond x.terms) ids) o) c.deref.ensures.value
-          c.in_ok-access.ensures.serves;
+      serves = subst (λ (ids : List CondId). ServesChange q.definition (portion_in x) (map (cond x.terms) ids) o)
+          c.deref.ensures.value c.in_ok-access.ensures.serves;
       shown = current_shown _ c.self.invariant.state x.table q c.self.invariant.stands c.self.invariant.typed there;
       seen = c.deref-2.result.now;
       found = subst (λ (vs : List Version). IsFound c.self.inside.store q.id Now (is_looked_at o) vs)

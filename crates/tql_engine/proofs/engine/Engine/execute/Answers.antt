@@ -21,12 +21,12 @@ use Rattle.tql_engine.proofs.Joining.{state_does, bound_allowed, bound_does, ref
 use Rattle.tql_engine.proofs.engine.Engine.execute.Goals as goal
 
 pub returns-in-Some-clause-answered : goal.returns-in-Some-clause-answered
-returns-in-Some-clause-answered c s st =
+returns-in-Some-clause-answered g c s st =
     state_does _ s (statement_of c.args.statement.now) c.in-Some.fault st
     (ap (option_map refusal_of) (sym c.in-Some.is) ∙ c.in_ok-fault.ensures s st)
 
 pub perform-requires-clause-dropped : goal.perform-requires-clause-dropped
-perform-requires-clause-dropped c = λ t e.
+perform-requires-clause-dropped g c = λ t e.
     let s = c.self.invariant.state in
     let st = subst (λ (h : EngineModel). StandsFor h s) c.self.view_is c.self.invariant.stands in
     let ds = s.definitions in
@@ -36,7 +36,7 @@ perform-requires-clause-dropped c = λ t e.
     (dropped ds tree (none_first (bind ds tree).faults (names_clean (limits_of s) ds tree binds.0)) t (binds.1 ∙ e))
 
 pub perform-requires-clause-parents : goal.perform-requires-clause-parents
-perform-requires-clause-parents c = λ d e.
+perform-requires-clause-parents g c = λ d e.
     let s = c.self.invariant.state in
     let st = subst (λ (h : EngineModel). StandsFor h s) c.self.view_is c.self.invariant.stands in
     let ds = s.definitions in
@@ -47,7 +47,7 @@ perform-requires-clause-parents c = λ d e.
     (binds.1 ∙ e))
 
 pub perform-requires-clause-typed : goal.perform-requires-clause-typed
-perform-requires-clause-typed c =
+perform-requires-clause-typed g c =
     let s = c.self.invariant.state in
     let st = subst (λ (h : EngineModel). StandsFor h s) c.self.view_is c.self.invariant.stands in
     let ds = s.definitions in
@@ -58,7 +58,7 @@ perform-requires-clause-typed c =
     (bound_typed ds tree (none_first (bind ds tree).faults (names_clean (limits_of s) ds tree binds.0))))
 
 pub perform-requires-clause-allowed : goal.perform-requires-clause-allowed
-perform-requires-clause-allowed c =
+perform-requires-clause-allowed g c =
     let s = c.self.invariant.state in
     let st = subst (λ (h : EngineModel). StandsFor h s) c.self.view_is c.self.invariant.stands in
     let binds = c.in-Ok.ensures.binds s st in
@@ -66,12 +66,12 @@ perform-requires-clause-allowed c =
     (ap (option_map refusal_of) (sym c.in_default.is) ∙ c.in_ok-fault.ensures s st) binds.0 binds.1
 
 pub returns-in-Ok-clause-answered : goal.returns-in-Ok-clause-answered
-returns-in-Ok-clause-answered c s st =
+returns-in-Ok-clause-answered g c s st =
     let binds = c.in-Ok.ensures.binds s st in
     bound_does _ s (statement_of c.args.statement.now) _ c.perform.result binds.0 binds.1 (c.perform.ensures s st)
 
 pub returns-in-Ok-clause-printable : goal.returns-in-Ok-clause-printable
-returns-in-Ok-clause-printable c =
+returns-in-Ok-clause-printable g c =
     let s = c.self.invariant.state in
     let st = subst (λ (h : EngineModel). StandsFor h s) c.self.view_is c.self.invariant.stands in
     let binds = c.in-Ok.ensures.binds s st in
@@ -81,7 +81,7 @@ returns-in-Ok-clause-printable c =
     c.perform.result (c.perform.ensures s st)
 
 pub returns-in-Err-clause-answered : goal.returns-in-Err-clause-answered
-returns-in-Err-clause-answered c s st =
+returns-in-Err-clause-answered g c s st =
     refusal_does bound_of c.args.self.now s (statement_of c.args.statement.now) c.in-Err.fault st
     (ap (option_map refusal_of) (sym c.in_default.is) ∙ c.in_ok-fault.ensures s st)
     (c.in-Err.ensures.binds s st)

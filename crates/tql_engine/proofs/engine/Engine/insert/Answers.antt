@@ -11,13 +11,13 @@ use Rattle.tql_engine_state.proofs.Standing.{place_law, some_is}
 use Rattle.tql_engine.proofs.engine.Engine.insert.Goals as goal
 
 pub table_at-requires : goal.table_at-requires
-table_at-requires c = place_law c.args.self.now.tables c.args.insertion.now.table c.requires.within
+table_at-requires g c = place_law c.args.self.now.tables c.args.insertion.now.table c.requires.within
 
 pub make-requires-clause-within : goal.make-requires-clause-within
-make-requires-clause-within c = place_law c.args.self.now.tables c.args.insertion.now.table c.requires.within
+make-requires-clause-within g c = place_law c.args.self.now.tables c.args.insertion.now.table c.requires.within
 
 pub make-requires-clause-made : goal.make-requires-clause-made
-make-requires-clause-made c =
+make-requires-clause-made g c =
     let p : Table = c.table_at.result.now in
     let gives = c.in-Ok.ensures.alters in
     record {
@@ -33,13 +33,13 @@ make-requires-clause-made c =
     }
 
 pub returns-in-Err : goal.returns-in-Err
-returns-in-Err c s st =
+returns-in-Err g c s st =
     let p : Table = c.table_at.result.now in
     insert_errs c.args.self.now s p c.args.insertion.now st c.table_at.ensures c.requires.below p.id c.in-Err.refusal
     c.in-Err.ensures.alters
 
 pub returns-in-Ok : goal.returns-in-Ok
-returns-in-Ok c s st =
+returns-in-Ok g c s st =
     c.make.ensures s (insertion_of c.args.insertion.now) st
     (insert_makes c.args.self.now s c.table_at.result.now c.args.insertion.now c.in-Ok.delta st c.table_at.ensures
     c.in-Ok.ensures.alters)

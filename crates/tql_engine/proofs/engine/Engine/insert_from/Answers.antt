@@ -15,10 +15,10 @@ use Rattle.tql_engine_state.proofs.Standing.{place_law, some_is}
 use Rattle.tql_engine.proofs.engine.Engine.insert_from.Goals as goal
 
 pub make-requires-clause-within : goal.make-requires-clause-within
-make-requires-clause-within c = place_law c.args.self.now.tables c.args.insertion.now.table c.requires.within
+make-requires-clause-within g c = place_law c.args.self.now.tables c.args.insertion.now.table c.requires.within
 
 pub make-requires-clause-made : goal.make-requires-clause-made
-make-requires-clause-made c =
+make-requires-clause-made g c =
     let x : QueryInsertion = c.args.insertion.now in
     let t = table_there c.args.self.now.tables x.table (place_law c.args.self.now.tables x.table c.requires.within) in
     record {
@@ -41,7 +41,7 @@ make-requires-clause-made c =
     }
 
 pub returns-in-Err : goal.returns-in-Err
-returns-in-Err c s st =
+returns-in-Err g c s st =
     let x : QueryInsertion = c.args.insertion.now in
     let t = table_there c.args.self.now.tables x.table (place_law c.args.self.now.tables x.table c.requires.within) in
     query_errs c.inserts_keep_no_order.ensures c.args.self.now s t.0 x st t.1 c.requires.below
@@ -49,7 +49,7 @@ returns-in-Err c s st =
     (c.in-Err.ensures s t.0 st t.1)
 
 pub returns-in-Ok : goal.returns-in-Ok
-returns-in-Ok c s st =
+returns-in-Ok g c s st =
     let x : QueryInsertion = c.args.insertion.now in
     let t = table_there c.args.self.now.tables x.table (place_law c.args.self.now.tables x.table c.requires.within) in
     let given : Adds s t.0 x (Ok c.in-Ok.delta) = c.in-Ok.ensures s t.0 st t.1 in

@@ -4,8 +4,8 @@ use Rattle.tql_engine.proofs.ColumnKinds.{binding_says}
 use Rattle.tql_engine.proofs.engine.Engine.is_bound.Goals as goal
 
 pub returns : goal.returns
-returns c s st = (c.in-Ok.ensures.binds s st).0
+returns g c s st = (c.in-Ok.ensures.binds s st).0
 
 pub returns-in-Err : goal.returns-in-Err
-returns-in-Err c s st =
+returns-in-Err g c s st =
     binding_says bound_of s (statement_of c.args.statement.now) c.in-Err.fault (c.in-Err.ensures.binds s st)

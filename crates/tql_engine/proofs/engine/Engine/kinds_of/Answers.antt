@@ -19,11 +19,11 @@ use Rattle.tql_engine.proofs.KnownKinds.{kinds_told}
 use Rattle.tql_engine.proofs.engine.Engine.kinds_of.Goals as goal
 
 pub bound_query-requires-clause-narrow : goal.bound_query-requires-clause-narrow
-bound_query-requires-clause-narrow c =
+bound_query-requires-clause-narrow g c =
     All-from_recursion IsNarrow (definitions_of c.self.inside.tables) c.self.invariant.stands.fits.narrow
 
 pub returns : goal.returns
-returns c =
+returns g c =
     let q = c.args.query.now in
     let defs = definitions_of c.self.inside.tables in
     let tree = boxed_select_of q.select in

@@ -27,10 +27,10 @@ use Rattle.tql_engine_state.proofs.Typed.{sound_after}
 use Rattle.tql_engine.proofs.engine.Engine.make.Goals as goal
 
 pub check-tested-requires-clause-there : goal.check-tested-requires-clause-there
-check-tested-requires-clause-there c = λ t p e. there_law _ c.self.invariant.state t p c.self.invariant.stands e
+check-tested-requires-clause-there g c = λ t p e. there_law _ c.self.invariant.state t p c.self.invariant.stands e
 
 pub returns-in-Err : goal.returns-in-Err
-returns-in-Err c = λ s change st k.
+returns-in-Err g c = λ s change st k.
     let h : EngineModel = record {
       tables = c.self.inside.tables;
       store = c.self.inside.store;
@@ -57,10 +57,10 @@ returns-in-Err c = λ s change st k.
     (told_for h own s c.args.place c.args.delta c.args.verb change (Err c.in-Err.refusal) ot back here told))
 
 pub change_rows-requires-clause-later : goal.change_rows-requires-clause-later
-change_rows-requires-clause-later c = clock_under _ c.self.invariant.state c.self.invariant.stands
+change_rows-requires-clause-later g c = clock_under _ c.self.invariant.state c.self.invariant.stands
 
 pub change_rows-requires-clause-present : goal.change_rows-requires-clause-present
-change_rows-requires-clause-present c =
+change_rows-requires-clause-present g c =
     let made = subst (λ x. IsMade x c.args.place c.args.delta c.args.verb) (sym c.self.view_is) c.requires.made in
     let within = subst (λ (x : EngineModel). c.args.place < length x.tables) (sym c.self.view_is) c.requires.within in
     let t = table_there c.self.inside.tables c.args.place within in
@@ -69,7 +69,7 @@ change_rows-requires-clause-present c =
     (there_law _ c.self.invariant.state c.args.place t.0 c.self.invariant.stands t.1)
 
 pub invariant_of-self : goal.invariant_of-self
-invariant_of-self c =
+invariant_of-self g c =
     let h : EngineModel = record {
       tables = c.self.inside.tables;
       store = c.self.inside.store;
@@ -107,7 +107,7 @@ invariant_of-self c =
     (fits.table p t.1) done))
 
 pub invariant_of-self-in-Err-change_rows : goal.invariant_of-self-in-Err-change_rows
-invariant_of-self-in-Err-change_rows c =
+invariant_of-self-in-Err-change_rows g c =
     let s : State = c.self.invariant.state in
     let st = c.self.invariant.stands in
     let old = c.self.inside.store in
@@ -121,7 +121,7 @@ invariant_of-self-in-Err-change_rows c =
     }
 
 pub returns-in-Ok : goal.returns-in-Ok
-returns-in-Ok c = λ s change st k.
+returns-in-Ok g c = λ s change st k.
     let h : EngineModel = record {
       tables = c.self.inside.tables;
       store = c.self.inside.store;
@@ -160,7 +160,7 @@ returns-in-Ok c = λ s change st k.
     (fits.table p t.1) done)
 
 pub returns-in-Err-change_rows : goal.returns-in-Err-change_rows
-returns-in-Err-change_rows c = λ s change st k.
+returns-in-Err-change_rows g c = λ s change st k.
     let back = subst (λ h. StandsFor h s) (sym c.self.view_is) st in
     let old = c.self.inside.store in
     let kept = subst (λ m. KeepsRows old.working m old c.change_rows.new.store) (clock_reads _ s back)

@@ -17,13 +17,13 @@ use Rattle.tql_engine_state.proofs.Typed.{read_typed}
 use Rattle.tql_engine.proofs.engine.Engine.modify.Goals as goal
 
 pub delta_of-requires : goal.delta_of-requires
-delta_of-requires c = place_law c.args.self.now.tables c.args.modification.now.table c.requires.within
+delta_of-requires g c = place_law c.args.self.now.tables c.args.modification.now.table c.requires.within
 
 pub make-requires-clause-within : goal.make-requires-clause-within
-make-requires-clause-within c = place_law c.args.self.now.tables c.args.modification.now.table c.requires.within
+make-requires-clause-within g c = place_law c.args.self.now.tables c.args.modification.now.table c.requires.within
 
 pub make-requires-clause-made : goal.make-requires-clause-made
-make-requires-clause-made c =
+make-requires-clause-made g c =
     let h = c.args.self.now in
     let x : Modification = c.args.modification.now in
     let t = table_there h.tables x.table (place_law h.tables x.table c.requires.within) in
@@ -50,14 +50,14 @@ make-requires-clause-made c =
     }
 
 pub returns-in-Err : goal.returns-in-Err
-returns-in-Err c s st =
+returns-in-Err g c s st =
     let x : Modification = c.args.modification.now in
     let t = table_there c.args.self.now.tables x.table (place_law c.args.self.now.tables x.table c.requires.within) in
     modify_errs c.safe_conditions.ensures c.changes_keep_no_order.ensures c.changes_by_parts.ensures c.args.self.now s
     t.0 x st t.1 c.requires.below c.in-Err.refusal (c.in-Err.ensures t.0 t.1)
 
 pub returns-in-Ok : goal.returns-in-Ok
-returns-in-Ok c s st =
+returns-in-Ok g c s st =
     let h = c.args.self.now in
     let x : Modification = c.args.modification.now in
     let t = table_there h.tables x.table (place_law h.tables x.table c.requires.within) in

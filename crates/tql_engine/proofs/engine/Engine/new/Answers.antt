@@ -5,4 +5,9 @@ use Rattle.tql_engine_state.proofs.Standing.{new_law}
 use Rattle.tql_engine.proofs.engine.Engine.new.Goals as goal
 
 pub invariant_of-result : goal.invariant_of-result
-invariant_of-result c = record { state = new_state; stands = search (rules, new_law); typed = first_typed; holds = tt }
+invariant_of-result g c = record {
+  state = new_state;
+  stands = search (rules, new_law);
+  typed = first_typed;
+  holds = tt;
+}

@@ -19,7 +19,7 @@ kept_more rs new r e pin p =
     ∙ ap {B = List KeptReader} (λ o. map reader_of rs ++ record { name = string_bytes r.name; pin = o } ∷ []) p
 
 pub returns : goal.returns
-returns c s st =
+returns g c s st =
     let n = string_bytes c.args.name in
     let inside = subst (λ (h : EngineModel). StandsFor h s) (sym c.self.view_is) st in
     let within = subst (λ (h : EngineModel). IsWithin h (OpenReader n)) (sym c.self.view_is) c.requires.within in
@@ -33,7 +33,7 @@ returns c s st =
     (open_does _ s n inside within)
 
 pub invariant_of-self-2 : goal.invariant_of-self-2
-invariant_of-self-2 c =
+invariant_of-self-2 g c =
     let s : State = c.self.invariant.state in
     let n = string_bytes c.args.name in
     let within = subst (λ (h : EngineModel). IsWithin h (OpenReader n)) (sym c.self.view_is) c.requires.within in

@@ -9,7 +9,7 @@ use Rattle.tql_engine_state.proofs.ReaderLists.{passed_kept}
 use Rattle.tql_engine.proofs.engine.Engine.passes_some.Goals as goal
 
 pub returns : goal.returns
-returns c =
+returns g c =
     let m = c.args.moment in
     any_from_yields_List (λ (r : Reader). is_passed m r.pin) c.any.new.self _ c.any.result c.any.ensures.ran
     (YieldsList-from_slice c.deref.result.now cc) (λ x b q k. search (rules, tests))

@@ -8,14 +8,14 @@ use Rattle.tql_engine_state.proofs.StateFaults.{passed_is}
 use Rattle.tql_engine.proofs.engine.Engine.passing_fault.Goals as goal
 
 pub returns-then-passes_some : goal.returns-then-passes_some
-returns-then-passes_some c = λ s st.
+returns-then-passes_some g c = λ s st.
     let said = subst (λ (m : ℤ). c.passes_some.result ≡ list_any (λ (k : KeptReader). is_passed m k.pin)
     c.args.self.now.readers) (to_z-of_z c.ranges.moment) c.passes_some.ensures in
     ap (λ b. first (fault_if b ReadersAreOpen))
     (sym (passed_is c.args.self.now s c.args.moment st ∙ sym said ∙ c.if-passes_some.true))
 
 pub returns-else-passes_some : goal.returns-else-passes_some
-returns-else-passes_some c = λ s st.
+returns-else-passes_some g c = λ s st.
     let said = subst (λ (m : ℤ). c.passes_some.result ≡ list_any (λ (k : KeptReader). is_passed m k.pin)
     c.args.self.now.readers) (to_z-of_z c.ranges.moment) c.passes_some.ensures in
     ap (λ b. first (fault_if b ReadersAreOpen))

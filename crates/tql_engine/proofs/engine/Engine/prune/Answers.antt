@@ -11,16 +11,16 @@ use Rattle.tql_engine_state.proofs.Typed.{sound_after}
 use Rattle.tql_engine.proofs.engine.Engine.prune.Goals as goal
 
 pub prune-requires-clause-closed : goal.prune-requires-clause-closed
-prune-requires-clause-closed c =
+prune-requires-clause-closed g c =
     subst (λ (h : EngineModel). IsNone h.store.working) (sym c.self.view_is) c.requires.closed
 
 pub prune-requires-clause-later : goal.prune-requires-clause-later
-prune-requires-clause-later c =
+prune-requires-clause-later g c =
     rw (to_z-of_z c.ranges.moment)
     (subst (λ (h : EngineModel). h.store.horizon ≤ℤ c.args.moment) (sym c.self.view_is) c.requires.later)
 
 pub returns-clause-answered : goal.returns-clause-answered
-returns-clause-answered c s st =
+returns-clause-answered g c s st =
     let inside = subst (λ (h : EngineModel). StandsFor h s) (sym c.self.view_is) st in
     let closed = subst (λ (h : EngineModel). IsNone h.store.working) (sym c.self.view_is) c.requires.closed in
     let later = subst (λ (h : EngineModel). h.store.horizon ≤ℤ c.args.moment) (sym c.self.view_is) c.requires.later in
@@ -33,7 +33,7 @@ returns-clause-answered c s st =
     (c.in_ok-prune.ensures.horizon ∙ to_z-of_z c.ranges.moment))
 
 pub invariant_of-self-2 : goal.invariant_of-self-2
-invariant_of-self-2 c =
+invariant_of-self-2 g c =
     let s : State = c.self.invariant.state in
     let st = c.self.invariant.stands in
     let closed = subst (λ (h : EngineModel). IsNone h.store.working) (sym c.self.view_is) c.requires.closed in

@@ -15,10 +15,10 @@ use Rattle.tql_engine_state.proofs.Standing.{place_law, some_is}
 use Rattle.tql_engine.proofs.engine.Engine.query_delta.Goals as goal
 
 pub table_at-table-requires : goal.table_at-table-requires
-table_at-table-requires c = place_law c.args.self.now.tables c.args.insertion.now.table c.requires.within
+table_at-table-requires g c = place_law c.args.self.now.tables c.args.insertion.now.table c.requires.within
 
 pub insert_rows-requires : goal.insert_rows-requires
-insert_rows-requires c =
+insert_rows-requires g c =
     let s : State = c.self.invariant.state in
     let x = c.args.insertion.now.query in
     let stands = subst (λ h. StandsFor h s) c.self.view_is c.self.invariant.stands in
@@ -27,7 +27,7 @@ insert_rows-requires c =
     (c.in-Ok.ensures s stands)
 
 pub returns : goal.returns
-returns c s q st there =
+returns g c s q st there =
     let x : QueryInsertion = c.args.insertion.now in
     let p : Table = c.table_at-table.result.now in
     let rows : List Row = rows_of c.in-Ok.rows.items in
@@ -38,4 +38,4 @@ returns c s q st there =
     (adds_of s p x rows c.insert_rows.result (c.in-Ok.ensures s st) alters c.insert_rows.ensures.fits)
 
 pub returns-in-Err : goal.returns-in-Err
-returns-in-Err c s q st there = not_answered s q c.args.insertion.now c.in-Err.refusal (c.in-Err.ensures s st)
+returns-in-Err g c s q st there = not_answered s q c.args.insertion.now c.in-Err.refusal (c.in-Err.ensures s st)

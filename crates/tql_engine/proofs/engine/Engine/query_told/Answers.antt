@@ -9,7 +9,7 @@ use Rattle.tql_engine_state.proofs.Standing.{place_law}
 use Rattle.tql_engine.proofs.engine.Engine.query_told.Goals as goal
 
 pub plan-requires : goal.plan-requires
-plan-requires c =
+plan-requires g c =
     let x = c.args.query.now in
     let tables = c.self.inside.tables in
     let placed = subst (λ (h : EngineModel). IsPlacedQuery (definitions_of h.tables) (bound_query_of x))

@@ -16,7 +16,7 @@ use Rattle.tql_engine_state.proofs.ReadersShow.{at_pin, can_read, read_is, shows
 use Rattle.tql_engine.proofs.engine.Engine.read.Goals as goal
 
 pub answered-requires-clause-can : goal.answered-requires-clause-can
-answered-requires-clause-can c =
+answered-requires-clause-can g c =
     let h = c.args.self.now in
     let n = string_bytes c.args.read.now.reader in
     let q = bound_query_of c.args.read.now.query in
@@ -33,7 +33,7 @@ answered-requires-clause-can c =
     can_read h s st n q c.requires.within o named r shown pins c.self.invariant.typed c.requires.placed
 
 pub returns-in-Ok : goal.returns-in-Ok
-returns-in-Ok c s st =
+returns-in-Ok g c s st =
     let h = c.args.self.now in
     let n = string_bytes c.args.read.now.reader in
     let q = bound_query_of c.args.read.now.query in
@@ -52,7 +52,7 @@ returns-in-Ok c s st =
     c.in-Ok.ensures.headings
 
 pub returns-in-Err : goal.returns-in-Err
-returns-in-Err c s st =
+returns-in-Err g c s st =
     let h = c.args.self.now in
     let n = string_bytes c.args.read.now.reader in
     let q = bound_query_of c.args.read.now.query in

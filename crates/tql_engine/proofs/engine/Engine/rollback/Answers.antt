@@ -8,7 +8,7 @@ use Rattle.tql_engine.proofs.HoldPoints.{rollback_holds}
 use Rattle.tql_engine.proofs.engine.Engine.rollback.Goals as goal
 
 pub invariant_of-self : goal.invariant_of-self
-invariant_of-self c =
+invariant_of-self g c =
     let s : State = c.self.invariant.state in
     let st = c.self.invariant.stands in
     let is_open = sym c.has_transaction.ensures ∙ c.if-not-has_transaction.false in
@@ -17,23 +17,23 @@ invariant_of-self c =
     (c.rollback.ensures.tables) (c.rollback.ensures.horizon))
 
 pub returns-clause-answered : goal.returns-clause-answered
-returns-clause-answered c s st =
+returns-clause-answered g c s st =
     let back = subst (λ h. StandsFor h s) (sym c.self.view_is) st in
     let is_open = sym c.has_transaction.ensures ∙ c.if-not-has_transaction.false in
     rollback_does _ s c.rollback.new.self back is_open c.rollback.ensures.copies (c.rollback.ensures.working)
     (c.rollback.ensures.tables) (c.rollback.ensures.horizon)
 
 pub returns-then-not-has_transaction-clause-answered : goal.returns-then-not-has_transaction-clause-answered
-returns-then-not-has_transaction-clause-answered c s st =
+returns-then-not-has_transaction-clause-answered g c s st =
     rollback_refused _ s st (ap (λ (h : EngineModel). is_some h.store.working) (sym c.self.view_is)
     ∙ sym c.has_transaction.ensures ∙ c.if-not-has_transaction.true)
 
 pub returns-clause-holds : goal.returns-clause-holds
-returns-clause-holds c s h =
-    record { stands = (returns-clause-answered c s h.stands).stands; holds = rollback_holds s h.holds }
+returns-clause-holds g c s h =
+    record { stands = (returns-clause-answered g c s h.stands).stands; holds = rollback_holds s h.holds }
 
 pub returns-then-not-has_transaction-clause-holds : goal.returns-then-not-has_transaction-clause-holds
-returns-then-not-has_transaction-clause-holds c s h = record {
-  stands = (returns-then-not-has_transaction-clause-answered c s h.stands).stands;
+returns-then-not-has_transaction-clause-holds g c s h = record {
+  stands = (returns-then-not-has_transaction-clause-answered g c s h.stands).stands;
   holds = rollback_holds s h.holds;
 }

@@ -9,19 +9,19 @@ use Rattle.tql_engine_state.proofs.Typed.{sound_after}
 use Rattle.tql_engine.proofs.engine.Engine.start.Goals as goal
 
 pub begin-requires-clause-closed : goal.begin-requires-clause-closed
-begin-requires-clause-closed c =
+begin-requires-clause-closed g c =
     subst (λ (h : EngineModel). IsNone h.store.working) (sym c.self.view_is) c.requires.closed
 
 pub begin-requires-clause-later : goal.begin-requires-clause-later
-begin-requires-clause-later c = clock_under _ c.self.invariant.state c.self.invariant.stands
+begin-requires-clause-later g c = clock_under _ c.self.invariant.state c.self.invariant.stands
 
 pub begin-requires-clause-below : goal.begin-requires-clause-below
-begin-requires-clause-below c =
+begin-requires-clause-below g c =
     subst (λ m. m <ℤ high) (sym (clock_reads _ c.self.invariant.state c.self.invariant.stands))
     (subst (λ (h : EngineModel). h.next <ℤ high) (sym c.self.view_is) c.requires.below)
 
 pub invariant_of-self : goal.invariant_of-self
-invariant_of-self c =
+invariant_of-self g c =
     let s : State = c.self.invariant.state in
     let st = c.self.invariant.stands in
     let closed = subst (λ (h : EngineModel). IsNone h.store.working) (sym c.self.view_is) c.requires.closed in
@@ -31,7 +31,7 @@ invariant_of-self c =
     (c.begin.ensures.working ∙ ap Some (clock_reads _ s st)) (c.begin.ensures.tables) (c.begin.ensures.horizon))
 
 pub returns : goal.returns
-returns c s st =
+returns g c s st =
     let back = subst (λ h. StandsFor h s) (sym c.self.view_is) st in
     let closed = subst (λ (h : EngineModel). IsNone h.store.working) (sym c.self.view_is) c.requires.closed in
     let below = subst (λ (h : EngineModel). h.next <ℤ high) (sym c.self.view_is) c.requires.below in

@@ -9,11 +9,11 @@ use Rattle.tql_engine.proofs.HoldPoints.{step_holds}
 use Rattle.tql_engine.proofs.engine.Engine.step.Goals as goal
 
 pub returns-in-Ok-clause-holds : goal.returns-in-Ok-clause-holds
-returns-in-Ok-clause-holds c s h =
+returns-in-Ok-clause-holds g c s h =
     subst (λ (o : Result Reply Refusal). Answered Answers s (finished c.args.text.now) (reply_by o)
     (HoldsFor c.try_step.new.self)) c.in-Ok.is (step_holds _ _ s _ _ h (c.try_step.ensures.answered s h.stands))
 
 pub returns-in-Err-clause-holds : goal.returns-in-Err-clause-holds
-returns-in-Err-clause-holds c s h =
+returns-in-Err-clause-holds g c s h =
     subst (λ (o : Result Reply Refusal). Answered Answers s (finished c.args.text.now) (reply_by o)
     (HoldsFor c.try_step.new.self)) c.in-Err.is (step_holds _ _ s _ _ h (c.try_step.ensures.answered s h.stands))
