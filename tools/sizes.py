@@ -3,22 +3,25 @@
 
 Usage: tools/sizes.py [TIMES]        (make try-growth-times)
 
-Each row is a form of input, each column a size; a time is the least of TIMES runs (by default 3), in milliseconds, the program's start and what it
-says on the standard error included. What the program prints is compared with what docs/LANGUAGE.md says of such an input. The status is 1 where an
-answer is wrong, or where a doubling more than triples the time; what takes less than 50 ms is taken as 50. The program is TQL=path, or ./tql where
-it is newer than every source, or else ./tql-quick, which is compiled first where it has to be (make quick).
+Each row is a form of input, each column a size; a time is the least of TIMES runs (by default 3), in milliseconds of a processor, the program's start
+and what it says on the standard error included. What the program prints is compared with what docs/LANGUAGE.md says of such an input. The last column
+says by how much a doubling may multiply the time: 3, or 2.4 where a row of one key value must not cost more the more there are of it, or 1.5 where
+only what lies beside it is doubled. The status is 1 where an answer is wrong, where a doubling does more, or where a run takes over a minute; such a
+row ends there. What takes less than 50 ms is taken as 50. The program is TQL=path, or ./tql where it is newer than every source, or else ./tql-quick,
+which is compiled first where it has to be (make quick).
 """
+import resource
 import subprocess
 import sys
 import tempfile
-import time
+from datetime import date
 from pathlib import Path
 
 sys.dont_write_bytecode = True
 
 from quick import program
 
-FLOOR, TRIPLE = 0.05, 3.0
+FLOOR, PATIENCE, TRIPLE, DOUBLE, ALIKE = 0.05, 60, 3.0, 2.4, 1.5
 MADE, ONE = "CREATE TABLE t (x INTEGER, y VARCHAR(65535));\nINSERT INTO t VALUES (1, 'a');\n", "CREATE TABLE\nINSERT 1\n"
 ROW, NONE = "X\n1\n(1 rows)\n", "X\n(0 rows)\n"
 LONGEST = 1048576
@@ -98,29 +101,133 @@ def unheaded(size: int) -> tuple[str, str]:
             ONE + refused("E21 name unknown, ambiguous or repeated"))
 
 
+# ---- one key value with many periods, and one row with many versions
+
+RATES = ("CREATE TABLE p (k INTEGER, f DATE, u DATE, x INTEGER, PERIOD FOR v (f, u), PRIMARY KEY (k, v WITHOUT OVERLAPS));\n"
+         "CREATE TABLE c (k INTEGER, f DATE, u DATE, PERIOD FOR v (f, u), FOREIGN KEY (k, PERIOD v) REFERENCES p (k, PERIOD v));\n")
+HOT = ("CREATE TABLE h (k INTEGER, x INTEGER, s TIMESTAMP GENERATED ALWAYS AS ROW START, e TIMESTAMP GENERATED ALWAYS AS ROW END,"
+       " PERIOD FOR SYSTEM_TIME (s, e), PRIMARY KEY (k)) WITH SYSTEM VERSIONING;\nAT TIMESTAMP '2011-01-01 00:00:00';\nINSERT INTO h VALUES (1, 0);\n")
+PACK, ASKED = 1000, 2000
+
+
+def day(at: int) -> str:
+    """A day of a thousand years and more."""
+    return f"DATE '{date.fromordinal(365000 + at).isoformat()}'"
+
+
+def packed(table: str, rows: list[str]) -> tuple[str, str]:
+    """INSERTs of rows, many at a time, and their replies."""
+    packs = [rows[at:at + PACK] for at in range(0, len(rows), PACK)]
+    return "".join(f"INSERT INTO {table} VALUES {','.join(it)};\n" for it in packs), "".join(f"INSERT {len(it)}\n" for it in packs)
+
+
+def daily(size: int) -> tuple[str, str]:
+    """So many days of one key value, each a period, and a table that may refer to them."""
+    script, replies = packed("p", [f"(1,{day(it)},{day(it + 1)},{it})" for it in range(size)])
+    return RATES + script, "CREATE TABLE\n" * 2 + replies
+
+
+def one_by_one(size: int) -> tuple[str, str]:
+    """So many periods of one key value, each by an INSERT of its own; the last one overlaps."""
+    rows = "".join(f"INSERT INTO p VALUES (1,{day(it)},{day(it + 1)},{it});\n" for it in range(size))
+    return (RATES + rows + f"INSERT INTO p VALUES (1,{day(size - 1)},{day(size + 1)},0);\n",
+            "CREATE TABLE\n" * 2 + "INSERT 1\n" * size + refused("E35 duplicate key"))
+
+
+def half(size: int) -> tuple[str, str]:
+    """A DELETE of half of so many parents, beside as many children of the others, and one of a parent that a child needs."""
+    script, replies = daily(size)
+    children, more = packed("c", [f"(1,{day(it)},{day(it + 1)})" for it in range(size // 2)])
+    return (script + children + f"DELETE FROM p WHERE f >= {day(size // 2)};\nDELETE FROM p WHERE f = {day(size // 2 - 1)};\n",
+            replies + more + f"DELETE {size - size // 2}\n" + refused("E36 reference not met"))
+
+
+def children(size: int) -> tuple[str, str]:
+    """So many children, of which each spans three parents; the last one spans a day without a parent."""
+    script, replies = daily(size + 2)
+    rows = "".join(f"INSERT INTO c VALUES (1,{day(it)},{day(it + 3)});\n" for it in range(size + 1))
+    return script + rows, replies + "INSERT 1\n" * size + refused("E36 reference not met")
+
+
+def by_day(size: int) -> tuple[str, str]:
+    """2,000 SELECTs by key and day, of so many days."""
+    script, replies = daily(size)
+    asked = [it * 7919 % size for it in range(ASKED)]
+    return (script + "".join(f"SELECT x FROM p WHERE k = 1 AND v CONTAINS {day(it)};\n" for it in asked),
+            replies + "".join(f"X\n{it}\n(1 rows)\n" for it in asked))
+
+
+def by_portion(size: int) -> tuple[str, str]:
+    """An UPDATE of each of so many days, by key and portion."""
+    script, replies = daily(size)
+    changes = "".join(f"UPDATE p FOR PORTION OF v FROM {day(it)} TO {day(it + 1)} SET x = 0 WHERE k = 1;\n" for it in range(size))
+    return script + changes + "SELECT SUM(x) AS x FROM p;\n", replies + "UPDATE 1\n" * size + "X\n0\n(1 rows)\n"
+
+
+
+def history(size: int) -> tuple[str, str]:
+    """So many changes of one row, each a version; and their replies."""
+    return "UPDATE h SET x = x + 1 WHERE k = 1;\n" * size, "UPDATE 1\n" * size
+
+
+def as_of(size: int) -> tuple[str, str]:
+    """2,000 SELECTs AS OF by key, of one row with so many versions, each of which begins a microsecond behind the one before it."""
+    changes, replies = history(size)
+    asked = [it * 7919 % size for it in range(ASKED)]
+    return (HOT + changes + "".join(f"SELECT x FROM h FOR SYSTEM_TIME AS OF TIMESTAMP '2011-01-01 00:00:00.{it:06}' WHERE k = 1;\n" for it in asked),
+            "CREATE TABLE\nAT\nINSERT 1\n" + replies + "".join(f"X\n{it}\n(1 rows)\n" for it in asked))
+
+
+def by_reader(size: int) -> tuple[str, str]:
+    """2,000 READs by key of a reader, beside so many later versions of the row."""
+    changes, replies = history(size)
+    return (HOT + "OPEN READER r;\n" + changes + "READ r SELECT x FROM h WHERE k = 1;\n" * ASKED,
+            "CREATE TABLE\nAT\nINSERT 1\nOPEN READER\n" + replies + "X\n0\n(1 rows)\n" * ASKED)
+
+
+def beside(size: int) -> tuple[str, str]:
+    """20,000 INSERTs beside so many tables with references to another one."""
+    made = "".join(f"CREATE TABLE c{it} (x INTEGER, FOREIGN KEY (x) REFERENCES k (x));\n" for it in range(size))
+    return ("CREATE TABLE t (x INTEGER);\nCREATE TABLE k (x INTEGER, PRIMARY KEY (x));\n" + made + "INSERT INTO t VALUES (1);\n" * 20000,
+            "CREATE TABLE\n" * (size + 2) + "INSERT 1\n" * 20000)
+
+
 FORMS = (
-    ("a text literal, bytes", 125000, literal), ("a text literal that is too long, bytes", 1250000, literal), ("empty statements", 1250000, empty),
-    ("a condition, terms", 12500, terms), ("IN, members", 12500, members), ("a sum, terms", 31250, sums), ("64 parentheses, statements", 1250, nested),
-    ("a quote that never closes, bytes", 125000, quote), ("a quote that never closes, too long, bytes", 1250000, quote), ("tables", 125, tables),
-    ("table references, 2,000 queries", 1, references), ("UPDATEs of one row in a transaction", 2500, updates),
-    ("a name that is not grouped, items", 25000, loose), ("a key of ORDER BY without a heading, items", 12500, unheaded),
+    ("a text literal, bytes", 125000, literal, TRIPLE), ("a text literal that is too long, bytes", 1250000, literal, TRIPLE),
+    ("empty statements", 1250000, empty, TRIPLE), ("a condition, terms", 12500, terms, TRIPLE), ("IN, members", 12500, members, TRIPLE),
+    ("a sum, terms", 31250, sums, TRIPLE), ("64 parentheses, statements", 1250, nested, TRIPLE),
+    ("a quote that never closes, bytes", 125000, quote, TRIPLE), ("a quote that never closes, too long, bytes", 1250000, quote, TRIPLE),
+    ("tables", 125, tables, TRIPLE), ("table references, 2,000 queries", 1, references, TRIPLE),
+    ("UPDATEs of one row in a transaction", 2500, updates, TRIPLE), ("a name that is not grouped, items", 25000, loose, TRIPLE),
+    ("a key of ORDER BY without a heading, items", 12500, unheaded, TRIPLE),
+    ("INSERTs of one key value", 2500, one_by_one, DOUBLE), ("DELETE of half of the parents of one key value, beside children", 1250, half, DOUBLE),
+    ("INSERTs of children of one key value, each over three parents", 2500, children, DOUBLE),
+    ("SELECTs by key and day, periods of one key value", 2500, by_day, DOUBLE),
+    ("UPDATEs of a day's portion, periods of one key value", 2500, by_portion, DOUBLE),
+    ("SELECTs AS OF by key, versions of one row", 2500, as_of, DOUBLE), ("READs by key, versions of one row", 2500, by_reader, DOUBLE),
+    ("INSERTs beside tables with references, tables", 110, beside, ALIKE),
 )
 
 
+def spent() -> float:
+    """The time of a processor that the programs took which have ended."""
+    used = resource.getrusage(resource.RUSAGE_CHILDREN)
+    return used.ru_utime + used.ru_stime
+
+
 def timed(words: list[str], file: Path, times: int) -> tuple[float, str]:
-    """The least time of the program on a file, and what it prints."""
+    """The least time of a processor that the program takes on a file, and what it prints."""
     best, text = 1e9, ""
     for _ in range(times):
-        begun = time.monotonic()
-        ran = subprocess.run([*words, str(file)], stdout=subprocess.PIPE, stderr=subprocess.DEVNULL, timeout=600, check=False)
-        best, text = min(best, time.monotonic() - begun), ran.stdout.decode(errors="replace")
+        begun = spent()
+        ran = subprocess.run([*words, str(file)], stdout=subprocess.PIPE, stderr=subprocess.DEVNULL, timeout=PATIENCE, check=False)
+        best, text = min(best, spent() - begun), ran.stdout.decode(errors="replace")
     return best, text
 
 
-def faults(best: list[float]) -> str:
-    """Which doublings more than triple the time."""
-    steep = [i for i in range(1, len(best)) if max(best[i], FLOOR) > TRIPLE * max(best[i - 1], FLOOR)]
-    return ", ".join(f"TOO STEEP at times {2 ** i}" for i in steep)
+def is_steep(best: list[float], most: float) -> bool:
+    """Whether the last doubling multiplies the time by more than that."""
+    return len(best) > 1 and max(best[-1], FLOOR) > most * max(best[-2], FLOOR)
 
 
 def main() -> int:
@@ -129,18 +236,25 @@ def main() -> int:
     times, wrong = int(sys.argv[1]) if sys.argv[1:] else 3, 0
     with tempfile.TemporaryDirectory(prefix="tql-sizes-") as room:
         words, file = [program()], Path(room) / "script.sql"
-        print("| Input | Size | times 1 | times 2 | times 4 | times 8 |\n|---|---|---|---|---|---|")
-        for what, size, form in FORMS:
+        print("| Input | Size | times 1 | times 2 | times 4 | times 8 | at most |\n|---|---|---|---|---|---|---|")
+        for what, size, form, most in FORMS:
             best, said = [], ""
             for factor in (1, 2, 4, 8):
                 script, wanted = form(size * factor)
                 file.write_text(script, encoding="utf-8")
-                spent, text = timed(words, file, times)
-                best.append(spent)
+                try:
+                    taken, text = timed(words, file, times)
+                except subprocess.TimeoutExpired:
+                    said += f" TOO SLOW at times {factor}"
+                    break
+                best.append(taken)
                 said += "" if text == wanted else f" WRONG ANSWER at times {factor}"
-            said += " " + faults(best) if faults(best) else ""
+                if is_steep(best, most):
+                    said += f" TOO STEEP at times {factor}"
+                    break
             wrong += bool(said)
-            print(f"| {what} | {size:,} | " + " | ".join(f"{it * 1000:,.0f} ms" for it in best) + f" |{said}", flush=True)
+            shown = [f"{it * 1000:,.0f} ms" for it in best] + [""] * (4 - len(best))
+            print(f"| {what} | {size:,} | {' | '.join(shown)} | {most} |{said}", flush=True)
     print(f"{wrong} wrong")
     return 1 if wrong else 0
 

@@ -4,7 +4,7 @@ use crate::compare::text_difference;
 use crate::complaints::{complaints_fault, telling_fault};
 use crate::growths::{growth_fault, turn_fault};
 use crate::neighbours::marks;
-use crate::runs::{Answering, Granted, answer};
+use crate::runs::{Answering, Granted, Outcome, answer, run_over_lists};
 use crate::short::written_out;
 use crate::steps::bound_fault;
 use std::alloc::{AllocError, Global};
@@ -72,6 +72,15 @@ fn bytes_of(rt: &HostRuntime, base: &str, ending: &str) -> io::Result<Option<Vec
     }
 }
 
+/// Where a run did not end well, or its text is not the listed one.
+fn outcome_fault(alloc: Global, outcome: &Outcome, listed: &[u8]) -> io::Result<Option<String>> {
+    if outcome.ended_well() {
+        Ok(text_difference(alloc, listed, &outcome.text)?)
+    } else {
+        Ok(Some(String::from_str(alloc, "does not end well")?))
+    }
+}
+
 /// Where the text of a script that is given in pieces of so many bytes is not the listed one.
 fn text_fault(
     alloc: Global,
@@ -81,10 +90,15 @@ fn text_fault(
     listed: &[u8],
 ) -> io::Result<Option<String>> {
     let outcome = answer(alloc, answering, script, size, Granted::All)?;
-    if outcome.ended_well() {
-        Ok(text_difference(alloc, listed, &outcome.text)?)
-    } else {
-        Ok(Some(String::from_str(alloc, "does not end well")?))
+    outcome_fault(alloc, &outcome, listed)
+}
+
+/// `text_fault` for a script that is run whole by an engine that keeps its periods in lists.
+fn lists_fault(alloc: Global, script: &[u8], listed: &[u8]) -> io::Result<Option<String>> {
+    let outcome = run_over_lists(alloc, script)?;
+    match outcome_fault(alloc, &outcome, listed)? {
+        Some(fault) => Ok(Some(format!(in alloc; "over lists of periods {fault}")?)),
+        None => Ok(None),
     }
 }
 
@@ -115,6 +129,9 @@ fn listed_fault(
     let mut fault = text_fault(alloc, answering, script, usize::MAX, listed)?;
     if fault.is_none() && !directives.is_whole {
         fault = pieces_fault(alloc, answering, script, listed)?;
+    }
+    if fault.is_none() && answering == Answering::Run && !directives.is_short {
+        fault = lists_fault(alloc, script, listed)?;
     }
     if fault.is_none() && directives.by_growths {
         fault = growth_fault(alloc, answering, script, listed, refused)?;

@@ -2,12 +2,12 @@
 ghost use Rattle.std.specs.Prelude.{None};
 
 use crate::compare::text_difference;
-use crate::runs::{Answering, Granted, answer};
+use crate::runs::{Answering, Engine, Granted, answer};
 use std::alloc::{AllocError, Global};
 use tql_detail::detail::Detail;
-use tql_engine::engine::Engine;
 use tql_engine::runner::run;
 use tql_memory::{Memory, memory};
+use tql_result::answer::Answer;
 use tql_result::vec_sink::VecSink;
 use tql_run::complaint::Complaint;
 use tql_run::listener::Listener;
@@ -44,6 +44,10 @@ impl Listener for Lines {
         true
     }
 
+    fn waits(&self) -> bool {
+        false
+    }
+
     fn refused(
         &mut self,
         statement: u64,
@@ -60,6 +64,8 @@ impl Listener for Lines {
         };
         let _ = self.put(&complaint);
     }
+
+    fn answered(&mut self, _answer: &Answer, _pushed: &Pushed) {}
 }
 
 /// What a run told, what it wrote, and how many of the blocks that it was granted are left.

@@ -1,13 +1,19 @@
 //! Runs and checks of a script over bytes in memory.
 use std::alloc::{AllocError, Global};
 use tql_check::check::check_script;
-use tql_engine::engine::Engine;
+use tql_engine::engine;
 use tql_engine::runner::{run, run_bytes};
+use tql_index::index::IntervalIndex;
+use tql_index::list_index::ListIndex;
+use tql_index::tree_index::TreeIndex;
 use tql_memory::{Memory, memory};
 use tql_result::vec_sink::VecSink;
 use tql_run::runner::{Fault, Summary};
 use tql_run::silence::Silence;
 use tql_run::slice_source::SliceSource;
+
+/// The engine as the program has it.
+pub type Engine = engine::Engine<TreeIndex>;
 
 /// Which growths of a run are granted.
 #[derive(Clone, Copy, PartialEq, Eq, Debug)]
@@ -70,11 +76,15 @@ pub enum Answering {
     Check,
 }
 
-/// Runs a script on a new engine, whole, with these growths granted.
-fn run_whole(alloc: Global, script: &[u8], granted: Granted) -> Result<Outcome, AllocError> {
+/// Runs a script on a new engine over an index of periods, whole, with these growths granted.
+fn run_whole<I: IntervalIndex>(
+    alloc: Global,
+    script: &[u8],
+    granted: Granted,
+) -> Result<Outcome, AllocError> {
     let mut text = Vec::new(memory(alloc, u64::MAX)?);
     let memory = granted.memory(alloc)?;
-    let mut engine = Engine::new(memory);
+    let mut engine: engine::Engine<I> = engine::Engine::new(memory);
     let end = run_bytes(&mut engine, script, &mut text);
     let left = memory.left();
     Ok(Outcome { end, text, left })
@@ -97,6 +107,11 @@ fn run_pieces(
         text: sink.into_bytes(),
         left: memory.left(),
     })
+}
+
+/// Runs a script on a new engine that keeps its periods in lists, whole.
+pub fn run_over_lists(alloc: Global, script: &[u8]) -> Result<Outcome, AllocError> {
+    run_whole::<ListIndex>(alloc, script, Granted::All)
 }
 
 /// Checks the statements of a script, in pieces of so many bytes, with these growths granted.
@@ -126,7 +141,7 @@ pub fn answer(
     granted: Granted,
 ) -> Result<Outcome, AllocError> {
     match answering {
-        Answering::Run if size == usize::MAX => run_whole(alloc, script, granted),
+        Answering::Run if size == usize::MAX => run_whole::<TreeIndex>(alloc, script, granted),
         Answering::Run => run_pieces(alloc, script, size, granted),
         Answering::Check => check_only(alloc, script, size, granted),
     }

@@ -3,9 +3,9 @@
 ghost use Rattle.std.specs.Prelude.{◌≡◌, [], OnOk};
 
 use crate::compare::text_difference;
+use crate::runs::Engine;
 use std::alloc::{AllocError, Global};
 use std::io;
-use tql_engine::engine::Engine;
 use tql_lex::piece::Piece;
 use tql_lex::splitter::{LONGEST_PART, Splitter};
 use tql_memory::{Memory, memory};
