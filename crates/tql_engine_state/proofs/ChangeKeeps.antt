@@ -12,8 +12,7 @@ use Rattle.tql_spec.specs.Definition.{Stamped, TableDef}
 use Rattle.tql_spec.specs.History.{Copy, Entry, rows_in}
 use Rattle.tql_spec.specs.Machine.{State, newest_copy, working, with_working}
 use Rattle.tql_store.specs.StoreModel as store
-use Rattle.tql_store_rows.specs.Changes.{is_current}
-use Rattle.tql_store_rows.specs.Changes.{alive}
+use Rattle.tql_versions.specs.Changes.{is_current, alive}
 use Rattle.tql_store.specs.Changes.{last_rows, rows_after}
 use Rattle.tql_store.specs.Represents as represents
 use Rattle.tql_store.specs.Represents.{Copies, Represents, BeginCopies, ChangeReplaces}

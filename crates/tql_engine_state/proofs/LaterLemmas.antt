@@ -2,7 +2,7 @@
 use Rattle.std.proofs.Common.{◌≡◌, refl, Bool, true, false, Option, Some, None, arith}
 use Rattle.std.specs.Prelude.{ℤ, not, IsTrue, ◌↔◌}
 use Rattle.std.proofs.lemmas.Int.{ints}
-use Rattle.tql_store_rows.specs.Changes.{Under}
+use Rattle.tql_versions.specs.Changes.{Under}
 use Rattle.tql_engine_state.specs.Effects.{not_later_than}
 
 -- not later is the contrary of later

@@ -25,9 +25,9 @@ use Rattle.tql_store.proofs.StoreLaws.{answers-found}
 use Rattle.tql_store.specs.Represents.{Answers, AnswersBy}
 use Rattle.tql_store.specs.StoreModel.{live, named}
 use Rattle.tql_store_index.specs.Basis.{Sought, is_looked_at}
-use Rattle.tql_store_rows.specs.Changes.{alive, is_current}
-use Rattle.tql_store_rows.specs.Readings.{version_shown as version_of, where_open}
-use Rattle.tql_store_rows.specs.declared.version.Version as code
+use Rattle.tql_versions.specs.Changes.{alive, is_current}
+use Rattle.tql_versions.specs.Readings.{version_shown as version_of, where_open}
+use Rattle.tql_versions.specs.declared.version.Version as code
 use Rattle.tql_value.specs.declared.when.When.TheVariants as when
 use Rattle.tql_engine_state.specs.Fitting.{RowsFit, CopyFits}
 use Rattle.tql_engine_state.specs.Modifying.{AreShown}

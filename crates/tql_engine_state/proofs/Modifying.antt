@@ -32,9 +32,9 @@ use Rattle.tql_store.specs.Represents.{Judged}
 use Rattle.tql_store.specs.declared.store.Delta.{Delta}
 use Rattle.tql_store.proofs.Judging.{judged_among, removable_among}
 use Rattle.tql_store_index.specs.Basis.{Sought, is_looked_at}
-use Rattle.tql_store_rows.specs.Changes.{alive, is_current}
-use Rattle.tql_store_rows.specs.Readings.{version_shown as version_of}
-use Rattle.tql_store_rows.specs.declared.version.Version as code
+use Rattle.tql_versions.specs.Changes.{alive, is_current}
+use Rattle.tql_versions.specs.Readings.{version_shown as version_of}
+use Rattle.tql_versions.specs.declared.version.Version as code
 use Rattle.tql_value.specs.Refusals.{refusal_of}
 use Rattle.tql_value.specs.Views.{rows_of}
 use Rattle.tql_value.specs.declared.refusal.Refusal.{Refusal}

@@ -7,7 +7,7 @@ use Rattle.tql_spec.specs.Calendar.{first_moment, high}
 use Rattle.tql_spec.specs.Machine.{State}
 use Rattle.tql_spec.specs.Datum.{Row}
 use Rattle.tql_store.specs.StoreModel.{StoreModel}
-use Rattle.tql_store_rows.specs.Changes.{Under}
+use Rattle.tql_versions.specs.Changes.{Under}
 use Rattle.tql_engine_state.specs.Committing.{ChangesRows}
 use Rattle.tql_engine_state.specs.Stands.{EngineModel, StandsFor}
 use Rattle.tql_engine_state.proofs.Standing.{under_law}

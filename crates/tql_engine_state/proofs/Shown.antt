@@ -28,8 +28,8 @@ use Rattle.tql_plan_laws.specs.Constants.{ArePoints}
 use Rattle.tql_store.proofs.StoreLaws.{answers-found}
 use Rattle.tql_store.specs.Represents.{Answers}
 use Rattle.tql_store.specs.StoreModel.{StoreModel, has_table, is_versioned, live}
-use Rattle.tql_store_rows.specs.Changes.{is_current}
-use Rattle.tql_store_rows.specs.Readings.{asked}
+use Rattle.tql_versions.specs.Changes.{is_current}
+use Rattle.tql_versions.specs.Readings.{asked}
 use Rattle.tql_value.specs.When.{is_now, when_of}
 use Rattle.tql_value.specs.declared.when.When as code
 use Rattle.tql_engine_state.specs.Fitting.{RowFits}

@@ -15,7 +15,7 @@ use Rattle.tql_catalog.specs.Defined.{IsDefinition}
 use Rattle.tql_store.specs.StoreModel.{StoreModel, is_versioned, has_table, table_count}
 use Rattle.tql_store.specs.Changes.{newest}
 use Rattle.tql_store.specs.Represents.{Represents}
-use Rattle.tql_store_rows.specs.Changes.{Under}
+use Rattle.tql_versions.specs.Changes.{Under}
 use Rattle.tql_engine_state.specs.Effects.{not_later_than}
 use Rattle.tql_engine_state.proofs.ReadersKeep.{readers_stay}
 use Rattle.tql_engine_state.specs.Stands.{EngineModel, StandsFor, ArePlaced, IsKept, IsDated, copies_of, open_moment}

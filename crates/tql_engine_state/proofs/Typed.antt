@@ -20,8 +20,8 @@ use Rattle.tql_catalog.specs.Tables.{definitions_of}
 use Rattle.tql_catalog.specs.declared.catalog.Table.{Table}
 use Rattle.tql_dml.specs.Alters as dml
 use Rattle.tql_dml.specs.Alters.{AreTyped, portion_in, work_in}
-use Rattle.tql_store_rows.specs.Readings.{version_shown as version_of}
-use Rattle.tql_store_rows.specs.declared.version.Version as code
+use Rattle.tql_versions.specs.Readings.{version_shown as version_of}
+use Rattle.tql_versions.specs.declared.version.Version as code
 use Rattle.tql_store_index.specs.Basis.{Sought, is_looked_at}
 use Rattle.tql_engine_state.specs.Effects.{Does}
 use Rattle.tql_engine_state.specs.Stands.{EngineModel, StandsFor, IsSound}

@@ -10,11 +10,11 @@ use Rattle.tql_dml.specs.Alters.{Alters, gone, fates, coming, conds_in, portion_
 use Rattle.tql_plan_access.specs.Access.{IsShown, ServesChange}
 use Rattle.tql_value.specs.Views.{rows_of}
 use Rattle.tql_store.specs.StoreModel.{StoreModel, live}
-use Rattle.tql_store_rows.specs.Changes.{is_current}
+use Rattle.tql_versions.specs.Changes.{is_current}
 use Rattle.tql_store.specs.Views.{IsFound}
 use Rattle.tql_store.specs.declared.store.Delta.{Delta}
 use Rattle.tql_store_index.specs.Basis.{Sought, is_looked_at}
-use Rattle.tql_store_rows.specs.declared.version.Version.{Version}
+use Rattle.tql_versions.specs.declared.version.Version.{Version}
 use Rattle.tql_value.specs.declared.refusal.Refusal.{Refusal}
 use Rattle.tql_value.specs.declared.refusal.Refusal.TheVariants.{OutOfMemory}
 use Rattle.tql_value.specs.declared.when.When.TheVariants.{Now}

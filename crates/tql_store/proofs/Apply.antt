@@ -16,7 +16,7 @@ use Rattle.tql_spec.specs.Definition.{Stamped, Version}
 use Rattle.tql_spec.specs.History.{TableEntry, with_end, completed}
 use Rattle.tql_store.proofs.Begin.{eq_tells}
 use Rattle.tql_store.proofs.Ranges.{plus}
-use Rattle.tql_store_rows.specs.Changes.{alive, fresh, closed_if, replaced}
+use Rattle.tql_versions.specs.Changes.{alive, fresh, closed_if, replaced}
 use Rattle.tql_store.specs.Changes.{starting}
 use Rattle.tql_store.specs.Stands.{stands_at, Outside, Told, Proper}
 

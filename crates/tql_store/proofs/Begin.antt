@@ -15,7 +15,7 @@ use Rattle.tql_spec.specs.History.{ends_before}
 use Rattle.tql_store.proofs.Ranges.{reached, says-reached, Meets, meets-says, found-is}
 use Rattle.tql_store.proofs.Readings.{beyond, stands_tells, sum-picked, Known, stands_still, as_of-is}
 use Rattle.tql_store.specs.Changes.{begun, newest}
-use Rattle.tql_store_rows.specs.Changes.{Under, is_current, holds}
+use Rattle.tql_versions.specs.Changes.{Under, is_current, holds}
 use Rattle.tql_store.specs.Stands.{Within, stands_at, Outside, Fits, Told, Proper, StandsFor}
 
 pub eq_tells : (a b : ℤ) → ((int_eq a b ≡ true) × (a ≡ b)) ⊎ ((int_eq a b ≡ false) × ((a <ℤ b) ⊎ (b <ℤ a)))

@@ -10,13 +10,12 @@ use Rattle.tql_spec.proofs.Members.{by_bool}
 use Rattle.tql_spec.proofs.Bags.{sum-map}
 use Rattle.tql_spec.specs.Definition as definition
 use Rattle.tql_spec.specs.Definition.{Stamped}
-use Rattle.tql_store_rows.specs.Changes.{alive}
+use Rattle.tql_versions.specs.Changes.{alive, is_current}
 use Rattle.tql_store.specs.StoreModel.{StoreModel, named, is_open, is_removable, is_among, AreRemovable}
 use Rattle.tql_store.specs.Represents.{Judged}
-use Rattle.tql_store_rows.specs.Changes.{is_current}
-use Rattle.tql_store_rows.specs.Readings.{version_shown as version_of}
+use Rattle.tql_versions.specs.Readings.{version_shown as version_of}
 use Rattle.tql_store.specs.Views.{Names, NamesOnce}
-use Rattle.tql_store_rows.specs.declared.version.Version.{Version}
+use Rattle.tql_versions.specs.declared.version.Version.{Version}
 
 -- the ids of the versions whose rows pass a test
 abbrev pub ids_of : (Stamped → Bool) → List Version → List ℕ

@@ -11,7 +11,7 @@ use Rattle.tql_spec.specs.Bag.{In}
 use Rattle.tql_spec.specs.Calendar.{high}
 use Rattle.tql_spec.specs.Definition.{Stamped, Version}
 use Rattle.tql_spec.specs.History.{TableEntry, with_end}
-use Rattle.tql_store_rows.specs.Changes.{Past, Under, is_current, left_by}
+use Rattle.tql_versions.specs.Changes.{Past, Under, is_current, left_by}
 use Rattle.tql_store.specs.Changes.{newest}
 use Rattle.tql_store.specs.Kept.{forgotten, kept_of, oldest}
 use Rattle.tql_store.specs.Stands.{stands_at, Within, Fits, Told, StandsFor}

@@ -21,9 +21,8 @@ use Rattle.tql_store.proofs.Begin.{eq_tells, first_fits, begin-stands}
 use Rattle.tql_store.proofs.Ranges.{plus}
 use Rattle.tql_store.proofs.Prune.{prune-stands}
 use Rattle.tql_store.proofs.Readings.{beyond, stands_tells, sum-picked}
-use Rattle.tql_store_rows.specs.Changes.{alive, fresh, closed_if, replaced, reopened, undone, pruned}
+use Rattle.tql_versions.specs.Changes.{alive, fresh, closed_if, replaced, reopened, undone, pruned, Past, Under}
 use Rattle.tql_store.specs.Changes.{starting, begun, rows_after, newest, InTransaction, last_rows}
-use Rattle.tql_store_rows.specs.Changes.{Past, Under}
 use Rattle.tql_store.specs.Stands.{stands_at, Within, Fits, Told, Proper, StandsFor}
 
 -- a turn, of versions that stand for copies of which the newest is of the moment

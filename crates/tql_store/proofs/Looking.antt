@@ -11,9 +11,9 @@ use Rattle.tql_spec.specs.Bag.{SameBag, In}
 use Rattle.tql_spec.specs.Calendar.{high}
 use Rattle.tql_spec.specs.Datum.{Row}
 use Rattle.tql_spec.specs.Definition.{Version}
-use Rattle.tql_store_rows.specs.Changes.{alive, nothing}
-use Rattle.tql_store_rows.specs.Readings.{asked, is_answer, told_by, version_shown}
-use Rattle.tql_store_rows.specs.declared.version.Version as answer
+use Rattle.tql_versions.specs.Changes.{alive, nothing}
+use Rattle.tql_versions.specs.Readings.{asked, is_answer, told_by, version_shown}
+use Rattle.tql_versions.specs.declared.version.Version as answer
 use Rattle.tql_value.specs.When.{is_now, when_of}
 use Rattle.tql_value.specs.declared.when.When.{When}
 use Rattle.tql_store.proofs.Ends.{AreBounded}

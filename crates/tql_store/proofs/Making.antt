@@ -5,7 +5,7 @@ use Rattle.std.specs.Prelude.{ℤ, slice_set, Option, Some, OnErr}
 use Rattle.tql_spec.specs.Bag.{SameBag}
 use Rattle.tql_spec.specs.Datum.{Datum}
 use Rattle.tql_spec.specs.Definition.{Stamped}
-use Rattle.tql_store_rows.specs.Changes.{alive, closing, fresh, replaced}
+use Rattle.tql_versions.specs.Changes.{alive, closing, fresh, replaced}
 use Rattle.tql_store_rows.specs.TableModel.{TableModel, AtRest, InTurn, IsJudged, versions, live}
 use Rattle.tql_store.proofs.Numbers.{put-here, put-versions}
 use Rattle.tql_store.proofs.Turning.{refused-rest, change-orderly, refused-orderly}

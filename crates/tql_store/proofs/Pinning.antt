@@ -9,7 +9,7 @@ use Rattle.tql_spec.specs.Bag.{In}
 use Rattle.tql_spec.specs.Calendar.{high}
 use Rattle.tql_spec.specs.Definition.{Stamped, Version}
 use Rattle.tql_spec.specs.History.{TableEntry, still}
-use Rattle.tql_store_rows.specs.Changes.{alive, nothing}
+use Rattle.tql_versions.specs.Changes.{alive, nothing}
 use Rattle.tql_store.proofs.Apply.{lt_true, lt_false, le_false}
 use Rattle.tql_store.proofs.Begin.{new-stands}
 use Rattle.tql_store.proofs.Kept.{oldest_in}

@@ -11,8 +11,7 @@ use Rattle.tql_spec.specs.Calendar.{high}
 use Rattle.tql_spec.specs.History.{TableEntry, with_end}
 use Rattle.tql_store.proofs.Apply.{in-filter, lt_true}
 use Rattle.tql_store.proofs.Readings.{stands_tells, sum-picked}
-use Rattle.tql_store_rows.specs.Changes.{pruned}
-use Rattle.tql_store_rows.specs.Changes.{Past}
+use Rattle.tql_versions.specs.Changes.{pruned, Past}
 use Rattle.tql_store.specs.Stands.{stands_at, Within, Fits, Told, StandsFor}
 
 -- what was past a horizon is past a later one

@@ -8,7 +8,7 @@ use Rattle.tql_spec.proofs.Members.{by_bool}
 use Rattle.tql_spec.specs.Bag.{SameBag}
 use Rattle.tql_spec.specs.Definition.{Version}
 use Rattle.tql_store_rows.proofs.Leaving.{kept_pruned}
-use Rattle.tql_store_rows.specs.Changes.{left_by}
+use Rattle.tql_versions.specs.Changes.{left_by}
 use Rattle.tql_store_rows.specs.Pruned.{IsPruned, IsPruning, Pruning}
 use Rattle.tql_store_rows.specs.TableModel.{TableModel, versions}
 use Rattle.tql_store_rows.specs.TableModel as rows

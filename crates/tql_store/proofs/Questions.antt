@@ -5,8 +5,8 @@ use Rattle.std.proofs.lemmas.Int.{ints}
 use Rattle.tql_spec.proofs.Members.{lt_tells, le_tells}
 use Rattle.tql_spec.specs.Calendar.{high}
 use Rattle.tql_spec.specs.Definition.{Stamped, Version}
-use Rattle.tql_store_rows.specs.Changes.{nothing}
-use Rattle.tql_store_rows.specs.Readings.{is_answer}
+use Rattle.tql_versions.specs.Changes.{nothing}
+use Rattle.tql_versions.specs.Readings.{is_answer}
 use Rattle.tql_store.specs.Pinned.{capped, AsksAt}
 use Rattle.tql_value.specs.declared.when.When.{When}
 use Rattle.tql_value.specs.declared.when.When.TheVariants.{FromTo, Between}

@@ -9,7 +9,7 @@ use Rattle.tql_spec.proofs.Members.{lt_tells, le_tells, sum-in, sum-zero, any-to
 use Rattle.tql_spec.specs.Bag.{SameBag, In}
 use Rattle.tql_spec.specs.Definition.{Stamped, same_stamped, Version}
 use Rattle.tql_spec.specs.History.{TableEntry, has_row, with_end, completed, ends_before, as_of_from}
-use Rattle.tql_store_rows.specs.Changes.{Under, Past, holds}
+use Rattle.tql_versions.specs.Changes.{Under, Past, holds}
 use Rattle.tql_store.specs.Stands.{stands_at, Within, Fits, Told}
 
 -- ---- horizons

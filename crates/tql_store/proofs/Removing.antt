@@ -15,7 +15,7 @@ use Rattle.tql_spec.specs.Datum.{Datum}
 use Rattle.tql_spec.specs.Definition.{Stamped, Version}
 use Rattle.tql_store_rows.proofs.Counting.{once-first, once-tail}
 use Rattle.tql_store_rows.proofs.Turns.{eq_false, lt_true, first_place, later_place}
-use Rattle.tql_store_rows.specs.Changes.{alive, close_at, closing, ended, fresh, is_current, nothing}
+use Rattle.tql_versions.specs.Changes.{alive, close_at, closing, ended, fresh, is_current, nothing}
 use Rattle.tql_store_rows.specs.TableModel as rows
 use Rattle.tql_store_rows.specs.TableModel.{InTurn, IsJudged, versions, live}
 use Rattle.tql_store.proofs.Numbers.{one_number, self_number}

@@ -8,9 +8,9 @@ use Rattle.tql_spec.specs.Bag.{SameBag}
 use Rattle.tql_spec.specs.Datum.{Row}
 use Rattle.tql_spec.specs.Definition.{Version}
 use Rattle.tql_store_index.specs.Basis.{is_looked_at}
-use Rattle.tql_store_rows.specs.Changes.{alive}
-use Rattle.tql_store_rows.specs.Readings.{asked, version_shown}
-use Rattle.tql_store_rows.specs.declared.version.Version as code
+use Rattle.tql_versions.specs.Changes.{alive}
+use Rattle.tql_versions.specs.Readings.{asked, version_shown}
+use Rattle.tql_versions.specs.declared.version.Version as code
 use Rattle.tql_value.specs.When.{is_now, when_of}
 use Rattle.tql_value.specs.declared.when.When.{When}
 use Rattle.tql_store.proofs.StoreLaws.{answers-found}

@@ -20,8 +20,8 @@ use Rattle.tql_store.proofs.Begin.{new-stands, as_of-stands, from_to-stands, cur
 use Rattle.tql_store.proofs.Laws.{commit-law, brief-commit-law, rollback-law, begin-law, apply-law, same-stands}
 use Rattle.tql_store.proofs.Laws.{same-undone}
 use Rattle.tql_store.proofs.Kept.{brief-keeps-law, keeps-law, kept-more, kept_under, newest-forgotten, within_kept}
-use Rattle.tql_store_rows.specs.Readings.{asked}
-use Rattle.tql_store_rows.specs.Changes.{alive, left_by, undone, pruned, replaced}
+use Rattle.tql_versions.specs.Readings.{asked}
+use Rattle.tql_versions.specs.Changes.{alive, left_by, undone, pruned, replaced, Under, holds, is_current}
 use Rattle.tql_store.specs.Changes.{InTransaction, last_rows, rows_after}
 use Rattle.tql_store.specs.StoreModel.{StoreModel, is_versioned, live}
 use Rattle.tql_store.specs.TableSlots.{slot_at, is_kept, is_brief}
@@ -29,7 +29,6 @@ use Rattle.tql_store.specs.Represents.{Copies, Working, horizon_of, StandsWith, 
 use Rattle.tql_store.specs.Represents.{RollbackRestores, BeginCopies, ChangeReplaces, ReplacesVersions, with_rows}
 use Rattle.tql_store.specs.Represents.{appended, seen_by, Answers, PrunesCopies}
 use Rattle.tql_store.specs.Kept.{forgotten, kept_of}
-use Rattle.tql_store_rows.specs.Changes.{Under, holds, is_current}
 use Rattle.tql_store.specs.Stands.{Within, StandsFor}
 use Rattle.tql_store.specs.declared.tables.TableSlot.{TableSlot}
 use Rattle.tql_store.specs.declared.tables.TableSlot.TheVariants.{Free, Versioned, Unversioned}

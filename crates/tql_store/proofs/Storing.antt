@@ -12,7 +12,7 @@ use Rattle.tql_spec.specs.Datum.{Datum}
 use Rattle.tql_spec.specs.Definition.{Stamped, Version}
 use Rattle.tql_index.specs.Entry.{Entry}
 use Rattle.tql_store_rows.proofs.Beginning.{begin-turn}
-use Rattle.tql_store_rows.specs.Changes.{alive, closing, fresh, is_current, pruned, replaced, undone}
+use Rattle.tql_versions.specs.Changes.{alive, closing, fresh, is_current, pruned, replaced, undone}
 use Rattle.tql_store_rows.specs.TableModel as rows
 use Rattle.tql_store_rows.specs.TableModel.{AtRest, InTurn, IsIndexed, IsJudged, Since, versions, noted}
 use Rattle.tql_store_rows.specs.Readings.{AreEnded}

@@ -17,7 +17,7 @@ use Rattle.tql_store.specs.Represents.{Copies, Working, horizon_of, StandsWith, 
 use Rattle.tql_store.specs.Represents.{AddKeepsCopies, copies_without, DropEmpties}
 use Rattle.tql_store.specs.StoreModel.{StoreModel, live}
 use Rattle.tql_store.specs.TableSlots.{slot_at, place_for, is_brief}
-use Rattle.tql_store_rows.specs.Changes.{Past, Under}
+use Rattle.tql_versions.specs.Changes.{Past, Under}
 use Rattle.tql_store.specs.Kept.{kept_of}
 use Rattle.tql_store.specs.Stands.{Told, StandsFor}
 use Rattle.tql_store.specs.declared.tables.TableSlot.{TableSlot}

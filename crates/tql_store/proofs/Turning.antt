@@ -16,7 +16,7 @@ use Rattle.tql_spec.specs.Calendar.{high}
 use Rattle.tql_spec.specs.Definition.{Version}
 use Rattle.tql_store_rows.proofs.Beginning.{begin-turn}
 use Rattle.tql_store_rows.proofs.Turns.{eq_false, lt_true}
-use Rattle.tql_store_rows.specs.Changes.{alive, is_current, nothing, Past, Under, pruned, undone}
+use Rattle.tql_versions.specs.Changes.{alive, is_current, nothing, Past, Under, pruned, undone}
 use Rattle.tql_store_rows.specs.TableModel.{TableModel, AtRest, InTurn, Since, versions, live, named}
 use Rattle.tql_store.proofs.Numbers.{one_number, two_numbers, put-here, put-other, put-length}
 use Rattle.tql_store.proofs.Numbers.{taken_not_free, IsTouched, touched-or, AreApart, noted}

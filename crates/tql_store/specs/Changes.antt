@@ -4,7 +4,7 @@ use Rattle.tql_spec.specs.Calendar.{high}
 use Rattle.tql_spec.specs.Datum.{Datum}
 use Rattle.tql_spec.specs.Definition.{Stamped, Version}
 use Rattle.tql_spec.specs.History.{TableEntry}
-use Rattle.tql_store_rows.specs.Changes.{Under, undone}
+use Rattle.tql_versions.specs.Changes.{Under, undone}
 use Rattle.tql_store.specs.Stands.{StandsFor}
 
 -- a row that begins at a moment

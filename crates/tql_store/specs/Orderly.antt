@@ -4,7 +4,7 @@ use Rattle.std.specs.Prelude.{◌≡◌, ◌≢◌, ◌⊎◌, ℕ, ◌<◌, ◌
 use Rattle.std.specs.Prelude.{Contains, Option, Some, None, ℤ, ◌<ℤ◌, if◌then◌else◌, nat_eq}
 use Rattle.tql_spec.specs.Bag.{SameBag}
 use Rattle.tql_spec.specs.Calendar.{high}
-use Rattle.tql_store_rows.specs.Changes.{Under, pruned, undone}
+use Rattle.tql_versions.specs.Changes.{Under, pruned, undone}
 use Rattle.tql_store_rows.specs.Pruned.{IsPruned, IsPruning, Pruning}
 use Rattle.tql_store_rows.specs.TableModel as rows
 use Rattle.tql_store_rows.specs.TableModel.{AtRest, InTurn, Since}

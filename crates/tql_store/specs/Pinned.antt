@@ -5,9 +5,9 @@ use Rattle.tql_spec.specs.Bag.{In}
 use Rattle.tql_spec.specs.Calendar.{high}
 use Rattle.tql_spec.specs.Definition.{Version}
 use Rattle.tql_spec.specs.History.{TableEntry}
-use Rattle.tql_store_rows.specs.Changes.{nothing}
-use Rattle.tql_store_rows.specs.Readings.{is_answer}
-use Rattle.tql_store_rows.specs.declared.version.Version as answer
+use Rattle.tql_versions.specs.Changes.{nothing}
+use Rattle.tql_versions.specs.Readings.{is_answer}
+use Rattle.tql_versions.specs.declared.version.Version as answer
 use Rattle.tql_value.specs.declared.when.When.{When}
 use Rattle.tql_store.specs.Changes.{emptied}
 use Rattle.tql_store.specs.Represents.{Copies, Working, Represents}

@@ -7,10 +7,9 @@ use Rattle.tql_spec.specs.Definition.{Stamped, Version}
 use Rattle.tql_spec.specs.History.{TableEntry, When}
 use Rattle.tql_spec.specs.History.{found as versions_found}
 use Rattle.tql_spec.specs.Horizon.{is_before}
-use Rattle.tql_store_rows.specs.Changes.{is_current}
+use Rattle.tql_versions.specs.Changes.{is_current, alive, replaced}
 use Rattle.tql_store.specs.Kept.{forgotten, kept_of}
 use Rattle.tql_store.specs.Stands.{StandsFor}
-use Rattle.tql_store_rows.specs.Changes.{alive, replaced}
 use Rattle.tql_store.specs.Changes.{rows_after, InTransaction, last_rows, newest, emptied}
 use Rattle.tql_store.specs.StoreModel.{StoreModel, live, named, is_among, table_count}
 use Rattle.tql_store.specs.TableSlots.{slot_at, place_for, is_brief}

@@ -1,6 +1,6 @@
 -- What the versions of a table have to do with its copies.
 use Rattle.std.specs.Prelude.{Bool, ◌&&◌, List, [], ◌∷◌, filter, ℤ, ◌≤ℤ◌, ◌<ℤ◌, int_le, int_lt, ◌⊎◌, Option, Some, None}
-use Rattle.tql_store_rows.specs.Changes.{Under, Past}
+use Rattle.tql_versions.specs.Changes.{Under, Past}
 use Rattle.tql_spec.specs.Bag.{SameBag, In}
 use Rattle.tql_spec.specs.Calendar.{high}
 use Rattle.tql_spec.specs.Definition.{Stamped, Version}

@@ -2,7 +2,7 @@
 use Rattle.std.specs.Prelude.{ℕ, ◌≤◌, Bool, false, ◌&&◌, ◌||◌, List, [], ◌∷◌, filter, count_by, nat_eq, slice_get}
 use Rattle.std.specs.Prelude.{slice_index_or, All, IsTrue, ℤ, Option, Some, None}
 use Rattle.tql_spec.specs.Definition.{Version}
-use Rattle.tql_store_rows.specs.Changes.{alive, is_current}
+use Rattle.tql_versions.specs.Changes.{alive, is_current}
 use Rattle.tql_store.specs.TableSlots.{slot_at, is_taken, is_kept}
 use Rattle.tql_store.specs.declared.tables.TableSlot.{TableSlot}
 

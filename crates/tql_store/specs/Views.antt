@@ -4,9 +4,9 @@ use Rattle.std.specs.Prelude.{slice_get}
 use Rattle.tql_spec.specs.Bag.{SameBag}
 use Rattle.tql_spec.specs.Datum.{Row}
 use Rattle.tql_spec.specs.Definition as definition
-use Rattle.tql_store_rows.specs.Changes.{alive}
-use Rattle.tql_store_rows.specs.Readings.{asked, open_ones, where_open, version_shown as version_of}
-use Rattle.tql_store_rows.specs.declared.version.Version.{Version}
+use Rattle.tql_versions.specs.Changes.{alive}
+use Rattle.tql_versions.specs.Readings.{asked, open_ones, where_open, version_shown as version_of}
+use Rattle.tql_versions.specs.declared.version.Version.{Version}
 use Rattle.tql_value.specs.When.{when_of}
 use Rattle.tql_value.specs.declared.when.When.{When}
 use Rattle.tql_value.specs.declared.when.When.TheVariants.{Now}

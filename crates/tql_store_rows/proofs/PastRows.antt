@@ -18,13 +18,14 @@ use Rattle.tql_store_rows.proofs.Numbering.{taken-is}
 use Rattle.tql_store_rows.proofs.RowsStanding.{standing_back, standing_less, standing_longer}
 use Rattle.tql_store_rows.proofs.RowsStanding.{standing_more, standing_nil, standing_none}
 use Rattle.tql_store_rows.proofs.Turns.{at-closing, length-closing}
-use Rattle.tql_store_rows.specs.Changes.{closing, ended, fresh, nothing, taken}
-use Rattle.tql_store_rows.specs.Marks.{below, from}
+use Rattle.tql_versions.specs.Changes.{closing, ended, fresh, nothing, taken}
+use Rattle.tql_versions.specs.Marks.{below, from}
 use Rattle.tql_store_rows.specs.RowsStanding.{AllStand, AreStanding, IsComing, IsFilled, Rises, ending, past_of}
-use Rattle.tql_store_rows.specs.RowsStanding.{past_rows, pasts_at, pasts_of, rows_of, version_at}
+use Rattle.tql_store_rows.specs.RowsStanding.{past_rows, pasts_at, pasts_of, rows_of}
+use Rattle.tql_versions.specs.Places.{version_at}
 use Rattle.tql_store_rows.specs.TableModel.{TableModel, InTurn}
-use Rattle.tql_store_rows.specs.Views.{version_of, versions_of}
-use Rattle.tql_store_rows.specs.declared.kept.Kept.{Kept}
+use Rattle.tql_versions.specs.Views.{version_of, versions_of}
+use Rattle.tql_versions.specs.declared.kept.Kept.{Kept}
 
 -- ---- rows at places
 

@@ -21,12 +21,12 @@ use Rattle.tql_store_index.specs.Basis.{Basis, Filed, filed, stands_by}
 use Rattle.tql_store_index.specs.Places.{whole}
 use Rattle.tql_store_index.specs.Seating.{Seating, seat_at, AreGrown, AreSwapped}
 use Rattle.tql_store_index.specs.Standing.{stands}
-use Rattle.tql_store_rows.specs.RowsStanding.{AreStanding, AreHeld, IsShut, IsShutAt, version_at, rows_of}
-use Rattle.tql_store_rows.specs.RowsStanding.{all_of, held_in, held_of, stands_ever}
-use Rattle.tql_store_rows.specs.RowsStanding.{IsComing, cells_of}
-use Rattle.tql_store_rows.specs.Changes.{is_current, emptied, moved_out, nothing}
-use Rattle.tql_store_rows.specs.Views.{version_of, versions_of}
-use Rattle.tql_store_rows.specs.declared.kept.Kept.{Kept}
+use Rattle.tql_store_rows.specs.RowsStanding.{AreStanding, AreHeld, IsShut, IsShutAt, rows_of}
+use Rattle.tql_versions.specs.Places.{version_at}
+use Rattle.tql_store_rows.specs.RowsStanding.{all_of, held_in, held_of, stands_ever, IsComing, cells_of}
+use Rattle.tql_versions.specs.Changes.{is_current, emptied, moved_out, nothing}
+use Rattle.tql_versions.specs.Views.{version_of, versions_of}
+use Rattle.tql_versions.specs.declared.kept.Kept.{Kept}
 
 past_end : {X : Type 0} (xs : List (Option X)) (j : ℕ) → length xs ≤ j → get_or xs j None ≡ None
 past_end [] j l = refl

@@ -1,7 +1,7 @@
 -- Where the rows of a table stand by each of its bases.
 use Rattle.std.specs.Prelude.{◌≡◌, ℕ, ◌+◌, ◌<◌, ◌≤◌, ◌⊎◌, false, if◌then◌else◌, List, [], ◌++◌, map, length}
 use Rattle.std.specs.Prelude.{All, Bool, Option, Some, None, filter, ℤ, ◌<ℤ◌}
-use Rattle.std.specs.Prelude.{Contains, Vec, slice_index_or}
+use Rattle.std.specs.Prelude.{Contains, Vec}
 use Rattle.tql_spec.specs.Bag.{SameBag}
 use Rattle.tql_spec.specs.Datum.{Row}
 use Rattle.tql_spec.specs.Definition.{Version}
@@ -13,11 +13,8 @@ use Rattle.tql_store_index.specs.Places.{whole}
 use Rattle.tql_store_index.specs.Seating.{Seating, seat_at}
 use Rattle.tql_store_index.specs.Standing.{stands}
 use Rattle.tql_store_index.specs.ValueIndexes.{ValueIndex, index_at, IsLinked, IsTurned}
-use Rattle.tql_store_rows.specs.Changes.{ended, is_current, nothing}
-
--- the version at a place
-abbrev pub version_at : List Version → ℕ → Version
-version_at vs k = slice_index_or vs k nothing
+use Rattle.tql_versions.specs.Changes.{ended, is_current}
+use Rattle.tql_versions.specs.Places.{version_at}
 
 -- the cells of versions, and beside them every moment
 abbrev pub rows_of : List Version → List Filed

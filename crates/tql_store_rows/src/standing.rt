@@ -3,9 +3,8 @@ ghost use Rattle.std.specs.Prelude.{◌≡◌, ◌<◌, ◌≤◌, ◌+◌, ◌^
 ghost use Rattle.std.specs.Prelude.{vec_len};
 ghost use Rattle.tql_store_index.specs.ValueIndexes.{AreLoose, Each, IsTurned, index_at};
 ghost use Rattle.tql_store_rows.specs.RowsStanding.{AreStanding, IsComing, IsShut, cells_of, rows_of};
-ghost use Rattle.tql_store_rows.specs.Views.{versions_of};
+ghost use Rattle.tql_versions.specs.Views.{versions_of};
 
-use crate::kept::{Kept, is_open};
 use std::alloc::AllocError;
 use tql_index::index::IntervalIndex;
 use tql_memory::Memory;
@@ -14,6 +13,7 @@ use tql_store_index::basis::Basis;
 use tql_store_index::seats::Seats;
 use tql_store_index::value_indexes::ValueIndexes;
 use tql_value::value::Value;
+use tql_versions::kept::{Kept, is_open};
 
 /// Every moment and day: what is told beside a row that stands now, where nothing is found by it.
 const EVER: Period = Period {

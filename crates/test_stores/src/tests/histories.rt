@@ -9,11 +9,11 @@ use std::test::Fail;
 use tql_index::tree_index::TreeIndex;
 use tql_memory::{Memory, memory};
 use tql_store::store::{Delta, Store};
-use tql_store_rows::version::{HIGH, Version};
 use tql_value::refusal::Refusal;
 use tql_value::table::TableId;
 use tql_value::value::{Value, View};
 use tql_value::when::When;
+use tql_versions::version::{HIGH, Version};
 
 /// A row for each number below so many: the day of the round and that of the number stand behind it.
 fn rows_of(

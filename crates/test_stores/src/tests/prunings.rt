@@ -9,12 +9,12 @@ use std::test::Fail;
 use tql_index::tree_index::TreeIndex;
 use tql_memory::{Memory, memory};
 use tql_store::store::{Delta, Store};
-use tql_store_rows::version::HIGH;
 use tql_value::calendar::FIRST_MOMENT;
 use tql_value::refusal::Refusal;
 use tql_value::table::TableId;
 use tql_value::value::{Value, View};
 use tql_value::when::When;
+use tql_versions::version::HIGH;
 
 /// A change that removes all rows and adds one of the number.
 fn renewal(

@@ -12,11 +12,11 @@ use tql_index::tree_index::TreeIndex;
 use tql_memory::{Memory, memory};
 use tql_period::period::Period;
 use tql_store::store::{Delta, Store};
-use tql_store_rows::version::{HIGH, Version};
 use tql_value::refusal::Refusal;
 use tql_value::table::TableId;
 use tql_value::value::{Value, View};
 use tql_value::when::When;
+use tql_versions::version::{HIGH, Version};
 
 /// The number in a row, its start and its end.
 pub type Shown = (i64, i64, i64);

@@ -1,7 +1,7 @@
 use Rattle.std.proofs.Common.{◌≡◌, refl, sym, subst}
 use Rattle.std.specs.Prelude.{All, IsTrue}
 use Rattle.std.proofs.Math.Facts.{to_z-of_z}
-use Rattle.tql_store_rows.specs.Changes.{alive}
+use Rattle.tql_versions.specs.Changes.{alive}
 use Rattle.tql_store_rows.specs.TableModel.{TableModel}
 use Rattle.tql_store.specs.Orderly.{table_at}
 use Rattle.tql_store.proofs.Numbers.{element-at}

@@ -1,6 +1,6 @@
 use Rattle.std.proofs.Common.{◌∙◌, sym, ap, subst, map, List, ℕ}
 use Rattle.tql_store.specs.StoreModel.{AreRemovable}
-use Rattle.tql_store_rows.specs.declared.version.Version.{Version}
+use Rattle.tql_versions.specs.declared.version.Version.{Version}
 use Rattle.tql_store.proofs.Judging.{all_removable}
 use Rattle.test_stores.proofs.tests.stores.current_ids.Goals as goal
 

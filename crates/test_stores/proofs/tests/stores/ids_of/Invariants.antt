@@ -1,5 +1,5 @@
 use Rattle.std.proofs.Common.{◌≡◌, ◌++◌, map, drop}
-use Rattle.tql_store_rows.specs.declared.version.Version.{Version}
+use Rattle.tql_versions.specs.declared.version.Version.{Version}
 use Rattle.test_stores.proofs.tests.stores.ids_of.Given as goal
 
 -- the ids so far and those of the rest are all ids

@@ -6,7 +6,7 @@ use mir.Val.{SFits, to_z, of_z}
 use Rattle.std.specs.Prelude.{Bool, List, ◌++◌, filter}
 use Rattle.tql_spec.specs.Bag.{SameBag}
 use Rattle.tql_spec.specs.Definition.{Stamped}
-use Rattle.tql_store_rows.specs.Changes.{alive, closing, fresh, replaced}
+use Rattle.tql_versions.specs.Changes.{alive, closing, fresh, replaced}
 use Rattle.tql_store_rows.specs.TableModel as rows
 use Rattle.tql_store_rows.specs.TableModel.{InTurn, AreRemovable, IsJudged, versions, live}
 use Rattle.tql_value.specs.declared.value.Value.{Value}

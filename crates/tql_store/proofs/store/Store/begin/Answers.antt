@@ -2,7 +2,7 @@ use Rattle.std.proofs.Common.{◌≡◌, ℤ, Option, None, Some, rules}
 use Rattle.std.proofs.Common.{sym, ap, subst, ◌∙◌}
 use Rattle.std.proofs.Math.Facts.{to_z-of_z}
 use Rattle.tql_store.specs.StoreModel.{StoreModel}
-use Rattle.tql_store_rows.specs.Changes.{Under}
+use Rattle.tql_versions.specs.Changes.{Under}
 use Rattle.tql_store.specs.Orderly.{IsOrderly}
 use Rattle.tql_store.proofs.Turning.{begin-orderly}
 use Rattle.tql_store.proofs.StoreLaws.{begin-copies}

@@ -3,9 +3,9 @@ use Rattle.std.specs.Prelude.{slice_get, slice_index_or, Some}
 use Rattle.std.proofs.lemmas.Grind.{common_steps}
 use Rattle.tql_spec.specs.Bag.{SameBag}
 use Rattle.tql_spec.specs.Definition.{Version}
-use Rattle.tql_store_rows.specs.Changes.{alive}
-use Rattle.tql_store_rows.specs.Readings.{asked, open_ones}
-use Rattle.tql_store_rows.specs.Views.{versions_of}
+use Rattle.tql_versions.specs.Changes.{alive}
+use Rattle.tql_versions.specs.Readings.{asked, open_ones}
+use Rattle.tql_versions.specs.Views.{versions_of}
 use Rattle.tql_value.specs.declared.when.When.TheVariants.{Now}
 use Rattle.tql_store.specs.StoreModel.{StoreModel}
 use Rattle.tql_store.specs.TableSlots.{slot_at, is_taken}

@@ -3,8 +3,8 @@ use Rattle.std.specs.Prelude.{slice_index_or}
 use Rattle.std.proofs.lemmas.Grind.{common_steps}
 use Rattle.tql_spec.specs.Bag.{SameBag}
 use Rattle.tql_spec.specs.Definition.{Version}
-use Rattle.tql_store_rows.specs.Changes.{alive}
-use Rattle.tql_store_rows.specs.Readings.{asked, version_shown, Names, NamesOnce}
+use Rattle.tql_versions.specs.Changes.{alive}
+use Rattle.tql_versions.specs.Readings.{asked, version_shown, Names, NamesOnce}
 use Rattle.tql_store.specs.StoreModel.{StoreModel}
 use Rattle.tql_store.specs.TableSlots.{slot_at, is_taken}
 use Rattle.tql_store.specs.Orderly.{table_at}

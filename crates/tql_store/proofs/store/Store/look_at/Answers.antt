@@ -4,7 +4,7 @@ use Rattle.std.specs.Prelude.{slice_index_or}
 use Rattle.std.proofs.Math.Facts.{to_z-of_z}
 use Rattle.std.proofs.lemmas.Result.{IfOk-weaker}
 use Rattle.tql_store_index.specs.Basis.{is_looked_at, sought_of}
-use Rattle.tql_store_rows.specs.declared.version.Version.{Version}
+use Rattle.tql_versions.specs.declared.version.Version.{Version}
 use Rattle.tql_store.proofs.Ends.{AreBounded, are-bounded}
 use Rattle.tql_store.proofs.Looking.{found-at, none-found}
 use Rattle.tql_store.proofs.Storing.{shows, versions-of}

@@ -4,7 +4,7 @@ use Rattle.std.specs.Vec.{with_items}
 use Rattle.std.proofs.Math.Facts.{to_z-of_z}
 use Rattle.std.proofs.lemmas.List.{with_items_is}
 use mir.Val.{to_z, of_z}
-use Rattle.tql_store_rows.specs.Changes.{alive}
+use Rattle.tql_versions.specs.Changes.{alive}
 use Rattle.tql_store_rows.specs.Pruned.{Pruning}
 use Rattle.tql_store_rows.specs.TableModel as rows
 use Rattle.tql_store_rows.specs.TableModel.{versions}

@@ -2,7 +2,7 @@ use Rattle.std.proofs.Common.{◌≡◌, true, List, rules, refl, arith, sym, ap
 use Rattle.std.specs.Prelude.{slice_get, slice_index_or}
 use Rattle.std.proofs.lemmas.Grind.{common_steps}
 use Rattle.tql_spec.specs.Definition.{Version}
-use Rattle.tql_store_rows.specs.Readings.{where_open}
+use Rattle.tql_versions.specs.Readings.{where_open}
 use Rattle.tql_store.specs.StoreModel.{StoreModel}
 use Rattle.tql_store.specs.TableSlots.{slot_at, is_taken}
 use Rattle.tql_store.specs.Orderly.{table_at}

@@ -4,8 +4,8 @@ use Rattle.std.proofs.lemmas.Grind.{common_steps}
 use Rattle.tql_spec.specs.Bag.{SameBag}
 use Rattle.tql_spec.specs.Definition.{Version}
 use Rattle.tql_store_index.specs.Basis.{is_sought, sought_of}
-use Rattle.tql_store_rows.specs.Changes.{alive}
-use Rattle.tql_store_rows.specs.Readings.{version_shown, Names, NamesOnce}
+use Rattle.tql_versions.specs.Changes.{alive}
+use Rattle.tql_versions.specs.Readings.{version_shown, Names, NamesOnce}
 use Rattle.tql_store_rows.specs.Wanted.{chosen}
 use Rattle.tql_store.specs.StoreModel.{StoreModel}
 use Rattle.tql_store.specs.TableSlots.{slot_at, is_taken}

@@ -1,0 +1,21 @@
+use Rattle.std.proofs.Common.{◌≡◌, ◌≤◌, ◌+◌, ◌++◌, List, Vec, map, length}
+use Rattle.std.specs.Prelude.{vec_len, vec_capacity, ℤ}
+use Rattle.std.specs.Vec.Iter.{into_iter_items}
+use Rattle.tql_value.specs.declared.value.Value.{Value}
+use Rattle.tql_value.specs.Views.{datum_of_value}
+use Rattle.tql_spec.specs.Definition.{Version}
+use Rattle.tql_versions.specs.Changes.{fresh}
+use Rattle.tql_versions.specs.Views.{versions_of}
+use Rattle.tql_versions.proofs.kept.add_each.Given as goal
+
+-- the versions of new rows
+abbrev pub fresh_versions : {A : Type 0} → ℤ → List (Vec Value A) → List Version
+fresh_versions moment rows = map (λ row. fresh moment (map datum_of_value row.items)) rows
+
+-- what was added and what is left is all; there is room for what is left
+abbrev pub invariant-loop-row : goal.invariant-loop-row
+invariant-loop-row l = record {
+  slots : versions_of l.versions.items ++ fresh_versions l.moment (into_iter_items l.row-iterator) ≡ versions_of
+      l.fn.versions.items ++ fresh_versions l.moment l.fn.added.items;
+  room : vec_len l.versions + length (into_iter_items l.row-iterator) ≤ vec_capacity l.versions;
+}

@@ -1,0 +1,5 @@
+pub mod Changes
+pub mod Views
+pub mod Marks
+pub mod Places
+pub mod Readings

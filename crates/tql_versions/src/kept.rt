@@ -1,0 +1,220 @@
+//! What a change, a commit and a rollback make of versions in a plain list.
+ghost use Rattle.std.specs.Prelude.{◌≡◌, ◌≤◌, ◌<◌, ◌+◌, ◌++◌, [], All, OnOk, map, length};
+ghost use Rattle.std.specs.Prelude.{false, true, if◌then◌else◌, vec_len, vec_capacity, ◌<ℤ◌};
+ghost use Rattle.tql_spec.specs.Calendar.{high};
+ghost use Rattle.tql_period.specs.Points.{points_of};
+ghost use Rattle.tql_value.specs.Views.{datum_of_value};
+ghost use Rattle.tql_versions.specs.Changes.{alive, is_current, closing, fresh, ended, moved_out, emptied, taken};
+ghost use Rattle.tql_versions.specs.Marks.{below, from};
+ghost use Rattle.tql_versions.specs.Readings.{period_of};
+ghost use Rattle.tql_versions.specs.Views.{version_of, versions_of};
+
+use crate::version::HIGH;
+use std::alloc::AllocError;
+use std::mem;
+use tql_memory::Memory;
+use tql_period::period::Period;
+use tql_value::value::Value;
+
+/// A version in its place.
+#[derive(Drop)]
+pub struct Kept {
+    /// Its cells, but the generated ones.
+    pub row: Vec<Value, Memory>,
+    /// Since when it holds, in microseconds since 1970-01-01.
+    pub start: i64,
+    /// Until when, that moment left out; `HIGH` while it is not closed.
+    pub end: i64,
+}
+
+/// Whether a version holds a moment.
+pub fn is_alive(version: &Kept) -> bool
+    ensures { result ≡ alive (version_of version.now) }
+{
+    version.start < version.end
+}
+
+/// Whether a version is not closed.
+pub fn is_open(version: &Kept) -> bool
+    ensures { result ≡ is_current (version_of version.now) }
+{
+    version.end == HIGH
+}
+
+/// Closes a version.
+fn end_at(version: &mut Kept, moment: i64)
+    ensures { version_of version.new ≡ ended moment (version_of version.old) }
+{
+    version.end = moment;
+}
+
+/// Takes a version out of its place, and leaves one there that holds no moment.
+fn take_version(version: &mut Kept, memory: Memory, moment: i64) -> Kept
+    ensures taken { version_of result ≡ version_of version.old }
+    ensures left { version_of version.new ≡ moved_out moment }
+{
+    mem::replace(
+        version,
+        Kept {
+            row: Vec::new(memory),
+            start: moment,
+            end: moment,
+        },
+    )
+}
+
+/// Ends the versions in these places at a moment: one in the open transaction's closes them, the highest opens
+/// them again.
+fn end_each(versions: &mut [Kept], places: &[usize], moment: i64)
+    requires { All (λ i. i < length versions.old) places.now }
+    ensures ends { versions_of versions.new ≡ closing moment places.now (versions_of versions.old) }
+    ensures len { length versions.new ≡ length versions.old }
+{
+    for place in places {
+        end_at(&mut versions[*place], moment);
+    }
+}
+
+/// Opens the versions in these places again.
+pub fn reopen_each(versions: &mut [Kept], places: &[usize])
+    requires { All (λ i. i < length versions.old) places.now }
+    ensures opens { versions_of versions.new ≡ closing high places.now (versions_of versions.old) }
+    ensures len { length versions.new ≡ length versions.old }
+{
+    end_each(versions, places, HIGH);
+}
+
+/// Adds each row's version, which begins at the moment. Takes no memory.
+fn add_each(versions: &mut Vec<Kept, Memory>, added: Vec<Vec<Value, Memory>, Memory>, moment: i64)
+    requires { vec_len versions.old + vec_len added ≤ vec_capacity versions.old }
+    ensures { versions_of versions.new.items ≡ versions_of versions.old.items
+        ++ map (λ row. fresh moment (map datum_of_value row.items)) added.entry.items }
+{
+    for row in added {
+        versions.push_reserved(Kept {
+            row,
+            start: moment,
+            end: HIGH,
+        });
+    }
+}
+
+/// Closes the versions in these places at the moment and adds the rows. Takes no memory.
+pub fn replace(
+    versions: &mut Vec<Kept, Memory>,
+    removed: &[usize],
+    added: Vec<Vec<Value, Memory>, Memory>,
+    moment: i64,
+)
+    requires within { All (λ i. i < length versions.old.items) removed.now }
+    requires room { vec_len versions.old + vec_len added ≤ vec_capacity versions.old }
+    ensures { versions_of versions.new.items ≡ closing moment removed.now (versions_of versions.old.items)
+        ++ map (λ row. fresh moment (map datum_of_value row.items)) added.entry.items }
+{
+    end_each(versions, removed, moment);
+    add_each(versions, added, moment);
+}
+
+/// Notes the places: those below the base as ended, the others as dead. Takes no memory.
+pub fn mark_each(
+    ended: &mut Vec<usize, Memory>,
+    dead: &mut Vec<usize, Memory>,
+    places: &[usize],
+    base: usize,
+)
+    requires ended { vec_len ended.old + length places.now ≤ vec_capacity ended.old }
+    requires dead { vec_len dead.old + length places.now ≤ vec_capacity dead.old }
+    ensures ended { ended.new.items ≡ ended.old.items ++ below base places.now }
+    ensures dead { dead.new.items ≡ dead.old.items ++ from base places.now }
+{
+    for place in places {
+        if *place < base {
+            ended.push_reserved(*place);
+        } else {
+            dead.push_reserved(*place);
+        }
+    }
+}
+
+/// Moves the versions in these places, in their order, behind the closed ones. Takes no memory.
+fn retire(
+    versions: &mut [Kept],
+    closed: &mut Vec<Kept, Memory>,
+    places: &[usize],
+    memory: Memory,
+    moment: i64,
+)
+    requires within { All (λ i. i < length versions.old) places.now }
+    requires room { vec_len closed.old + length places.now ≤ vec_capacity closed.old }
+    ensures left { versions_of versions.new ≡ emptied moment places.now (versions_of versions.old) }
+    ensures len { length versions.new ≡ length versions.old }
+    ensures taken { versions_of closed.new.items ≡ versions_of closed.old.items
+        ++ taken moment places.now (versions_of versions.old) }
+{
+    for place in places {
+        let version = take_version(&mut versions[*place], memory, moment);
+        closed.push_reserved(version);
+    }
+}
+
+/// Moves them where the table keeps its history, and leaves all as it is where it does not. Takes no memory.
+pub fn retire_kept(
+    keeps: bool,
+    versions: &mut [Kept],
+    closed: &mut Vec<Kept, Memory>,
+    places: &[usize],
+    memory: Memory,
+    moment: i64,
+)
+    requires within { All (λ i. i < length versions.old) places.now }
+    requires room { keeps ≡ true → vec_len closed.old + length places.now ≤ vec_capacity closed.old }
+    ensures left { versions_of versions.new
+        ≡ (if keeps then emptied moment places.now (versions_of versions.old) else versions_of versions.old) }
+    ensures len { length versions.new ≡ length versions.old }
+    ensures taken { versions_of closed.new.items ≡ versions_of closed.old.items
+        ++ (if keeps then taken moment places.now (versions_of versions.old) else []) }
+{
+    if keeps {
+        retire(versions, closed, places, memory, moment);
+    }
+}
+
+/// Makes room for more closed versions, where the table keeps its history.
+pub fn reserve_kept(
+    keeps: bool,
+    closed: &mut Vec<Kept, Memory>,
+    more: usize,
+) -> Result<(), AllocError>
+    ensures items { closed.new.items ≡ closed.old.items }
+    ensures len { vec_len closed.new ≡ vec_len closed.old }
+    ensures grows { vec_capacity closed.old ≤ vec_capacity closed.new }
+    ensures ok { OnOk result (keeps ≡ true → vec_len closed.new + more ≤ vec_capacity closed.new) }
+    ensures none { keeps ≡ false → vec_capacity closed.new ≡ vec_capacity closed.old }
+{
+    if !keeps {
+        return Ok(());
+    }
+    closed.reserve(more)
+}
+
+/// The period of a version that is closed at the moment.
+pub fn span(version: &Kept, moment: i64) -> Period
+    requires { (version_of version.now).row.start <ℤ moment }
+    ensures { points_of result ≡ (record { start = (version_of version.now).row.start; end = moment }) }
+{
+    Period {
+        start: version.start,
+        end: moment,
+    }
+}
+
+/// The period of a version.
+pub fn span_of(version: &Kept) -> Period
+    requires { (version_of version.now).row.start <ℤ (version_of version.now).end }
+    ensures { points_of result ≡ period_of (version_of version.now) }
+{
+    Period {
+        start: version.start,
+        end: version.end,
+    }
+}
