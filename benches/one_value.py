@@ -19,7 +19,8 @@ versions, or as a reader that was opened at half of the versions. In sqlite3 the
 it has no counterpart of the reader. A day and a moment are numbers there.
 
 The scripts: a DELETE that 400 children of 800 parents are tested for; 10,000 periods of one key value by two INSERTs; 500 SELECTs AS OF behind 20,000
-UPDATEs of a row; 36,500 daily periods by INSERTs of 5,000; 20,000 INSERTs beside 900 tables with references.
+UPDATEs of a row; 36,500 daily periods by INSERTs of 5,000; 20,000 INSERTs beside 900 tables with references; 20,000 daily periods of one key value
+joined with 20,000 of it by the key and their periods, and by their periods alone.
 """
 import os
 import re
@@ -135,6 +136,7 @@ def scripts() -> list[tuple[str, str]]:
 
     made = PARENT.format("p", KEY) + CHILD
     ask = f"SELECT * FROM h FOR SYSTEM_TIME AS OF {moment(10_000)} WHERE k = 1;\n"
+    both = "".join(PARENT.format(it, KEY) + packed(it, rows(20_000)) for it in "pq")
     beside = "".join(f"CREATE TABLE c{it} (x INTEGER, FOREIGN KEY (x) REFERENCES k (x));\n" for it in range(900))
     return [
         ("a DELETE of 400 of 800 parents, beside 400 children", made + packed("p", rows(800))
@@ -144,6 +146,8 @@ def scripts() -> list[tuple[str, str]]:
         ("36,500 daily periods, INSERTs of 5,000", PARENT.format("p", KEY) + packed("p", rows(36_500), 5_000)),
         ("20,000 INSERTs beside 900 tables with references", "CREATE TABLE t (x INTEGER);\nCREATE TABLE k (x INTEGER, PRIMARY KEY (x));\n" + beside
          + "INSERT INTO t VALUES (1);\n" * 20_000),
+        ("20,000 periods of one key value joined with 20,000, by key and period", both + "SELECT COUNT(*) FROM p JOIN q ON p.k = q.k AND p.v OVERLAPS q.v;\n"),
+        ("the same by the period alone", both + "SELECT COUNT(*) FROM p JOIN q ON p.v OVERLAPS q.v;\n"),
     ]
 
 

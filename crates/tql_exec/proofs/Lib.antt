@@ -4,6 +4,7 @@ pub mod Begun
 pub mod Early
 pub mod Looked
 pub mod ByKey
+pub mod ByPeriod
 pub mod Passed
 pub mod Open
 pub mod Ranked

@@ -15,9 +15,9 @@ use Rattle.tql_spec.specs.Words.{kept_if}
 use Rattle.tql_spec.proofs.Bags.{same-map}
 use Rattle.tql_value.specs.declared.when.When.TheVariants.{Now}
 use Rattle.tql_expr.specs.Evaluated.{behind}
-use Rattle.tql_store_rows.specs.Readings.{is_answer, open_ones}
-use Rattle.tql_store_rows.specs.Views.{version_of, versions_of}
-use Rattle.tql_store_rows.specs.declared.kept.Kept.{Kept}
+use Rattle.tql_versions.specs.Readings.{is_answer, open_ones}
+use Rattle.tql_versions.specs.Views.{version_of, versions_of}
+use Rattle.tql_versions.specs.declared.kept.Kept.{Kept}
 use Rattle.tql_store.specs.Represents.{Copies, Working, Represents, seen_by}
 use Rattle.tql_store.specs.StoreModel.{StoreModel}
 use Rattle.tql_store.specs.Views.{AreRowsNow}

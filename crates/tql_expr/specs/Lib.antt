@@ -7,3 +7,4 @@ pub mod Sets
 pub mod Generated
 pub mod Shown
 pub mod Equalities
+pub mod Overlaps

@@ -8,6 +8,7 @@ pub mod constants;
 pub mod equality;
 mod evaluation;
 pub mod node;
+pub mod overlap;
 pub mod row;
 mod safety;
 mod scalar;

@@ -1,7 +1,7 @@
 use Rattle.std.proofs.Common.{◌≡◌, ◌++◌, drop, map}
 use Rattle.tql_expr.specs.Generated.{generated}
-use Rattle.tql_store_rows.specs.Readings.{open_ones}
-use Rattle.tql_store_rows.specs.Views.{versions_of}
+use Rattle.tql_versions.specs.Readings.{open_ones}
+use Rattle.tql_versions.specs.Views.{versions_of}
 use Rattle.tql_exec.specs.Found.{completed}
 use Rattle.tql_exec.proofs.reading.open_rows.Given as goal
 

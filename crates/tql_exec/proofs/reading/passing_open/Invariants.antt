@@ -3,8 +3,8 @@ use Rattle.tql_spec.specs.Query.{keep}
 use Rattle.tql_expr.specs.Evaluated.{behind}
 use Rattle.tql_expr.specs.Generated.{generated}
 use Rattle.tql_expr.specs.Meaning.{cond}
-use Rattle.tql_store_rows.specs.Readings.{open_ones}
-use Rattle.tql_store_rows.specs.Views.{versions_of}
+use Rattle.tql_versions.specs.Readings.{open_ones}
+use Rattle.tql_versions.specs.Views.{versions_of}
 use Rattle.tql_exec.specs.Found.{completed}
 use Rattle.tql_exec.proofs.reading.passing_open.Given as goal
 

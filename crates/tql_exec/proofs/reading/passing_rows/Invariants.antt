@@ -3,7 +3,7 @@ use Rattle.tql_spec.specs.Query.{keep}
 use Rattle.tql_expr.specs.Evaluated.{behind}
 use Rattle.tql_expr.specs.Generated.{generated}
 use Rattle.tql_expr.specs.Meaning.{cond}
-use Rattle.tql_store_rows.specs.Readings.{version_shown as version_of}
+use Rattle.tql_versions.specs.Readings.{version_shown as version_of}
 use Rattle.tql_exec.specs.Found.{completed}
 use Rattle.tql_exec.proofs.reading.passing_rows.Given as goal
 

@@ -4,7 +4,7 @@ use Rattle.tql_spec.specs.Bag.{SameBag}
 use Rattle.tql_spec.specs.Datum.{Row}
 use Rattle.tql_spec.proofs.Bags.{same-map}
 use Rattle.tql_expr.specs.Generated.{generated}
-use Rattle.tql_store_rows.specs.Readings.{version_shown as version_of}
+use Rattle.tql_versions.specs.Readings.{version_shown as version_of}
 use Rattle.tql_plan.specs.Nodes.{source_of}
 use Rattle.tql_exec.specs.Found.{bags_in, completed}
 use Rattle.tql_exec.proofs.reading.read.Goals as goal

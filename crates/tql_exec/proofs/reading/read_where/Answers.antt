@@ -6,8 +6,8 @@ use Rattle.tql_spec.specs.Query.{keep}
 use Rattle.tql_expr.specs.Generated.{generated}
 use Rattle.tql_expr.specs.Meaning.{cond}
 use Rattle.tql_store_index.specs.Basis.{is_looked_at}
-use Rattle.tql_store_rows.specs.Readings.{open_ones, version_shown as version_of}
-use Rattle.tql_store_rows.specs.Views.{versions_of}
+use Rattle.tql_versions.specs.Readings.{open_ones, version_shown as version_of}
+use Rattle.tql_versions.specs.Views.{versions_of}
 use Rattle.tql_plan.specs.Nodes.{Scan, source_of}
 use Rattle.tql_exec.specs.Found.{bags_in, completed}
 use Rattle.tql_exec.proofs.OverBags.{regiven, given, kept_same}

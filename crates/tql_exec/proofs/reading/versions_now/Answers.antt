@@ -1,6 +1,6 @@
 use Rattle.std.proofs.Common.{ap}
 use Rattle.std.proofs.lemmas.Option.{IfSome_then}
-use Rattle.tql_store_rows.specs.Views.{versions_of}
+use Rattle.tql_versions.specs.Views.{versions_of}
 use Rattle.tql_value.specs.When.{when_of}
 use Rattle.tql_plan.specs.Nodes.{source_of}
 use Rattle.tql_exec.proofs.Open.{rows_now}

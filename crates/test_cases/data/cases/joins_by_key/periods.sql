@@ -1,0 +1,33 @@
+-- cases: in-turn
+-- Rows joined by periods: OVERLAPS and CONTAINS either way round, with a key and without, INNER and LEFT, periods that meet, NULL, a period of two other columns that does not rise, three tables, a table with itself, commas, and where ON calculates. By hand from docs/LANGUAGE.md.
+CREATE TABLE stay (room INTEGER, f DATE, u DATE, guest INTEGER, PERIOD FOR sp (f, u), PRIMARY KEY (room, sp WITHOUT OVERLAPS));
+CREATE TABLE rate (room INTEGER, price INTEGER, f DATE, u DATE, PERIOD FOR rp (f, u), PRIMARY KEY (room, rp WITHOUT OVERLAPS));
+CREATE TABLE day (d DATE, back DATE, name VARCHAR(5));
+INSERT INTO stay VALUES (1, DATE '2011-01-01', DATE '2011-01-05', 10), (1, DATE '2011-01-05', DATE '2011-01-09', 11), (2, DATE '2011-01-03', DATE '2011-01-06', 12), (3, DATE '2011-01-01', DATE '2011-02-01', 13);
+INSERT INTO rate VALUES (1, 50, DATE '2011-01-01', DATE '2011-01-05'), (1, 60, DATE '2011-01-05', DATE '2011-01-07'), (1, 70, DATE '2011-01-07', DATE '2011-02-01'), (2, 80, DATE '2011-01-05', DATE '2011-01-20'), (2, 90, DATE '2011-01-20', DATE '2011-01-21');
+INSERT INTO day VALUES (DATE '2011-01-05', DATE '2011-01-04', 'wed'), (DATE '2011-01-20', DATE '2011-01-03', 'thu'), (NULL, DATE '2011-01-01', 'none'), (DATE '2011-03-01', NULL, 'late');
+SELECT guest, price FROM stay JOIN rate ON stay.room = rate.room AND sp OVERLAPS rp;
+SELECT guest, price FROM stay JOIN rate ON rp OVERLAPS sp AND rate.room = stay.room;
+SELECT guest, price FROM stay LEFT JOIN rate ON stay.room = rate.room AND sp OVERLAPS rp;
+SELECT guest, price FROM stay JOIN rate ON stay.room = rate.room AND sp OVERLAPS rp AND price > 55;
+SELECT guest, price FROM stay JOIN rate ON sp OVERLAPS rp;
+SELECT guest, price FROM stay LEFT JOIN rate ON rp OVERLAPS sp AND price > 65;
+SELECT guest, price FROM stay JOIN rate ON sp CONTAINS rate.f;
+SELECT guest, price FROM stay JOIN rate ON stay.room = rate.room AND rp CONTAINS stay.f;
+SELECT guest, price FROM stay LEFT JOIN rate ON stay.room = rate.room AND rp CONTAINS stay.u;
+SELECT name, guest FROM day JOIN stay ON sp CONTAINS d;
+SELECT name, guest FROM day LEFT JOIN stay ON sp CONTAINS d;
+SELECT name, guest FROM day JOIN stay ON sp OVERLAPS PERIOD (back, d);
+SELECT name, guest FROM day JOIN stay ON PERIOD (d, back) OVERLAPS sp;
+SELECT name, guest FROM day LEFT JOIN stay ON PERIOD (back, d) CONTAINS stay.f;
+SELECT a.guest AS x, b.guest AS y FROM stay a JOIN stay b ON a.sp OVERLAPS b.sp AND a.guest < b.guest;
+SELECT name, guest, price FROM day LEFT JOIN stay ON sp CONTAINS d LEFT JOIN rate ON sp OVERLAPS rp AND rate.room = 2;
+SELECT name, guest, price FROM day JOIN stay ON sp CONTAINS d JOIN rate ON rate.room = stay.room AND rp CONTAINS d;
+SELECT guest, price FROM stay, rate WHERE sp OVERLAPS rp AND price < 60;
+SELECT guest, price, name FROM stay, rate, day WHERE sp OVERLAPS rp AND rp CONTAINS d;
+SELECT guest, price FROM stay JOIN rate ON sp OVERLAPS rp AND guest + price > 80;
+SELECT guest, price FROM stay JOIN rate ON sp OVERLAPS rp AND guest + 9223372036854775800 > price;
+UPDATE rate FOR PORTION OF rp FROM DATE '2011-01-02' TO DATE '2011-01-04' SET price = 55 WHERE room = 1;
+DELETE FROM stay WHERE guest = 13;
+SELECT guest, price FROM stay JOIN rate ON stay.room = rate.room AND sp OVERLAPS rp;
+SELECT guest, price FROM stay LEFT JOIN rate ON sp OVERLAPS rp WHERE guest < 12;

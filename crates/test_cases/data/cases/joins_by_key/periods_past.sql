@@ -1,0 +1,30 @@
+-- cases: in-turn
+-- Rows joined by periods that stand behind generated columns: now, as of a moment, in a range, in a transaction, and by a reader. By hand from docs/LANGUAGE.md.
+AT TIMESTAMP '2011-01-01 00:00:00';
+CREATE TABLE rate (s TIMESTAMP GENERATED ALWAYS AS ROW START, f DATE, e TIMESTAMP GENERATED ALWAYS AS ROW END, no INTEGER, u DATE, r INTEGER, PERIOD FOR p (f, u), PERIOD FOR SYSTEM_TIME (s, e), PRIMARY KEY (no, p WITHOUT OVERLAPS)) WITH SYSTEM VERSIONING;
+CREATE TABLE trip (tno INTEGER, no INTEGER, a DATE, b DATE);
+INSERT INTO rate (no, f, u, r) VALUES (1, DATE '2011-05-01', DATE '2011-06-01', 10), (1, DATE '2011-06-01', DATE '2011-07-01', 20), (2, DATE '2011-05-01', DATE '2011-07-01', 30);
+INSERT INTO trip VALUES (1, 1, DATE '2011-05-20', DATE '2011-06-10'), (2, 2, DATE '2011-06-30', DATE '2011-07-02'), (3, 1, DATE '2011-07-01', DATE '2011-07-02'), (4, 3, DATE '2011-05-01', DATE '2011-05-02');
+AT TIMESTAMP '2011-02-01 00:00:00';
+UPDATE rate FOR PORTION OF p FROM DATE '2011-06-05' TO DATE '2011-06-08' SET r = 21 WHERE no = 1;
+AT TIMESTAMP '2011-03-01 00:00:00';
+DELETE FROM rate WHERE no = 2;
+INSERT INTO rate (no, f, u, r) VALUES (3, DATE '2011-04-01', DATE '2011-05-02', 40);
+SELECT tno, r FROM trip JOIN rate ON trip.no = rate.no AND PERIOD (a, b) OVERLAPS p;
+SELECT tno, r FROM trip LEFT JOIN rate ON PERIOD (a, b) OVERLAPS p;
+SELECT tno, r FROM trip LEFT JOIN rate ON p CONTAINS a;
+SELECT tno, r FROM trip JOIN rate FOR SYSTEM_TIME AS OF TIMESTAMP '2011-01-15 00:00:00' ON trip.no = rate.no AND p OVERLAPS PERIOD (a, b);
+SELECT tno, r FROM trip JOIN rate FOR SYSTEM_TIME AS OF TIMESTAMP '2011-02-15 00:00:00' ON p OVERLAPS PERIOD (a, b);
+SELECT tno, r FROM trip LEFT JOIN rate FOR SYSTEM_TIME FROM TIMESTAMP '2011-01-01 00:00:00' TO TIMESTAMP '2011-04-01 00:00:00' ON trip.no = rate.no AND p CONTAINS a;
+SELECT x.r AS old, y.r AS new FROM rate FOR SYSTEM_TIME AS OF TIMESTAMP '2011-01-15 00:00:00' x JOIN rate y ON x.p OVERLAPS y.p AND x.no = y.no;
+OPEN READER books;
+AT TIMESTAMP '2011-04-01 00:00:00';
+START TRANSACTION;
+DELETE FROM rate WHERE r < 20;
+SELECT tno, r FROM trip JOIN rate ON trip.no = rate.no AND PERIOD (a, b) OVERLAPS p;
+SELECT tno, r FROM trip JOIN rate ON p CONTAINS b;
+COMMIT;
+READ books SELECT x.r AS old, y.r AS new FROM rate x JOIN rate y ON x.p OVERLAPS y.p AND x.r < y.r;
+READ books SELECT x.r AS old, y.r AS new FROM rate x JOIN rate y ON x.no = y.no AND x.p OVERLAPS y.p;
+READ books SELECT x.r AS old, y.r AS new FROM rate x JOIN rate FOR SYSTEM_TIME AS OF TIMESTAMP '2011-01-15 00:00:00' y ON x.p OVERLAPS y.p;
+CLOSE READER books;
