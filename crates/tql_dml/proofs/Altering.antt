@@ -16,13 +16,13 @@ use Rattle.tql_bound.specs.Works.{work_of}
 use Rattle.tql_bound.specs.declared.change.Insertion.{Insertion}
 use Rattle.tql_bound.specs.declared.change.Modification.{Modification}
 use Rattle.tql_store.specs.declared.store.Delta.{Delta}
-use Rattle.tql_store_rows.specs.declared.version.Version.{Version}
+use Rattle.tql_versions.specs.declared.version.Version.{Version}
 use Rattle.tql_value.specs.Points.{IsPrintable}
 use Rattle.tql_value.specs.Refusals.{refusal_of}
 use Rattle.tql_value.specs.declared.refusal.Refusal.{Refusal}
 use Rattle.tql_value.specs.declared.refusal.Refusal.TheVariants as r
 use Rattle.tql_dml.specs.Alters.{Gives, Alters, added_rows, tuples_in, rows_in, portion_in, conds_in, modified, fates}
-use Rattle.tql_dml.specs.Alters.{coming, gone, IsVersionOf, AreTyped}
+use Rattle.tql_dml.specs.Alters.{coming, gone, inserted, IsVersionOf, AreTyped}
 use Rattle.tql_dml.specs.Cells.{stored_cells, rows_faults}
 use Rattle.tql_expr.specs.Evaluated.{Fails}
 use Rattle.tql_value.specs.Views.{rows_of}
@@ -92,6 +92,19 @@ pub of_values : (d : TableDef) (id : ℕ) (x : Insertion) (o p : Option (List Ro
 of_values d id x o p result e h =
     subst (λ o. Alters id [] (λ m. (added_rows d x.columns.items o m).rows) (added_rows d x.columns.items o) result)
     (sym e) h
+
+-- an evaluation is out of range, or there is no memory
+insert_ends : (d : TableDef) (id : ℕ) (x : Insertion) (e : Refusal) → Fails (tuples_in x) e
+    → Alters id [] (λ m. (inserted d x m).rows) (inserted d x) (Err e)
+insert_ends d id x r.OutOfMemory f = tt
+insert_ends d id x r.ValueOutOfRange f = λ m. ap (λ o. first (added_rows d x.columns.items o m).faults) f
+insert_ends d id x _ f = absurd f
+
+pub insert_fails : (d : TableDef) (id : ℕ) (x : Insertion) (e : Refusal) (result : Result Delta Refusal)
+    → IsErr result × IsErrAnd result (λ f. f ≡ e) → Fails (tuples_in x) e
+    → Alters id [] (λ m. (inserted d x m).rows) (inserted d x) result
+insert_fails d id x e (Ok delta) h f = absurd cc
+insert_fails d id x e (Err why) h f = insert_ends d id x why (subst (Fails (tuples_in x)) (sym h.1) f)
 
 -- ---- UPDATE and DELETE
 

@@ -10,8 +10,8 @@ use Rattle.tql_spec.specs.Definition.{TableDef, Stamped, stamped, without_genera
 use Rattle.tql_spec.specs.Expression.{Cond}
 use Rattle.tql_spec.specs.Change.{Work, Fate, Replaced, made_of, is_touched, pieces, fate, fate_where, new_rows}
 use Rattle.tql_spec.specs.Change.{touched_count}
-use Rattle.tql_store_rows.specs.Readings.{version_shown as version_of}
-use Rattle.tql_store_rows.specs.declared.version.Version.{Version}
+use Rattle.tql_versions.specs.Readings.{version_shown as version_of}
+use Rattle.tql_versions.specs.declared.version.Version.{Version}
 use Rattle.tql_dml.specs.Alters.{is_yes, rows_in}
 use Rattle.tql_dml.specs.Parts.{Parts, before, part_where, part_of, parts}
 

@@ -14,3 +14,5 @@ pub mod PieceTexts
 pub mod Texts
 pub mod Modified
 pub mod PointChanges
+pub mod Failing
+pub mod PointRefusals

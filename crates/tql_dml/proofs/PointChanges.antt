@@ -25,8 +25,8 @@ use Rattle.tql_bound.specs.declared.change.Insertion.{Insertion}
 use Rattle.tql_bound.specs.declared.change.Modification.{Modification}
 use Rattle.tql_store.specs.Changes.{starting, rows_after}
 use Rattle.tql_store.specs.declared.store.Delta.{Delta}
-use Rattle.tql_store_rows.specs.Readings.{version_shown as version_of}
-use Rattle.tql_store_rows.specs.declared.version.Version.{Version}
+use Rattle.tql_versions.specs.Readings.{version_shown as version_of}
+use Rattle.tql_versions.specs.declared.version.Version.{Version}
 use Rattle.tql_value.specs.Views.{rows_of}
 use Rattle.tql_value.specs.declared.refusal.Refusal.{Refusal}
 use Rattle.tql_dml.specs.Alters.{Gives, Alters, gone, coming, fates, modified, inserted, tuples_in, rows_in}

@@ -20,8 +20,8 @@ use Rattle.tql_spec.specs.Binding.{all_assignable}
 use Rattle.tql_catalog.specs.Defined.{IsDefinition}
 use Rattle.tql_catalog.specs.Rows.{has_system, stored_width}
 use Rattle.tql_catalog.proofs.Definitions.{has_its_system}
-use Rattle.tql_store_rows.specs.Readings.{version_shown as version_of}
-use Rattle.tql_store_rows.specs.declared.version.Version.{Version}
+use Rattle.tql_versions.specs.Readings.{version_shown as version_of}
+use Rattle.tql_versions.specs.declared.version.Version.{Version}
 use Rattle.tql_value.specs.Views.{datum_of_value}
 use Rattle.tql_dml.specs.Cells.{faults_by, stored_faults as faults_of, rows_faults}
 use Rattle.tql_dml.specs.Parts.{Parts, before, touched_part, part_where, part_of, parts}

@@ -28,8 +28,8 @@ use Rattle.tql_catalog.specs.Rows.{IsRowOf, RisesBy}
 use Rattle.tql_expr.specs.Meaning.{expr}
 use Rattle.tql_expr.specs.declared.terms.ExprId.{ExprId}
 use Rattle.tql_expr.specs.declared.terms.Terms.{Terms}
-use Rattle.tql_store_rows.specs.Readings.{version_shown as version_of}
-use Rattle.tql_store_rows.specs.declared.version.Version.{Version}
+use Rattle.tql_versions.specs.Readings.{version_shown as version_of}
+use Rattle.tql_versions.specs.declared.version.Version.{Version}
 use Rattle.tql_value.specs.Points.{IsPrintable, IsMoment}
 use Rattle.tql_dml.specs.Alters.{IsVersionOf, IsTypedFor}
 use Rattle.tql_dml.specs.Cells.{rows_faults}

@@ -19,9 +19,9 @@ use Rattle.tql_bound.specs.declared.change.Insertion.{Insertion}
 use Rattle.tql_bound.specs.declared.change.Modification.{Modification}
 use Rattle.tql_expr.specs.Meaning.{cond}
 use Rattle.tql_catalog.specs.Rows.{IsRowOf}
-use Rattle.tql_store_rows.specs.Readings.{version_shown as version_of}
+use Rattle.tql_versions.specs.Readings.{version_shown as version_of}
 use Rattle.tql_store.specs.declared.store.Delta.{Delta}
-use Rattle.tql_store_rows.specs.declared.version.Version.{Version}
+use Rattle.tql_versions.specs.declared.version.Version.{Version}
 use Rattle.tql_value.specs.Points.{IsMoment}
 use Rattle.tql_value.specs.Refusals.{refusal_of}
 use Rattle.tql_value.specs.declared.refusal.Refusal.{Refusal}

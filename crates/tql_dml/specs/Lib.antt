@@ -1,5 +1,7 @@
 pub mod Cells
 pub mod Cutting
+pub mod Failing
 pub mod Alters
 pub mod Parts
 pub mod PointChanges
+pub mod PointRefusals

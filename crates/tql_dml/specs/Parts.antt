@@ -6,8 +6,8 @@ use Rattle.tql_spec.specs.Definition.{TableDef, without_generated, shown}
 use Rattle.tql_spec.specs.Expression.{Cond}
 use Rattle.tql_spec.specs.Change.{Work, made_of, is_touched, pieces}
 use Rattle.tql_spec.specs.Period.{Period}
-use Rattle.tql_store_rows.specs.Readings.{version_shown as version_of}
-use Rattle.tql_store_rows.specs.declared.version.Version.{Version}
+use Rattle.tql_versions.specs.Readings.{version_shown as version_of}
+use Rattle.tql_versions.specs.declared.version.Version.{Version}
 use Rattle.tql_value.specs.Views.{rows_of}
 use Rattle.tql_dml.specs.declared.modification.Changed.{Changed}
 

@@ -17,7 +17,7 @@ use Rattle.tql_bound.specs.declared.change.Insertion.{Insertion}
 use Rattle.tql_bound.specs.declared.change.Modification.{Modification}
 use Rattle.tql_store.specs.Changes.{starting}
 use Rattle.tql_store.specs.declared.store.Delta.{Delta}
-use Rattle.tql_store_rows.specs.declared.version.Version.{Version}
+use Rattle.tql_versions.specs.declared.version.Version.{Version}
 use Rattle.tql_value.specs.Views.{rows_of}
 use Rattle.tql_dml.specs.Alters.{rows_in, portion_in, work_in, conds_in}
 

@@ -22,12 +22,12 @@ use tql_expr::columns::Columns;
 use tql_expr::stored::StoredRow;
 use tql_expr::terms::{CondId, Terms};
 use tql_memory::Memory;
-use tql_store_rows::version::HIGH;
 use tql_value::arithmetic::Range;
 use tql_value::refusal::Refusal;
 use tql_value::text::characters;
 use tql_value::truth::Truth;
 use tql_value::value::{Value, View};
+use tql_versions::version::HIGH;
 
 /// Whether a value is a text of more characters than its column takes.
 fn is_too_long(column: &Column, value: &Value) -> bool
@@ -47,7 +47,7 @@ fn is_lacking(column: &Column, value: &Value) -> bool
 }
 
 /// Whether a value is too long for the column with a number.
-fn is_too_long_at(columns: &[Column], number: usize, value: &Value) -> bool
+pub(crate) fn is_too_long_at(columns: &[Column], number: usize, value: &Value) -> bool
     ensures { result ≡ too_long (slice_index_or (map column_of columns.now) number no_column).limit
         (datum_of_value value.now) }
 {
@@ -58,7 +58,7 @@ fn is_too_long_at(columns: &[Column], number: usize, value: &Value) -> bool
 }
 
 /// Whether a value is NULL where the column with a number takes none.
-fn is_lacking_at(columns: &[Column], number: usize, value: &Value) -> bool
+pub(crate) fn is_lacking_at(columns: &[Column], number: usize, value: &Value) -> bool
     ensures { result ≡ (slice_index_or (map column_of columns.now) number no_column).required
         && is_null (datum_of_value value.now) }
 {
@@ -89,7 +89,7 @@ fn lacks_a_value(columns: &[Column], stored: &[usize], row: &[Value]) -> bool
 }
 
 /// Whether two points are there, and the first is not before the second.
-fn falls(start: View<'_>, end: View<'_>) -> bool
+pub(crate) fn falls(start: View<'_>, end: View<'_>) -> bool
     ensures { result ≡ falling (datum_of_view start.entry) (datum_of_view end.entry) }
 {
     !start.is_null() && !end.is_null() && point(end) <= point(start)

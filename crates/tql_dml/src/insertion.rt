@@ -3,6 +3,7 @@ ghost use Rattle.std.specs.Prelude.{[], All, IfOk, Some};
 ghost use Rattle.tql_catalog.specs.Rows.{IsRowOf};
 ghost use Rattle.tql_dml.specs.Alters.{Alters, added_rows, inserted};
 ghost use Rattle.tql_dml.specs.PointChanges.{InsertsAtPoints};
+ghost use Rattle.tql_dml.specs.PointRefusals.{RefusesInsertionAsPoints};
 ghost use Rattle.tql_value.specs.Points.{ArePrintable};
 ghost use Rattle.tql_value.specs.Views.{rows_of};
 
@@ -47,12 +48,14 @@ pub fn insert_rows(
 
 /// The change that adds a row for each tuple, by the values of its expressions: ISO/IEC 9075-2:2011, 14.11. Refused
 /// as in `insert_rows`, and, before all of these, where an evaluation is out of range. At each point of time it adds
-/// the tuples whose application period holds the point.
+/// the tuples whose application period holds the point. Where each tuple gives a period that rises, it is refused
+/// exactly where the INSERT of the tuples of some point is, with the first of their refusals.
 pub fn insert_tuples(memory: Memory, table: &Table, insertion: &Insertion) -> Result<Delta, Refusal>
     ensures alters { Alters table.now.id [] (λ m. (inserted table.now.definition insertion.now m).rows)
         (inserted table.now.definition insertion.now) result }
     ensures fits { IfOk result (λ delta. All (IsRowOf table.now.definition) (rows_of delta.added.items)) }
     ensures points { IfOk result (InsertsAtPoints table.now.definition insertion.now) }
+    ensures refusals { RefusesInsertionAsPoints table.now.definition insertion.now result }
 {
     let tuples = tuples_of(memory, &insertion.terms, &insertion.tuples)?;
     insert_rows(memory, table, &insertion.columns, tuples)

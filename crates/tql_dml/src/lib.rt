@@ -2,6 +2,7 @@
 #![tactic(auto)]
 
 mod assignment;
+pub mod failures;
 mod faults;
 pub mod insertion;
 pub mod modification;

@@ -2,11 +2,12 @@
 ghost use Rattle.std.specs.Prelude.{◌≡◌, All, length, option_map, IfOk, Some};
 ghost use Rattle.tql_spec.specs.Definition.{shown};
 ghost use Rattle.tql_catalog.specs.Rows.{IsRowOf, stored_width};
-ghost use Rattle.tql_store_rows.specs.Readings.{version_shown as version_of};
+ghost use Rattle.tql_versions.specs.Readings.{version_shown as version_of};
 ghost use Rattle.tql_dml.specs.Alters.{Alters, modified, fates, coming, gone, portion_in, work_in, conds_in};
 ghost use Rattle.tql_dml.specs.Alters.{IsVersionOf, AreTyped};
 ghost use Rattle.tql_dml.specs.Cutting.{IsCut, left_cells, made_cells};
 ghost use Rattle.tql_dml.specs.PointChanges.{ModifiesAtPoints};
+ghost use Rattle.tql_dml.specs.PointRefusals.{RefusesModificationAsPoints};
 ghost use Rattle.tql_period.specs.Points.{points_of};
 ghost use Rattle.tql_expr.specs.Evaluated.{Evaluated};
 ghost use Rattle.tql_expr.specs.Shown.{shown_by};
@@ -24,14 +25,14 @@ use tql_memory::Memory;
 use tql_period::period::Period;
 use tql_period::pieces::Pieces;
 use tql_store::store::Delta;
-use tql_store_rows::version::{HIGH, Version};
 use tql_value::refusal::Refusal;
 use tql_value::table::TableId;
 use tql_value::value::Value;
+use tql_versions::version::{HIGH, Version};
 
 /// What a modification does so far: the versions that go, by their ids, and the rows that come, without generated
 /// columns.
-struct Changed {
+pub(crate) struct Changed {
     removed: Vec<usize, Memory>,
     added: Vec<Vec<Value, Memory>, Memory>,
 }
@@ -59,6 +60,14 @@ impl Changed {
             removed,
             added,
         }
+    }
+
+    /// The rows that come.
+    pub(crate) fn into_added(self) -> Vec<Vec<Value, Memory>, Memory>
+        ensures { result.items ≡ self.added.items }
+    {
+        let Changed { removed: _, added } = self;
+        added
     }
 }
 
@@ -168,7 +177,7 @@ fn add_version(
 }
 
 /// What becomes of versions.
-fn changes(
+pub(crate) fn changes(
     memory: Memory,
     definition: &TableDef,
     modification: &Modification,
@@ -197,7 +206,8 @@ fn changes(
 /// CHECK is evaluated on each row that comes, the parts before and after a portion among them. Where the versions are
 /// rows of the table, and a portion's values are of their columns' kinds, so are those that come. Where SET and WHERE
 /// name no period, at each point of time what stays and what comes is what the plain change makes of the rows that hold
-/// there.
+/// there; and where the old rows have rising periods and no fault, the change is refused exactly where the plain change
+/// of some point is, with the first of their refusals.
 pub fn modify(
     memory: Memory,
     table: &Table,
@@ -212,6 +222,7 @@ pub fn modify(
         → AreTyped table.now.definition found.now modification.now
         → IfOk result (λ delta. All (IsRowOf table.now.definition) (rows_of delta.added.items)) }
     ensures points { IfOk result (ModifiesAtPoints table.now.definition found.now modification.now) }
+    ensures refusals { RefusesModificationAsPoints table.now.definition found.now modification.now result }
 {
     let definition = &table.definition;
     let changed = changes(memory, definition, modification, found)?;

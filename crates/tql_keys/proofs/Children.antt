@@ -13,7 +13,7 @@ use Rattle.tql_store.specs.Changes.{starting, rows_after}
 use Rattle.tql_keys.specs.Asked.{IsJudged, row_found, rows_in, new_rows, staying}
 use Rattle.tql_keys.specs.Parents.{any_left, any_with}
 use Rattle.tql_keys.specs.Touched.{tuple, has_tuple, is_touched, with_tuple}
-use Rattle.tql_store_rows.specs.declared.version.Version.{Version}
+use Rattle.tql_versions.specs.declared.version.Version.{Version}
 use Rattle.tql_keys.proofs.Freely.{any_kept, found_any}
 use Rattle.tql_keys.proofs.Gathering.{parents_is}
 use Rattle.tql_keys.proofs.Near.{met_near}

@@ -7,10 +7,10 @@ use Rattle.tql_spec.specs.Constraint.{keys_hold, references_hold}
 use Rattle.tql_spec.specs.Machine.{constraint_faults}
 use Rattle.tql_spec.specs.Refusal.{Refusal, DuplicateKey, ReferenceNotMet, fault_if, first}
 
-abbrev faults : Bool → Bool → List Refusal
-faults a b = fault_if (not a) DuplicateKey ++ fault_if (not b) ReferenceNotMet
+abbrev pub tested : Bool → Bool → List Refusal
+tested a b = fault_if (not a) DuplicateKey ++ fault_if (not b) ReferenceNotMet
 
-none : (a b : Bool) → faults a b ≡ [] → (a ≡ true) × (b ≡ true)
+none : (a b : Bool) → tested a b ≡ [] → (a ≡ true) × (b ≡ true)
 none true true e = (refl, refl)
 none true false e = absurd (cc)
 none false b e = absurd (cc)
@@ -24,9 +24,9 @@ no_faults defs copy e = none (keys_hold defs copy) (references_hold defs copy) e
 pub key_first : (defs : List TableDef) (copy : Copy) → keys_hold defs copy ≡ false
     → first (constraint_faults defs copy) ≡ Some DuplicateKey
 key_first defs copy e =
-    ap (λ a. first (faults a (references_hold defs copy))) e ∙ before (references_hold defs copy)
+    ap (λ a. first (tested a (references_hold defs copy))) e ∙ before (references_hold defs copy)
   where
-    before : (b : Bool) → first (faults false b) ≡ Some DuplicateKey
+    before : (b : Bool) → first (tested false b) ≡ Some DuplicateKey
     before true = refl
     before false = refl
 
@@ -34,10 +34,10 @@ key_first defs copy e =
 pub reference_first : (defs : List TableDef) (copy : Copy) → keys_hold defs copy ≡ true
     → references_hold defs copy ≡ false → first (constraint_faults defs copy) ≡ Some ReferenceNotMet
 reference_first defs copy e f =
-    ap (λ a. first (faults a (references_hold defs copy))) e ∙ ap (λ b. first (faults true b)) f
+    ap (λ a. first (tested a (references_hold defs copy))) e ∙ ap (λ b. first (tested true b)) f
 
 -- where both hold there is none
 pub none_first : (defs : List TableDef) (copy : Copy) → keys_hold defs copy ≡ true
     → references_hold defs copy ≡ true → first (constraint_faults defs copy) ≡ None
 none_first defs copy e f =
-    ap (λ a. first (faults a (references_hold defs copy))) e ∙ ap (λ b. first (faults true b)) f
+    ap (λ a. first (tested a (references_hold defs copy))) e ∙ ap (λ b. first (tested true b)) f

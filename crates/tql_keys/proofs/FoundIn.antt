@@ -14,7 +14,7 @@ use Rattle.tql_catalog.specs.declared.catalog.Table.{Table}
 use Rattle.tql_store.specs.StoreModel.{StoreModel}
 use Rattle.tql_store.specs.Views.{IsFound}
 use Rattle.tql_store_index.specs.Tuple.{is_at}
-use Rattle.tql_store_rows.specs.declared.version.Version.{Version}
+use Rattle.tql_versions.specs.declared.version.Version.{Version}
 use Rattle.tql_value.specs.declared.when.When.TheVariants.{Now}
 use Rattle.tql_keys.specs.Asked.{AreRowsOf, row_found, rows_in, rows_with}
 use Rattle.tql_keys.specs.Touched.{has_tuple, is_touched}

@@ -19,9 +19,9 @@ use Rattle.tql_catalog.specs.declared.catalog.Table.{Table}
 use Rattle.tql_store.specs.StoreModel.{StoreModel, live}
 use Rattle.tql_store.specs.Views.{IsFound}
 use Rattle.tql_store_index.specs.Tuple.{is_at}
-use Rattle.tql_store_rows.specs.Changes.{alive, is_current}
-use Rattle.tql_store_rows.specs.Readings.{version_shown, where_open}
-use Rattle.tql_store_rows.specs.declared.version.Version.{Version}
+use Rattle.tql_versions.specs.Changes.{alive, is_current}
+use Rattle.tql_versions.specs.Readings.{version_shown, where_open}
+use Rattle.tql_versions.specs.declared.version.Version.{Version}
 use Rattle.tql_value.specs.declared.when.When.TheVariants.{Now}
 use Rattle.tql_keys.specs.Asked.{AreRowsOf, row_found, row_named, rows_with}
 use Rattle.tql_keys.specs.Touched.{has_tuple}

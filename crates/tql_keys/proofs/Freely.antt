@@ -13,7 +13,7 @@ use Rattle.tql_store.specs.StoreModel.{is_among}
 use Rattle.tql_store.specs.Changes.{starting, rows_after}
 use Rattle.tql_keys.specs.Asked.{row_found, rows_in, IsJudged, new_rows, staying}
 use Rattle.tql_keys.specs.Parents.{any_left}
-use Rattle.tql_store_rows.specs.declared.version.Version.{Version}
+use Rattle.tql_versions.specs.declared.version.Version.{Version}
 use Rattle.tql_keys.proofs.Bools.{all_map, all_premised, all_same, or_no}
 use Rattle.tql_keys.proofs.Wheres.{all_where, all_where_map, all_staying, all_bag}
 use Rattle.tql_keys.proofs.KeyLaw.{key_joined, key_kept}

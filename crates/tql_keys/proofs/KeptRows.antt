@@ -11,8 +11,8 @@ use Rattle.tql_spec.specs.Words.{all_pairs}
 use Rattle.tql_spec.proofs.AtPoints.{all_in}
 use Rattle.tql_spec.proofs.Members.{both, by_bool}
 use Rattle.tql_store.specs.StoreModel.{StoreModel}
-use Rattle.tql_store_rows.specs.Changes.{alive, is_current}
-use Rattle.tql_store_rows.specs.Readings.{where_open}
+use Rattle.tql_versions.specs.Changes.{alive, is_current}
+use Rattle.tql_versions.specs.Readings.{where_open}
 use Rattle.tql_keys.specs.Asked.{current_rows, row_named}
 use Rattle.tql_keys.specs.Keeping.{are_kept, is_kept}
 use Rattle.tql_keys.proofs.Alikes.{AreAlike, alike_says}

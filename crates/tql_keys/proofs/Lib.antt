@@ -9,6 +9,7 @@ pub mod Faults
 pub mod Sameness
 pub mod Tested
 pub mod Told
+pub mod PointTests
 pub mod Sharing
 pub mod SortedRivals
 pub mod Tuples

@@ -11,8 +11,8 @@ use Rattle.tql_spec.proofs.Members.{both, by_bool}
 use Rattle.tql_spec.proofs.MemberLists.{in_image, in_kept, in_map, times_some, there_if}
 use Rattle.tql_store.specs.Represents.{Judged}
 use Rattle.tql_store.specs.StoreModel.{StoreModel, named, is_among}
-use Rattle.tql_store_rows.specs.Changes.{alive, is_current}
-use Rattle.tql_store_rows.specs.Readings.{where_open}
+use Rattle.tql_versions.specs.Changes.{alive, is_current}
+use Rattle.tql_versions.specs.Readings.{where_open}
 use Rattle.tql_keys.specs.Asked.{IsJudged, current_rows, row_named}
 use Rattle.tql_keys.specs.Named.{of_named, AreNamed}
 use Rattle.tql_keys.proofs.Bools.{same_bool}

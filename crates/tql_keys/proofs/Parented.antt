@@ -11,7 +11,7 @@ use Rattle.tql_store.specs.Changes.{starting, rows_after}
 use Rattle.tql_keys.specs.Asked.{row_found, rows_in, new_rows, staying, IsJudged}
 use Rattle.tql_keys.specs.Named.{of_named, AreNamed}
 use Rattle.tql_keys.specs.Touched.{tuple, is_child_of, is_spared}
-use Rattle.tql_store_rows.specs.declared.version.Version.{Version}
+use Rattle.tql_versions.specs.declared.version.Version.{Version}
 use Rattle.tql_keys.proofs.Children.{all_stay, none_judged}
 use Rattle.tql_keys.proofs.Freely.{found_all}
 use Rattle.tql_keys.proofs.NamedRows.{gone_by_ids}

@@ -1,15 +1,15 @@
 -- After a change of a table its own references and those to it decide: each other one is tested as before.
 use Rattle.std.proofs.Common.{◌≡◌, ◌<◌, ◌≤◌, ◌≢◌, refl, sym, ap, subst, ◌∙◌, ℕ, ◌+◌, zero, suc, Bool, true, false, List}
 use Rattle.std.proofs.Common.{[], ◌∷◌, length, arith, inl, inr}
-use Rattle.std.specs.Prelude.{◌&&◌, ◌||◌, not, nat_eq, Option, Some, None, if◌then◌else◌, slice_set}
-use Rattle.std.specs.List.{list_all, list_any, range_with_len}
+use Rattle.std.specs.Prelude.{◌&&◌, not, nat_eq, Option, Some, None, if◌then◌else◌, slice_set}
+use Rattle.std.specs.List.{list_all, range_with_len}
 use Rattle.std.proofs.lemmas.Bool.Decides.{nat_tests}
 use Rattle.tql_spec.specs.AtPoints.{table_rows}
 use Rattle.tql_spec.specs.Bag.{In}
 use Rattle.tql_spec.specs.Constraint.{reference_to, references_hold, shown_rows}
 use Rattle.tql_spec.specs.Datum.{Row}
 use Rattle.tql_spec.specs.Definition.{Name, TableDef, Reference, Stamped, place_of, next_place, table_at}
-use Rattle.tql_spec.specs.History.{Copy, rows_in}
+use Rattle.tql_spec.specs.History.{Copy}
 use Rattle.tql_spec.specs.Words.{same_text}
 use Rattle.tql_spec.proofs.AtPoints.{all_in, in_all, in_tables, table_in}
 use Rattle.tql_spec.proofs.Constraints.{and_true, reference_test, same_text-is, same_text-self}

@@ -11,9 +11,9 @@ use Rattle.tql_catalog.specs.declared.catalog.Table.{Table}
 use Rattle.tql_store.specs.Changes.{starting}
 use Rattle.tql_store.specs.StoreModel.{StoreModel, live, is_among}
 use Rattle.tql_store.specs.Views.{current_named}
-use Rattle.tql_store_rows.specs.Changes.{is_current}
-use Rattle.tql_store_rows.specs.Readings.{version_shown}
-use Rattle.tql_store_rows.specs.declared.version.Version as code
+use Rattle.tql_versions.specs.Changes.{is_current}
+use Rattle.tql_versions.specs.Readings.{version_shown}
+use Rattle.tql_versions.specs.declared.version.Version as code
 use Rattle.tql_keys.specs.Touched.{has_tuple, is_touched}
 
 -- ---- the rows of a table

@@ -5,6 +5,7 @@ pub mod Keeping
 pub mod Laws
 pub mod Named
 pub mod Parents
+pub mod PointTests
 pub mod Ranks
 pub mod Rising
 pub mod Touched

@@ -9,7 +9,7 @@ use Rattle.tql_period.specs.declared.period.Period as code
 use Rattle.tql_store.specs.StoreModel.{is_among}
 use Rattle.tql_keys.specs.Asked.{row_found}
 use Rattle.tql_keys.specs.Touched.{has_tuple}
-use Rattle.tql_store_rows.specs.declared.version.Version.{Version}
+use Rattle.tql_versions.specs.declared.version.Version.{Version}
 
 -- whether some period holds a point
 abbrev pub any_holds : List code.Period → ℤ → Bool

@@ -11,14 +11,14 @@ use tql_value::value::Value;
 /// A change of one table's rows: those of these ids, which rise, go, and these come, which begin at the moment, in
 /// microseconds since 1970-01-01.
 #[derive(Clone, Copy)]
-pub(crate) struct Change<'a> {
-    pub(crate) removed: &'a [usize],
-    pub(crate) added: &'a [Vec<Value, Memory>],
-    pub(crate) moment: i64,
+pub struct Change<'a> {
+    pub removed: &'a [usize],
+    pub added: &'a [Vec<Value, Memory>],
+    pub moment: i64,
     /// The ids of the rows that go, in the order in which they were given.
-    pub(crate) given: &'a [usize],
-    pub(crate) ghost rising: { AreRising removed.now },
-    pub(crate) ghost same: { SameBag given.now removed.now },
+    pub given: &'a [usize],
+    ghost rising: { AreRising removed.now },
+    ghost same: { SameBag given.now removed.now },
 }
 
 impl Change<'_> {
@@ -27,14 +27,14 @@ impl Change<'_> {
     ghost use Rattle.tql_keys.specs.Rising.{are_distinct};
 
     /// Whether the row of an id goes.
-    pub(crate) fn removes(&self, id: usize) -> bool
+    pub fn removes(&self, id: usize) -> bool
         ensures { result ≡ is_among id self.now.removed.now }
     {
         self.removed.binary_search(&id).is_ok()
     }
 
     /// Whether no id is given twice.
-    pub(crate) fn names_once(&self) -> bool
+    pub fn names_once(&self) -> bool
         ensures { result ≡ are_distinct self.now.given.now }
     {
         self.removed.is_sorted_by(|id, next| *id < *next)
@@ -42,7 +42,7 @@ impl Change<'_> {
 }
 
 /// These ids, rising.
-pub(crate) fn rising(memory: Memory, ids: &[usize]) -> Result<Vec<usize, Memory>, AllocError>
+pub fn rising(memory: Memory, ids: &[usize]) -> Result<Vec<usize, Memory>, AllocError>
     ensures rising { IfOk result (λ rising. AreRising rising.items) }
     ensures same { IfOk result (λ rising. (id : ℕ) → is_among id rising.items ≡ is_among id ids.now) }
     ensures bag { IfOk result (λ rising. SameBag ids.now rising.items) }

@@ -18,6 +18,7 @@ ghost use Rattle.tql_store.specs.Represents.{Judged};
 ghost use Rattle.tql_value.specs.Views.{rows_of};
 ghost use Rattle.tql_keys.specs.Checked.{AreThere, AreJudged, IsCopyOf, copy_after, has_parent, references_hold_of};
 ghost use Rattle.tql_keys.specs.Checked.{TellsTests, TellsFirst, TellsAtPoints};
+ghost use Rattle.tql_keys.specs.PointTests.{IsRefusedAsPoints};
 
 use crate::change::{Change, rising};
 use crate::keys::keys_after;
@@ -32,7 +33,7 @@ use tql_store::store::{Delta, Store};
 use tql_value::refusal::Refusal;
 
 /// A key of a table lists columns that are not generated.
-fn read_key(parent: &TableDef, reference: &Reference)
+pub fn read_key(parent: &TableDef, reference: &Reference)
     requires { IsTrue (is_declared_key parent.now (reference_of reference.now).by_period
         (reference_of reference.now).parent_columns) }
     ensures { IsTrue (are_assignable parent.now (reference_of reference.now).parent_columns) }
@@ -86,7 +87,7 @@ fn reference_between<I: IntervalIndex>(
 
 /// Whether a reference of the table at one place, which held, holds after a change of the table at another, or the
 /// same.
-fn reference_after<I: IntervalIndex>(
+pub fn reference_after<I: IntervalIndex>(
     memory: Memory,
     catalog: &Catalog,
     store: &Store<I>,
@@ -219,8 +220,10 @@ fn test<I: IntervalIndex>(
 /// Tests keys and references after a change of the table at a place, whose new rows begin at the moment, in
 /// microseconds since 1970-01-01. Where those of all tables hold in what the store has, they hold after the change, or
 /// it is refused: as `DuplicateKey` (E35) where a key fails, else as `ReferenceNotMet` (E36) (ISO/IEC 9075-2:2011, 11.7
-/// and 11.8); memory aside. Of the rows that stay only those with a tuple of one that comes or goes are looked at;
-/// those that come are sorted, and of these neighbours are compared. Nothing is changed.
+/// and 11.8); memory aside. Where all tables have application periods and their keys and references go by these, it is
+/// refused exactly where the plain keys and references fail on the rows that hold at some point of time, with the first
+/// of the refusals of all points. Of the rows that stay only those with a tuple of one that comes or goes are looked
+/// at; those that come are sorted, and of these neighbours are compared. Nothing is changed.
 pub fn check<I: IntervalIndex>(
     memory: Memory,
     catalog: &Catalog,
@@ -242,6 +245,11 @@ pub fn check<I: IntervalIndex>(
         → HoldsAtPoints (definitions_of catalog.now) copy
         → SameBag rows (rows_after moment gone (rows_of delta.now.added.items) (rows_in copy place))
         → TellsAtPoints (definitions_of catalog.now) (slice_set copy place rows) result }
+    ensures refusals { (copy : Copy) (rows : List Stamped) (gone : Stamped → Bool)
+        → IsCopyOf store.now catalog.now copy → Judged store.now delta.now.table gone delta.now.removed.items
+        → HoldsAtPoints (definitions_of catalog.now) copy
+        → SameBag rows (rows_after moment gone (rows_of delta.now.added.items) (rows_in copy place))
+        → IsRefusedAsPoints (definitions_of catalog.now) (slice_set copy place rows) result }
 {
     test(memory, catalog, store, place, delta, moment)
 }

@@ -31,7 +31,7 @@ fn sort_by_tuples(columns: &[usize], rows: &mut Vec<StoredRow<'_>, Memory>)
 }
 
 /// The rows that come, sorted by their tuples in these columns.
-pub(crate) fn sorted_coming<'a>(
+pub fn sorted_coming<'a>(
     memory: Memory,
     definition: &TableDef,
     columns: &[usize],

@@ -16,13 +16,13 @@ use tql_index::index::IntervalIndex;
 use tql_memory::Memory;
 use tql_period::period::Period;
 use tql_store::store::Store;
-use tql_store_rows::version::Version;
 use tql_value::value::View;
+use tql_versions::version::Version;
 
 /// Columns of a table, none generated, in which its rows are sought.
-pub(crate) struct SoughtColumns<'a> {
-    pub(crate) table: &'a Table,
-    pub(crate) columns: &'a [usize],
+pub struct SoughtColumns<'a> {
+    pub table: &'a Table,
+    pub columns: &'a [usize],
     /// Their numbers among the columns that are stored.
     stored: Vec<usize, Memory>,
     ghost right: { AreStoredAt table.now.definition columns.now stored.items },
@@ -41,7 +41,7 @@ impl Drop for SoughtColumns<'_> {
 
 impl<'a> SoughtColumns<'a> {
     /// These columns of a table.
-    pub(crate) fn of(
+    pub fn of(
         memory: Memory,
         table: &'a Table,
         columns: &'a [usize],
@@ -59,7 +59,7 @@ impl<'a> SoughtColumns<'a> {
     }
 
     /// The current rows with these values in the columns; NULL is no value's equal.
-    pub(crate) fn find<'s, I: IntervalIndex>(
+    pub fn find<'s, I: IntervalIndex>(
         &self,
         store: &'s Store<I>,
         tuple: &[View<'_>],
@@ -76,7 +76,7 @@ impl<'a> SoughtColumns<'a> {
 
     /// Of these, where periods count, those whose application period shares a point with a row's, which is none where
     /// it does not rise.
-    pub(crate) fn find_in<'s, I: IntervalIndex>(
+    pub fn find_in<'s, I: IntervalIndex>(
         &self,
         memory: Memory,
         store: &'s Store<I>,

@@ -102,7 +102,7 @@ fn is_untouched<I: IntervalIndex>(
 
 /// Whether a key that held holds after a change. It is not tested where the rows that come have the tuples, and of a
 /// key WITHOUT OVERLAPS the periods, of those that go.
-fn key_after<I: IntervalIndex>(
+pub fn key_after<I: IntervalIndex>(
     memory: Memory,
     store: &Store<I>,
     table: &Table,

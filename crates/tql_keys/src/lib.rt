@@ -1,14 +1,14 @@
 //! Keys and references after a change of one table's rows.
 #![tactic(auto)]
 
-mod change;
+pub mod change;
 pub mod check;
-mod coming;
-mod finding;
+pub mod coming;
+pub mod finding;
 mod keeping;
-mod keys;
+pub mod keys;
 pub mod laws;
-mod ranks;
-mod reading;
-mod references;
-mod rivals;
+pub mod ranks;
+pub mod reading;
+pub mod references;
+pub mod rivals;

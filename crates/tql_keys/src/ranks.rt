@@ -39,7 +39,7 @@ fn starts_at(definition: &TableDef, row: &StoredRow<'_>) -> i64
 }
 
 /// The order of two rows by their ranks.
-fn compare_ranks(
+pub fn compare_ranks(
     definition: &TableDef,
     columns: &[usize],
     a: &StoredRow<'_>,

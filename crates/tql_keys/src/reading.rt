@@ -24,11 +24,7 @@ use tql_value::comparison::{Comparison, compare};
 use tql_value::value::{Value, View};
 
 /// A current row as its table shows it, by its cells and the moment at which it began.
-pub(crate) fn current_row<'a>(
-    definition: &TableDef,
-    cells: &'a [Value],
-    start: i64,
-) -> StoredRow<'a>
+pub fn current_row<'a>(definition: &TableDef, cells: &'a [Value], start: i64) -> StoredRow<'a>
     ensures { shown_by result ≡ shown definition.now (starting start (row_of cells.now)) }
 {
     StoredRow {
@@ -56,7 +52,7 @@ pub(crate) fn current_rows<'a>(
 }
 
 /// The values of a row in some columns.
-pub(crate) fn tuple_of<'a>(
+pub fn tuple_of<'a>(
     memory: Memory,
     row: &'a StoredRow<'_>,
     columns: &[usize],
@@ -116,7 +112,7 @@ pub(crate) fn point(value: View<'_>) -> i64
 }
 
 /// The application period of a row; none where it does not rise, or the table has none.
-pub(crate) fn period(definition: &TableDef, row: &StoredRow<'_>) -> Option<Period>
+pub fn period(definition: &TableDef, row: &StoredRow<'_>) -> Option<Period>
     ensures { option_map points_of result ≡ where_rising (period_of definition.now (shown_by row.now)) }
 {
     let application = definition.application()?;
@@ -152,7 +148,7 @@ pub(crate) fn touches(
 }
 
 /// Whether two rows clash in a key.
-pub(crate) fn clash(definition: &TableDef, key: &Key, r: &StoredRow<'_>, s: &StoredRow<'_>) -> bool
+pub fn clash(definition: &TableDef, key: &Key, r: &StoredRow<'_>, s: &StoredRow<'_>) -> bool
     ensures { result ≡ clash_in definition.now (key_of key.now) (shown_by r.now) (shown_by s.now) }
 {
     match_in(&key.columns, r, s) && touches(key.by_period, definition, r, definition, s)

@@ -42,8 +42,8 @@ use tql_period::coverage::covers;
 use tql_period::period::Period;
 use tql_spec::references_at_each_point;
 use tql_store::store::Store;
-use tql_store_rows::version::Version;
 use tql_value::value::{Value, View};
+use tql_versions::version::Version;
 
 /// Whether NULL stands in one of these columns of a row.
 fn has_null(columns: &[usize], row: &StoredRow<'_>) -> bool
@@ -236,7 +236,7 @@ fn meets(
 
 /// Whether a child row is met by the rows of its parent table after a change of that. Of the parent table the rows with
 /// the child row's tuple are looked at alone, and of those that come, which are sorted, likewise.
-fn is_met<I: IntervalIndex>(
+pub fn is_met<I: IntervalIndex>(
     memory: Memory,
     store: &Store<I>,
     child: &TableDef,
@@ -280,7 +280,7 @@ fn is_met<I: IntervalIndex>(
 }
 
 /// Whether a child row is met by the rows of its parent table as they stand.
-fn is_met_now<I: IntervalIndex>(
+pub fn is_met_now<I: IntervalIndex>(
     memory: Memory,
     store: &Store<I>,
     child: &TableDef,
@@ -452,7 +452,7 @@ fn is_spared<I: IntervalIndex>(
 
 /// Whether each child row of the parent row at a place, but for those that are also of the next one, is met by the rows
 /// of the parent table after a change of that.
-fn is_spared_at<I: IntervalIndex>(
+pub fn is_spared_at<I: IntervalIndex>(
     memory: Memory,
     store: &Store<I>,
     reference: &Reference,
@@ -549,7 +549,7 @@ fn add_named<'s, I: IntervalIndex>(
 }
 
 /// The rows of a table that go.
-fn rows_that_go<'s, I: IntervalIndex>(
+pub fn rows_that_go<'s, I: IntervalIndex>(
     memory: Memory,
     store: &'s Store<I>,
     table: &Table,
@@ -570,7 +570,7 @@ fn rows_that_go<'s, I: IntervalIndex>(
 /// Sorts the rows of the parent table that go by their ranks, where periods count: those of a tuple that share points
 /// with a child row then stand one behind the other.
 #[tactic(auto, using(crate::proofs::InTurn::same_rows))]
-fn sort_going(parent: &TableDef, reference: &Reference, going: &mut Vec<StoredRow<'_>, Memory>)
+pub fn sort_going(parent: &TableDef, reference: &Reference, going: &mut Vec<StoredRow<'_>, Memory>)
     ensures { SameBag (map shown_by going.new.items) (map shown_by going.old.items) }
 {
     if reference.by_period {

@@ -18,7 +18,7 @@ use tql_memory::Memory;
 use tql_value::value::Value;
 
 /// Whether a row can clash with another: WITHOUT OVERLAPS only where its period rises.
-fn can_clash(definition: &TableDef, key: &Key, row: &StoredRow<'_>) -> bool
+pub fn can_clash(definition: &TableDef, key: &Key, row: &StoredRow<'_>) -> bool
     ensures { result ≡ can_clash_in definition.now (key_of key.now) (shown_by row.now) }
 {
     if !key.by_period {

@@ -1,10 +1,12 @@
 use Rattle.std.proofs.Common.{ap, ◌∙◌}
+use Rattle.std.specs.Prelude.{Ok, Err}
 use Rattle.tql_spec.specs.Refusal.{first}
 use Rattle.tql_value.specs.Views.{rows_of}
 use Rattle.tql_dml.specs.Cells.{rows_faults}
 use Rattle.tql_dml.specs.Parts.{parts_in}
 use Rattle.tql_dml.proofs.Altering.{modify_fails, modify_refused, modify_gives, modify_fits}
 use Rattle.tql_dml.proofs.PointChanges.{modify_at_points}
+use Rattle.tql_dml.proofs.PointRefusals.{modify_as_points}
 use Rattle.tql_dml.proofs.modification.modify.Goals as goal
 
 pub returns-in_err-changed-clause-alters : goal.returns-in_err-changed-clause-alters
@@ -39,3 +41,18 @@ pub returns-in-None-clause-points : goal.returns-in-None-clause-points
 returns-in-None-clause-points c =
     modify_at_points c.args.table.now.definition c.args.table.now.id c.args.found.now c.args.modification.now
     c.of_table.result (returns-in-None-clause-alters c)
+
+pub returns-in_err-changed-clause-refusals : goal.returns-in_err-changed-clause-refusals
+returns-in_err-changed-clause-refusals c =
+    modify_as_points c.args.table.now.definition c.args.table.now.id c.args.found.now c.args.modification.now
+    c.from_residual.result (returns-in_err-changed-clause-alters c)
+
+pub returns-in-Some-clause-refusals : goal.returns-in-Some-clause-refusals
+returns-in-Some-clause-refusals c =
+    modify_as_points c.args.table.now.definition c.args.table.now.id c.args.found.now c.args.modification.now
+    (Err c.in-Some.refusal) (returns-in-Some-clause-alters c)
+
+pub returns-in-None-clause-refusals : goal.returns-in-None-clause-refusals
+returns-in-None-clause-refusals c =
+    modify_as_points c.args.table.now.definition c.args.table.now.id c.args.found.now c.args.modification.now
+    (Ok c.of_table.result) (returns-in-None-clause-alters c)

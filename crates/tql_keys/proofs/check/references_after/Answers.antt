@@ -3,7 +3,6 @@ use Rattle.std.proofs.Common.{false}
 use Rattle.std.proofs.Common.{List, [], ◌∷◌, length, drop, get_or}
 use Rattle.std.specs.Prelude.{◌&&◌, slice_set}
 use Rattle.std.specs.List.{list_all}
-use Rattle.tql_spec.specs.Constraint.{references_hold}
 use Rattle.tql_spec.specs.Definition.{table_at}
 use Rattle.tql_spec.specs.History.{rows_in}
 use Rattle.tql_spec.proofs.AtPoints.{table_in}

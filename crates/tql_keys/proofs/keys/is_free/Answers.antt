@@ -5,7 +5,7 @@ use Rattle.tql_spec.specs.Definition.{period_of}
 use Rattle.tql_catalog.specs.Definitions.{key_of}
 use Rattle.tql_expr.specs.Shown.{shown_by}
 use Rattle.tql_store.specs.StoreModel.{is_among}
-use Rattle.tql_store_rows.specs.declared.version.Version.{Version}
+use Rattle.tql_versions.specs.declared.version.Version.{Version}
 use Rattle.tql_value.specs.Views.{datum_of_view}
 use Rattle.tql_keys.specs.Asked.{row_named}
 use Rattle.tql_keys.specs.Touched.{tuple}

@@ -7,7 +7,7 @@ use Rattle.tql_spec.specs.Definition.{period_of, shown}
 use Rattle.tql_expr.specs.Shown.{shown_by}
 use Rattle.tql_catalog.specs.Definitions.{reference_of}
 use Rattle.tql_store.specs.Changes.{rows_after}
-use Rattle.tql_store_rows.specs.declared.version.Version.{Version}
+use Rattle.tql_versions.specs.declared.version.Version.{Version}
 use Rattle.tql_value.specs.Views.{datum_of_view, rows_of}
 use Rattle.tql_keys.specs.Asked.{row_found, row_named}
 use Rattle.tql_keys.specs.Touched.{is_child_of_first, tuple}

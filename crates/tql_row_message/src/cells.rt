@@ -1,0 +1,169 @@
+//! Columns and values of a row in words.
+use std::alloc::AllocError;
+use tql_catalog::table_def::TableDef;
+use tql_detail::shown::push_shown;
+use tql_memory::Memory;
+use tql_result::cell::{is_printable, write_cell};
+use tql_result::vec_sink::VecSink;
+use tql_value::value::{Value, View};
+
+/// Which row of a change a detail is about.
+#[derive(Clone, Copy)]
+pub enum Subject {
+    /// A row of an INSERT, by its number from 0.
+    Numbered(usize),
+    /// A row that an UPDATE or DELETE changes: its number says nothing to the user.
+    Changed,
+}
+
+/// The cells that a row of a table stores: those of the columns that are not generated.
+#[derive(Clone, Copy)]
+pub struct Cells<'a> {
+    pub definition: &'a TableDef,
+    pub values: &'a [Value],
+}
+
+/// The name of a column, by its number.
+pub fn push_column(
+    words: &mut String<Memory>,
+    definition: &TableDef,
+    number: usize,
+) -> Result<(), AllocError> {
+    match definition.columns().get(number) {
+        Some(column) => push_shown(words, column.name.as_str()),
+        None => Ok(()),
+    }
+}
+
+/// The names of columns: `(A, B)`.
+pub fn push_names(
+    words: &mut String<Memory>,
+    definition: &TableDef,
+    columns: &[usize],
+) -> Result<(), AllocError> {
+    let mut before = "(";
+    for number in columns {
+        words.push_str(before)?;
+        push_column(words, definition, *number)?;
+        before = ", ";
+    }
+    words.push(')')
+}
+
+/// The most bytes of a value as a query prints it.
+fn room_for(value: View<'_>) -> usize {
+    match value {
+        View::Text(text) => text.len().saturating_mul(2).saturating_add(2),
+        View::Null | View::Int(_) | View::Day(_) | View::Moment(_) => 32,
+    }
+}
+
+/// A value as a query prints it, or the first characters of that.
+pub fn push_view(
+    memory: Memory,
+    words: &mut String<Memory>,
+    value: View<'_>,
+) -> Result<(), AllocError> {
+    if !is_printable(value) {
+        return words.push('?');
+    }
+    let mut sink = VecSink::new(Vec::with_capacity(memory, room_for(value))?);
+    if write_cell(&mut sink, value).is_err() {
+        return words.push('?');
+    }
+    let bytes = sink.into_bytes();
+    push_shown(words, str::from_utf8(&bytes).unwrap_or(""))
+}
+
+impl<'a> Cells<'a> {
+    /// The value of a column, by its number; NULL where the row stores none.
+    pub fn value(self, number: usize) -> View<'a> {
+        let stored = self.definition.assignable();
+        match stored.iter().position(|column| *column == number) {
+            Some(place) => match self.values.get(place) {
+                Some(value) => value.view(),
+                None => View::Null,
+            },
+            None => View::Null,
+        }
+    }
+
+    /// The value of a column.
+    pub fn push_value(
+        self,
+        memory: Memory,
+        words: &mut String<Memory>,
+        number: usize,
+    ) -> Result<(), AllocError> {
+        push_view(memory, words, self.value(number))
+    }
+
+    /// The values of columns: `(1, 'x')`.
+    pub fn push_values(
+        self,
+        memory: Memory,
+        words: &mut String<Memory>,
+        columns: &[usize],
+    ) -> Result<(), AllocError> {
+        let mut before = "(";
+        for number in columns {
+            words.push_str(before)?;
+            self.push_value(memory, words, *number)?;
+            before = ", ";
+        }
+        words.push(')')
+    }
+
+    /// The names of columns and their values: `(A, B) = (1, 'x')`.
+    pub fn push_tuple(
+        self,
+        memory: Memory,
+        words: &mut String<Memory>,
+        columns: &[usize],
+    ) -> Result<(), AllocError> {
+        push_names(words, self.definition, columns)?;
+        words.push_str(" = ")?;
+        self.push_values(memory, words, columns)
+    }
+
+    /// The application period, where the table has one: ` from 2024-01-01 to 2025-01-01`.
+    pub fn push_period(self, memory: Memory, words: &mut String<Memory>) -> Result<(), AllocError> {
+        match self.definition.application() {
+            Some(application) => {
+                words.push_str(" from ")?;
+                self.push_value(memory, words, application.start)?;
+                words.push_str(" to ")?;
+                self.push_value(memory, words, application.end)
+            }
+            None => Ok(()),
+        }
+    }
+}
+
+/// A row of a change: `row 3`, or `changed row with (A) = (1)`, by its first key.
+pub fn push_subject(
+    memory: Memory,
+    words: &mut String<Memory>,
+    subject: Subject,
+    cells: Cells<'_>,
+) -> Result<(), AllocError> {
+    if let Subject::Numbered(row) = subject {
+        return write!(words, "row {}", row.saturating_add(1));
+    }
+    words.push_str("changed row")?;
+    match cells.definition.keys().first() {
+        Some(key) => {
+            words.push_str(" with ")?;
+            cells.push_tuple(memory, words, &key.columns)
+        }
+        None => Ok(()),
+    }
+}
+
+/// A row of a change that has values: `row 3 has `, or `a changed row has `.
+pub fn push_owner(words: &mut String<Memory>, subject: Subject) -> Result<(), AllocError> {
+    match subject {
+        Subject::Numbered(row) => write!(words, "row {} has ", row.saturating_add(1)),
+        Subject::Changed => words.push_str("a changed row has "),
+    }
+}

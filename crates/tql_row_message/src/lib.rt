@@ -1,0 +1,10 @@
+//! Details of refused statements in words: of their rows, and of the state of transactions and readers.
+#![tactic(auto)]
+
+pub mod cells;
+pub mod checks;
+pub mod constraints;
+pub mod faults;
+pub mod keys;
+pub mod references;
+pub mod state;
