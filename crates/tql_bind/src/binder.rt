@@ -17,9 +17,10 @@ use crate::queries::{bind_query, bind_read};
 use std::alloc::AllocError;
 use tql_bind_change::delete::delete_rows;
 use tql_bind_change::update::update_rows;
+use tql_bind_expr::about::{About, Cause};
 use tql_bind_expr::faults::Faults;
 use tql_bind_expr::moments::moment;
-use tql_bind_table::create::new_table;
+use tql_bind_table::create::{about_table, new_table};
 use tql_bound::bound::Bound;
 use tql_catalog::catalog::Catalog;
 use tql_memory::Memory;
@@ -77,11 +78,11 @@ fn bound(
         Statement::Commit => Ok(Bound::Commit),
         Statement::Rollback => Ok(Bound::Rollback),
         Statement::At(quoted) => {
-            let moment = moment(memory, quoted, faults)?;
+            let moment = moment(memory, 0, quoted, faults)?;
             Ok(Bound::SetClock(moment))
         }
         Statement::Prune(quoted) => {
-            let moment = moment(memory, quoted, faults)?;
+            let moment = moment(memory, 0, quoted, faults)?;
             Ok(Bound::Prune(moment))
         }
         Statement::OpenReader(name) => Ok(Bound::OpenReader(name.meant(memory)?)),
@@ -134,5 +135,47 @@ pub fn bind(
     match statement {
         Statement::Create(tree) => create(memory, tables, tree),
         _ => faultless(memory, tables, statement, limits),
+    }
+}
+
+/// Returns the byte offset of the name of the reader that a statement opens, reads or closes, or 0 where it has none.
+fn reader_start(statement: &Statement<'_>) -> u32 {
+    match statement {
+        Statement::OpenReader(name) | Statement::Read(name, _) | Statement::CloseReader(name) => {
+            name.start
+        }
+        _ => 0,
+    }
+}
+
+/// Returns what a fault is about, with the byte offset of the reader's name where the fault is one of readers.
+fn at_reader(about: About, statement: &Statement<'_>) -> About {
+    match about.cause {
+        Cause::TooManyReaders | Cause::NoReader | Cause::ReaderThere | Cause::PlainRead => {
+            About::at(about.cause, reader_start(statement))
+        }
+        _ => about,
+    }
+}
+
+/// Returns what the first fault of a statement that `bind` refuses is about: its cause and its place. The statement is
+/// bound once more. Where `bind` refuses nothing, the cause is not known. The only error is a refused allocation.
+pub fn about(
+    memory: Memory,
+    tables: &Catalog,
+    statement: &Statement<'_>,
+    limits: &Limits<'_>,
+) -> Result<About, AllocError>
+    requires narrow { IsFalse (is_too_wide (statement_of statement.now)) }
+    requires tables { All (λ d. length d.columns ≤ 64) (definitions_of tables.now) }
+{
+    match statement {
+        Statement::Create(tree) => about_table(memory, tables, tree),
+        _ => {
+            let mut faults = Faults::none();
+            let bound = bound(memory, tables, statement, &mut faults)?;
+            refuse_by_limits(&bound, tables, limits, &mut faults);
+            Ok(at_reader(faults.about(), statement))
+        }
     }
 }

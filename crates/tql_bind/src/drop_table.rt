@@ -11,6 +11,7 @@ ghost use Rattle.tql_bind_expr.specs.Gathered.{Gathers};
 ghost use Rattle.tql_value.specs.Refusals.{refusal_of};
 
 use std::alloc::AllocError;
+use tql_bind_expr::about::{About, Cause};
 use tql_bind_expr::faults::Faults;
 use tql_bind_expr::texts::meant;
 use tql_catalog::catalog::Catalog;
@@ -18,13 +19,27 @@ use tql_memory::Memory;
 use tql_syntax_tree::expression::Name;
 use tql_value::refusal::Refusal;
 
+/// Returns what the fault of a DROP of the table at this place, whose name is at `start`, is about.
+fn about_drop(tables: &Catalog, place: Option<usize>, start: u32) -> About {
+    let Some(place) = place else {
+        return About::at(Cause::NoTable, start);
+    };
+    if tables.len() <= place {
+        return About::unknown();
+    }
+    match tables.referring(place).first() {
+        Some(child) => About::at(Cause::TableReferenced, start).counts(*child, 0),
+        None => About::unknown(),
+    }
+}
+
 /// Adds a fault to those so far, if there is one.
 #[tactic(auto, using(tql_bind_expr::proofs::Gathering::gathering))]
-fn refuse_for(fault: Option<Refusal>, faults: &mut Faults)
+fn refuse_for(fault: Option<Refusal>, about: About, faults: &mut Faults)
     ensures { Gathers (names.refuse_for (listed (option_map refusal_of fault))) faults.old faults.new tt }
 {
     if let Some(fault) = fault {
-        faults.refuse_if(true, fault);
+        faults.refuse_if(true, fault, about);
     }
 }
 
@@ -40,7 +55,10 @@ pub(crate) fn bind_drop(
         (λ t. Gathers (bind (definitions_of tables.now) (DropTree (name_of name.entry)))
         faults.old faults.new (DropTable t)) }
 {
+    let start = name.start;
     let name = meant(memory, name)?;
-    refuse_for(tables.drop_fault(&name), faults);
-    Ok(tables.place_of(&name).unwrap_or(0))
+    let place = tables.place_of(&name);
+    let about = about_drop(tables, place, start);
+    refuse_for(tables.drop_fault(&name), about, faults);
+    Ok(place.unwrap_or(0))
 }

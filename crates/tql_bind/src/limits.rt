@@ -16,6 +16,7 @@ ghost use Rattle.tql_bind_expr.specs.Gathered.{Gathers};
 ghost use Rattle.tql_bind.specs.Limited as limited;
 ghost use Rattle.tql_bind.specs.Limited.{asks, limits_of};
 
+use tql_bind_expr::about::{About, Cause};
 use tql_bind_expr::faults::Faults;
 use tql_bind_expr::texts::is_same_text;
 use tql_bound::bound::Bound;
@@ -189,6 +190,17 @@ fn is_unusable(bound: &Bound, tables: &Catalog, limits: &Limits<'_>) -> bool
     }
 }
 
+/// Returns what the fault of a reader is about that is open or not, against what the statement needs, or that reads a
+/// table that is not versioned.
+fn about_reader(bound: &Bound, limits: &Limits<'_>) -> About {
+    let cause = match bound {
+        Bound::OpenReader(_) => Cause::ReaderThere,
+        Bound::Read(read) if is_open(&read.reader, limits) => Cause::PlainRead,
+        _ => Cause::NoReader,
+    };
+    About::at(cause, 0)
+}
+
 /// The faults of a bound statement by the limits.
 pub(crate) fn refuse_by_limits(
     bound: &Bound,
@@ -201,9 +213,21 @@ pub(crate) fn refuse_by_limits(
         faults.old faults.new tt }
 {
     let is_too_many = opens_too_many(bound, limits);
-    faults.refuse_if(is_too_many, Refusal::TooManyTablesOrReaders);
+    faults.refuse_if(
+        is_too_many,
+        Refusal::TooManyTablesOrReaders,
+        About::at(Cause::TooManyReaders, 0),
+    );
     let is_unusable = is_unusable(bound, tables, limits);
-    faults.refuse_if(is_unusable, Refusal::ReaderNotUsable);
+    faults.refuse_if(
+        is_unusable,
+        Refusal::ReaderNotUsable,
+        about_reader(bound, limits),
+    );
     let is_too_early = is_too_early(bound, limits);
-    faults.refuse_if(is_too_early, Refusal::BeforeTheHorizon);
+    faults.refuse_if(
+        is_too_early,
+        Refusal::BeforeTheHorizon,
+        About::at(Cause::BeforeHorizon, 0),
+    );
 }

@@ -1,5 +1,5 @@
 //! Columns by their names and by their numbers.
-ghost use Rattle.std.specs.Prelude.{◌≡◌, IfOk, map, string_bytes, slice_index_or};
+ghost use Rattle.std.specs.Prelude.{◌≡◌, IfOk, map, slice_index_or};
 ghost use Rattle.std.specs.List.{list_any};
 ghost use Rattle.tql_spec.specs.Binding as binding;
 ghost use Rattle.tql_spec.specs.Creation as creation;
@@ -9,10 +9,13 @@ ghost use Rattle.tql_spec.specs.Names.{check_each};
 ghost use Rattle.tql_syntax_tree.specs.Expressions.{name_of};
 ghost use Rattle.tql_value.specs.Views.{plain_kind};
 ghost use Rattle.tql_bind_expr.specs.Gathered.{Gathers};
+ghost use Rattle.tql_bind_expr.specs.Scopes.{word_of};
 
 use std::alloc::AllocError;
+use tql_bind_expr::about::{About, Cause};
 use tql_bind_expr::faults::Faults;
-use tql_bind_expr::texts::{is_same_text, meant};
+use tql_bind_expr::repeats::{about_repeated, repeated};
+use tql_bind_expr::texts::{Word, meant_word};
 use tql_catalog::table_def::TableDef;
 use tql_memory::Memory;
 use tql_syntax_tree::expression::Name;
@@ -30,10 +33,14 @@ fn column_place(definition: &TableDef, name: &str) -> Option<usize>
 }
 
 /// The number of the column of this name. A fault where there is none.
-pub(crate) fn column_number(definition: &TableDef, name: &str, faults: &mut Faults) -> usize
-    ensures { Gathers (creation.column_number (names_of definition.now) name.now) faults.old faults.new result }
+pub(crate) fn column_number(definition: &TableDef, name: &Word, faults: &mut Faults) -> usize
+    ensures { Gathers (creation.column_number (names_of definition.now) (word_of name.now))
+        faults.old faults.new result }
 {
-    faults.or_first(column_place(definition, name))
+    faults.or_first(
+        column_place(definition, &name.text),
+        About::at(Cause::NoColumn, name.start),
+    )
 }
 
 /// The number of the column that a name means. A fault where there is none.
@@ -47,64 +54,35 @@ pub(crate) fn named_column(
         (λ number. Gathers (creation.column_number (names_of definition.now) (name_of name.entry))
         faults.old faults.new number) }
 {
-    let name = meant(memory, name)?;
-    Ok(column_number(definition, &name, faults))
+    let word = meant_word(memory, name)?;
+    Ok(column_number(definition, &word, faults))
 }
 
 /// The names that are meant.
-fn meant_names(
-    memory: Memory,
-    names: &[Name<'_>],
-) -> Result<Vec<String<Memory>, Memory>, AllocError>
-    ensures { IfOk result (λ texts. map string_bytes texts.items ≡ map name_of names.now) }
+fn meant_names(memory: Memory, names: &[Name<'_>]) -> Result<Vec<Word, Memory>, AllocError>
+    ensures { IfOk result (λ texts. map word_of texts.items ≡ map name_of names.now) }
 {
     let mut texts = Vec::with_capacity(memory, names.len())?;
     for name in names {
-        texts.push(meant(memory, *name)?)?;
+        texts.push(meant_word(memory, *name)?)?;
     }
     Ok(texts)
-}
-
-/// Whether the name is in the list.
-fn has_name(names: &[String<Memory>], name: &str) -> bool
-    ensures { result ≡ creation.has_name name.now (map string_bytes names.now) }
-{
-    for other in names {
-        if is_same_text(name, other.as_str()) {
-            return true;
-        }
-    }
-    false
-}
-
-/// Whether some name stands twice.
-fn has_repeated(names: &[String<Memory>]) -> bool
-    ensures { result ≡ creation.repeats (map string_bytes names.now) }
-{
-    let mut left = names;
-    while let [name, others @ ..] = left {
-        if has_name(others, name.as_str()) {
-            return true;
-        }
-        left = others;
-    }
-    false
 }
 
 /// The numbers of the columns of these names. A fault for each that is no column's.
 fn listed_columns(
     memory: Memory,
     definition: &TableDef,
-    names: &[String<Memory>],
+    names: &[Word],
     faults: &mut Faults,
 ) -> Result<Vec<usize, Memory>, AllocError>
     ensures { IfOk result
         (λ numbers. Gathers (check_each (creation.column_number (names_of definition.now))
-        (map string_bytes names.now)) faults.old faults.new numbers.items) }
+        (map word_of names.now)) faults.old faults.new numbers.items) }
 {
     let mut numbers = Vec::with_capacity(memory, names.len())?;
     for name in names {
-        numbers.push(column_number(definition, name.as_str(), faults))?;
+        numbers.push(column_number(definition, name, faults))?;
     }
     Ok(numbers)
 }
@@ -114,15 +92,20 @@ fn listed_columns(
 fn column_numbers(
     memory: Memory,
     definition: &TableDef,
-    names: &[String<Memory>],
+    names: &[Word],
     faults: &mut Faults,
 ) -> Result<Vec<usize, Memory>, AllocError>
     ensures { IfOk result
-        (λ numbers. Gathers (creation.column_numbers (names_of definition.now) (map string_bytes names.now))
+        (λ numbers. Gathers (creation.column_numbers (names_of definition.now) (map word_of names.now))
         faults.old faults.new numbers.items) }
 {
     let numbers = listed_columns(memory, definition, names, faults)?;
-    faults.refuse_if(has_repeated(names), Refusal::NameUnknownAmbiguousOrRepeated);
+    let repeated = repeated(names);
+    faults.refuse_if(
+        repeated.is_some(),
+        Refusal::NameUnknownAmbiguousOrRepeated,
+        about_repeated(repeated),
+    );
     Ok(numbers)
 }
 
@@ -138,23 +121,34 @@ fn has_generated(definition: &TableDef, numbers: &[usize]) -> bool
     false
 }
 
+/// Returns what the fault of a list with a generated column is about.
+fn generated_in(definition: &TableDef, names: &[Word], numbers: &[usize]) -> About {
+    for (name, number) in names.iter().zip(numbers.iter()) {
+        if definition.is_generated(*number) {
+            return About::at(Cause::GeneratedAssigned, name.start);
+        }
+    }
+    About::unknown()
+}
+
 /// The numbers of the columns of these names, which a user may assign. A fault where one is no column's, where one
 /// stands twice, and where one is generated.
 #[tactic(auto, using(tql_bind_expr::proofs::Gathering::gathering))]
 pub fn assigned_columns(
     memory: Memory,
     definition: &TableDef,
-    names: &[String<Memory>],
+    names: &[Word],
     faults: &mut Faults,
 ) -> Result<Vec<usize, Memory>, AllocError>
     ensures { IfOk result
-        (λ numbers. Gathers (binding.assigned_columns definition.now (map string_bytes names.now))
+        (λ numbers. Gathers (binding.assigned_columns definition.now (map word_of names.now))
         faults.old faults.new numbers.items) }
 {
     let numbers = column_numbers(memory, definition, names, faults)?;
     faults.refuse_if(
         has_generated(definition, &numbers),
         Refusal::FormNotAllowedHere,
+        generated_in(definition, names, &numbers),
     );
     Ok(numbers)
 }

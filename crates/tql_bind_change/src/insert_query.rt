@@ -12,7 +12,9 @@ ghost use Rattle.tql_bind_expr.specs.Gathered.{Gathers};
 use crate::columns::{insert_columns, kinds_for};
 use crate::tuples::cells_misfit;
 use std::alloc::AllocError;
+use tql_bind_expr::about::{About, Cause};
 use tql_bind_expr::faults::Faults;
+use tql_bind_expr::kinds::is_other_kind;
 use tql_bind_expr::tables::table_number;
 use tql_bind_query::query::{TypedQuery, bound_query};
 use tql_bound::change::QueryInsertion;
@@ -22,6 +24,20 @@ use tql_memory::Memory;
 use tql_syntax_tree::expression::Name;
 use tql_syntax_tree::statement::{OrderTree, SelectTree};
 use tql_value::refusal::Refusal;
+use tql_value::value::Kind;
+
+/// Returns what the fault of a query is about that does not give a column of the right type for each that is filled in
+/// the table at `start`.
+fn misfit(start: u32, wanted: &[Kind], kinds: &[Option<Kind>]) -> About {
+    for (number, (column, output)) in wanted.iter().zip(kinds.iter()).enumerate() {
+        if is_other_kind(*column, *output) {
+            return About::at(Cause::OutputKind, start)
+                .kinds(*output, Some(*column))
+                .counts(number, 0);
+        }
+    }
+    About::at(Cause::OutputCount, start).counts(kinds.len(), wanted.len())
+}
 
 /// An INSERT of the rows of a query into the table of this name. The names are those of its list of columns; without
 /// any it fills all columns that are not generated. Faults: no table has the name; a column of the list is unknown,
@@ -49,7 +65,11 @@ pub fn insert_select(
     let wanted = kinds_for(memory, definition, &columns)?;
     let keys: &[OrderTree<'_>] = &[];
     let TypedQuery { query, kinds } = bound_query(memory, catalog, select, keys, faults)?;
-    faults.refuse_if(cells_misfit(&wanted, &kinds), Refusal::TypesDoNotFit);
+    faults.refuse_if(
+        cells_misfit(&wanted, &kinds),
+        Refusal::TypesDoNotFit,
+        misfit(table.start, &wanted, &kinds),
+    );
     Ok(QueryInsertion {
         table: place,
         columns,

@@ -11,6 +11,7 @@ ghost use Rattle.tql_bind_expr.specs.Gathered.{Gathers};
 ghost use Rattle.tql_bind_change.specs.Portions.{kind_at, differs};
 
 use std::alloc::AllocError;
+use tql_bind_expr::about::{About, Cause};
 use tql_bind_expr::faults::Faults;
 use tql_bind_expr::kinds::differ;
 use tql_bind_expr::texts::{is_same_text, meant, unquoted};
@@ -18,7 +19,7 @@ use tql_catalog::table_def::TableDef;
 use tql_memory::Memory;
 use tql_period::period::Period;
 use tql_syntax_tree::expression::Name;
-use tql_syntax_tree::statement::{PointTree, PortionTree};
+use tql_syntax_tree::statement::{PointTree, PortionTree, SetTree};
 use tql_value::literal::{read_date, read_timestamp};
 use tql_value::refusal::Refusal;
 use tql_value::value::Kind;
@@ -72,13 +73,19 @@ fn period_kind(
         faults.old faults.new (option_map plain_kind kind)) }
 {
     let Some(application) = definition.application() else {
-        faults.refuse_if(true, Refusal::NameUnknownAmbiguousOrRepeated);
+        faults.refuse_if(
+            true,
+            Refusal::NameUnknownAmbiguousOrRepeated,
+            About::at(Cause::NoPeriod, name.start),
+        );
         return Ok(None);
     };
+    let start = name.start;
     let name = meant(memory, name)?;
     faults.refuse_if(
         !is_same_text(&name, &application.name),
         Refusal::NameUnknownAmbiguousOrRepeated,
+        About::at(Cause::NoPeriod, start),
     );
     Ok(Some(points_kind(definition, application.start)))
 }
@@ -99,7 +106,11 @@ fn portion_period(
     match period {
         Some(name) => period_kind(memory, definition, name, faults),
         None => {
-            faults.refuse_if(true, Refusal::FormNotAllowedHere);
+            faults.refuse_if(
+                true,
+                Refusal::FormNotAllowedHere,
+                About::at(Cause::PortionOfSystem, 0),
+            );
             if definition.is_versioned() {
                 Ok(Some(Kind::Moment))
             } else {
@@ -118,16 +129,29 @@ fn is_other_point(kind: Option<Kind>, portion: PortionTree<'_>) -> bool
 
 /// The portion between two points. A fault where a literal reads as none, and where they do not rise.
 #[tactic(auto, using(tql_bind_expr::proofs::Gathering::gathering))]
-fn rising(from: Option<i64>, to: Option<i64>, faults: &mut Faults) -> Option<Period>
+fn rising(start: u32, from: Option<i64>, to: Option<i64>, faults: &mut Faults) -> Option<Period>
     ensures { Gathers (binding.rising from to) faults.old faults.new (option_map points_of result) }
 {
     let (Some(from), Some(to)) = (from, to) else {
-        faults.refuse_if(true, Refusal::ValueOutOfRange);
+        faults.refuse_if(
+            true,
+            Refusal::ValueOutOfRange,
+            About::at(Cause::NoPoint, start),
+        );
         return None;
     };
     let portion = Period::new(from, to);
-    faults.refuse_if(portion.is_none(), Refusal::PortionNotRising);
+    faults.refuse_if(
+        portion.is_none(),
+        Refusal::PortionNotRising,
+        About::at(Cause::PortionNotRising, start),
+    );
     portion
+}
+
+/// Returns the byte offset of a name.
+fn name_start(name: Name<'_>) -> u32 {
+    name.start
 }
 
 /// The portion that is written.
@@ -142,10 +166,15 @@ fn named_portion(
         faults.old faults.new (option_map points_of period)) }
 {
     let kind = portion_period(memory, definition, portion.period, faults)?;
-    faults.refuse_if(is_other_point(kind, portion), Refusal::TypesDoNotFit);
+    let start = portion.period.map_or(0, name_start);
+    faults.refuse_if(
+        is_other_point(kind, portion),
+        Refusal::TypesDoNotFit,
+        About::at(Cause::PortionKind, start).kinds(kind, None),
+    );
     let from = read_point(memory, portion.from)?;
     let to = read_point(memory, portion.to)?;
-    Ok(rising(from, to, faults))
+    Ok(rising(start, from, to, faults))
 }
 
 /// The portion of a change; none where none is written. Faults: its period is SYSTEM_TIME, or no application period
@@ -174,6 +203,33 @@ fn is_of_period(definition: &TableDef, number: usize) -> bool
         Some(application) => number == application.start || number == application.end,
         None => false,
     }
+}
+
+/// Returns the byte offset of the assignment at this position of SET.
+fn set_start(first: &SetTree<'_>, more: &[SetTree<'_>], index: usize) -> u32 {
+    let Some(index) = index.checked_sub(1) else {
+        return first.column.start;
+    };
+    match more.get(index) {
+        Some(set) => set.column.start,
+        None => 0,
+    }
+}
+
+/// Returns what the fault of an UPDATE of a portion that sets a column of the period is about. The numbers are those of
+/// the columns that are set.
+pub(crate) fn period_assigned(
+    definition: &TableDef,
+    first: &SetTree<'_>,
+    more: &[SetTree<'_>],
+    numbers: &[usize],
+) -> About {
+    for (index, number) in numbers.iter().enumerate() {
+        if is_of_period(definition, *number) {
+            return About::at(Cause::PeriodAssigned, set_start(first, more, index));
+        }
+    }
+    About::unknown()
 }
 
 /// Whether a change of a portion sets a column of the period.

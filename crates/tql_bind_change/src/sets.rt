@@ -1,22 +1,23 @@
 //! The assignments of SET.
-ghost use Rattle.std.specs.Prelude.{◌≡◌, [], ◌∷◌, All, IfOk, map, string_bytes};
+ghost use Rattle.std.specs.Prelude.{◌≡◌, [], ◌∷◌, All, IfOk, map};
 ghost use Rattle.tql_spec.specs.Binding as binding;
 ghost use Rattle.tql_spec.specs.Names.{check_each};
 ghost use Rattle.tql_bound.specs.Works as bound;
 ghost use Rattle.tql_expr.specs.Meaning.{Stays};
 ghost use Rattle.tql_syntax_tree.specs.Statements.{assignment_of};
 ghost use Rattle.tql_bind_expr.specs.Gathered.{Gathers};
-ghost use Rattle.tql_bind_expr.specs.Scopes.{scope_of};
+ghost use Rattle.tql_bind_expr.specs.Scopes.{scope_of, word_of};
 ghost use Rattle.tql_bind_change.specs.Cells.{HasAssigned};
 
 use crate::columns::{assigned_columns, column_kind, named_column};
 use std::alloc::AllocError;
+use tql_bind_expr::about::{About, Cause};
 use tql_bind_expr::cells::cell;
 use tql_bind_expr::faults::Faults;
 use tql_bind_expr::kinds::is_other_kind;
 use tql_bind_expr::scope::Known;
 use tql_bind_expr::tables::known_table;
-use tql_bind_expr::texts::meant;
+use tql_bind_expr::texts::{Word, meant_word};
 use tql_bound::change::Assignment;
 use tql_catalog::table_def::TableDef;
 use tql_expr::terms::Terms;
@@ -30,7 +31,7 @@ pub fn own_reference(definition: &TableDef) -> Known<'_>
 {
     // That the numbers of the columns lie within 64 bits is told by their slice.
     let _width = definition.columns().len();
-    known_table(definition.name(), definition, 0)
+    known_table(definition.name(), definition, 0, 0)
 }
 
 /// An assignment. Faults: its column is unknown; its cell has a fault of its own, or is of another kind than the
@@ -55,6 +56,9 @@ fn assignment(
     faults.refuse_if(
         is_other_kind(column_kind(definition, column), value.kind),
         Refusal::TypesDoNotFit,
+        About::at(Cause::KindsDiffer, set.column.start)
+            .and(value.start)
+            .kinds(Some(column_kind(definition, column)), value.kind),
     );
     Ok(Assignment {
         column,
@@ -92,15 +96,15 @@ fn set_names(
     memory: Memory,
     first: &SetTree<'_>,
     more: &[SetTree<'_>],
-) -> Result<Vec<String<Memory>, Memory>, AllocError>
+) -> Result<Vec<Word, Memory>, AllocError>
     ensures { IfOk result
-        (λ names. map string_bytes names.items
+        (λ names. map word_of names.items
         ≡ map (λ set. set.column) (assignment_of first.now ∷ map assignment_of more.now)) }
 {
     let mut names = Vec::new(memory);
-    names.push(meant(memory, first.column)?)?;
+    names.push(meant_word(memory, first.column)?)?;
     for set in more {
-        names.push(meant(memory, set.column)?)?;
+        names.push(meant_word(memory, set.column)?)?;
     }
     Ok(names)
 }

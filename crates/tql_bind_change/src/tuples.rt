@@ -11,6 +11,7 @@ ghost use Rattle.tql_bind_expr.specs.Gathered.{Gathers};
 ghost use Rattle.tql_bind_change.specs.Cells.{kind_of, HasValue, HasValues};
 
 use std::alloc::AllocError;
+use tql_bind_expr::about::{About, Cause};
 use tql_bind_expr::cells::cell;
 use tql_bind_expr::faults::Faults;
 use tql_bind_expr::kinds::is_other_kind;
@@ -39,6 +40,28 @@ pub(crate) fn cells_misfit(kinds: &[Kind], cells: &[Option<Kind>]) -> bool
         }
     }
     !left.is_empty()
+}
+
+/// Returns what the fault of a row is about that does not have a value of the right type for each column.
+fn misfit(is_misfit: bool, kinds: &[Kind], cells: &[Typed]) -> About {
+    if !is_misfit {
+        return About::unknown();
+    }
+    let start = match cells.first() {
+        Some(cell) => cell.start,
+        None => 0,
+    };
+    if kinds.len() != cells.len() {
+        return About::at(Cause::CellCount, start).counts(cells.len(), kinds.len());
+    }
+    for (number, (kind, cell)) in kinds.iter().zip(cells.iter()).enumerate() {
+        if is_other_kind(*kind, cell.kind) {
+            return About::at(Cause::CellKind, cell.start)
+                .kinds(cell.kind, Some(*kind))
+                .counts(number, 0);
+        }
+    }
+    About::unknown()
 }
 
 /// A cell of VALUES, where no name stands for anything.
@@ -117,7 +140,9 @@ fn tuple(
 {
     let cells = cells(memory, tuple, terms, faults)?;
     let found = cell_kinds(memory, &cells)?;
-    faults.refuse_if(cells_misfit(kinds, &found), Refusal::TypesDoNotFit);
+    let is_misfit = cells_misfit(kinds, &found);
+    let about = misfit(is_misfit, kinds, &cells);
+    faults.refuse_if(is_misfit, Refusal::TypesDoNotFit, about);
     values(memory, &cells)
 }
 

@@ -11,7 +11,7 @@ ghost use Rattle.tql_bind_expr.specs.Gathered.{Gathers};
 ghost use Rattle.tql_bind_change.specs.Cells.{HasAssigned};
 ghost use Rattle.tql_bind_change.specs.Heads as heads;
 
-use crate::portion::{portion, sets_period};
+use crate::portion::{period_assigned, portion, sets_period};
 use crate::sets::{assignments, own_reference, set_columns};
 use std::alloc::AllocError;
 use tql_bind_cond::conjuncts::plain_filter;
@@ -60,6 +60,7 @@ pub(crate) fn update_head(
     faults.refuse_if(
         sets_period(definition, update.portion, &numbers),
         Refusal::FormNotAllowedHere,
+        period_assigned(definition, &update.first, &update.more, &numbers),
     );
     let sets = assignments(
         memory,

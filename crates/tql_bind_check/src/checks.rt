@@ -14,6 +14,7 @@ ghost use Rattle.tql_bind_check.specs.Checking.{check_by, check_parts, checks_in
 
 use std::alloc::AllocError;
 use tql_bind_cond::conditions::condition;
+use tql_bind_expr::about::{About, Cause};
 use tql_bind_expr::faults::Faults;
 use tql_bind_expr::scope::Known;
 use tql_catalog::constraint::Checks;
@@ -30,6 +31,17 @@ fn is_wrong_check(terms: &Terms, check: CondId, generated: &[usize]) -> bool
     ensures { result ≡ is_wrong_check (λ i. has_number i generated.now) (cond terms.now check) }
 {
     terms.finds_in(Search::Aggregate, check) || terms.finds_in(Search::OneOf(generated), check)
+}
+
+/// Returns what the fault of a check that has an aggregate or a generated column is about.
+fn wrong_check(terms: &Terms, check: CondId, faults: &Faults) -> About
+    requires { HasCond terms.now check }
+{
+    if terms.finds_in(Search::Aggregate, check) {
+        faults.of_aggregate()
+    } else {
+        About::at(Cause::GeneratedInCheck, 0)
+    }
 }
 
 /// The condition of an element that is a check.
@@ -70,7 +82,8 @@ fn bound_check(
 {
     let bound = condition(memory, scope, check, terms, faults)?;
     let is_wrong = is_wrong_check(terms, bound, generated);
-    faults.refuse_if(is_wrong, Refusal::FormNotAllowedHere);
+    let about = wrong_check(terms, bound, faults);
+    faults.refuse_if(is_wrong, Refusal::FormNotAllowedHere, about);
     Ok(bound)
 }
 

@@ -12,10 +12,11 @@ ghost use Rattle.tql_bind_expr.specs.Scopes.{text_of, known_of, scope_of, thing_
 ghost use Rattle.tql_bind_cond.specs.Ends.{ends_of, HasEnds, periods_of, period_of, sole_period};
 
 use std::alloc::AllocError;
+use tql_bind_expr::about::{About, Cause};
 use tql_bind_expr::expressions::sum;
 use tql_bind_expr::faults::Faults;
 use tql_bind_expr::kinds::differ;
-use tql_bind_expr::names::{is_meant, things};
+use tql_bind_expr::names::{is_meant, start_of, things};
 use tql_bind_expr::scope::{Known, Thing};
 use tql_bind_expr::texts::meant;
 use tql_catalog::definition::System;
@@ -26,12 +27,14 @@ use tql_syntax_tree::expression::{Expr, Name, Named};
 use tql_value::refusal::Refusal;
 use tql_value::value::{Kind, Value};
 
-/// The ends of a period among the terms of its statement, with their kind, which is missing where it is not known.
+/// The ends of a period among the terms of its statement, with their kind, which is missing where it is not known, and
+/// the byte offset of the period in the statement's text, or 0.
 #[derive(Clone, Copy)]
 pub struct Ends {
     pub start: ExprId,
     pub end: ExprId,
     pub kind: Option<Kind>,
+    pub at: u32,
 }
 
 /// What stands in the place of a period that was not found.
@@ -45,6 +48,7 @@ fn no_ends(terms: &mut Terms) -> Result<Ends, AllocError>
         start: null,
         end: null,
         kind: None,
+        at: 0,
     })
 }
 
@@ -53,6 +57,7 @@ pub(crate) fn ends_at(
     start: usize,
     end: usize,
     kind: Kind,
+    at: u32,
     terms: &mut Terms,
 ) -> Result<Ends, AllocError>
     ensures bound { IfOk result (λ x. ends_of terms.new x ≡ names.ends_at start end (plain_kind kind)) }
@@ -65,6 +70,7 @@ pub(crate) fn ends_at(
         start,
         end,
         kind: Some(kind),
+        at,
     })
 }
 
@@ -118,9 +124,13 @@ fn one_period(
 {
     let found = named_period(memory, scope, named)?;
     match found {
-        Some((start, end, kind)) => ends_at(start, end, kind, terms),
+        Some((start, end, kind)) => ends_at(start, end, kind, start_of(named), terms),
         None => {
-            faults.refuse_if(true, Refusal::NameUnknownAmbiguousOrRepeated);
+            faults.refuse_if(
+                true,
+                Refusal::NameUnknownAmbiguousOrRepeated,
+                About::at(Cause::NotOnePeriod, start_of(named)),
+            );
             no_ends(terms)
         }
     }
@@ -176,20 +186,45 @@ fn system_periods_of(
     }
 }
 
+/// Returns what the fault of SYSTEM_TIME is about where it is a period of no table reference, or of several.
+fn no_system_time(at: u32, found: &[System]) -> About {
+    match found {
+        [] => About::at(Cause::NoSystemTime, at),
+        _ => About::at(Cause::AmbiguousSystemTime, at),
+    }
+}
+
 /// Exactly one system period.
 #[tactic(auto, using(tql_bind_expr::proofs::Gathering::gathering))]
-fn only_one(found: &[System], terms: &mut Terms, faults: &mut Faults) -> Result<Ends, AllocError>
+fn only_one(
+    at: u32,
+    found: &[System],
+    terms: &mut Terms,
+    faults: &mut Faults,
+) -> Result<Ends, AllocError>
     ensures bound { IfOk result
         (λ x. Gathers (names.only_one (periods_of found.now)) faults.old faults.new (ends_of terms.new x)) }
     ensures stays { Stays terms.old terms.new }
     ensures held { IfOk result (λ x. HasEnds terms.new x) }
 {
     match found {
-        [system] => ends_at(system.start, system.end, Kind::Moment, terms),
+        [system] => ends_at(system.start, system.end, Kind::Moment, at, terms),
         _ => {
-            faults.refuse_if(true, Refusal::NameUnknownAmbiguousOrRepeated);
+            faults.refuse_if(
+                true,
+                Refusal::NameUnknownAmbiguousOrRepeated,
+                no_system_time(at, found),
+            );
             no_ends(terms)
         }
+    }
+}
+
+/// Returns the byte offset of the name of a table reference, or 0 where there is none.
+fn qualifier_start(qualifier: Option<Name<'_>>) -> u32 {
+    match qualifier {
+        Some(name) => name.start,
+        None => 0,
     }
 }
 
@@ -208,7 +243,7 @@ fn system_time(
     ensures held { IfOk result (λ x. HasEnds terms.new x) }
 {
     let found = system_periods_of(memory, scope, qualifier)?;
-    only_one(&found, terms, faults)
+    only_one(qualifier_start(qualifier), &found, terms, faults)
 }
 
 /// Whether a kind is known and not one of points.
@@ -247,11 +282,18 @@ fn from_ends(
 {
     let start = sum(memory, scope, start, terms, faults)?;
     let end = sum(memory, scope, end, terms, faults)?;
-    faults.refuse_if(are_no_ends(start.kind, end.kind), Refusal::TypesDoNotFit);
+    faults.refuse_if(
+        are_no_ends(start.kind, end.kind),
+        Refusal::TypesDoNotFit,
+        About::at(Cause::NoEnds, start.start)
+            .and(end.start)
+            .kinds(start.kind, end.kind),
+    );
     Ok(Ends {
         start: start.expr,
         end: end.expr,
         kind: start.kind,
+        at: start.start,
     })
 }
 

@@ -16,9 +16,11 @@ use crate::periods::{Ends, ends_at, marked, named_period, operand};
 use crate::signs::relation;
 use crate::sole_names::sole_name;
 use std::alloc::AllocError;
+use tql_bind_expr::about::{About, Cause};
 use tql_bind_expr::expressions::sum;
 use tql_bind_expr::faults::Faults;
 use tql_bind_expr::kinds::differ;
+use tql_bind_expr::names::start_of;
 use tql_bind_expr::scope::Known;
 use tql_expr::terms::{CondId, Terms};
 use tql_memory::Memory;
@@ -45,7 +47,13 @@ fn related(
     ensures stays { Stays terms.old terms.new }
     ensures held { IfOk result (λ c. HasCond terms.new c) }
 {
-    faults.refuse_if(differ(left.kind, right.kind), Refusal::TypesDoNotFit);
+    faults.refuse_if(
+        differ(left.kind, right.kind),
+        Refusal::TypesDoNotFit,
+        About::at(Cause::KindsDiffer, left.at)
+            .and(right.at)
+            .kinds(left.kind, right.kind),
+    );
     terms.push_related(which, (left.start, left.end), (right.start, right.end))
 }
 
@@ -108,7 +116,13 @@ fn contained_point(
     ensures held { IfOk result (λ c. HasCond terms.new c) }
 {
     let point = sum(memory, scope, point, terms, faults)?;
-    faults.refuse_if(differ(period.kind, point.kind), Refusal::TypesDoNotFit);
+    faults.refuse_if(
+        differ(period.kind, point.kind),
+        Refusal::TypesDoNotFit,
+        About::at(Cause::KindsDiffer, period.at)
+            .and(point.start)
+            .kinds(period.kind, point.kind),
+    );
     terms.push_contains_point((period.start, period.end), point.expr)
 }
 
@@ -118,6 +132,7 @@ fn contained_period(
     start: usize,
     end: usize,
     kind: Kind,
+    at: u32,
     terms: &mut Terms,
     faults: &mut Faults,
 ) -> Result<CondId, AllocError>
@@ -128,7 +143,7 @@ fn contained_period(
     ensures stays { Stays terms.old terms.new }
     ensures held { IfOk result (λ c. HasCond terms.new c) }
 {
-    let right = ends_at(start, end, kind, terms)?;
+    let right = ends_at(start, end, kind, at, terms)?;
     related(Relation::Contains, period, right, terms, faults)
 }
 
@@ -151,7 +166,9 @@ fn contained_named(
 {
     let found = named_period(memory, scope, named)?;
     match found {
-        Some((start, end, kind)) => contained_period(period, start, end, kind, terms, faults),
+        Some((start, end, kind)) => {
+            contained_period(period, start, end, kind, start_of(named), terms, faults)
+        }
         None => contained_point(memory, scope, period, right, terms, faults),
     }
 }

@@ -9,8 +9,9 @@ ghost use Rattle.tql_bind_expr.specs.Gathered.{Gathers};
 ghost use Rattle.tql_bind_expr.specs.Bounds.{typed_of};
 ghost use Rattle.tql_bind_expr.specs.Chains.{chain_of, HoldsChain};
 
+use crate::about::{About, Cause};
 use crate::faults::Faults;
-use crate::kinds::is_no_number;
+use crate::kinds::{is_no_number, is_other_kind};
 use crate::scope::Typed;
 use std::alloc::AllocError;
 use tql_expr::node::Operation;
@@ -19,12 +20,14 @@ use tql_memory::Memory;
 use tql_value::refusal::Refusal;
 use tql_value::value::Kind;
 
-/// The first operand, and each operation on what stands before it with its right operand; the kind of what they give.
+/// The first operand, and each operation on what stands before it with its right operand; the kind of what they give,
+/// and where they start.
 #[derive(Drop)]
 pub(crate) struct Chain {
     first: ExprId,
     rest: Vec<(Operation, ExprId), Memory>,
     kind: Option<Kind>,
+    start: u32,
 }
 
 impl Chain {
@@ -37,6 +40,16 @@ impl Chain {
             first: first.expr,
             rest: Vec::new(memory),
             kind: first.kind,
+            start: first.start,
+        }
+    }
+
+    /// Returns which of the two operands is not a number: this one, or else the right one.
+    fn no_number(&self, right: Typed) -> About {
+        if is_other_kind(Kind::Int, self.kind) {
+            About::at(Cause::NoNumber, self.start).kinds(self.kind, None)
+        } else {
+            About::at(Cause::NoNumber, right.start).kinds(right.kind, None)
         }
     }
 
@@ -54,7 +67,11 @@ impl Chain {
         ensures held { IfOk result (λ _. (t : arena.Terms) → HoldsChain t self.old
             → HasExpr t right.expr → HoldsChain t self.new) }
     {
-        faults.refuse_if(is_no_number(self.kind, right.kind), Refusal::TypesDoNotFit);
+        faults.refuse_if(
+            is_no_number(self.kind, right.kind),
+            Refusal::TypesDoNotFit,
+            self.no_number(right),
+        );
         self.rest.push((operation, right.expr))?;
         self.kind = Some(Kind::Int);
         Ok(())
@@ -71,6 +88,7 @@ impl Chain {
         Ok(Typed {
             expr,
             kind: self.kind,
+            start: self.start,
         })
     }
 }

@@ -11,6 +11,7 @@ ghost use Rattle.tql_bind_expr.specs.Gathered.{Gathers};
 ghost use Rattle.tql_bind_expr.specs.Bounds.{typed_of, digits_in, is_no_sum, aggregate_kind};
 ghost use Rattle.tql_bind_expr.specs.Scopes.{scope_of};
 
+use crate::about::{About, Cause};
 use crate::chain::Chain;
 use crate::faults::Faults;
 use crate::kinds::is_other_kind;
@@ -25,9 +26,19 @@ use tql_syntax_tree::expression::{Expr, Function, Primary, Sign, Signed, Term};
 use tql_value::refusal::Refusal;
 use tql_value::value::Kind;
 
+/// Returns what the fault of an operand that is not a number is about.
+fn no_number(operand: Typed) -> About {
+    About::at(Cause::NoNumber, operand.start).kinds(operand.kind, None)
+}
+
 /// A sign before what is no number as written.
 #[tactic(auto, using(crate::proofs::Gathering::gathering))]
-fn negation(operand: Typed, terms: &mut Terms, faults: &mut Faults) -> Result<Typed, AllocError>
+fn negation(
+    start: u32,
+    operand: Typed,
+    terms: &mut Terms,
+    faults: &mut Faults,
+) -> Result<Typed, AllocError>
     requires { HasExpr terms.old operand.expr }
     ensures bound { IfOk result
         (λ t. Gathers (names.negation (typed_of terms.old operand)) faults.old faults.new (typed_of terms.new t)) }
@@ -37,11 +48,13 @@ fn negation(operand: Typed, terms: &mut Terms, faults: &mut Faults) -> Result<Ty
     faults.refuse_if(
         is_other_kind(Kind::Int, operand.kind),
         Refusal::TypesDoNotFit,
+        no_number(operand),
     );
     let expr = terms.push_negate(operand.expr)?;
     Ok(Typed {
         expr,
         kind: Some(Kind::Int),
+        start,
     })
 }
 
@@ -68,6 +81,7 @@ fn aggregate_kind(aggregate: Function, kind: Option<Kind>) -> Option<Kind>
 /// An aggregate over an expression.
 #[tactic(auto, using(crate::proofs::Gathering::gathering))]
 fn aggregate(
+    start: u32,
     aggregate: Function,
     operand: Typed,
     terms: &mut Terms,
@@ -80,16 +94,22 @@ fn aggregate(
     ensures stays { Stays terms.old terms.new }
     ensures held { IfOk result (λ t. HasExpr terms.new t.expr) }
 {
-    faults.refuse_if(is_no_sum(aggregate, operand.kind), Refusal::TypesDoNotFit);
+    faults.see_aggregate(start);
+    faults.refuse_if(
+        is_no_sum(aggregate, operand.kind),
+        Refusal::TypesDoNotFit,
+        no_number(operand),
+    );
     let expr = terms.push_aggregate(function(aggregate), operand.expr)?;
     Ok(Typed {
         expr,
         kind: aggregate_kind(aggregate, operand.kind),
+        start,
     })
 }
 
 /// The number of the rows.
-fn row_count(terms: &mut Terms) -> Result<Typed, AllocError>
+fn row_count(start: u32, terms: &mut Terms) -> Result<Typed, AllocError>
     ensures bound { IfOk result (λ t. typed_of terms.new t ≡ names.typed bound.CountRows datum.Ints) }
     ensures stays { Stays terms.old terms.new }
     ensures held { IfOk result (λ t. HasExpr terms.new t.expr) }
@@ -98,6 +118,7 @@ fn row_count(terms: &mut Terms) -> Result<Typed, AllocError>
     Ok(Typed {
         expr,
         kind: Some(Kind::Int),
+        start,
     })
 }
 
@@ -183,21 +204,23 @@ fn signed(
     ensures stays { Stays terms.old terms.new }
     ensures held { IfOk result (λ t. HasExpr terms.new t.expr) }
 {
+    let start = signed.start;
     match signed.sign {
-        Sign::None => primary(memory, scope, &signed.primary, terms, faults),
+        Sign::None => primary(memory, scope, start, &signed.primary, terms, faults),
         Sign::Plus => {
-            let operand = primary(memory, scope, &signed.primary, terms, faults)?;
+            let operand = primary(memory, scope, start, &signed.primary, terms, faults)?;
             faults.refuse_if(
                 is_other_kind(Kind::Int, operand.kind),
                 Refusal::TypesDoNotFit,
+                no_number(operand),
             );
             Ok(operand)
         }
         Sign::Minus => match digits_of(&signed.primary) {
-            Some(digits) => number(true, digits, terms, faults),
+            Some(digits) => number(start, true, digits, terms, faults),
             None => {
-                let operand = primary(memory, scope, &signed.primary, terms, faults)?;
-                negation(operand, terms, faults)
+                let operand = primary(memory, scope, start, &signed.primary, terms, faults)?;
+                negation(start, operand, terms, faults)
             }
         },
     }
@@ -209,6 +232,7 @@ fn signed(
 fn primary(
     memory: Memory,
     scope: &[Known<'_>],
+    start: u32,
     primary: &Primary<'_>,
     terms: &mut Terms,
     faults: &mut Faults,
@@ -220,16 +244,19 @@ fn primary(
     ensures held { IfOk result (λ t. HasExpr terms.new t.expr) }
 {
     match primary {
-        Primary::Number(digits) => number(false, digits, terms, faults),
-        Primary::Text(quoted) => text(memory, quoted, terms),
-        Primary::Date(quoted) => date(memory, quoted, terms, faults),
-        Primary::Timestamp(quoted) => timestamp(memory, quoted, terms, faults),
-        Primary::Column(named) => column(memory, scope, *named, terms, faults),
+        Primary::Number(digits) => number(start, false, digits, terms, faults),
+        Primary::Text(quoted) => text(memory, start, quoted, terms),
+        Primary::Date(quoted) => date(memory, start, quoted, terms, faults),
+        Primary::Timestamp(quoted) => timestamp(memory, start, quoted, terms, faults),
+        Primary::Column(named) => column(memory, scope, start, *named, terms, faults),
         Primary::Enclosed(inner) => sum(memory, scope, inner, terms, faults),
-        Primary::CountStar => row_count(terms),
+        Primary::CountStar => {
+            faults.see_aggregate(start);
+            row_count(start, terms)
+        }
         Primary::Over(function, inner) => {
             let operand = sum(memory, scope, inner, terms, faults)?;
-            aggregate(*function, operand, terms, faults)
+            aggregate(start, *function, operand, terms, faults)
         }
     }
 }

@@ -15,8 +15,9 @@ ghost use Rattle.tql_bind_expr.specs.Bounds.{typed_of, literal_of};
 ghost use Rattle.tql_bind_expr.specs.Numbers.{number_literal};
 ghost use Rattle.tql_bind_expr.specs.Scopes.{scope_of, things_of};
 
+use crate::about::{About, Cause};
 use crate::faults::Faults;
-use crate::names::{sole_column, things};
+use crate::names::{no_column, sole_column, things};
 use crate::number::signed;
 use crate::scope::{Known, Thing, Typed};
 use crate::texts::unquoted;
@@ -30,7 +31,12 @@ use tql_value::text::Text;
 use tql_value::value::{Kind, Value};
 
 /// A literal of this kind.
-fn literal(terms: &mut Terms, value: Value, kind: Option<Kind>) -> Result<Typed, AllocError>
+fn literal(
+    start: u32,
+    terms: &mut Terms,
+    value: Value,
+    kind: Option<Kind>,
+) -> Result<Typed, AllocError>
     requires { IsPrintable (datum_of_value value) }
     ensures bound { IfOk result
         (λ t. typed_of terms.new t ≡ literal_of (datum_of_value value) (option_map plain_kind kind)) }
@@ -38,20 +44,20 @@ fn literal(terms: &mut Terms, value: Value, kind: Option<Kind>) -> Result<Typed,
     ensures held { IfOk result (λ t. HasExpr terms.new t.expr) }
 {
     let expr = terms.push_literal(value)?;
-    Ok(Typed { expr, kind })
+    Ok(Typed { expr, kind, start })
 }
 
 /// NULL, of no known kind.
-pub(crate) fn null(terms: &mut Terms) -> Result<Typed, AllocError>
+pub(crate) fn null(start: u32, terms: &mut Terms) -> Result<Typed, AllocError>
     ensures bound { IfOk result (λ t. typed_of terms.new t ≡ names.nothing) }
     ensures stays { Stays terms.old terms.new }
     ensures held { IfOk result (λ t. HasExpr terms.new t.expr) }
 {
-    literal(terms, Value::Null, None)
+    literal(start, terms, Value::Null, None)
 }
 
 /// The column with this number.
-fn column_at(terms: &mut Terms, number: usize, kind: Kind) -> Result<Typed, AllocError>
+fn column_at(start: u32, terms: &mut Terms, number: usize, kind: Kind) -> Result<Typed, AllocError>
     ensures bound { IfOk result (λ t. typed_of terms.new t ≡ names.typed (bound.Column number) (plain_kind kind)) }
     ensures stays { Stays terms.old terms.new }
     ensures held { IfOk result (λ t. HasExpr terms.new t.expr) }
@@ -60,11 +66,14 @@ fn column_at(terms: &mut Terms, number: usize, kind: Kind) -> Result<Typed, Allo
     Ok(Typed {
         expr,
         kind: Some(kind),
+        start,
     })
 }
 
 /// Exactly one column.
 fn one_column(
+    scope: &[Known<'_>],
+    start: u32,
     things: &[Thing<'_>],
     terms: &mut Terms,
     faults: &mut Faults,
@@ -75,10 +84,14 @@ fn one_column(
     ensures held { IfOk result (λ t. HasExpr terms.new t.expr) }
 {
     match sole_column(things) {
-        Some((number, kind)) => column_at(terms, number, kind),
+        Some((number, kind)) => column_at(start, terms, number, kind),
         None => {
-            faults.refuse_if(true, Refusal::NameUnknownAmbiguousOrRepeated);
-            null(terms)
+            faults.refuse_if(
+                true,
+                Refusal::NameUnknownAmbiguousOrRepeated,
+                no_column(scope, start, things),
+            );
+            null(start, terms)
         }
     }
 }
@@ -87,6 +100,7 @@ fn one_column(
 pub(crate) fn column(
     memory: Memory,
     scope: &[Known<'_>],
+    start: u32,
     named: Named<'_>,
     terms: &mut Terms,
     faults: &mut Faults,
@@ -98,25 +112,44 @@ pub(crate) fn column(
     ensures held { IfOk result (λ t. HasExpr terms.new t.expr) }
 {
     let found = things(memory, scope, named)?;
-    one_column(&found, terms, faults)
+    one_column(scope, start, &found, terms, faults)
+}
+
+/// Why a literal of this kind cannot be read.
+fn unreadable(kind: Kind) -> Cause {
+    match kind {
+        Kind::Day => Cause::NoDay,
+        Kind::Moment => Cause::NoMoment,
+        Kind::Int | Kind::Text => Cause::NumberTooLarge,
+    }
 }
 
 /// What stands in the place of a literal that is out of range.
 #[tactic(auto, using(crate::proofs::Gathering::gathering))]
-fn out_of_range(kind: Kind, terms: &mut Terms, faults: &mut Faults) -> Result<Typed, AllocError>
+fn out_of_range(
+    start: u32,
+    kind: Kind,
+    terms: &mut Terms,
+    faults: &mut Faults,
+) -> Result<Typed, AllocError>
     ensures bound { IfOk result
         (λ t. Gathers (names.unless true ValueOutOfRange (literal_of datum.Null (Some (plain_kind kind)))) faults.old
         faults.new (typed_of terms.new t)) }
     ensures stays { Stays terms.old terms.new }
     ensures held { IfOk result (λ t. HasExpr terms.new t.expr) }
 {
-    faults.refuse_if(true, Refusal::ValueOutOfRange);
-    literal(terms, Value::Null, Some(kind))
+    faults.refuse_if(
+        true,
+        Refusal::ValueOutOfRange,
+        About::at(unreadable(kind), start),
+    );
+    literal(start, terms, Value::Null, Some(kind))
 }
 
 /// A number, with `-` before it or without.
 #[tactic(auto, using(crate::proofs::Gathering::gathering))]
 pub(crate) fn number(
+    start: u32,
     is_negative: bool,
     digits: &str,
     terms: &mut Terms,
@@ -128,26 +161,32 @@ pub(crate) fn number(
     ensures held { IfOk result (λ t. HasExpr terms.new t.expr) }
 {
     match signed(digits.as_bytes(), is_negative) {
-        Some(number) => literal(terms, Value::Int(number), Some(Kind::Int)),
-        None => out_of_range(Kind::Int, terms, faults),
+        Some(number) => literal(start, terms, Value::Int(number), Some(Kind::Int)),
+        None => out_of_range(start, Kind::Int, terms, faults),
     }
 }
 
 /// A text.
-pub(crate) fn text(memory: Memory, quoted: &str, terms: &mut Terms) -> Result<Typed, AllocError>
+pub(crate) fn text(
+    memory: Memory,
+    start: u32,
+    quoted: &str,
+    terms: &mut Terms,
+) -> Result<Typed, AllocError>
     ensures bound { IfOk result
         (λ t. typed_of terms.new t ≡ names.typed (bound.Literal (datum.Text (content 39 quoted.now))) datum.Texts) }
     ensures stays { Stays terms.old terms.new }
     ensures held { IfOk result (λ t. HasExpr terms.new t.expr) }
 {
     let text = Text::from(unquoted(memory, quoted)?);
-    literal(terms, Value::Text(text), Some(Kind::Text))
+    literal(start, terms, Value::Text(text), Some(Kind::Text))
 }
 
 /// A date.
 #[tactic(auto, using(crate::proofs::Gathering::gathering))]
 pub(crate) fn date(
     memory: Memory,
+    start: u32,
     quoted: &str,
     terms: &mut Terms,
     faults: &mut Faults,
@@ -160,8 +199,8 @@ pub(crate) fn date(
 {
     let text = unquoted(memory, quoted)?;
     match read_date(&text) {
-        Some(day) => literal(terms, Value::Day(day), Some(Kind::Day)),
-        None => out_of_range(Kind::Day, terms, faults),
+        Some(day) => literal(start, terms, Value::Day(day), Some(Kind::Day)),
+        None => out_of_range(start, Kind::Day, terms, faults),
     }
 }
 
@@ -169,6 +208,7 @@ pub(crate) fn date(
 #[tactic(auto, using(crate::proofs::Gathering::gathering))]
 pub(crate) fn timestamp(
     memory: Memory,
+    start: u32,
     quoted: &str,
     terms: &mut Terms,
     faults: &mut Faults,
@@ -181,7 +221,7 @@ pub(crate) fn timestamp(
 {
     let text = unquoted(memory, quoted)?;
     match read_timestamp(&text) {
-        Some(moment) => literal(terms, Value::Moment(moment), Some(Kind::Moment)),
-        None => out_of_range(Kind::Moment, terms, faults),
+        Some(moment) => literal(start, terms, Value::Moment(moment), Some(Kind::Moment)),
+        None => out_of_range(start, Kind::Moment, terms, faults),
     }
 }

@@ -5,6 +5,7 @@ ghost use Rattle.tql_spec.specs.FirstToken.{content};
 ghost use Rattle.tql_value.specs.Points.{IsMoment};
 ghost use Rattle.tql_bind_expr.specs.Gathered.{Gathers};
 
+use crate::about::{About, Cause};
 use crate::faults::Faults;
 use crate::texts::unquoted;
 use std::alloc::AllocError;
@@ -15,7 +16,7 @@ use tql_value::refusal::Refusal;
 
 /// The moment that a literal reads as; where it reads as none, a fault, and the last moment stands for it.
 #[tactic(auto, using(crate::proofs::Gathering::gathering))]
-fn or_bad_moment(moment: Option<i64>, faults: &mut Faults) -> i64
+fn or_bad_moment(start: u32, moment: Option<i64>, faults: &mut Faults) -> i64
     requires { IfSome moment IsMoment }
     ensures bound { Gathers (binding.or_bad_moment moment) faults.old faults.new result }
     ensures within { IsMoment result }
@@ -23,18 +24,27 @@ fn or_bad_moment(moment: Option<i64>, faults: &mut Faults) -> i64
     match moment {
         Some(moment) => moment,
         None => {
-            faults.refuse_if(true, Refusal::ValueOutOfRange);
+            faults.refuse_if(
+                true,
+                Refusal::ValueOutOfRange,
+                About::at(Cause::NoPoint, start),
+            );
             HIGH
         }
     }
 }
 
 /// The moment of a TIMESTAMP literal by its quoted text, in microseconds since 1970-01-01. A fault where it reads as
-/// none. The only error is a refused growth.
-pub fn moment(memory: Memory, quoted: &str, faults: &mut Faults) -> Result<i64, AllocError>
+/// none; `start` is the byte offset of what the literal is given for. The only error is a refused growth.
+pub fn moment(
+    memory: Memory,
+    start: u32,
+    quoted: &str,
+    faults: &mut Faults,
+) -> Result<i64, AllocError>
     ensures bound { IfOk result (λ m. Gathers (binding.moment (content 39 quoted.now)) faults.old faults.new m) }
     ensures within { IfOk result IsMoment }
 {
     let text = unquoted(memory, quoted)?;
-    Ok(or_bad_moment(read_timestamp(&text), faults))
+    Ok(or_bad_moment(start, read_timestamp(&text), faults))
 }

@@ -8,6 +8,7 @@ ghost use Rattle.tql_value.specs.Views.{plain_kind};
 ghost use Rattle.tql_bind_expr.specs.Columns.{numbered, sole_column};
 ghost use Rattle.tql_bind_expr.specs.Scopes.{text_of, known_of, scope_of, thing_of, things_of};
 
+use crate::about::{About, Cause};
 use crate::scope::{Known, Thing};
 use crate::texts::meant;
 use std::alloc::AllocError;
@@ -15,6 +16,14 @@ use tql_catalog::definition::{Application, Column};
 use tql_memory::Memory;
 use tql_syntax_tree::expression::Named;
 use tql_value::value::Kind;
+
+/// Returns the byte offset of the name of a column or a period, with its qualifier, in the statement's text.
+pub fn start_of(named: Named<'_>) -> u32 {
+    match named.qualifier {
+        Some(qualifier) => qualifier.start,
+        None => named.name.start,
+    }
+}
 
 /// Whether a reference is the one that a qualifier names.
 pub fn is_meant(qualifier: Option<&str>, known: &Known<'_>) -> bool
@@ -136,6 +145,36 @@ pub fn things<'a>(
             let qualifier = meant(memory, qualifier)?;
             things_called(memory, scope, Some(qualifier.as_str()), name.as_str())
         }
+    }
+}
+
+/// Returns the byte offset of the table reference that has the column of this number.
+fn table_start(scope: &[Known<'_>], number: usize) -> u32 {
+    let mut start = 0;
+    for known in scope {
+        if known.offset <= number {
+            start = known.start;
+        }
+    }
+    start
+}
+
+/// Returns the number of a column, or of the first column of a period.
+fn first_number(thing: Thing<'_>) -> usize {
+    match thing {
+        Thing::Column(number, _) | Thing::Period(number, _, _) => number,
+    }
+}
+
+/// Returns what the fault of a name that does not mean exactly one column is about.
+pub fn no_column(scope: &[Known<'_>], start: u32, things: &[Thing<'_>]) -> About {
+    match things {
+        [] => About::at(Cause::NoColumn, start),
+        [first, second, ..] => About {
+            also: table_start(scope, first_number(*second)),
+            ..About::at(Cause::Ambiguous, start).and(table_start(scope, first_number(*first)))
+        },
+        [_] => About::at(Cause::PeriodForColumn, start),
     }
 }
 

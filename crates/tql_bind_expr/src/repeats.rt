@@ -1,10 +1,10 @@
 //! Whether a name stands in a list, and whether one stands twice, of whatever has a name.
-ghost use Rattle.std.specs.Prelude.{◌≡◌, ℕ, List, map};
+ghost use Rattle.std.specs.Prelude.{◌≡◌, ℕ, List, is_some, map};
 ghost use Rattle.tql_spec.specs.Creation as creation;
 
+use crate::about::{About, Cause};
 use crate::scope::Known;
-use crate::texts::is_same_text;
-use tql_memory::Memory;
+use crate::texts::{Word, is_same_text};
 
 /// What has a name.
 pub trait HasName {
@@ -14,15 +14,22 @@ pub trait HasName {
     /// The name.
     fn name(&self) -> &str
         ensures { result.now ≡ named self.now };
+
+    /// Returns the byte offset of the name in the statement's text.
+    fn start(&self) -> u32;
 }
 
-impl HasName for String<Memory> {
+impl HasName for Word {
     ghost use Rattle.std.specs.Prelude.{string_bytes};
 
-    ghost named = { λ s. string_bytes s };
+    ghost named = { λ w. string_bytes w.text };
 
     fn name(&self) -> &str {
-        self.as_str()
+        self.text.as_str()
+    }
+
+    fn start(&self) -> u32 {
+        self.start
     }
 }
 
@@ -31,6 +38,10 @@ impl HasName for Known<'_> {
 
     fn name(&self) -> &str {
         self.name
+    }
+
+    fn start(&self) -> u32 {
+        self.start
     }
 }
 
@@ -46,16 +57,24 @@ pub fn has_name<T: HasName>(items: &[T], name: &str) -> bool
     false
 }
 
-/// Whether two of these have one name.
-pub fn repeats_name<T: HasName>(items: &[T]) -> bool
-    ensures { result ≡ creation.repeats (map T.named items.now) }
+/// Returns the first of these that has the name of another.
+pub fn repeated<T: HasName>(items: &[T]) -> Option<&T>
+    ensures { is_some result ≡ creation.repeats (map T.named items.now) }
 {
     let mut left = items;
     while let [item, others @ ..] = left {
         if has_name(others, item.name()) {
-            return true;
+            return Some(item);
         }
         left = others;
     }
-    false
+    None
+}
+
+/// Returns what the fault of a repeated name is about.
+pub fn about_repeated<T: HasName>(repeated: Option<&T>) -> About {
+    match repeated {
+        Some(item) => About::at(Cause::Repeated, item.start()),
+        None => About::unknown(),
+    }
 }

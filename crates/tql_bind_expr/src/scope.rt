@@ -8,7 +8,8 @@ use tql_expr::terms::ExprId;
 use tql_value::value::Kind;
 
 /// A table reference in scope: how it is known, the columns of its table, its application periods and its system
-/// period, and the number of the first of its columns. A scope is a slice of these.
+/// period, the number of the first of its columns, and the byte offset of its name in the text. A scope is a slice of
+/// these.
 #[derive(Clone, Copy)]
 pub struct Known<'a> {
     pub name: &'a str,
@@ -16,6 +17,7 @@ pub struct Known<'a> {
     pub applications: &'a [Application],
     pub system: Option<System>,
     pub offset: usize,
+    pub start: u32,
     ghost numbered: { offset + length columns.now < 2 ^ 64 },
     ghost ends: { All (HasEnds (length columns.now)) applications.now },
     ghost generated: { ForSome system (HasSystem (length columns.now)) },
@@ -30,9 +32,11 @@ pub enum Thing<'a> {
     Period(usize, usize, Kind),
 }
 
-/// An expression among the terms of its statement, with its kind, which is missing where it is not known.
+/// An expression among the terms of its statement, with its kind, which is missing where it is not known, and its byte
+/// offset in the statement's text.
 #[derive(Clone, Copy)]
 pub struct Typed {
     pub expr: ExprId,
     pub kind: Option<Kind>,
+    pub start: u32,
 }

@@ -7,6 +7,7 @@ ghost use Rattle.tql_syntax_tree.specs.Expressions.{name_of};
 ghost use Rattle.tql_bind_expr.specs.Gathered.{Gathers};
 ghost use Rattle.tql_bind_expr.specs.Scopes.{known_of};
 
+use crate::about::{About, Cause};
 use crate::faults::Faults;
 use crate::scope::Known;
 use crate::texts::meant;
@@ -19,13 +20,17 @@ use tql_value::refusal::Refusal;
 
 /// The place of a table; where there is none, a fault, and the first place stands for it.
 #[tactic(auto, using(crate::proofs::Gathering::gathering))]
-fn or_no_table(place: Option<usize>, faults: &mut Faults) -> usize
+fn or_no_table(start: u32, place: Option<usize>, faults: &mut Faults) -> usize
     ensures { Gathers (binding.or_no_table place) faults.old faults.new result }
 {
     match place {
         Some(place) => place,
         None => {
-            faults.refuse_if(true, Refusal::TableUnknownOrAlreadyThere);
+            faults.refuse_if(
+                true,
+                Refusal::TableUnknownOrAlreadyThere,
+                About::at(Cause::NoTable, start),
+            );
             0
         }
     }
@@ -42,12 +47,13 @@ pub fn table_number(
         (λ place. Gathers (binding.table_number (definitions_of catalog.now) (name_of name.entry))
         faults.old faults.new place) }
 {
+    let start = name.start;
     let name = meant(memory, name)?;
-    Ok(or_no_table(catalog.place_of(&name), faults))
+    Ok(or_no_table(start, catalog.place_of(&name), faults))
 }
 
-/// A table that is there, known by this name, its columns from this number on.
-pub fn known_table<'a>(name: &'a str, table: &'a TableDef, offset: usize) -> Known<'a>
+/// A table that is there, known by a name, with the number of its first column and the byte offset of the name.
+pub fn known_table<'a>(name: &'a str, table: &'a TableDef, offset: usize, start: u32) -> Known<'a>
     requires { offset + length table.now.columns < 2 ^ 64 }
     ensures known { known_of result ≡ record {
       name = name.now;
@@ -65,5 +71,6 @@ pub fn known_table<'a>(name: &'a str, table: &'a TableDef, offset: usize) -> Kno
         applications: table.applications(),
         system: table.system(),
         offset,
+        start,
     }
 }

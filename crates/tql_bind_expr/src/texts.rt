@@ -3,11 +3,19 @@ ghost use Rattle.std.specs.Prelude.{◌≡◌, IfOk, string_bytes};
 ghost use Rattle.tql_spec.specs.FirstToken.{content};
 ghost use Rattle.tql_spec.specs.Words.{same_text};
 ghost use Rattle.tql_syntax_tree.specs.Expressions.{name_of};
+ghost use Rattle.tql_bind_expr.specs.Scopes.{word_of};
 
 use std::alloc::AllocError;
 use tql_memory::Memory;
 use tql_syntax_tree::expression::Name;
 use tql_syntax_tree::name::quoted_text;
+
+/// A name as it is meant, and its byte offset in the statement's text.
+#[derive(Drop)]
+pub struct Word {
+    pub text: String<Memory>,
+    pub start: u32,
+}
 
 /// Whether two texts are one.
 pub fn is_same_text(name: &str, other: &str) -> bool
@@ -21,6 +29,16 @@ pub fn meant(memory: Memory, name: Name<'_>) -> Result<String<Memory>, AllocErro
     ensures { IfOk result (λ text. string_bytes text ≡ name_of name.entry) }
 {
     name.meant(memory)
+}
+
+/// The name that is meant, with its byte offset. The only error is a refused growth.
+pub fn meant_word(memory: Memory, name: Name<'_>) -> Result<Word, AllocError>
+    ensures { IfOk result (λ word. word_of word ≡ name_of name.entry) }
+{
+    Ok(Word {
+        text: meant(memory, name)?,
+        start: name.start,
+    })
 }
 
 /// What stands in the quotes of a literal. The only error is a refused growth.

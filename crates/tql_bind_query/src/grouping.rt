@@ -12,14 +12,15 @@ ghost use Rattle.tql_bind_expr.specs.Scopes.{scope_of, things_of};
 ghost use Rattle.tql_bind_query.specs.Grouped.{sole_number};
 
 use std::alloc::AllocError;
+use tql_bind_expr::about::{About, Cause};
 use tql_bind_expr::faults::Faults;
-use tql_bind_expr::names::{sole_column, things};
+use tql_bind_expr::names::{no_column, sole_column, start_of, things};
 use tql_bind_expr::scope::{Known, Thing};
 use tql_expr::search::Search;
 use tql_expr::terms::{CondId, ExprId, Terms};
 use tql_memory::Memory;
 use tql_syntax_tree::expression::Named;
-use tql_syntax_tree::statement::{Items, SelectTree};
+use tql_syntax_tree::statement::{Item, Items, SelectTree};
 
 /// The number of the column that a name stands for, where it stands for one and nothing else.
 fn sole_number(found: &[Thing<'_>]) -> Option<usize>
@@ -40,7 +41,10 @@ fn group_column(
         (λ n. Gathers (binding.group_column (scope_of scope.now) (named_of named.now)) faults.old faults.new n) }
 {
     let found = things(memory, scope, *named)?;
-    Ok(faults.or_first(sole_number(&found)))
+    Ok(faults.or_first(
+        sole_number(&found),
+        no_column(scope, start_of(*named), &found),
+    ))
 }
 
 /// The numbers of the columns of GROUP BY (ISO/IEC 9075-2:2011, 7.9). A fault where a name is not that of exactly one
@@ -106,6 +110,50 @@ fn has_loose(
     is_star(&select.items)
         || terms.finds_any(Search::Loose(groups), items)
         || terms.finds_any_in(Search::Loose(groups), having)
+}
+
+/// Returns the byte offset of the item of this number in the select list, or 0 where the list is `*`.
+fn item_start(items: &Items<'_>, number: usize) -> u32 {
+    match items {
+        Items::All => 0,
+        Items::These(first, more) => match number.checked_sub(1) {
+            Some(behind) => more.get(behind).map_or(0, start_of_item),
+            None => start_of_item(first),
+        },
+    }
+}
+
+/// Returns the byte offset of an item.
+fn start_of_item(item: &Item<'_>) -> u32 {
+    item.value.first.first.start
+}
+
+/// Returns what the fault of the select list or of HAVING in a grouped query is about.
+pub fn about_grouping(
+    is_faulty: bool,
+    groups: &[usize],
+    select: &SelectTree<'_>,
+    terms: &Terms,
+    items: &[ExprId],
+) -> About
+    requires { All (HasExpr terms.now) items.now }
+{
+    if !is_faulty {
+        return About::unknown();
+    }
+    if is_star(&select.items) {
+        return About::at(Cause::GroupedStar, 0);
+    }
+    for (number, item) in items.iter().enumerate() {
+        let start = item_start(&select.items, number);
+        if terms.finds(Search::Nested, *item) {
+            return About::at(Cause::NestedAggregate, start);
+        }
+        if terms.finds(Search::Loose(groups), *item) {
+            return About::at(Cause::LooseColumn, start);
+        }
+    }
+    About::at(Cause::LooseHaving, 0)
 }
 
 /// Whether an aggregate stands inside an aggregate, or in a grouped query `*` or a column that is none of the

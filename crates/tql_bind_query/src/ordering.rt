@@ -13,6 +13,7 @@ ghost use Rattle.tql_bind_expr.specs.Gathered.{Gathers};
 ghost use Rattle.tql_bind_query.specs.Ordered.{place_at, position_place};
 
 use std::alloc::AllocError;
+use tql_bind_expr::about::{About, Cause};
 use tql_bind_expr::faults::Faults;
 use tql_bind_expr::number::unsigned;
 use tql_bind_expr::texts::meant;
@@ -55,6 +56,14 @@ fn only_place(places: &[usize]) -> Option<usize>
     }
 }
 
+/// Returns what the fault of a heading that is at none of the places, or at several, is about.
+fn no_heading(places: &[usize], start: u32) -> About {
+    match places {
+        [] => About::at(Cause::NoHeading, start),
+        _ => About::at(Cause::AmbiguousHeading, start),
+    }
+}
+
 /// The output column with this heading.
 fn heading_place(
     memory: Memory,
@@ -66,9 +75,10 @@ fn heading_place(
         (λ i. Gathers (binding.key_place (map string_bytes headings.now) (ByHeading (name_of name.entry)))
         faults.old faults.new i) }
 {
+    let start = name.start;
     let name = meant(memory, name)?;
     let places = places_of(memory, headings, name.as_str())?;
-    Ok(faults.or_first(only_place(&places)))
+    Ok(faults.or_first(only_place(&places), no_heading(&places, start)))
 }
 
 /// The place, from 0, of a position, counted from 1, among so many columns.
@@ -87,7 +97,10 @@ fn place_at(digits: &[u8], width: usize) -> Option<usize>
 fn position_place(digits: &str, width: usize, faults: &mut Faults) -> usize
     ensures { Gathers (position_place width digits.now) faults.old faults.new result }
 {
-    faults.or_first(place_at(digits.as_bytes(), width))
+    faults.or_first(
+        place_at(digits.as_bytes(), width),
+        About::at(Cause::NoPosition, 0).counts(0, width),
+    )
 }
 
 /// The output column that a key names.

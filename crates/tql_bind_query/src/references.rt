@@ -8,6 +8,7 @@ ghost use Rattle.tql_syntax_tree.specs.Statements.{ref_of, span_of};
 ghost use Rattle.tql_bind_expr.specs.Gathered.{Gathers};
 
 use std::alloc::AllocError;
+use tql_bind_expr::about::{About, Cause};
 use tql_bind_expr::faults::Faults;
 use tql_bind_expr::moments::moment;
 use tql_bind_expr::texts::meant;
@@ -18,17 +19,22 @@ use tql_value::refusal::Refusal;
 use tql_value::when::When;
 
 /// A fault where the table is not system-versioned.
-fn refuse_unversioned(definition: &TableDef, faults: &mut Faults)
+fn refuse_unversioned(definition: &TableDef, start: u32, faults: &mut Faults)
     ensures { Gathers (refuse_if (is_none definition.now.system) FormNotAllowedHere) faults.old faults.new tt }
 {
-    faults.refuse_if(!definition.is_versioned(), Refusal::FormNotAllowedHere);
+    faults.refuse_if(
+        !definition.is_versioned(),
+        Refusal::FormNotAllowedHere,
+        About::at(Cause::NotVersioned, start),
+    );
 }
 
-/// Which versions a FOR SYSTEM_TIME clause asks for (ISO/IEC 9075-2:2011, 7.6). Faults: the table is not
-/// system-versioned; a literal reads as no moment. The only error is a refused growth.
+/// Which versions a FOR SYSTEM_TIME clause asks for (ISO/IEC 9075-2:2011, 7.6). The name of its table is at `start`.
+/// Faults: the table is not system-versioned; a literal reads as no moment. The only error is a refused growth.
 pub fn when(
     memory: Memory,
     definition: &TableDef,
+    start: u32,
     span: SpanTree<'_>,
     faults: &mut Faults,
 ) -> Result<When, AllocError>
@@ -38,20 +44,20 @@ pub fn when(
     match span {
         SpanTree::None => Ok(When::Now),
         SpanTree::AsOf(point) => {
-            refuse_unversioned(definition, faults);
-            let point = moment(memory, point, faults)?;
+            refuse_unversioned(definition, start, faults);
+            let point = moment(memory, start, point, faults)?;
             Ok(When::AsOf(point))
         }
         SpanTree::FromTo(from, to) => {
-            refuse_unversioned(definition, faults);
-            let from = moment(memory, from, faults)?;
-            let to = moment(memory, to, faults)?;
+            refuse_unversioned(definition, start, faults);
+            let from = moment(memory, start, from, faults)?;
+            let to = moment(memory, start, to, faults)?;
             Ok(When::FromTo(from, to))
         }
         SpanTree::Between(from, to) => {
-            refuse_unversioned(definition, faults);
-            let from = moment(memory, from, faults)?;
-            let to = moment(memory, to, faults)?;
+            refuse_unversioned(definition, start, faults);
+            let from = moment(memory, start, from, faults)?;
+            let to = moment(memory, start, to, faults)?;
             Ok(When::Between(from, to))
         }
     }

@@ -8,7 +8,8 @@ ghost use Rattle.tql_bind_query.specs.From.{IsPlaced, IsWhole};
 
 use crate::from::Linked;
 use std::alloc::AllocError;
-use tql_bind_expr::repeats::repeats_name;
+use tql_bind_expr::about::{About, Cause};
+use tql_bind_expr::repeats::repeated;
 use tql_bind_expr::scope::Known;
 use tql_memory::Memory;
 
@@ -23,6 +24,7 @@ fn moved<'a>(known: &Known<'a>, before: usize) -> Known<'a>
         applications: known.applications,
         system: known.system,
         offset: before + known.offset,
+        start: known.start,
     }
 }
 
@@ -67,5 +69,13 @@ pub fn whole_scope<'a>(
 pub fn repeats_names(scope: &[Known<'_>]) -> bool
     ensures { result ≡ creation.repeats (map (λ (k : names.Known). k.name) (scope_of scope.now)) }
 {
-    repeats_name(scope)
+    repeated(scope).is_some()
+}
+
+/// Returns what the fault of two table references with one name is about.
+pub fn same_reference(scope: &[Known<'_>]) -> About {
+    match repeated(scope) {
+        Some(known) => About::at(Cause::SameReference, known.start),
+        None => About::unknown(),
+    }
 }

@@ -25,6 +25,14 @@ pub struct BoundReference<'a> {
     pub known: Known<'a>,
 }
 
+/// Returns the byte offset of the name by which a table reference is known.
+fn known_start(written: RefTree<'_>) -> u32 {
+    match written.alias {
+        Some(alias) => alias.start,
+        None => written.table.start,
+    }
+}
+
 /// A table reference bound, known by this name, whose columns begin at this number. Faults: no table has the name;
 /// FOR SYSTEM_TIME on a table that is not system-versioned; a literal that reads as no moment. The only error is a
 /// refused growth.
@@ -49,12 +57,18 @@ pub(crate) fn bound_source<'a>(
 {
     let table = table_number(memory, catalog, written.table, faults)?;
     let definition = catalog.definition_or(table, nothing);
-    let when = when(memory, definition, written.span, faults)?;
+    let when = when(
+        memory,
+        definition,
+        written.table.start,
+        written.span,
+        faults,
+    )?;
     let reference = Reference {
         table,
         when,
         width: definition.columns().len(),
     };
-    let known = known_table(name, definition, offset);
+    let known = known_table(name, definition, offset, known_start(written));
     Ok(BoundReference { reference, known })
 }

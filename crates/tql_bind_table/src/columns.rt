@@ -1,5 +1,5 @@
 //! What is asked of the columns of a new table.
-ghost use Rattle.std.specs.Prelude.{◌≡◌, ◌||◌, length, map, is_some, Some, None, if◌then◌else◌, string_bytes};
+ghost use Rattle.std.specs.Prelude.{◌≡◌, ◌||◌, length, map, is_some, Some, None, if◌then◌else◌};
 ghost use Rattle.std.specs.List.{list_any, list_all};
 ghost use Rattle.tql_spec.specs.Calendar.{number_of};
 ghost use Rattle.tql_spec.specs.Creation as spec;
@@ -7,9 +7,11 @@ ghost use Rattle.tql_spec.specs.Syntax as tree;
 ghost use Rattle.tql_spec.specs.Words.{same_text};
 ghost use Rattle.tql_syntax_tree.specs.Statements.{type_of};
 ghost use Rattle.tql_value.specs.Views.{plain_kind};
+ghost use Rattle.tql_bind_expr.specs.Scopes.{word_of};
 ghost use Rattle.tql_bind_table.specs.NewTables.{column_of, names_in, starts_in, stops_in, kind_in, is_generated_in};
 
 use crate::draft::NewColumn;
+use tql_bind_expr::about::{About, Cause};
 use tql_bind_expr::number::unsigned;
 use tql_bind_expr::texts::is_same_text;
 use tql_syntax_tree::statement::{Generated, TypeName};
@@ -17,9 +19,9 @@ use tql_value::value::Kind;
 
 /// Whether this is the name of the column.
 fn is_named(column: &NewColumn<'_>, name: &str) -> bool
-    ensures { result ≡ same_text name.now (string_bytes column.now.name) }
+    ensures { result ≡ same_text name.now (word_of column.now.name) }
 {
-    is_same_text(name, &column.name)
+    is_same_text(name, &column.name.text)
 }
 
 /// The number of the column of this name, from 0.
@@ -92,6 +94,16 @@ pub fn has_misfit(columns: &[NewColumn<'_>]) -> bool
     columns
         .iter()
         .any(|column| has_bad_number(column.type_name))
+}
+
+/// Returns what the fault of a type with a length or a precision out of range is about.
+pub fn misfit(columns: &[NewColumn<'_>]) -> About {
+    for column in columns {
+        if has_bad_number(column.type_name) {
+            return About::at(Cause::BadLength, column.name.start);
+        }
+    }
+    About::unknown()
 }
 
 /// Whether no column is left to which a user can give values.

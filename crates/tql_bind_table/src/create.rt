@@ -17,15 +17,18 @@ ghost use Rattle.tql_bind_table.specs.NewTables.{implied_in, starts_in, stops_in
 ghost use Rattle.tql_bind_table.specs.NewTables.{key_part, keys_in, written_of, primary_count_in};
 
 use crate::checks::table_checks;
-use crate::columns::{are_all_generated, end_count, has_misfit, kind_of, limit_of, start_count};
+use crate::columns::{
+    are_all_generated, end_count, has_misfit, kind_of, limit_of, misfit, start_count,
+};
 use crate::draft::{Draft, NewApplication, NewColumn, NewKey, draft_of};
 use crate::keys::{bound_keys, primary_count};
-use crate::names::{has_repeated_name, is_implied};
+use crate::names::{is_implied, repeated_name};
 use crate::periods::{application_periods, first_application, first_system, system_periods};
 use crate::references::bound_references;
 use std::alloc::AllocError;
+use tql_bind_expr::about::{About, Cause};
 use tql_bind_expr::faults::Faults;
-use tql_bind_expr::texts::meant;
+use tql_bind_expr::texts::{Word, is_same_text, meant};
 use tql_catalog::catalog::Catalog;
 use tql_catalog::constraint::{Checks, Key, Reference};
 use tql_catalog::definition::{Application, Column, System};
@@ -122,10 +125,60 @@ fn has_several_primaries(draft: &Draft<'_>) -> bool
     1 < primary_count(&draft.keys)
 }
 
+/// Returns what the fault of several periods of one sort is about: the second of them.
+fn second_period(draft: &Draft<'_>) -> About {
+    if let Some(period) = draft.applications.get(1) {
+        return About::at(Cause::SecondPeriod, period.name.start);
+    }
+    match draft.systems.get(1) {
+        Some(period) => About::at(Cause::SecondPeriod, period.start.start),
+        None => About::unknown(),
+    }
+}
+
+/// Returns what the fault of a table that is versioned and has no system period, or the reverse, is about.
+fn wrong_systems(is_versioned: bool, start: u32) -> About {
+    let cause = if is_versioned {
+        Cause::NoSystemPeriod
+    } else {
+        Cause::NoVersioning
+    };
+    About::at(cause, start)
+}
+
+/// Returns what the fault of too many generated columns, or too few, is about.
+fn wrong_generated(draft: &Draft<'_>, start: u32) -> About {
+    About::at(Cause::WrongGenerated, start).counts(
+        start_count(&draft.columns),
+        end_count(&draft.columns),
+    )
+}
+
+/// Returns what the fault of several primary keys is about: the second of them.
+fn second_primary(keys: &[NewKey]) -> About {
+    let mut is_seen = false;
+    for key in keys {
+        if key.is_primary && is_seen {
+            return About::at(Cause::SecondPrimary, key.list.start());
+        }
+        is_seen = is_seen || key.is_primary;
+    }
+    About::unknown()
+}
+
+/// Returns what the fault of a repeated name is about.
+fn about_word(repeated: Option<&Word>) -> About {
+    match repeated {
+        Some(word) => About::at(Cause::Repeated, word.start),
+        None => About::unknown(),
+    }
+}
+
 /// The faults of the table as a whole.
 fn whole_faults(
     tables: &Catalog,
     name: &str,
+    start: u32,
     draft: &Draft<'_>,
     is_versioned: bool,
     faults: &mut Faults,
@@ -137,24 +190,49 @@ fn whole_faults(
     faults.refuse_if(
         tables.place_of(name).is_some(),
         Refusal::TableUnknownOrAlreadyThere,
+        About::at(Cause::TableThere, start),
+    );
+    let repeated = repeated_name(draft);
+    faults.refuse_if(
+        repeated.is_some(),
+        Refusal::NameUnknownAmbiguousOrRepeated,
+        about_word(repeated),
     );
     faults.refuse_if(
-        has_repeated_name(draft),
-        Refusal::NameUnknownAmbiguousOrRepeated,
+        has_misfit(&draft.columns),
+        Refusal::TypesDoNotFit,
+        misfit(&draft.columns),
     );
-    faults.refuse_if(has_misfit(&draft.columns), Refusal::TypesDoNotFit);
     faults.refuse_if(
         are_all_generated(&draft.columns),
         Refusal::FormNotAllowedHere,
+        About::at(Cause::AllGenerated, start),
     );
-    faults.refuse_if(has_several(draft), Refusal::FormNotAllowedHere);
+    faults.refuse_if(
+        has_several(draft),
+        Refusal::FormNotAllowedHere,
+        second_period(draft),
+    );
     faults.refuse_if(
         has_wrong_systems(draft, is_versioned),
         Refusal::FormNotAllowedHere,
+        wrong_systems(is_versioned, start),
     );
-    faults.refuse_if(has_wrong_ends(draft), Refusal::FormNotAllowedHere);
-    faults.refuse_if(has_several_primaries(draft), Refusal::FormNotAllowedHere);
-    faults.refuse_if(1000 <= tables.len(), Refusal::TooManyTablesOrReaders);
+    faults.refuse_if(
+        has_wrong_ends(draft),
+        Refusal::FormNotAllowedHere,
+        wrong_generated(draft, start),
+    );
+    faults.refuse_if(
+        has_several_primaries(draft),
+        Refusal::FormNotAllowedHere,
+        second_primary(&draft.keys),
+    );
+    faults.refuse_if(
+        1000 <= tables.len(),
+        Refusal::TooManyTablesOrReaders,
+        About::at(Cause::TooManyTables, start),
+    );
 }
 
 /// The column of the definition: it takes no null where it is NOT NULL or a column of an application period or of a
@@ -171,10 +249,10 @@ fn definition_column(
         (column_of column.now)) }
 {
     Ok(Column {
-        name: column.name.clone()?,
+        name: column.name.text.clone()?,
         kind: kind_of(column.type_name),
         limit: limit_of(column.type_name),
-        is_required: column.is_required || is_implied(periods, keys, &column.name),
+        is_required: column.is_required || is_implied(periods, keys, &column.name.text),
     })
 }
 
@@ -210,7 +288,14 @@ fn parts_of(
         (λ p. Gathers (create_in (definitions_of tables.now) name.now (written_of draft.now)
         (checks_in (elements_in create.now)) create.now.is_versioned) faults.old faults.new (table_of name.now p)) }
 {
-    whole_faults(tables, name, draft, create.is_versioned, faults);
+    whole_faults(
+        tables,
+        name,
+        create.table.start,
+        draft,
+        create.is_versioned,
+        faults,
+    );
     let applications = application_periods(memory, &draft.columns, &draft.applications, faults)?;
     let systems = system_periods(memory, &draft.columns, &draft.systems, faults)?;
     let keys = bound_keys(memory, draft, &applications, &draft.keys, faults)?;
@@ -269,4 +354,31 @@ pub fn new_table(
         Some(fault) => Err(fault),
         None => Ok(parts.definition(memory, name)?),
     }
+}
+
+/// Returns the cause that no table has the name at some place as the cause that a table references itself, if it is its
+/// own name.
+fn or_own_parent(about: About, name: &str, draft: &Draft<'_>) -> About {
+    if about.cause == Cause::NoTable {
+        for reference in &draft.references {
+            if reference.parent.start == about.at && is_same_text(name, &reference.parent.text) {
+                return About::at(Cause::OwnParent, about.at);
+            }
+        }
+    }
+    about
+}
+
+/// Returns what the first fault of a CREATE TABLE is about. Without a fault the cause is not known. The only error is
+/// a refused allocation.
+pub fn about_table(
+    memory: Memory,
+    tables: &Catalog,
+    create: &CreateTree<'_>,
+) -> Result<About, AllocError> {
+    let name = meant(memory, create.table)?;
+    let draft = draft_of(memory, create)?;
+    let mut faults = Faults::none();
+    let _parts = parts_of(memory, tables, &name, create, &draft, &mut faults)?;
+    Ok(or_own_parent(faults.about(), &name, &draft))
 }

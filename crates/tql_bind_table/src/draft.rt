@@ -1,15 +1,16 @@
 //! The columns, periods, keys and references of a new table, under the names that are meant.
-ghost use Rattle.std.specs.Prelude.{◌≡◌, ◌++◌, ◌∷◌, [], Some, None, IfOk, OnOk, map, option_map, string_bytes};
+ghost use Rattle.std.specs.Prelude.{◌≡◌, ◌++◌, ◌∷◌, [], Some, None, IfOk, OnOk, map, option_map};
 ghost use Rattle.tql_spec.specs.Creation.{columns_of, application_parts, system_parts, constraints_of};
 ghost use Rattle.tql_syntax_tree.specs.Expressions.{name_of};
 ghost use Rattle.tql_syntax_tree.specs.Statements as tree;
 ghost use Rattle.tql_bind_check.specs.Checking.{elements_in};
+ghost use Rattle.tql_bind_expr.specs.Scopes.{word_of};
 ghost use Rattle.tql_bind_table.specs.NewTables.{column_of, application_part, system_part, columns_in, applications_in};
 ghost use Rattle.tql_bind_table.specs.NewTables.{systems_in, list_part, key_part, reference_part};
 ghost use Rattle.tql_bind_table.specs.NewTables.{keys_in, references_in, key_parts, reference_parts};
 
 use std::alloc::AllocError;
-use tql_bind_expr::texts::meant;
+use tql_bind_expr::texts::{Word, meant_word};
 use tql_memory::Memory;
 use tql_syntax_tree::expression::Name;
 use tql_syntax_tree::statement::{
@@ -20,7 +21,7 @@ use tql_syntax_tree::statement::{
 /// A column as it is written, under the name that is meant.
 #[derive(Drop)]
 pub struct NewColumn<'a> {
-    pub name: String<Memory>,
+    pub name: Word,
     pub type_name: TypeName<'a>,
     pub is_required: bool,
     pub generated: Option<Generated>,
@@ -29,23 +30,23 @@ pub struct NewColumn<'a> {
 /// An application period as it is written, under the names that are meant.
 #[derive(Drop)]
 pub struct NewApplication {
-    pub name: String<Memory>,
-    pub start: String<Memory>,
-    pub end: String<Memory>,
+    pub name: Word,
+    pub start: Word,
+    pub end: Word,
 }
 
 /// A system period as it is written, under the names that are meant.
 #[derive(Drop)]
 pub struct NewSystem {
-    pub start: String<Memory>,
-    pub end: String<Memory>,
+    pub start: Word,
+    pub end: Word,
 }
 
 /// A list of columns as it is written, and its period, under the names that are meant.
 #[derive(Drop)]
 pub struct NewList {
-    pub columns: Vec<String<Memory>, Memory>,
-    pub period: Option<String<Memory>>,
+    pub columns: Vec<Word, Memory>,
+    pub period: Option<Word>,
 }
 
 /// A key as it is written, under the names that are meant.
@@ -60,7 +61,7 @@ pub struct NewKey {
 #[derive(Drop)]
 pub struct NewReference {
     pub child: NewList,
-    pub parent: String<Memory>,
+    pub parent: Word,
     pub named: NewList,
 }
 
@@ -79,7 +80,7 @@ fn new_column<'a>(memory: Memory, column: ColumnTree<'a>) -> Result<NewColumn<'a
     ensures { IfOk result (λ c. column_of c ≡ tree.column_of column.entry) }
 {
     Ok(NewColumn {
-        name: meant(memory, column.name)?,
+        name: meant_word(memory, column.name)?,
         type_name: column.type_name,
         is_required: column.is_required,
         generated: column.generated,
@@ -100,9 +101,9 @@ fn new_application(
         }) }
 {
     Ok(NewApplication {
-        name: meant(memory, name)?,
-        start: meant(memory, period.start)?,
-        end: meant(memory, period.end)?,
+        name: meant_word(memory, name)?,
+        start: meant_word(memory, period.start)?,
+        end: meant_word(memory, period.end)?,
     })
 }
 
@@ -116,8 +117,8 @@ fn new_system(memory: Memory, period: PeriodTree<'_>) -> Result<NewSystem, Alloc
         }) }
 {
     Ok(NewSystem {
-        start: meant(memory, period.start)?,
-        end: meant(memory, period.end)?,
+        start: meant_word(memory, period.start)?,
+        end: meant_word(memory, period.end)?,
     })
 }
 
@@ -126,23 +127,23 @@ fn meant_names(
     memory: Memory,
     first: Name<'_>,
     more: &[Name<'_>],
-) -> Result<Vec<String<Memory>, Memory>, AllocError>
-    ensures { IfOk result (λ texts. map string_bytes texts.items ≡ name_of first.entry ∷ map name_of more.now) }
+) -> Result<Vec<Word, Memory>, AllocError>
+    ensures { IfOk result (λ texts. map word_of texts.items ≡ name_of first.entry ∷ map name_of more.now) }
 {
     let mut texts = Vec::new(memory);
-    texts.push(meant(memory, first)?)?;
+    texts.push(meant_word(memory, first)?)?;
     for name in more {
-        texts.push(meant(memory, *name)?)?;
+        texts.push(meant_word(memory, *name)?)?;
     }
     Ok(texts)
 }
 
 /// The name that is meant, where there is one.
-fn meant_name(memory: Memory, name: Option<Name<'_>>) -> Result<Option<String<Memory>>, AllocError>
-    ensures { IfOk result (λ text. option_map string_bytes text ≡ option_map name_of name.entry) }
+fn meant_name(memory: Memory, name: Option<Name<'_>>) -> Result<Option<Word>, AllocError>
+    ensures { IfOk result (λ text. option_map word_of text ≡ option_map name_of name.entry) }
 {
     match name {
-        Some(name) => Ok(Some(meant(memory, name)?)),
+        Some(name) => Ok(Some(meant_word(memory, name)?)),
         None => Ok(None),
     }
 }
@@ -184,7 +185,7 @@ fn new_reference(memory: Memory, foreign: &ForeignTree<'_>) -> Result<NewReferen
     let named = &foreign.parent;
     Ok(NewReference {
         child: new_list(memory, child.first, &child.more, child.period)?,
-        parent: meant(memory, foreign.table)?,
+        parent: meant_word(memory, foreign.table)?,
         named: new_list(memory, named.first, &named.more, named.period)?,
     })
 }
@@ -282,4 +283,19 @@ pub fn draft_of<'a>(memory: Memory, create: &CreateTree<'a>) -> Result<Draft<'a>
         draft.add(memory, element)?;
     }
     Ok(draft)
+}
+
+impl NewList {
+    /// Returns the byte offset of its first column.
+    pub(crate) fn start(&self) -> u32 {
+        self.column_start(0)
+    }
+
+    /// Returns the byte offset of the column at this position of the list.
+    pub(crate) fn column_start(&self, place: usize) -> u32 {
+        match self.columns.get(place) {
+            Some(column) => column.start,
+            None => 0,
+        }
+    }
 }

@@ -1,5 +1,5 @@
 //! The lists of columns of keys and references, by the numbers of their columns.
-ghost use Rattle.std.specs.Prelude.{◌≡◌, ◌||◌, IfOk, Some, map, option_map, string_bytes};
+ghost use Rattle.std.specs.Prelude.{◌≡◌, ◌||◌, IfOk, Some, map, option_map};
 ghost use Rattle.std.specs.List.{list_any};
 ghost use Rattle.tql_spec.specs.Creation as spec;
 ghost use Rattle.tql_spec.specs.Creation.{has_number, period_columns, shares_number};
@@ -7,6 +7,7 @@ ghost use Rattle.tql_spec.specs.Names.{check_each};
 ghost use Rattle.tql_spec.specs.Words.{listed};
 ghost use Rattle.tql_catalog.specs.Definitions.{application_of};
 ghost use Rattle.tql_bind_expr.specs.Gathered.{after, Gathers};
+ghost use Rattle.tql_bind_expr.specs.Scopes.{word_of};
 ghost use Rattle.tql_bind_table.specs.NewTables.{column_of, list_part, names_in, names_of_periods, is_generated_in};
 ghost use Rattle.tql_bind_table.specs.NewTables.{columns_in, applications_in, written_of, listed_in};
 
@@ -15,9 +16,10 @@ use crate::draft::{Draft, NewColumn, NewList};
 use crate::names::has_period;
 use crate::periods::column_number;
 use std::alloc::AllocError;
+use tql_bind_expr::about::{About, Cause};
 use tql_bind_expr::faults::Faults;
-use tql_bind_expr::repeats::repeats_name;
-use tql_bind_expr::texts::is_same_text;
+use tql_bind_expr::repeats::{about_repeated, repeated};
+use tql_bind_expr::texts::{Word, is_same_text};
 use tql_catalog::definition::Application;
 use tql_memory::Memory;
 use tql_value::refusal::Refusal;
@@ -26,16 +28,16 @@ use tql_value::refusal::Refusal;
 fn each_number(
     memory: Memory,
     columns: &[NewColumn<'_>],
-    names: &[String<Memory>],
+    names: &[Word],
     faults: &mut Faults,
 ) -> Result<Vec<usize, Memory>, AllocError>
     ensures { IfOk result
         (λ numbers. Gathers (check_each (spec.column_number (names_in (map column_of columns.now)))
-        (map string_bytes names.now)) faults.old faults.new numbers.items) }
+        (map word_of names.now)) faults.old faults.new numbers.items) }
 {
     let mut numbers = Vec::with_capacity(memory, names.len())?;
     for name in names {
-        numbers.push(column_number(columns, name.as_str(), faults))?;
+        numbers.push(column_number(columns, name, faults))?;
     }
     Ok(numbers)
 }
@@ -45,15 +47,20 @@ fn each_number(
 fn column_numbers(
     memory: Memory,
     columns: &[NewColumn<'_>],
-    names: &[String<Memory>],
+    names: &[Word],
     faults: &mut Faults,
 ) -> Result<Vec<usize, Memory>, AllocError>
     ensures { IfOk result
-        (λ numbers. Gathers (spec.column_numbers (names_in (map column_of columns.now)) (map string_bytes names.now))
+        (λ numbers. Gathers (spec.column_numbers (names_in (map column_of columns.now)) (map word_of names.now))
         faults.old faults.new numbers.items) }
 {
     let numbers = each_number(memory, columns, names, faults)?;
-    faults.refuse_if(repeats_name(names), Refusal::NameUnknownAmbiguousOrRepeated);
+    let repeated = repeated(names);
+    faults.refuse_if(
+        repeated.is_some(),
+        Refusal::NameUnknownAmbiguousOrRepeated,
+        about_repeated(repeated),
+    );
     Ok(numbers)
 }
 
@@ -66,8 +73,9 @@ fn seek_period(draft: &Draft<'_>, list: &NewList, faults: &mut Faults)
 {
     if let Some(name) = &list.period {
         faults.refuse_if(
-            !has_period(&draft.applications, name),
+            !has_period(&draft.applications, &name.text),
             Refusal::NameUnknownAmbiguousOrRepeated,
+            About::at(Cause::NoPeriod, name.start),
         );
     }
 }
@@ -93,7 +101,7 @@ pub(crate) fn period_called<'a>(
         ≡ spec.period_called (list_part list.now).period (map application_of applications.now) }
 {
     match &list.period {
-        Some(name) => first_called(applications, name),
+        Some(name) => first_called(applications, &name.text),
         None => None,
     }
 }
@@ -150,6 +158,16 @@ fn is_wrong_list(
         || shares_period(period_called(applications, list), numbers)
 }
 
+/// Returns what the fault of a list with a generated column, or else with one of its period, is about.
+fn wrong_list(draft: &Draft<'_>, list: &NewList, numbers: &[usize]) -> About {
+    for (place, number) in numbers.iter().enumerate() {
+        if is_generated_at(&draft.columns, *number) {
+            return About::at(Cause::GeneratedInList, list.column_start(place));
+        }
+    }
+    About::at(Cause::PeriodColumnInList, list.start())
+}
+
 /// The numbers of the columns of a list. A fault where one is no column's, where one stands twice, where its period is
 /// unknown, and where one is generated or of that period. The only error is a refused growth.
 #[tactic(auto, using(tql_bind_expr::proofs::Gathering::gathering))]
@@ -169,6 +187,7 @@ pub(crate) fn listed_columns(
     faults.refuse_if(
         is_wrong_list(draft, applications, list, &numbers),
         Refusal::FormNotAllowedHere,
+        wrong_list(draft, list, &numbers),
     );
     Ok(numbers)
 }

@@ -1,5 +1,5 @@
 //! The names of a new table: those of its columns and of its application periods.
-ghost use Rattle.std.specs.Prelude.{◌≡◌, ◌++◌, map};
+ghost use Rattle.std.specs.Prelude.{◌≡◌, ◌++◌, is_some, map};
 ghost use Rattle.std.specs.List.{flat_map};
 ghost use Rattle.tql_spec.specs.Creation as spec;
 ghost use Rattle.tql_spec.specs.Creation.{part_names};
@@ -9,32 +9,32 @@ ghost use Rattle.tql_bind_table.specs.NewTables.{columns_in, applications_in, ke
 use crate::columns::has_column;
 use crate::draft::{Draft, NewApplication, NewColumn, NewKey};
 use crate::keys::is_in_primary;
-use tql_bind_expr::texts::is_same_text;
+use tql_bind_expr::texts::{Word, is_same_text};
 
 /// Whether an application period has this name.
 pub(crate) fn has_period(periods: &[NewApplication], name: &str) -> bool
     ensures { result ≡ spec.has_name name.now (names_of_periods (map application_part periods.now)) }
 {
     for period in periods {
-        if is_same_text(name, &period.name) {
+        if is_same_text(name, &period.name.text) {
             return true;
         }
     }
     false
 }
 
-/// Whether two application periods have one name.
-fn has_repeated_period(periods: &[NewApplication]) -> bool
-    ensures { result ≡ spec.repeats (names_of_periods (map application_part periods.now)) }
+/// The first name that two application periods have.
+fn repeated_period(periods: &[NewApplication]) -> Option<&Word>
+    ensures { is_some result ≡ spec.repeats (names_of_periods (map application_part periods.now)) }
 {
     let mut left = periods;
     while let [period, others @ ..] = left {
-        if has_period(others, &period.name) {
-            return true;
+        if has_period(others, &period.name.text) {
+            return Some(&period.name);
         }
         left = others;
     }
-    false
+    None
 }
 
 /// Whether a column or an application period has this name.
@@ -45,18 +45,19 @@ fn is_taken(columns: &[NewColumn<'_>], periods: &[NewApplication], name: &str) -
     has_column(columns, name) || has_period(periods, name)
 }
 
-/// Whether a name stands twice among those of the columns and of the application periods.
-pub fn has_repeated_name(draft: &Draft<'_>) -> bool
-    ensures { result ≡ spec.repeats (names_in (columns_in draft.now) ++ names_of_periods (applications_in draft.now)) }
+/// The first name that stands twice among those of the columns and of the application periods.
+pub fn repeated_name<'t>(draft: &'t Draft<'_>) -> Option<&'t Word>
+    ensures { is_some result
+        ≡ spec.repeats (names_in (columns_in draft.now) ++ names_of_periods (applications_in draft.now)) }
 {
     let mut left = draft.columns.as_slice();
     while let [column, others @ ..] = left {
-        if is_taken(others, &draft.applications, &column.name) {
-            return true;
+        if is_taken(others, &draft.applications, &column.name.text) {
+            return Some(&column.name);
         }
         left = others;
     }
-    has_repeated_period(&draft.applications)
+    repeated_period(&draft.applications)
 }
 
 /// Whether a column of this name is one of an application period.
@@ -64,7 +65,7 @@ fn is_of_period(periods: &[NewApplication], name: &str) -> bool
     ensures { result ≡ spec.has_name name.now (flat_map part_names (map application_part periods.now)) }
 {
     for period in periods {
-        if is_same_text(name, &period.start) || is_same_text(name, &period.end) {
+        if is_same_text(name, &period.start.text) || is_same_text(name, &period.end.text) {
             return true;
         }
     }

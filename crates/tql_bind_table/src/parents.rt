@@ -1,5 +1,5 @@
 //! The table that a reference is to: its columns, their kinds, and its application period.
-ghost use Rattle.std.specs.Prelude.{◌≡◌, ◌||◌, IfOk, map, not, is_some, string_bytes, slice_index_or, option_map};
+ghost use Rattle.std.specs.Prelude.{◌≡◌, ◌||◌, IfOk, map, not, is_some, slice_index_or, option_map};
 ghost use Rattle.tql_spec.specs.Creation as spec;
 ghost use Rattle.tql_spec.specs.Creation.{names_of, kinds_of, kinds_at, application_name, application_kind};
 ghost use Rattle.tql_spec.specs.Creation.{is_declared_key};
@@ -9,6 +9,7 @@ ghost use Rattle.tql_spec.specs.Words.{listed};
 ghost use Rattle.tql_value.specs.Views.{plain_kind};
 ghost use Rattle.tql_catalog.specs.Definitions.{application_of};
 ghost use Rattle.tql_bind_expr.specs.Gathered.{after, Gathers};
+ghost use Rattle.tql_bind_expr.specs.Scopes.{word_of};
 ghost use Rattle.tql_bind_table.specs.NewTables.{column_of, list_part, reference_part, kinds_in, columns_in};
 ghost use Rattle.tql_bind_table.specs.NewTables.{kind_in, has_one_period};
 
@@ -16,9 +17,10 @@ use crate::columns::kind_at;
 use crate::draft::{Draft, NewColumn, NewList, NewReference};
 use crate::lists::period_called;
 use std::alloc::AllocError;
+use tql_bind_expr::about::{About, Cause};
 use tql_bind_expr::faults::Faults;
-use tql_bind_expr::repeats::repeats_name;
-use tql_bind_expr::texts::is_same_text;
+use tql_bind_expr::repeats::{about_repeated, repeated};
+use tql_bind_expr::texts::{Word, is_same_text};
 use tql_catalog::definition::Application;
 use tql_catalog::table_def::TableDef;
 use tql_memory::Memory;
@@ -39,16 +41,19 @@ fn column_place(definition: &TableDef, name: &str) -> Option<usize>
 fn listed_columns(
     memory: Memory,
     definition: &TableDef,
-    names: &[String<Memory>],
+    names: &[Word],
     faults: &mut Faults,
 ) -> Result<Vec<usize, Memory>, AllocError>
     ensures { IfOk result
         (λ numbers. Gathers (check_each (spec.column_number (names_of definition.now))
-        (map string_bytes names.now)) faults.old faults.new numbers.items) }
+        (map word_of names.now)) faults.old faults.new numbers.items) }
 {
     let mut numbers = Vec::with_capacity(memory, names.len())?;
     for name in names {
-        numbers.push(faults.or_first(column_place(definition, name.as_str())))?;
+        numbers.push(faults.or_first(
+            column_place(definition, name.text.as_str()),
+            About::at(Cause::NoColumn, name.start),
+        ))?;
     }
     Ok(numbers)
 }
@@ -58,15 +63,20 @@ fn listed_columns(
 pub fn parent_columns(
     memory: Memory,
     definition: &TableDef,
-    names: &[String<Memory>],
+    names: &[Word],
     faults: &mut Faults,
 ) -> Result<Vec<usize, Memory>, AllocError>
     ensures { IfOk result
-        (λ numbers. Gathers (spec.column_numbers (names_of definition.now) (map string_bytes names.now))
+        (λ numbers. Gathers (spec.column_numbers (names_of definition.now) (map word_of names.now))
         faults.old faults.new numbers.items) }
 {
     let numbers = listed_columns(memory, definition, names, faults)?;
-    faults.refuse_if(repeats_name(names), Refusal::NameUnknownAmbiguousOrRepeated);
+    let repeated = repeated(names);
+    faults.refuse_if(
+        repeated.is_some(),
+        Refusal::NameUnknownAmbiguousOrRepeated,
+        about_repeated(repeated),
+    );
     Ok(numbers)
 }
 
@@ -89,8 +99,9 @@ pub fn seek_period(definition: &TableDef, list: &NewList, faults: &mut Faults)
 {
     if let Some(name) = &list.period {
         faults.refuse_if(
-            !is_period_of(definition, name),
+            !is_period_of(definition, &name.text),
             Refusal::NameUnknownAmbiguousOrRepeated,
+            About::at(Cause::NoPeriod, name.start),
         );
     }
 }
@@ -140,6 +151,60 @@ pub fn kinds_differ(
         left = more;
     }
     !left.is_empty()
+}
+
+/// Returns what the fault of two lists of columns that differ in length, or else in a type, is about.
+pub fn differing(
+    draft: &Draft<'_>,
+    reference: &NewReference,
+    numbers: &[usize],
+    definition: &TableDef,
+    others: &[usize],
+) -> About {
+    let child = &reference.child;
+    let named = &reference.named;
+    if numbers.len() != others.len() {
+        return About::at(Cause::ListsDiffer, child.start())
+            .and(named.start())
+            .counts(numbers.len(), others.len());
+    }
+    for (place, (number, other)) in numbers.iter().zip(others.iter()).enumerate() {
+        let kind = kind_at(&draft.columns, *number);
+        let there = column_kind(definition, *other);
+        if kind != there {
+            return About::at(Cause::KindsDiffer, child.column_start(place))
+                .and(named.column_start(place))
+                .kinds(Some(kind), Some(there));
+        }
+    }
+    About::unknown()
+}
+
+/// Returns the byte offset of a word, or 0 where there is none.
+fn word_start(word: &Option<Word>) -> u32 {
+    match word {
+        Some(word) => word.start,
+        None => 0,
+    }
+}
+
+/// Returns what the fault of two periods whose points are of different types is about.
+pub fn points_of(reference: &NewReference) -> About {
+    About::at(Cause::PeriodsDiffer, word_start(&reference.child.period)).and(word_start(
+        &reference.named.period,
+    ))
+}
+
+/// Returns what the fault of a reference is about that names a period on one side alone, or else is to no key of the
+/// table of this number.
+pub fn wrong_reference(reference: &NewReference, table: usize) -> About {
+    if is_half(reference) {
+        About::at(Cause::HalfPeriod, reference.child.start())
+    } else {
+        About::at(Cause::NoKey, reference.named.start())
+            .and(reference.parent.start)
+            .counts(table, 0)
+    }
 }
 
 /// Whether one of two periods is missing, or both are there and of two kinds of points.

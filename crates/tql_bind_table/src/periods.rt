@@ -7,6 +7,7 @@ ghost use Rattle.tql_spec.specs.Names.{check_each};
 ghost use Rattle.tql_spec.specs.Words.{same_text};
 ghost use Rattle.tql_catalog.specs.Definitions.{application_of, system_of};
 ghost use Rattle.tql_bind_expr.specs.Gathered.{Gathers};
+ghost use Rattle.tql_bind_expr.specs.Scopes.{word_of};
 ghost use Rattle.tql_bind_table.specs.NewTables.{column_of, application_part, system_part, names_in, starts_in};
 ghost use Rattle.tql_bind_table.specs.NewTables.{stops_in};
 ghost use Rattle.tql_bind_table.specs.NewTables.{kind_in, is_generated_in, application_in, system_in};
@@ -14,19 +15,23 @@ ghost use Rattle.tql_bind_table.specs.NewTables.{kind_in, is_generated_in, appli
 use crate::columns::{is_end_at, is_generated_at, is_start_at, kind_at, number_in};
 use crate::draft::{NewApplication, NewColumn, NewSystem};
 use std::alloc::AllocError;
+use tql_bind_expr::about::{About, Cause};
 use tql_bind_expr::faults::Faults;
-use tql_bind_expr::texts::is_same_text;
+use tql_bind_expr::texts::{Word, is_same_text};
 use tql_catalog::definition::{Application, System, are_ends};
 use tql_memory::Memory;
 use tql_value::refusal::Refusal;
 use tql_value::value::Kind;
 
 /// The number of the column of this name. A fault where there is none.
-pub(crate) fn column_number(columns: &[NewColumn<'_>], name: &str, faults: &mut Faults) -> usize
-    ensures { Gathers (spec.column_number (names_in (map column_of columns.now)) name.now)
+pub(crate) fn column_number(columns: &[NewColumn<'_>], name: &Word, faults: &mut Faults) -> usize
+    ensures { Gathers (spec.column_number (names_in (map column_of columns.now)) (word_of name.now))
         faults.old faults.new result }
 {
-    faults.or_first(number_in(columns, name))
+    faults.or_first(
+        number_in(columns, &name.text),
+        About::at(Cause::NoColumn, name.start),
+    )
 }
 
 /// Whether the columns of these numbers are not both of type DATE and not both of type TIMESTAMP.
@@ -35,6 +40,20 @@ fn are_no_ends(columns: &[NewColumn<'_>], start: usize, end: usize) -> bool
         (kind_in (map column_of columns.now) end)) }
 {
     !are_ends(kind_at(columns, start), kind_at(columns, end))
+}
+
+/// Returns what the fault of columns that cannot be the ends of one period is about.
+fn no_ends(
+    cause: Cause,
+    columns: &[NewColumn<'_>],
+    first: &Word,
+    last: &Word,
+    start: usize,
+    end: usize,
+) -> About {
+    About::at(cause, first.start)
+        .and(last.start)
+        .kinds(Some(kind_at(columns, start)), Some(kind_at(columns, end)))
 }
 
 /// Whether one column is named twice, or one of the two is generated.
@@ -47,7 +66,7 @@ fn is_wrong_application(
     ensures { result ≡ (same_text (application_part period.now).start (application_part period.now).end
         || is_generated_in (map column_of columns.now) start || is_generated_in (map column_of columns.now) end) }
 {
-    is_same_text(&period.start, &period.end)
+    is_same_text(&period.start.text, &period.end.text)
         || is_generated_at(columns, start)
         || is_generated_at(columns, end)
 }
@@ -66,13 +85,25 @@ fn application_period(
 {
     let start = column_number(columns, &period.start, faults);
     let end = column_number(columns, &period.end, faults);
-    faults.refuse_if(are_no_ends(columns, start, end), Refusal::TypesDoNotFit);
+    faults.refuse_if(
+        are_no_ends(columns, start, end),
+        Refusal::TypesDoNotFit,
+        no_ends(
+            Cause::NoEnds,
+            columns,
+            &period.start,
+            &period.end,
+            start,
+            end,
+        ),
+    );
     faults.refuse_if(
         is_wrong_application(columns, period, start, end),
         Refusal::FormNotAllowedHere,
+        About::at(Cause::WrongEnds, period.start.start).and(period.end.start),
     );
     Ok(Application {
-        name: period.name.clone()?,
+        name: period.name.text.clone()?,
         start,
         end,
     })
@@ -134,7 +165,7 @@ fn is_wrong_system(columns: &[NewColumn<'_>], period: &NewSystem, start: usize, 
         || not (has_number start (starts_in (map column_of columns.now)))
         || not (has_number end (stops_in (map column_of columns.now)))) }
 {
-    is_same_text(&period.start, &period.end)
+    is_same_text(&period.start.text, &period.end.text)
         || !is_start_at(columns, start)
         || !is_end_at(columns, end)
 }
@@ -147,10 +178,22 @@ fn system_period(columns: &[NewColumn<'_>], period: &NewSystem, faults: &mut Fau
 {
     let start = column_number(columns, &period.start, faults);
     let end = column_number(columns, &period.end, faults);
-    faults.refuse_if(has_no_moment(columns, start, end), Refusal::TypesDoNotFit);
+    faults.refuse_if(
+        has_no_moment(columns, start, end),
+        Refusal::TypesDoNotFit,
+        no_ends(
+            Cause::NoSystemEnds,
+            columns,
+            &period.start,
+            &period.end,
+            start,
+            end,
+        ),
+    );
     faults.refuse_if(
         is_wrong_system(columns, period, start, end),
         Refusal::FormNotAllowedHere,
+        About::at(Cause::WrongSystemEnds, period.start.start).and(period.end.start),
     );
     System { start, end }
 }

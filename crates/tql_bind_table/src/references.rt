@@ -10,9 +10,11 @@ ghost use Rattle.tql_bind_table.specs.NewTables.{reference_part, written_of, ref
 use crate::draft::{Draft, NewReference};
 use crate::lists::listed_columns;
 use crate::parents::{
-    is_wrong_reference, kinds_differ, parent_columns, periods_differ, seek_period,
+    differing, is_wrong_reference, kinds_differ, parent_columns, periods_differ, points_of,
+    seek_period, wrong_reference,
 };
 use std::alloc::AllocError;
+use tql_bind_expr::about::{About, Cause};
 use tql_bind_expr::faults::Faults;
 use tql_catalog::catalog::Catalog;
 use tql_catalog::constraint::Reference;
@@ -21,14 +23,16 @@ use tql_catalog::table_def::TableDef;
 use tql_memory::Memory;
 use tql_value::refusal::Refusal;
 
-/// A reference to this table. A fault where a column or a period is unknown or a column stands twice, on either side;
-/// where a column is generated or of the period named; where the kinds of the two sides differ; and where one side
-/// alone names a period, or the columns there are no key of that sort. The only error is a refused growth.
+/// A reference to this table, whose number is `place`. A fault where a column or a period is unknown or a column stands
+/// twice, on either side; where a column is generated or of the period named; where the kinds of the two sides differ;
+/// and where one side alone names a period, or the columns there are no key of that sort. The only error is a refused
+/// growth.
 fn bound_to(
     memory: Memory,
     draft: &Draft<'_>,
     applications: &[Application],
     reference: &NewReference,
+    place: usize,
     parent: &TableDef,
     faults: &mut Faults,
 ) -> Result<Reference, AllocError>
@@ -40,15 +44,27 @@ fn bound_to(
     let numbers = parent_columns(memory, parent, &reference.named.columns, faults)?;
     seek_period(parent, &reference.named, faults);
     let have_other_kinds = kinds_differ(&draft.columns, &columns, parent, &numbers);
-    faults.refuse_if(have_other_kinds, Refusal::TypesDoNotFit);
+    faults.refuse_if(
+        have_other_kinds,
+        Refusal::TypesDoNotFit,
+        differing(draft, reference, &columns, parent, &numbers),
+    );
     let have_other_points = periods_differ(draft, applications, reference, parent);
-    faults.refuse_if(have_other_points, Refusal::TypesDoNotFit);
+    faults.refuse_if(
+        have_other_points,
+        Refusal::TypesDoNotFit,
+        points_of(reference),
+    );
     let is_wrong = is_wrong_reference(reference, parent, &numbers);
-    faults.refuse_if(is_wrong, Refusal::FormNotAllowedHere);
+    faults.refuse_if(
+        is_wrong,
+        Refusal::FormNotAllowedHere,
+        wrong_reference(reference, place),
+    );
     Ok(Reference {
         columns,
         by_period: reference.child.period.is_some(),
-        parent: reference.parent.clone()?,
+        parent: reference.parent.text.clone()?,
         parent_columns: numbers,
     })
 }
@@ -68,14 +84,26 @@ fn bound_reference(
         (map application_of applications.now) (reference_part reference.now))
         faults.old faults.new (listed (option_map catalog.reference_of r))) }
 {
-    match tables.place_of(&reference.parent) {
+    match tables.place_of(&reference.parent.text) {
         Some(place) => {
             let parent = &tables.table(place).definition;
-            let bound = bound_to(memory, draft, applications, reference, parent, faults)?;
+            let bound = bound_to(
+                memory,
+                draft,
+                applications,
+                reference,
+                place,
+                parent,
+                faults,
+            )?;
             Ok(Some(bound))
         }
         None => {
-            faults.refuse_if(true, Refusal::TableUnknownOrAlreadyThere);
+            faults.refuse_if(
+                true,
+                Refusal::TableUnknownOrAlreadyThere,
+                About::at(Cause::NoTable, reference.parent.start),
+            );
             Ok(None)
         }
     }

@@ -1,7 +1,7 @@
 //! The first calculation of ON and WHERE: what keeps rows from being sought, since it may be out of range.
+use crate::references::join_condition;
+use crate::words::Words;
 use std::alloc::AllocError;
-use tql_bind_spot::references::join_condition;
-use tql_bind_spot::words::Words;
 use tql_memory::Memory;
 use tql_syntax_tree::condition::{Cond, Conj, Marked, Operand, Test};
 use tql_syntax_tree::expression::{Expr, Named, Primary, Sign, Signed, Term};

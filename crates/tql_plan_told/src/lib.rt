@@ -3,4 +3,6 @@
 
 mod calculations;
 mod columns;
+mod references;
 pub mod told;
+mod words;

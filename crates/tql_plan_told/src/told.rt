@@ -3,9 +3,9 @@ use crate::calculations::first_calculation;
 use crate::columns::{
     chain_column, chains_column, column_name, definition_of, is_key, reference_column,
 };
+use crate::references::joined_reference;
+use crate::words::Words;
 use std::alloc::AllocError;
-use tql_bind_spot::references::joined_reference;
-use tql_bind_spot::words::Words;
 use tql_bound::query::Chain;
 use tql_bound::reference::Reference;
 use tql_catalog::catalog::Catalog;

@@ -242,12 +242,13 @@ fn marked_test<'a>(
     operand_end(memory, tokens, depth, Operand::ByMark(mark))
 }
 
-/// The expression that begins with this primary.
+/// The expression that begins with this primary, whose byte offset in the text is `start`.
 #[tactic(auto, unfolding(tql_syntax_grammar::specs::ReadingExpressions::sum_from))]
 fn expr_from<'a>(
     memory: Memory,
     tokens: &mut Cursor<'_, 'a>,
     depth: usize,
+    start: u32,
     primary: Primary<'a>,
 ) -> Result<Box<Expr<'a>, Memory>, ParseError>
     ensures { Reads boxed_expr_of
@@ -256,6 +257,7 @@ fn expr_from<'a>(
     let signed = Signed {
         sign: Sign::None,
         primary,
+        start,
     };
     let term = term_behind(memory, tokens, depth, signed)?;
     expr_behind(memory, tokens, depth, term)
@@ -272,7 +274,8 @@ fn enclosed<'a>(
         (reading.closed_over (expr_at depth) (mixed_at depth) (reading.WholeExpr (boxed_expr_of inner.entry))
         tokens.old) result tokens.new }
 {
-    let value = expr_from(memory, tokens, depth, Primary::Enclosed(inner))?;
+    let start = inner.first.first.start;
+    let value = expr_from(memory, tokens, depth, start, Primary::Enclosed(inner))?;
     test_behind(memory, tokens, depth, value)
 }
 

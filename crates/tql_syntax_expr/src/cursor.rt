@@ -67,6 +67,15 @@ fn is_name(token: &Token<'_>) -> bool
     }
 }
 
+/// Returns the byte offset of a token in the statement's text. A statement has at most 2^20 bytes, so the offset fits;
+/// `u32::MAX` would stand for a larger one.
+fn offset_of(token: &Token<'_>) -> u32 {
+    match u32::try_from(token.start) {
+        Ok(offset) => offset,
+        Err(_) => u32::MAX,
+    }
+}
+
 /// The tokens that are not read yet.
 #[derive(Drop)]
 pub struct Cursor<'t, 'a> {
@@ -96,6 +105,14 @@ impl<'t, 'a> Cursor<'t, 'a> {
         ensures { result ≡ length self.now }
     {
         self.rest.len()
+    }
+
+    /// Returns the byte offset of the next token in the statement's text, or 0 at the end of the text.
+    pub fn start(&self) -> u32 {
+        match self.rest {
+            [first, ..] => offset_of(first),
+            [] => 0,
+        }
     }
 
     /// Goes past the word, where it is in front; its letters are given in upper case.
@@ -159,6 +176,7 @@ impl<'t, 'a> Cursor<'t, 'a> {
                 Ok(Name {
                     text: first.text,
                     is_quoted: false,
+                    start: offset_of(first),
                 })
             }
             [first, rest @ ..] if matches!(first.kind, TokenKind::QuotedName) => {
@@ -166,6 +184,7 @@ impl<'t, 'a> Cursor<'t, 'a> {
                 Ok(Name {
                     text: first.text,
                     is_quoted: true,
+                    start: offset_of(first),
                 })
             }
             _ => Err(ParseError::NotInGrammar),

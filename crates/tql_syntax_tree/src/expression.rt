@@ -1,4 +1,6 @@
-//! The trees of expressions. Texts, digits and names are kept as they are written in the statement.
+//! The trees of expressions. Texts, digits and names are kept as they are written in the statement. A name and an
+//! operand keep the byte offset in the statement's text at which they start, so that the message of a refusal can say
+//! where the fault is. No view shows an offset, so no meaning depends on it.
 ghost use Rattle.std.specs.Prelude.{◌≡◌, IfOk};
 
 use std::alloc::{AllocError, Allocator};
@@ -9,6 +11,7 @@ use tql_memory::Memory;
 pub struct Name<'a> {
     pub text: &'a str,
     pub is_quoted: bool,
+    pub start: u32,
 }
 
 /// A column or a period, with the name of its table reference or without.
@@ -65,6 +68,7 @@ pub struct TermIn<'a, A: Allocator> {
 pub struct SignedIn<'a, A: Allocator> {
     pub sign: Sign,
     pub primary: PrimaryIn<'a, A>,
+    pub start: u32,
 }
 
 /// A literal, a column, an expression in parentheses, an aggregate. Numbers are kept by their digits, the other

@@ -33,7 +33,7 @@ returns-clause-bound c =
     let assigned = subst
     (λ (xs : List SetTree). Gathers (check_each (binding.assignment d) (first ∷ map assignment_of xs))
     c.refuse_if.new.self c.assignments.new.faults bounds)
-    c.deref-3.ensures.value c.in_ok-sets.ensures.bound in
+    c.deref-5.ensures.value c.in_ok-sets.ensures.bound in
     head_bound (definitions_of c.args.catalog.now) (name_of update.table) p (first ∷ assignments_of update.more)
     c.args.faults.now c.table_number.new.faults c.portion.new.faults c.set_columns.new.faults c.refuse_if.new.self
     c.assignments.new.faults

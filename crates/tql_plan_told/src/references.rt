@@ -3,7 +3,7 @@ use tql_syntax_tree::condition::Cond;
 use tql_syntax_tree::statement::{JoinTree, RefTree};
 
 /// The reference that a join adds.
-pub fn joined_reference<'a>(join: &JoinTree<'a>) -> RefTree<'a> {
+pub(crate) fn joined_reference<'a>(join: &JoinTree<'a>) -> RefTree<'a> {
     match join {
         JoinTree::Inner(joined) | JoinTree::Left(joined) => joined.reference,
         JoinTree::Cross(reference) => **reference,
@@ -11,7 +11,7 @@ pub fn joined_reference<'a>(join: &JoinTree<'a>) -> RefTree<'a> {
 }
 
 /// The condition on which a join adds it.
-pub fn join_condition<'t, 'a>(join: &'t JoinTree<'a>) -> Option<&'t Cond<'a>> {
+pub(crate) fn join_condition<'t, 'a>(join: &'t JoinTree<'a>) -> Option<&'t Cond<'a>> {
     match join {
         JoinTree::Inner(joined) | JoinTree::Left(joined) => Some(&joined.condition),
         JoinTree::Cross(_) => None,

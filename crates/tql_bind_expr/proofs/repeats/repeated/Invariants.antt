@@ -1,8 +1,8 @@
 use Rattle.std.proofs.Common.{◌≡◌, length, map}
 use Rattle.tql_spec.specs.Creation.{repeats}
-use Rattle.tql_bind_expr.proofs.repeats.repeats_name.Given as goal
+use Rattle.tql_bind_expr.proofs.repeats.repeated.Given as goal
 
--- those behind tell what all tell
+-- a name is repeated in the items that are left just when one is repeated in all
 abbrev pub invariant-loop-left : goal.invariant-loop-left
 invariant-loop-left g l =
     repeats (map g.T.HasName.named l.fn.items) ≡ repeats (map g.T.HasName.named l.left)

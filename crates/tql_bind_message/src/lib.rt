@@ -1,0 +1,8 @@
+//! The message of a statement that is refused where its names are bound.
+#![tactic(auto)]
+
+mod distance;
+pub mod message;
+mod nearest;
+mod piece;
+mod wording;

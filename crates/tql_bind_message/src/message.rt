@@ -1,0 +1,349 @@
+//! The message of what a fault is about, with the words of the statement in it.
+use crate::nearest::{Nearest, Part, nearest_part, nearest_table};
+use crate::piece::{has_word, is_quoted_name, last_name, meant, piece};
+use crate::wording::wording;
+use std::alloc::AllocError;
+use tql_bind_expr::about::{About, Cause};
+use tql_catalog::catalog::Catalog;
+use tql_catalog::constraint::Key;
+use tql_catalog::table_def::TableDef;
+use tql_detail::detail::Detail;
+use tql_detail::place::Place;
+use tql_detail::shown::push_shown;
+use tql_memory::Memory;
+use tql_value::value::Kind;
+
+/// The most words in braces of a wording.
+const MOST_PARTS: usize = 8;
+
+/// Returns a type as it is written.
+fn type_words(kind: Option<Kind>) -> &'static str {
+    match kind {
+        Some(Kind::Int) => "INTEGER",
+        Some(Kind::Text) => "VARCHAR",
+        Some(Kind::Day) => "DATE",
+        Some(Kind::Moment) => "TIMESTAMP",
+        None => "of no known type",
+    }
+}
+
+/// Adds the names of the columns of a key, with commas between them.
+fn push_columns(
+    words: &mut String<Memory>,
+    table: &TableDef,
+    numbers: &[usize],
+) -> Result<(), AllocError> {
+    let mut before = "(";
+    for number in numbers {
+        words.push_str(before)?;
+        if let Some(column) = table.columns().get(*number) {
+            push_shown(words, column.name.as_str())?;
+        }
+        before = ", ";
+    }
+    Ok(())
+}
+
+/// Adds a key of a table, as it is declared.
+fn push_key(words: &mut String<Memory>, table: &TableDef, key: &Key) -> Result<(), AllocError> {
+    push_columns(words, table, &key.columns)?;
+    if key.by_period
+        && let Some(application) = table.application()
+    {
+        words.push_str(", ")?;
+        push_shown(words, application.name.as_str())?;
+        words.push_str(" WITHOUT OVERLAPS")?;
+    }
+    words.push_str(")")
+}
+
+/// Adds the keys of a table.
+fn push_keys(words: &mut String<Memory>, table: &TableDef) -> Result<(), AllocError> {
+    if table.keys().is_empty() {
+        return words.push_str("it has no key");
+    }
+    words.push_str("its keys are ")?;
+    let mut before = "";
+    for key in table.keys() {
+        words.push_str(before)?;
+        push_key(words, table, key)?;
+        before = ", ";
+    }
+    Ok(())
+}
+
+/// Returns the table of this number, if there is one.
+fn table_at(catalog: &Catalog, number: u32) -> Option<&TableDef> {
+    match usize::try_from(number) {
+        Ok(place) if place < catalog.len() => Some(&catalog.table(place).definition),
+        _ => None,
+    }
+}
+
+/// Adds what a word in braces that is about a table represents.
+fn push_table_part(
+    words: &mut String<Memory>,
+    part: &str,
+    catalog: &Catalog,
+    about: About,
+) -> Result<(), AllocError> {
+    match table_at(catalog, about.count) {
+        Some(table) if part == "keys" => push_keys(words, table),
+        Some(table) if part == "table" => push_shown(words, table.name()),
+        _ => Ok(()),
+    }
+}
+
+/// Adds a number of things, in the singular or the plural.
+fn push_count(words: &mut String<Memory>, number: u32, thing: &str) -> Result<(), AllocError> {
+    let plural = if number == 1 { "" } else { "s" };
+    write!(words, "{number} {thing}{plural}")
+}
+
+/// Adds what a word in braces represents that is a number.
+fn push_number(
+    words: &mut String<Memory>,
+    part: &str,
+    catalog: &Catalog,
+    about: About,
+) -> Result<(), AllocError> {
+    if part == "values" {
+        push_count(words, about.count, "value")
+    } else if part == "columns" {
+        push_count(words, about.count, "column")
+    } else if part == "wanted columns" {
+        push_count(words, about.wanted, "column")
+    } else if part == "number" {
+        write!(words, "{}", about.count.saturating_add(1))
+    } else if part == "wanted" {
+        write!(words, "{}", about.wanted)
+    } else {
+        push_table_part(words, part, catalog, about)
+    }
+}
+
+/// Adds what a word in braces represents.
+fn push_part(
+    words: &mut String<Memory>,
+    part: &str,
+    text: &str,
+    catalog: &Catalog,
+    about: About,
+) -> Result<(), AllocError> {
+    if part == "at" {
+        push_shown(words, piece(text, about.at))
+    } else if part == "to" {
+        push_shown(words, piece(text, about.to))
+    } else if part == "also" {
+        push_shown(words, piece(text, about.also))
+    } else if part == "kind" {
+        words.push_str(type_words(about.kind))
+    } else if part == "other" {
+        words.push_str(type_words(about.other))
+    } else {
+        push_number(words, part, catalog, about)
+    }
+}
+
+/// Adds the wording of a fault.
+fn push_wording(
+    words: &mut String<Memory>,
+    text: &str,
+    catalog: &Catalog,
+    about: About,
+) -> Result<(), AllocError> {
+    let mut left = wording(about.cause);
+    for _part in 0..MOST_PARTS {
+        let Some((plain, rest)) = left.split_once('{') else {
+            break;
+        };
+        words.push_str(plain)?;
+        let Some((part, rest)) = rest.split_once('}') else {
+            return Ok(());
+        };
+        push_part(words, part, text, catalog, about)?;
+        left = rest;
+    }
+    words.push_str(left)
+}
+
+/// Whether the words at an offset are the literal of a text.
+fn is_text(text: &str, offset: u32) -> bool {
+    piece(text, offset).starts_with('\'')
+}
+
+/// Returns how to write the literal of a date or a timestamp, where that of a text is in its place.
+fn literal_hint(text: &str, about: About) -> &'static str {
+    let is_text = match about.cause {
+        Cause::KindsDiffer => is_text(text, about.at) || is_text(text, about.to),
+        Cause::CellKind => is_text(text, about.at),
+        _ => false,
+    };
+    if !is_text {
+        return "";
+    }
+    match (about.kind, about.other) {
+        (Some(Kind::Text), Some(Kind::Day)) | (Some(Kind::Day), Some(Kind::Text)) => {
+            "; write a date as DATE 'YYYY-MM-DD'"
+        }
+        (Some(Kind::Text), Some(Kind::Moment)) | (Some(Kind::Moment), Some(Kind::Text)) => {
+            "; write a timestamp as TIMESTAMP 'YYYY-MM-DD HH:MM:SS'"
+        }
+        _ => "",
+    }
+}
+
+/// Whether a statement is a CREATE TABLE, whose own columns are in no table yet.
+fn is_create(text: &str) -> bool {
+    match text.trim_start().get(..6) {
+        Some(word) => word.eq_ignore_ascii_case("CREATE"),
+        None => false,
+    }
+}
+
+/// Returns the name that was probably meant by the written one, which is not there.
+fn nearest_name<'a>(
+    memory: Memory,
+    written: &str,
+    text: &str,
+    catalog: &'a Catalog,
+    cause: Cause,
+) -> Result<Option<&'a str>, AllocError> {
+    let name = meant(memory, written)?;
+    let nearest = match cause {
+        Cause::NoTable => nearest_table(name.as_str(), catalog),
+        _ if is_create(text) => Nearest::none(),
+        Cause::NoColumn => nearest_part(memory, name.as_str(), Part::Column, text, catalog)?,
+        Cause::NoPeriod | Cause::NotOnePeriod => {
+            nearest_part(memory, name.as_str(), Part::Period, text, catalog)?
+        }
+        _ => Nearest::none(),
+    };
+    Ok(nearest.name())
+}
+
+/// Adds a name as it is written in a statement.
+fn push_name(words: &mut String<Memory>, name: &str) -> Result<(), AllocError> {
+    if !is_quoted_name(name) {
+        return push_shown(words, name);
+    }
+    words.push_str("\"")?;
+    push_shown(words, name)?;
+    words.push_str("\"")
+}
+
+/// Adds a question for the name that was probably meant by one that is not there, if there is a similar one. A column
+/// in double quotes may also be meant as a text.
+fn push_name_hint(
+    memory: Memory,
+    words: &mut String<Memory>,
+    text: &str,
+    catalog: &Catalog,
+    about: About,
+) -> Result<(), AllocError> {
+    let written = last_name(piece(text, about.at));
+    match nearest_name(memory, written, text, catalog, about.cause)? {
+        Some(name) => {
+            words.push_str("; did you mean ")?;
+            push_name(words, name)?;
+            words.push_str("?")
+        }
+        None if about.cause == Cause::NoColumn && written.starts_with('"') => {
+            words.push_str("; write a text in single quotes")
+        }
+        None => Ok(()),
+    }
+}
+
+/// Adds what to write in place of what is at fault, where that depends on the tables.
+fn push_hint(
+    memory: Memory,
+    words: &mut String<Memory>,
+    text: &str,
+    catalog: &Catalog,
+    about: About,
+) -> Result<(), AllocError> {
+    match about.cause {
+        Cause::NoTable | Cause::NoColumn | Cause::NoPeriod | Cause::NotOnePeriod => {
+            push_name_hint(memory, words, text, catalog, about)
+        }
+        _ => words.push_str(literal_hint(text, about)),
+    }
+}
+
+/// Returns what a fault is about more exactly, as the words of the statement show it: a column is also ambiguous where
+/// two table references have one name.
+fn sharpened(text: &str, about: About) -> About {
+    let first = piece(text, about.to);
+    if about.cause == Cause::Ambiguous && first.eq_ignore_ascii_case(piece(text, about.also)) {
+        return About::at(Cause::SameReference, about.to);
+    }
+    about
+}
+
+/// Returns the table that is named before a column that is not there, if no table reference of the statement has that
+/// name: then the name is in the statement only before a dot.
+fn unknown_reference(text: &str, about: About) -> Option<&str> {
+    if about.cause != Cause::NoColumn {
+        return None;
+    }
+    let (reference, _) = piece(text, about.at).split_once('.')?;
+    if reference.starts_with('"') || has_word(text, reference) {
+        None
+    } else {
+        Some(reference)
+    }
+}
+
+/// Adds what is wrong and what to write.
+fn push_message(
+    memory: Memory,
+    words: &mut String<Memory>,
+    text: &str,
+    catalog: &Catalog,
+    about: About,
+) -> Result<(), AllocError> {
+    if let Some(reference) = unknown_reference(text, about) {
+        words.push_str("no table reference is named ")?;
+        return push_shown(words, reference);
+    }
+    push_wording(words, text, catalog, about)?;
+    push_hint(memory, words, text, catalog, about)
+}
+
+/// Returns the place at an offset of a text, if the offset is known.
+fn place_at(text: &str, offset: u32) -> Option<Place> {
+    match usize::try_from(offset) {
+        Ok(offset) if offset != 0 => {
+            let before = text.get(..offset).unwrap_or("");
+            Some(Place::behind(before.as_bytes()))
+        }
+        _ => None,
+    }
+}
+
+/// Returns the message of a statement whose first fault is about this, and the place of the fault, where that is known.
+/// The message says what is wrong, and after a semicolon what to write. `text` is the text of the statement and
+/// `catalog` has the tables over which it was refused. Returns no message where the cause is not known.
+///
+/// # Errors
+///
+/// The only error is a refused allocation.
+pub fn message(
+    memory: Memory,
+    text: &[u8],
+    catalog: &Catalog,
+    about: About,
+) -> Result<Option<Detail>, AllocError> {
+    if about.cause == Cause::Unknown {
+        return Ok(None);
+    }
+    let Ok(text) = str::from_utf8(text) else {
+        return Ok(None);
+    };
+    let about = sharpened(text, about);
+    let mut words = String::new(memory);
+    push_message(memory, &mut words, text, catalog, about)?;
+    let place = place_at(text, about.at);
+    Ok(Some(Detail { place, words }))
+}
