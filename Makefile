@@ -1,5 +1,5 @@
 .PHONY: help quick run build install test edits lint lines earned bench-index
-.PHONY: try-copies try-readers try-points try-devices try-fuzz try-growth-times try-plans try-round-trip
+.PHONY: try-copies try-readers try-points try-devices try-fuzz try-growth-times try-plans try-round-trip try-details
 .NOTPARALLEL:
 SECONDS ?= 60
 PREFIX ?= /usr/local
@@ -20,7 +20,7 @@ To prove and test:
 To measure and to try at length:
   make bench-index  proves and runs the program that times the indexes; COUNTS="1000 10000" are its numbers of entries
   make try-NAME     copies, readers, points: are the generated cases up to date? devices, fuzz (SECONDS=60), growth-times,
-                    plans (COUNT=1000), round-trip: try ./tql at length
+                    plans (COUNT=1000), round-trip, details: try ./tql at length
 endef
 export HELP
 
@@ -77,3 +77,6 @@ try-plans:
 
 try-round-trip:
 	@tools/round_trip.py
+
+try-details:
+	@tools/details.py

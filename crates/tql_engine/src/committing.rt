@@ -2,7 +2,7 @@
 ghost use Rattle.std.specs.Prelude.{◌≡◌, ◌<ℤ◌, map, IsNone, IsTrue, IfOk, OnOk, OnErr, IfErr};
 ghost use Rattle.tql_spec.specs.Calendar.{high};
 ghost use Rattle.tql_store.specs.StoreModel.{has_table, AreRemovable};
-ghost use Rattle.tql_store_rows.specs.Changes.{Under};
+ghost use Rattle.tql_versions.specs.Changes.{Under};
 ghost use Rattle.tql_value.specs.Views.{datum_of_value};
 ghost use Rattle.tql_value.specs.declared.refusal.Refusal.TheVariants.{OutOfMemory};
 ghost use Rattle.tql_engine_state.specs.Committing.{CommitsRows, Undoes, ChangesRows, KeepsRows};

@@ -9,6 +9,8 @@ mod definitions;
 mod dropping;
 mod faults;
 mod horizon;
+mod messages;
+mod names;
 mod plans;
 mod queries;
 mod reading;
@@ -18,7 +20,6 @@ use crate::sense::read_statement;
 use std::marker::Model;
 use tql_bind::binder::bind;
 use tql_bind::limits::Limits;
-use tql_bind_fault::told::bind_detail;
 use tql_bound::bound::Bound;
 use tql_bound::reader::Reader;
 use tql_catalog::catalog::{Catalog, Table};
@@ -263,10 +264,24 @@ impl<I: IntervalIndex> Responder for Engine<I> {
             Refusal::TableUnknownOrAlreadyThere
             | Refusal::NameUnknownAmbiguousOrRepeated
             | Refusal::TypesDoNotFit
-            | Refusal::FormNotAllowedHere => {
-                let tree = read_text(self.memory, text).ok()?;
-                bind_detail(self.memory, &self.tables, &tree.statement, refusal)
-            }
+            | Refusal::FormNotAllowedHere
+            | Refusal::TableIsReferenced
+            | Refusal::TooManyTablesOrReaders
+            | Refusal::PortionNotRising => self.name_detail(text),
+            Refusal::ValueOutOfRange => match self.name_detail(text) {
+                Some(detail) => Some(detail),
+                None => self.row_detail(text, refusal),
+            },
+            Refusal::NullNotAllowed
+            | Refusal::PeriodNotRising
+            | Refusal::CheckFailed
+            | Refusal::DuplicateKey
+            | Refusal::ReferenceNotMet => self.row_detail(text, refusal),
+            Refusal::NotInThisTransactionState
+            | Refusal::MomentNotAllowed
+            | Refusal::BeforeTheHorizon
+            | Refusal::ReaderNotUsable
+            | Refusal::ReadersAreOpen => self.state_detail(text, refusal),
             _ => None,
         }
     }

@@ -28,10 +28,10 @@ impl fmt::Display for Complaint<'_> {
                 let column = place.column;
                 write!(
                     f,
-                    "statement {statement}, line {line}, column {column}: {text}, {words}"
+                    "statement {statement}, line {line}, column {column}: {text}: {words}"
                 )
             }
-            None => write!(f, "statement {statement}, line {line}: {text}, {words}"),
+            None => write!(f, "statement {statement}, line {line}: {text}: {words}"),
         }
     }
 }

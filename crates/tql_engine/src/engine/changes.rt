@@ -124,7 +124,7 @@ impl<I: IntervalIndex> Engine<I> {
 
     /// What an UPDATE or DELETE makes of the current versions of the table, of which it looks at those alone that are
     /// sought: WHERE is true of no other, or it shares no point with the portion.
-    fn delta_of(&self, modification: &Modification) -> Result<Delta, Refusal>
+    pub(super) fn delta_of(&self, modification: &Modification) -> Result<Delta, Refusal>
         requires { modification.now.table < length self.now.tables }
         ensures { (p : Table) → slice_get self.now.tables modification.now.table ≡ Some p
             → Makes self.now.store p modification.now result }

@@ -12,7 +12,7 @@ use Rattle.tql_plan_access.specs.Access.{ServesChange}
 use Rattle.tql_store.specs.StoreModel.{has_table}
 use Rattle.tql_store.specs.Views.{IsFound}
 use Rattle.tql_store_index.specs.Basis.{Sought, is_looked_at}
-use Rattle.tql_store_rows.specs.declared.version.Version.{Version}
+use Rattle.tql_versions.specs.declared.version.Version.{Version}
 use Rattle.tql_value.specs.Views.{datum_of_value}
 use Rattle.tql_value.specs.declared.when.When.TheVariants.{Now}
 use Rattle.tql_engine_state.specs.Modifying.{Makes, Made}
