@@ -1,5 +1,5 @@
 -- cases: growths in-turn
--- The kinds, numbers and forms that E22 and E23 are told with; none where nothing is known of it. By hand.
+-- The kinds, numbers and forms that E22 and E23 are told with; none where nothing is known of it. The .err was read, not written, by hand.
 CREATE TABLE emp (ename VARCHAR(20), dept INTEGER, d1 DATE, d2 DATE, PERIOD FOR ep (d1, d2), PRIMARY KEY (ename));
 CREATE TABLE dept (dno INTEGER, dname VARCHAR(20), PRIMARY KEY (dno));
 CREATE TABLE log (x INTEGER, s TIMESTAMP GENERATED ALWAYS AS ROW START, e TIMESTAMP GENERATED ALWAYS AS ROW END, PERIOD FOR SYSTEM_TIME (s, e)) WITH SYSTEM VERSIONING;

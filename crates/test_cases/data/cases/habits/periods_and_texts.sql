@@ -1,5 +1,5 @@
 -- cases: in-turn
--- Half-written system periods, texts where a day or a moment is wanted, and double quotes for single ones. By hand.
+-- Half-written system periods, texts where a day or a moment is wanted, and double quotes for single ones. The .err was read, not written, by hand.
 CREATE TABLE a (x INTEGER) WITH SYSTEM VERSIONING;
 CREATE TABLE a (x INTEGER, s TIMESTAMP GENERATED ALWAYS AS ROW START) WITH SYSTEM VERSIONING;
 CREATE TABLE a (x INTEGER, e TIMESTAMP GENERATED ALWAYS AS ROW END) WITH SYSTEM VERSIONING;

@@ -1,5 +1,5 @@
 -- cases: growths in-turn
--- Which row, column, constraint and values a refusal of rows is reported with, and what is reported of the state of transactions and readers. By hand.
+-- Which row, column, constraint and values a refusal of rows is reported with, and what is reported of the state of transactions and readers. The .err was read, not written, by hand.
 CREATE TABLE emp (eno INTEGER, "Name" VARCHAR(20), dno INTEGER, PRIMARY KEY (eno), UNIQUE (dno, "Name"));
 INSERT INTO emp VALUES (1, 'a', 1), (2, 'b', 1), (1, 'c', 2);
 INSERT INTO emp VALUES (1, 'a', 1);

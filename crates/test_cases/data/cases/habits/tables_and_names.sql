@@ -1,5 +1,5 @@
 -- cases: growths in-turn
--- The tables and names that E20 and E21 are told with: the first in the order of the text. By hand.
+-- The tables and names that E20 and E21 are told with: the first in the order of the text. The .err was read, not written, by hand.
 CREATE TABLE emp (ename VARCHAR(20), dept INTEGER, d1 DATE, d2 DATE, PERIOD FOR ep (d1, d2), PRIMARY KEY (ename));
 CREATE TABLE dept (dno INTEGER, dname VARCHAR(20), PRIMARY KEY (dno));
 CREATE TABLE emp (x INTEGER);
