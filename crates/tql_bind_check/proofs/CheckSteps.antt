@@ -1,4 +1,4 @@
--- Checks that are bound one behind another, element by element.
+-- Checks bound in sequence, element by element.
 use Rattle.std.proofs.Common.{◌≡◌, refl, ℕ, ◌+◌, ◌<◌, ◌≤◌, List, [], ◌∷◌, ◌++◌, length, map, drop, get_or, All}
 use Rattle.std.proofs.Common.{Option, Some, None, sym, ap, subst, ◌∙◌, append-nil, append_assoc}
 use Rattle.std.specs.Prelude.{option_map}
@@ -22,7 +22,7 @@ use Rattle.tql_bind_expr.proofs.Gathering.{EachLeads, each_ended, after_append}
 use Rattle.tql_bind_cond.proofs.Lists.{conds_kept, conds_there}
 use Rattle.tql_bind_check.specs.Checking.{checks_in}
 
--- ---- several checked, and then several more
+-- ---- several parts checked in sequence
 
 each_values : {A B : Type 0} (f : A → Checked B) (xs ys : List A)
     → (check_each f (xs ++ ys)).value ≡ (check_each f xs).value ++ (check_each f ys).value
@@ -67,7 +67,7 @@ checks_split (ConstraintElement (KeyTree b n ns p)) es = refl
 checks_split (ConstraintElement (ForeignTree c n p)) es = refl
 checks_split (ConstraintElement (CheckTree c)) es = refl
 
--- the checks that are bound, and those that are left, give what all give
+-- the bound checks and the remaining ones give what all give
 pub record ChecksLead (f : Condition → Checked Cond) (all : List Condition) (old : Option Refusal) (t : Terms)
     (bound : List CondId) (left : List Condition) (now : Option Refusal) : Type 0 where
   pub held : All (HasCond t) bound
@@ -109,7 +109,7 @@ checks_on f all old t u bound more xs left mid now o l stays checked held added 
           (several_on f all old (map (cond u) bound) xs left mid now (listed (option_map (cond u) o)) before checked);
     })
 
--- the same, where it is the first of the elements that are left
+-- the same for the first of the remaining elements
 pub checks_next : (f : Condition → Checked Cond) (all : List Condition) (old : Option Refusal) (t u : Terms)
     (bound more : List CondId) (e : tree.Element) (es : List tree.Element) (mid now : Option Refusal)
     (o : Option CondId)
@@ -121,7 +121,7 @@ checks_next f all old t u bound more e es mid now o l stays checked held added =
     (subst (λ (cs : List Condition). ChecksLead f all old t bound cs mid) (checks_split e es) l)
     stays checked held added
 
--- the same, at an index
+-- the same at an index
 pub checks_item : (f : Condition → Checked Cond) (all : List Condition) (old : Option Refusal) (t u : Terms)
     (bound more : List CondId) (xs : List Element) (i : ℕ) (x : Element) (mid now : Option Refusal)
     (o : Option CondId)
@@ -137,7 +137,7 @@ checks_item f all old t u bound more xs i x mid now o within is l stays checked 
     (subst (λ (ys : List Element). ChecksLead f all old t bound (checks_in (map element_of ys)) mid) next l)
     stays checked held added
 
--- no element is left
+-- no element remains
 pub checks_done : (f : Condition → Checked Cond) (all : List Condition) (old : Option Refusal) (t : Terms)
     (bound : List CondId) (xs : List Element) (i : ℕ) (now : Option Refusal) → length xs ≤ i
     → ChecksLead f all old t bound (checks_in (map element_of (drop i xs))) now

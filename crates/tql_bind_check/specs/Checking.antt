@@ -1,4 +1,4 @@
--- The checks of a new table, over a scope.
+-- The checks of a new table, in a scope.
 use Rattle.std.specs.Prelude.{ℕ, Bool, ◌||◌, List, [], ◌∷◌}
 use Rattle.tql_spec.specs.Refusal.{FormNotAllowedHere}
 use Rattle.tql_spec.specs.Expression.{Cond}
@@ -8,7 +8,7 @@ use Rattle.tql_spec.specs.Creation.{constraints_of, has_aggregate, uses_column, 
 use Rattle.tql_syntax_tree.specs.Statements.{element_of, elements_of}
 use Rattle.tql_syntax_tree.specs.declared.statement.CreateTree.{CreateTree}
 
--- the elements
+-- the elements of a CREATE TABLE
 abbrev pub elements_in : CreateTree → List Element
 elements_in c = element_of c.first ∷ elements_of c.more
 
@@ -22,10 +22,10 @@ check_parts (_ ∷ cs) = check_parts cs
 abbrev pub checks_in : List Element → List Condition
 checks_in es = check_parts (constraints_of es)
 
--- whether an aggregate or a generated column stands in a check, where this tells the generated columns
+-- whether a check has an aggregate or a generated column; `gen` says which columns are generated
 abbrev pub is_wrong_check : (ℕ → Bool) → Cond → Bool
 is_wrong_check gen b = has_expr has_aggregate b || has_expr (uses_column gen) b
 
--- a check over this scope
+-- a check in this scope
 abbrev pub check_by : (ℕ → Bool) → List Known → Condition → Checked Cond
 check_by gen scope c = condition scope c >>= λ b. unless (is_wrong_check gen b) FormNotAllowedHere b

@@ -1,4 +1,4 @@
-//! The checks of a new table.
+//! Binding of the CHECK constraints of a new table.
 ghost use Rattle.std.specs.Prelude.{◌≡◌, ◌++◌, ◌∷◌, [], IfOk, OnOk, option_map};
 ghost use Rattle.std.specs.Option.{ForSome};
 ghost use Rattle.tql_spec.specs.Creation.{has_number};
@@ -25,7 +25,7 @@ use tql_syntax_tree::condition::Cond;
 use tql_syntax_tree::statement::{Constraint, CreateTree, Element};
 use tql_value::refusal::Refusal;
 
-/// Whether an aggregate or one of the generated columns stands in a condition.
+/// Whether a condition has an aggregate or one of the generated columns.
 fn is_wrong_check(terms: &Terms, check: CondId, generated: &[usize]) -> bool
     requires { HasCond terms.now check }
     ensures { result ≡ is_wrong_check (λ i. has_number i generated.now) (cond terms.now check) }
@@ -33,7 +33,7 @@ fn is_wrong_check(terms: &Terms, check: CondId, generated: &[usize]) -> bool
     terms.finds_in(Search::Aggregate, check) || terms.finds_in(Search::OneOf(generated), check)
 }
 
-/// Returns what the fault of a check that has an aggregate or a generated column is about.
+/// Returns what the fault of a check with an aggregate or a generated column is about.
 fn wrong_check(terms: &Terms, check: CondId, faults: &Faults) -> About
     requires { HasCond terms.now check }
 {
@@ -44,17 +44,17 @@ fn wrong_check(terms: &Terms, check: CondId, faults: &Faults) -> About
     }
 }
 
-/// The condition of an element that is a check.
+/// Returns the condition of an element, if it is a check.
 fn check_of<'t, 'a>(element: &'t Element<'a>) -> Option<&'t Cond<'a>>
     ensures { listed (option_map (λ c. cond_of c.now) result) ≡ checks_in (element_of element.now ∷ []) }
 {
     match element {
-        Element::Constraint(constraint) => constraint_check(constraint),
+        Element::Constraint(_, constraint) => constraint_check(constraint),
         Element::Column(_) | Element::Period(_) => None,
     }
 }
 
-/// The condition of a constraint that is a check.
+/// Returns the condition of a constraint, if it is a check.
 fn constraint_check<'t, 'a>(constraint: &'t Constraint<'a>) -> Option<&'t Cond<'a>>
     ensures { listed (option_map (λ c. cond_of c.now) result) ≡ check_parts (constraint_of constraint.now ∷ []) }
 {
@@ -64,8 +64,8 @@ fn constraint_check<'t, 'a>(constraint: &'t Constraint<'a>) -> Option<&'t Cond<'
     }
 }
 
-/// A check. Faults: those of its condition, and where an aggregate or a generated column stands in it. The only error
-/// is a refused growth.
+/// Binds a check. Adds the faults of its condition, and one if it has an aggregate or a generated column. The only
+/// error is a refused allocation.
 fn bound_check(
     memory: Memory,
     scope: &[Known<'_>],
@@ -87,7 +87,7 @@ fn bound_check(
     Ok(bound)
 }
 
-/// The check of an element, where it is one. Faults: those of the check. The only error is a refused growth.
+/// Binds the check of an element, if it is one. Adds the faults of the check. The only error is a refused allocation.
 fn element_check(
     memory: Memory,
     scope: &[Known<'_>],
@@ -112,7 +112,7 @@ fn element_check(
     }
 }
 
-/// Adds the check, where there is one.
+/// Adds the check, if there is one.
 fn add_check(checks: &mut Vec<CondId, Memory>, found: Option<CondId>) -> Result<(), AllocError>
     ensures { OnOk result (checks.new.items ≡ checks.old.items ++ listed found) }
 {
@@ -122,7 +122,8 @@ fn add_check(checks: &mut Vec<CondId, Memory>, found: Option<CondId>) -> Result<
     Ok(())
 }
 
-/// The checks, in the order of the statement. Faults: those of each. The only error is a refused growth.
+/// Binds the checks of a new table, in the order of the statement, without names. Adds the faults of each. The only
+/// error is a refused allocation.
 pub fn bound_checks(
     memory: Memory,
     scope: &[Known<'_>],
@@ -142,5 +143,9 @@ pub fn bound_checks(
         let found = element_check(memory, scope, generated, element, &mut terms, faults)?;
         add_check(&mut conditions, found)?;
     }
-    Ok(Checks { terms, conditions })
+    Ok(Checks {
+        terms,
+        conditions,
+        names: Vec::new(memory),
+    })
 }

@@ -9,6 +9,8 @@ use tql_memory::Memory;
 /// A key: no two rows have one tuple of its columns, or none that share a point, where it has WITHOUT OVERLAPS
 /// (ISO/IEC 9075-2:2011, 11.7 `<unique constraint definition>`).
 pub struct Key {
+    /// Its name, for messages. Its view leaves the name out.
+    pub name: String<Memory>,
     /// Its columns, by their numbers from 0.
     pub columns: Vec<usize, Memory>,
     /// Whether it has WITHOUT OVERLAPS.
@@ -18,9 +20,11 @@ pub struct Key {
 impl Drop for Key {
     fn drop(self) {
         let Key {
+            name,
             columns,
             by_period: _,
         } = self;
+        drop(name);
         drop(columns);
     }
 }
@@ -41,6 +45,8 @@ impl Key {
 
 /// A reference to a key of another table (ISO/IEC 9075-2:2011, 11.8 `<referential constraint definition>`).
 pub struct Reference {
+    /// Its name, for messages. Its view leaves the name out.
+    pub name: String<Memory>,
     /// Its columns, by their numbers from 0.
     pub columns: Vec<usize, Memory>,
     /// Whether it has PERIOD.
@@ -54,11 +60,13 @@ pub struct Reference {
 impl Drop for Reference {
     fn drop(self) {
         let Reference {
+            name,
             columns,
             by_period: _,
             parent,
             parent_columns,
         } = self;
+        drop(name);
         drop(columns);
         drop(parent);
         drop(parent_columns);
@@ -82,14 +90,21 @@ impl Reference {
 pub struct Checks {
     pub terms: Terms,
     pub conditions: Vec<CondId, Memory>,
+    /// The name of each condition, in the same order, for messages. Their view leaves the names out.
+    pub names: Vec<String<Memory>, Memory>,
     ghost held: { All (HasCond terms) conditions.items },
 }
 
 impl Drop for Checks {
     fn drop(self) {
-        let Checks { terms, conditions } = self;
+        let Checks {
+            terms,
+            conditions,
+            names,
+        } = self;
         drop(terms);
         drop(conditions);
+        drop(names);
     }
 }
 
@@ -104,6 +119,23 @@ impl Checks {
         Checks {
             terms: Terms::new(memory),
             conditions: Vec::new(memory),
+            names: Vec::new(memory),
+        }
+    }
+
+    /// Returns these checks with these names in place of their own.
+    pub fn named(self, names: Vec<String<Memory>, Memory>) -> Checks
+        ensures { checks_of result ≡ checks_of self }
+    {
+        let Checks {
+            terms,
+            conditions,
+            names: _,
+        } = self;
+        Checks {
+            terms,
+            conditions,
+            names,
         }
     }
 }

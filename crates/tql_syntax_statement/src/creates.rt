@@ -1,6 +1,6 @@
 //! Reading CREATE and DROP.
 ghost use Rattle.std.specs.Prelude.{◌≡◌, option_map};
-ghost use Rattle.tql_syntax_grammar.specs.Outcome.{next};
+ghost use Rattle.tql_syntax_grammar.specs.Outcome.{into, next};
 ghost use Rattle.tql_syntax_grammar.specs.ReadingStatements as reading;
 ghost use Rattle.tql_syntax_statement.specs.CreateEnds as ends;
 ghost use Rattle.tql_syntax_expr.specs.Parsing.{Reads, nothing, itself};
@@ -365,16 +365,18 @@ fn unnamed_constraint<'a>(
     Ok(boxed_constraint(memory, constraint)?)
 }
 
-/// What stands behind CONSTRAINT. The name is not kept.
+/// What stands behind CONSTRAINT.
 #[tactic(auto, unfolding(tql_syntax_grammar::specs::ReadingStatements::named_constraint_at))]
 fn named_constraint<'a>(
     memory: Memory,
     tokens: &mut Cursor<'_, 'a>,
-) -> Result<Box<Constraint<'a>, Memory>, ParseError>
-    ensures { Reads boxed_constraint_of (reading.named_constraint_at tokens.old) result tokens.new }
+) -> Result<Element<'a>, ParseError>
+    ensures { Reads element_of (into tree.ConstraintElement (reading.named_constraint_at tokens.old)) result
+        tokens.new }
 {
-    tokens.name()?;
-    unnamed_constraint(memory, tokens)
+    let name = tokens.name()?;
+    let constraint = unnamed_constraint(memory, tokens)?;
+    Ok(Element::Constraint(Some(name), constraint))
 }
 
 /// Whether a constraint without a name is in front.
@@ -396,7 +398,7 @@ fn constraint_or_column<'a>(
 {
     if begins_constraint(tokens) {
         let constraint = unnamed_constraint(memory, tokens)?;
-        return Ok(Element::Constraint(constraint));
+        return Ok(Element::Constraint(None, constraint));
     }
     column(tokens)
 }
@@ -419,8 +421,7 @@ impl<'a> Rule<'a, Memory> for ElementRule {
             return period(tokens);
         }
         if tokens.eat_word("CONSTRAINT") {
-            let constraint = named_constraint(memory, tokens)?;
-            return Ok(Element::Constraint(constraint));
+            return named_constraint(memory, tokens);
         }
         constraint_or_column(memory, tokens)
     }

@@ -99,7 +99,7 @@ period_of p = tree.PeriodElement (option_map name_of p.name) (name_of p.start) (
 abbrev pub element_of : Element → tree.Element
 element_of (element.Column c) = tree.ColumnElement (column_of c)
 element_of (element.Period p) = period_of p
-element_of (element.Constraint c) = tree.ConstraintElement (boxed_constraint_of c)
+element_of (element.Constraint _ c) = tree.ConstraintElement (boxed_constraint_of c)
 
 -- the elements of a list
 abbrev pub elements_of : {B : Type 0} → Vec Element B → List tree.Element

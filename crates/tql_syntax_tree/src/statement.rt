@@ -56,7 +56,7 @@ pub struct ForeignTree<'a> {
     pub parent: RefList<'a>,
 }
 
-/// Keys, references and checks. The name of a constraint is not kept.
+/// Keys, references and checks.
 pub enum Constraint<'a> {
     Key(KeyTree<'a>),
     Foreign(ForeignTree<'a>),
@@ -85,14 +85,15 @@ pub struct PeriodTree<'a> {
 pub enum Element<'a> {
     Column(ColumnTree<'a>),
     Period(PeriodTree<'a>),
-    Constraint(Box<Constraint<'a>, Memory>),
+    /// A constraint, after its name where CONSTRAINT gives one. Its view leaves the name out.
+    Constraint(Option<Name<'a>>, Box<Constraint<'a>, Memory>),
 }
 
 impl<'a> Drop for Element<'a> {
     fn drop(self) {
         match self {
             Element::Column(_) | Element::Period(_) => {}
-            Element::Constraint(constraint) => drop(constraint),
+            Element::Constraint(_, constraint) => drop(constraint),
         }
     }
 }

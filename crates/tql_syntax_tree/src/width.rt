@@ -20,7 +20,7 @@ fn columns_in(element: &Element<'_>) -> usize
 {
     match element {
         Element::Column(_) => 1,
-        Element::Period(_) | Element::Constraint(_) => 0,
+        Element::Period(_) | Element::Constraint(_, _) => 0,
     }
 }
 

@@ -6,7 +6,7 @@ use Rattle.tql_bind_check.specs.Checking.{check_by, checks_in, elements_in}
 use Rattle.tql_bind_check.proofs.CheckSteps.{ChecksLead}
 use Rattle.tql_bind_check.proofs.checks.bound_checks.Given as goal
 
--- the checks so far and those of the elements that are left
+-- the checks so far and those of the remaining elements
 abbrev pub invariant-loop-element : goal.invariant-loop-element
 invariant-loop-element l =
     ChecksLead (check_by (λ i. has_number i l.generated) (scope_of l.scope)) (checks_in (elements_in l.create))
