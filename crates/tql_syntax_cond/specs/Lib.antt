@@ -1,4 +1,3 @@
 pub mod Mixtures
-pub mod Tails
 pub mod TestEnds
 pub mod TestWords

@@ -8,7 +8,7 @@ ghost use Rattle.tql_spec.specs.Syntax as tree;
 ghost use Rattle.tql_syntax_grammar.specs.ReadingExpressions as reading;
 ghost use Rattle.tql_syntax_grammar.specs.ReadingExpressions.{expr_at, mixed_at, as_named, test_or};
 ghost use Rattle.tql_syntax_expr.specs.Parsing.{Reads};
-ghost use Rattle.tql_syntax_cond.specs.Tails.{tail_test};
+ghost use Rattle.tql_syntax_operand.specs.Tails.{tail_test};
 ghost use Rattle.tql_syntax_tree.specs.Expressions.{named_of, expr_of, boxed_expr_of, primary_of};
 ghost use Rattle.tql_syntax_tree.specs.Conditions.{operand_of, boxed_test_of, factor_by, factor_of, conj_of};
 ghost use Rattle.tql_syntax_tree.specs.Conditions.{boxed_cond_of};
@@ -17,15 +17,15 @@ ghost use Rattle.tql_syntax_cond.specs.Mixtures.{tested_of, mixed_of, is_lone};
 ghost use Rattle.tql_syntax_cond.specs.TestEnds.{operand_end};
 ghost use Rattle.tql_syntax_cond.specs.TestWords.{test_word_at, worded_over};
 
-use crate::operands::{
-    Tail, begins_marked, between, comparison, denied, in_list, marked, null_test, operand_test,
-    read_tail,
-};
 use std::alloc::AllocError;
 use tql_lex::token::Symbol;
 use tql_memory::Memory;
 use tql_syntax_expr::cursor::{Cursor, ParseError};
 use tql_syntax_expr::expressions::{expr_behind, sum, term_behind};
+use tql_syntax_operand::operands::{
+    Tail, begins_marked, between, comparison, denied, in_list, marked, null_test, operand_test,
+    read_tail,
+};
 use tql_syntax_tree::condition::{Cond, Conj, Factor, Operand, Test, boxed_cond, boxed_test};
 use tql_syntax_tree::expression::{Expr, Named, Primary, Sign, Signed};
 

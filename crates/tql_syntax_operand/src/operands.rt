@@ -6,7 +6,7 @@ ghost use Rattle.tql_syntax_grammar.specs.ReadingExpressions.{expr_at, sum_over}
 ghost use Rattle.tql_syntax_expr.specs.Parsing.{Reads};
 ghost use Rattle.tql_syntax_tree.specs.Expressions.{named_of, boxed_expr_of};
 ghost use Rattle.tql_spec.specs.Syntax as tree;
-ghost use Rattle.tql_syntax_cond.specs.Tails.{tail_test};
+ghost use Rattle.tql_syntax_operand.specs.Tails.{tail_test};
 ghost use Rattle.tql_syntax_tree.specs.Conditions.{comparison_of, relation_of, marked_of, operand_of, boxed_test_of};
 
 use std::alloc::AllocError;

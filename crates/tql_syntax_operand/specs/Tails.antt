@@ -2,8 +2,8 @@
 use Rattle.tql_spec.specs.Syntax as tree
 use Rattle.tql_syntax_tree.specs.Expressions.{boxed_expr_of}
 use Rattle.tql_syntax_tree.specs.Conditions.{relation_of, marked_of, operand_of}
-use Rattle.tql_syntax_cond.specs.declared.operands.Tail.{Tail}
-use Rattle.tql_syntax_cond.specs.declared.operands.Tail.TheVariants.{Related, ContainsPeriod, ContainsPoint}
+use Rattle.tql_syntax_operand.specs.declared.operands.Tail.{Tail}
+use Rattle.tql_syntax_operand.specs.declared.operands.Tail.TheVariants.{Related, ContainsPeriod, ContainsPoint}
 
 abbrev pub tail_test : tree.Operand → Tail → tree.Test
 tail_test x (Related r y) = tree.RelationTest x (relation_of r) (operand_of y)
