@@ -19,20 +19,20 @@ use Rattle.tql_bind_expr.specs.declared.scope.Typed as code
 use Rattle.tql_bind_expr.proofs.Arena.{expr_kept, typed_kept, cond_kept}
 use Rattle.tql_bind_expr.proofs.Gathering.{bound, unless_asked, begun, gone_on, ended}
 
--- a condition that is added is what was gathered
+-- a condition that is added is the collected one
 pub added_ok : (t u : Terms) (r : Result CondId AllocError) (e : Cond) (d : Checked Cond) (old now : Option Refusal)
     → AddsCond t u r e → Gathers d old now e → IfOk r (λ c. Gathers d old now (cond u c))
 added_ok t u (Ok x) e d old now h g = subst (λ (y : Cond). Gathers d old now y) (sym (ap trees.cond_of h.is)) g
 added_ok t u (Err o) e d old now h g = tt
 
--- a condition that is built is what was gathered
+-- a condition that is built is the collected one
 pub value_ok : {Y B : Type 0} (view : Y
     → B) (r : Result Y AllocError) (e : B) (d : Checked B) (old now : Option Refusal)
     → IfOk r (λ y. view y ≡ e) → Gathers d old now e → IfOk r (λ y. Gathers d old now (view y))
 value_ok view (Ok x) e d old now h g = subst (λ (y : _). Gathers d old now y) (sym h) g
 value_ok view (Err o) e d old now h g = tt
 
--- what is bound, compared with one more expression
+-- a bound expression, compared with another one
 pub compared_is : (s : List Known) (e : tree.Sum) (t u : Terms) (left right : code.Typed)
     (old mid now : Option Refusal) (b : Bool) (make : Expr → Expr → Cond)
     → Stays t u → HasExpr t left.expr → Gathers (names.expr s e) old mid (typed_of u right)
@@ -74,7 +74,7 @@ between_is s n x low high t u v operand above below e old first second now tu ho
     subst (λ (y : Cond). Gathers whole old now (negated_if n y)) (sym (is
     ∙ ap (λ (c : Cond). And c (cond v below)) (cond_kept uv above ha))) done
 
--- IN is the list, or its negation
+-- IN is the list of equalities, or its negation
 pub in_is : (s : List Known) (n : Bool) (x e : tree.Sum) (es : List tree.Sum) (a : names.Typed) (c : Cond)
     (old mid now : Option Refusal)
     → Gathers (names.expr s x) old mid a → Gathers (in_list s a e es) mid now c

@@ -31,7 +31,7 @@ factors_back : (fs : List tree.Factor) → factors_of (tests_of fs) ≡ fs
 factors_back [] = refl
 factors_back (f ∷ fs) = ap (λ (gs : List tree.Factor). f ∷ gs) (factors_back fs)
 
--- no member is left
+-- no member remains
 pub members_done : {A : Type 0} (s : List Known) (c : ConjIn A) (start t : Terms) (old now : Option Refusal)
     (xs : List (FactorIn A)) (i : ℕ) (ys : List CondId)
     → xs ≡ (out-ConjIn A c).more.items → length xs ≤ i → ConjLeads s c xs start old t ys (drop i xs) now
@@ -59,7 +59,7 @@ one_is c t old now x ys is g =
 pub one_held : (t : Terms) (x : CondId) (ys : List CondId) → ys ≡ x ∷ [] → HasCond t x → All (HasCond t) ys
 one_held t x ys is h = subst (All (HasCond t)) (sym is) (All-cons (HasCond t) x [] h (All-nil (HasCond t)))
 
--- ---- one of the two
+-- ---- one of the two cases
 
 alone_is : (s : List Known) (d : tree.Conj) → check_each (factor s) (members d) ≡ conjuncts s (AnyOf d NoConj)
 alone_is s (AllOf f more) = refl
@@ -85,7 +85,7 @@ conjuncts_alone {A} s c none =
     no_conjs s (conj_of (out-CondIn A c).first) (out-CondIn A c).more.items (empty_items (out-CondIn A c).more none)
     ∙ ap (conjuncts s) (sym (cond_out c))
 
--- some OR
+-- at least one OR
 pub conjuncts_behind : {A : Type 0} (s : List Known) (c : CondIn A) → (vec_len (out-CondIn A c).more == 0) ≡ false
     → as_one (condition s (cond_of c)) ≡ conjuncts s (cond_of c)
 conjuncts_behind {A} s c some =

@@ -1,4 +1,4 @@
--- Conditions that are bound one behind another, and what joins them.
+-- Conditions bound in sequence, and how they are joined.
 use Rattle.std.proofs.Common.{◌≡◌, refl, ℕ, ◌+◌, ◌<◌, ◌≤◌, List, [], ◌∷◌, ◌++◌, length, map, drop}
 use Rattle.std.proofs.Common.{get_or, All, Option, Result, Ok, Err, IfOk, sym, ap, subst, ◌∙◌, append-nil}
 use Rattle.std.proofs.lemmas.List.{map-append}
@@ -28,7 +28,7 @@ use Rattle.tql_bind_expr.proofs.Arena.{stays_along, cond_there, cond_kept, typed
 use Rattle.tql_bind_expr.proofs.Gathering.{EachLeads, each_on, each_item, each_done, bound}
 use Rattle.tql_bind_cond.proofs.Views.{cond_out, conj_out}
 
--- ---- conditions that are there
+-- ---- conditions in the arena
 
 pub conds_kept : {t u : Terms} → Stays t u → (xs : List CondId) → All (HasCond t) xs → map (cond u) xs ≡ map (cond t) xs
 conds_kept {t} {u} s [] h = refl
@@ -43,9 +43,9 @@ conds_there {t} {u} s (x ∷ xs) h =
     All-cons (HasCond u) x xs (cond_there s x (All-head (HasCond t) x xs h))
     (conds_there s xs (All-tail (HasCond t) x xs h))
 
--- ---- one behind another
+-- ---- conditions in sequence
 
--- the conditions that are bound, and those that are left, give what all give; and what was there stays
+-- the bound conditions and the remaining ones give what all give, and all earlier nodes stay
 pub record CondsLead {A : Type 0} (f : A
     → Checked Cond) (all : List A) (start : Terms) (old : Option Refusal) (t : Terms) (bound : List CondId)
     (left : List A) (now : Option Refusal) : Type 0 where
@@ -83,16 +83,16 @@ conds_item f g all start t u old mid now xs i x ys zs y within is pushed l stays
       leads = each_item f g (cond u) all old mid now xs i x ys zs y within is pushed before checked;
     }
 
--- none is left
+-- none remains
 pub conds_done : {X A : Type 0} (f : A → Checked Cond) (g : X
     → A) (all : List A) (start t : Terms) (old now : Option Refusal) (xs : List X) (i : ℕ) (ys : List CondId)
     → length xs ≤ i → CondsLead f all start old t ys (map g (drop i xs)) now
     → Gathers (check_each f all) old now (map (cond t) ys)
 conds_done f g all start t old now xs i ys past l = each_done f g (cond t) all old now xs i ys past l.leads
 
--- ---- what joins them
+-- ---- how they are joined
 
--- the same faults, and a value that is made of the other
+-- the same faults, and a value computed from the other one
 pub regathered : {A B : Type 0} (c : Checked A) (d : Checked B) (f : A → B) (old now : Option Refusal) (x : A)
     → d.value ≡ f c.value → d.faults ≡ c.faults → Gathers c old now x → Gathers d old now (f x)
 regathered c d f old now x values faults g = record {
@@ -100,13 +100,13 @@ regathered c d f old now x values faults g = record {
   least = g.least ∙ ap (after old) (sym faults);
 }
 
--- a condition that is built is what was gathered
+-- a condition that is built is the collected one
 pub built_ok : (t u : Terms) (r : Result CondId AllocError) (e : Cond) (d : Checked Cond) (old now : Option Refusal)
     → BuildsCond t u r e → Gathers d old now e → IfOk r (λ c. Gathers d old now (cond u c))
 built_ok t u (Ok x) e d old now h g = subst (λ (y : Cond). Gathers d old now y) (sym h.2) g
 built_ok t u (Err o) e d old now h g = tt
 
--- a list from its first on; where it is empty, anything
+-- a list joined from its first member on; an arbitrary condition for an empty list
 abbrev pub joined : (Cond → List Cond → Cond) → List Cond → Cond
 joined f [] = IsNull (Literal Null)
 joined f (c ∷ cs) = f c cs
@@ -162,7 +162,7 @@ condition_joined s d ds old now c cs g =
 
 -- ---- IN
 
--- OR nested to the right; where the list is empty, anything
+-- OR nested to the right; an arbitrary condition for an empty list
 abbrev pub one_of_all : List Cond → Cond
 one_of_all [] = IsNull (Literal Null)
 one_of_all (c ∷ []) = c
@@ -176,7 +176,7 @@ one_of_last : (xs : List Cond) (x : Cond) → one_of_all (xs ++ x ∷ []) ≡ on
 one_of_last [] x = refl
 one_of_last (c ∷ cs) x = one_more c cs x ∙ ap (Or c) (one_of_last cs x)
 
--- an equality with what is bound
+-- an equality with a bound expression
 abbrev pub equals : List Known → Typed → tree.Sum → Checked Cond
 equals s a e = compared e s a (Compare Equals)
 
@@ -200,7 +200,7 @@ in_joined s a e es old now cs c g =
     (regathered (check_each (equals s a) (e ∷ es)) (in_list s a e es) one_of_all old now (cs ++ c ∷ [])
     (in_value s a e es) (in_faults s a e es) g)
 
--- the equalities before the last are there, and the last
+-- if all equalities are in the arena, so are those before the last, and the last
 pub held_before : (t : Terms) (xs : List CondId) (x : CondId) → All (HasCond t) (xs ++ x ∷ []) → All (HasCond t) xs
 held_before t [] x h = All-nil (HasCond t)
 held_before t (y ∷ ys) x h =
@@ -211,7 +211,7 @@ pub held_last : (t : Terms) (xs : List CondId) (x : CondId) → All (HasCond t) 
 held_last t [] x h = All-head (HasCond t) x [] h
 held_last t (y ∷ ys) x h = held_last t ys x (All-tail (HasCond t) y (ys ++ x ∷ []) h)
 
--- an equality is one with the same expression, among the terms before
+-- an equality with the same expression, in an earlier arena
 pub equality_at : {A : Type 0} (s : List Known) (t u v : Terms) (operand : code.Typed) (e e' : ExprIn A)
     (mid now : Option Refusal) (y : CondId)
     → Stays t u → HasExpr t operand.expr → e ≡ e'
@@ -221,7 +221,7 @@ equality_at {A} s t u v operand e e' mid now y stays held is g =
     subst (λ (a : Typed). Gathers (equals s a (expr_of e')) mid now (cond v y)) (typed_kept stays operand held)
     (subst (λ (x : ExprIn A). Gathers (equals s (typed_of u operand) (expr_of x)) mid now (cond v y)) is g)
 
--- no equality is left
+-- no equality remains
 pub one_of_done : {X : Type 0} (s : List Known) (a : Typed) (e : tree.Sum) (g : X
     → tree.Sum) (start t u : Terms) (old now : Option Refusal) (xs : List X) (i : ℕ)
     (before items : List CondId) (last : CondId) (r : Result CondId AllocError)
@@ -241,14 +241,14 @@ one_of_done s a e g start t u old now xs i before items last r past same l build
 
 -- ---- AND and OR lists
 
--- the members of an AND list that are bound, and those that are left, are all
+-- the bound members of an AND list and the remaining ones give all
 abbrev pub ConjLeads : {A : Type 0} → List Known → ConjIn A → List (FactorIn A) → Terms → Option Refusal → Terms
     → List CondId → List (FactorIn A) → Option Refusal → Type 0
 ConjLeads {A} s c xs start old t bound left now =
     CondsLead (factor s) (factor_of (out-ConjIn A c).first ∷ map factor_of xs) start old t bound (map factor_of left)
     now
 
--- no member is left
+-- no member remains
 pub conj_done : {A : Type 0} (s : List Known) (c : ConjIn A) (start t u : Terms) (old now : Option Refusal)
     (xs : List (FactorIn A)) (i : ℕ)
     (first : CondId) (rest items : List CondId) (r : Result CondId AllocError)
@@ -266,13 +266,13 @@ conj_done {A} s c start t u old now xs i first rest items r more past same l bui
     (subst (λ (w : tree.Conj). Gathers (conj s w) old now (all_of (cond t first) (map (cond t) rest))) (sym whole)
     (conj_joined s f (map factor_of xs) old now (cond t first) (map (cond t) rest) done)))
 
--- the members of an OR list that are bound, and those that are left, are all
+-- the bound members of an OR list and the remaining ones give all
 abbrev pub ConditionLeads : {A : Type 0} → List Known → CondIn A → List (ConjIn A) → Terms → Option Refusal → Terms
     → List CondId → List (ConjIn A) → Option Refusal → Type 0
 ConditionLeads {A} s c xs start old t bound left now =
     CondsLead (conj s) (conj_of (out-CondIn A c).first ∷ map conj_of xs) start old t bound (map conj_of left) now
 
--- no member is left
+-- no member remains
 pub condition_done : {A : Type 0} (s : List Known) (c : CondIn A) (start t u : Terms) (old now : Option Refusal)
     (xs : List (ConjIn A)) (i : ℕ)
     (first : CondId) (rest items : List CondId) (r : Result CondId AllocError)

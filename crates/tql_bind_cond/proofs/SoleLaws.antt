@@ -1,4 +1,4 @@
--- The name that an expression is, where it is one and nothing else.
+-- The name that an expression is, if it is one and nothing else.
 use Rattle.std.proofs.Common.{◌≡◌, refl, Bool, true, false, List, [], ◌∷◌, map, length, arith, None, ap, ◌∙◌}
 use Rattle.std.specs.Prelude.{Vec, vec_len, ◌==◌}
 use Rattle.std.proofs.Common.{eqb-true}
@@ -17,7 +17,7 @@ use Rattle.tql_syntax_tree.specs.declared.expression.PrimaryIn.TheViews.{out-Exp
 use Rattle.tql_bind_expr.proofs.Views.{expr_out, term_out}
 use Rattle.tql_bind_cond.specs.SoleNames.{name_in, sole_factor}
 
--- one product
+-- an expression of one product
 pub alone : (p : Product) → sole_name (Terms p NoTerm) ≡ sole_factor p
 alone (Factors (Unsigned (NumberLiteral ds)) NoFactor) = refl
 alone (Factors (Unsigned (TextLiteral t)) NoFactor) = refl
@@ -40,7 +40,7 @@ alone (Factors (Positive p) (TimesFactor s m)) = refl
 alone (Factors (Negative p) NoFactor) = refl
 alone (Factors (Negative p) (TimesFactor s m)) = refl
 
--- one with another behind it
+-- an expression of two or more products
 pub added : (p q : Product) (m : MoreTerms) → sole_name (Terms p (PlusTerm q m)) ≡ None
 added (Factors (Unsigned (NumberLiteral ds)) f) q m = refl
 added (Factors (Unsigned (TextLiteral t)) f) q m = refl
@@ -99,25 +99,25 @@ empty_items v h = let none : vec_len v ≡ 0 = eqb-true (vec_len v) 0 h in omega
 pub some_items : {X Y : Type 0} (v : Vec X Y) → (vec_len v == 0) ≡ false → length v.items ≡ 0 → ⊥
 some_items v h is = let some : vec_len v ≡ 0 → ⊥ = eqb-false (vec_len v) 0 h in omega (arith, v.ok.0)
 
--- no term behind the first
+-- no term after the first
 pub sole_alone : {A : Type 0} (e : ExprIn A) → (vec_len (out-ExprIn A e).more == 0) ≡ true
     → sole_name (expr_of e) ≡ sole_factor (term_of (out-ExprIn A e).first)
 sole_alone {A} e none = ap sole_name (expr_out e)
     ∙ no_terms (out-ExprIn A e).more.items (term_of (out-ExprIn A e).first) (empty_items (out-ExprIn A e).more none)
 
--- some term behind the first
+-- at least one term after the first
 pub sole_behind : {A : Type 0} (e : ExprIn A) → (vec_len (out-ExprIn A e).more == 0) ≡ false
     → sole_name (expr_of e) ≡ None
 sole_behind {A} e some = ap sole_name (expr_out e)
     ∙ some_terms (out-ExprIn A e).more.items (term_of (out-ExprIn A e).first) (some_items (out-ExprIn A e).more some)
 
--- no factor behind the first
+-- no factor after the first
 pub factor_alone : {A : Type 0} (e : TermIn A) → (vec_len (out-TermIn A e).more == 0) ≡ true
     → sole_factor (term_of e) ≡ name_in (signed_of (out-TermIn A e).first)
 factor_alone {A} e none = ap sole_factor (term_out e)
     ∙ no_factors (out-TermIn A e).more.items (signed_of (out-TermIn A e).first) (empty_items (out-TermIn A e).more none)
 
--- some factor behind the first
+-- at least one factor after the first
 pub factor_behind : {A : Type 0} (e : TermIn A) → (vec_len (out-TermIn A e).more == 0) ≡ false
     → sole_factor (term_of e) ≡ None
 factor_behind {A} e some = ap sole_factor (term_out e)

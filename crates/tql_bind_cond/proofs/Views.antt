@@ -1,4 +1,4 @@
--- The trees of the code's conditions, one layer at a time.
+-- The specification's trees of the code's conditions, one layer at a time.
 use Rattle.std.proofs.Common.{◌≡◌, map}
 use Rattle.tql_spec.specs.Parts.{tests_of, conjs_of}
 use Rattle.tql_spec.specs.Syntax.{Condition, AnyOf, Conj, AllOf, Factor, Test}

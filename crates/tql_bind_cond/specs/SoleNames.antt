@@ -1,4 +1,4 @@
--- The name that a part of an expression is.
+-- The name that a part of an expression is, if it is nothing else.
 use Rattle.std.specs.Prelude.{Option, Some, None}
 use Rattle.tql_spec.specs.Syntax.{Named, Primary, NumberLiteral, TextLiteral, DateLiteral, TimestampLiteral}
 use Rattle.tql_spec.specs.Syntax.{ColumnNamed, Enclosed, CountStar, Over, Signed, Unsigned, Positive, Negative}

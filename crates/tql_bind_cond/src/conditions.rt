@@ -1,4 +1,6 @@
-//! Conditions. Each function is that of the definition of its name: the same parts, the same order.
+//! Binding of conditions: from the syntax tree to nodes in the arena of a statement. Each function follows the
+//! definition of `Names` in `tql_spec` that its contract names: the same parts in the same order. The members of AND
+//! and OR are bound in loops, so the recursion is only as deep as the parentheses.
 ghost use Rattle.std.specs.Prelude.{IfOk};
 ghost use Rattle.tql_spec.specs.Names as names;
 ghost use Rattle.tql_expr.specs.Meaning.{cond, HasCond, Stays};
@@ -16,7 +18,7 @@ use tql_expr::terms::{CondId, Terms};
 use tql_memory::Memory;
 use tql_syntax_tree::condition::{Cond, Conj, Factor, Test};
 
-/// A condition: its parts, joined by OR. The only error is a refused growth; faults are gathered.
+/// Binds a condition: its parts, joined by OR. The only error is a refused allocation; faults are collected.
 #[cycle(conditions)]
 pub fn condition(
     memory: Memory,
@@ -40,7 +42,7 @@ pub fn condition(
     terms.push_any(first, &rest)
 }
 
-/// The parts between two ORs, joined by AND.
+/// Binds the parts between two ORs, joined by AND.
 #[cycle(conditions)]
 fn conj(
     memory: Memory,
@@ -63,7 +65,7 @@ fn conj(
     terms.push_all(first, &rest)
 }
 
-/// A test, with NOT before it or without. The only error is a refused growth; faults are gathered.
+/// Binds a test with or without NOT. The only error is a refused allocation; faults are collected.
 #[cycle(conditions)]
 pub fn factor(
     memory: Memory,
@@ -82,7 +84,7 @@ pub fn factor(
     negated_if(factor.is_negated, inner, terms)
 }
 
-/// A test, or a condition in parentheses.
+/// Binds a test, or a condition in parentheses.
 #[cycle(conditions)]
 fn test(
     memory: Memory,

@@ -1,5 +1,5 @@
-//! Conditions, bound to the terms of a statement. Every fault is gathered, and the first in the order of report is
-//! kept.
+//! Binding of conditions. Bound conditions are nodes in the arena of the statement (`Terms`). A fault does not stop
+//! binding, and of all faults the first in the order of report is kept.
 #![tactic(auto)]
 
 mod comparisons;

@@ -1,4 +1,4 @@
-//! IN.
+//! Binding of IN.
 ghost use Rattle.std.specs.Prelude.{IfOk, map};
 ghost use Rattle.tql_spec.specs.Names as names;
 ghost use Rattle.tql_spec.specs.Syntax as tree;
@@ -18,7 +18,7 @@ use tql_memory::Memory;
 use tql_syntax_tree::expression::Expr;
 use tql_value::comparison::Comparison;
 
-/// The first equality with what is bound, or one of the others.
+/// Binds the equalities of a bound operand with each expression of a list, joined by OR.
 pub(crate) fn one_of(
     memory: Memory,
     scope: &[Known<'_>],
@@ -61,7 +61,7 @@ pub(crate) fn one_of(
     terms.push_one_of(&before, last)
 }
 
-/// IN, or NOT IN.
+/// Binds IN or NOT IN.
 pub(crate) fn in_test(
     memory: Memory,
     scope: &[Known<'_>],

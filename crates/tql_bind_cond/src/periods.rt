@@ -1,4 +1,4 @@
-//! Periods as operands.
+//! Binding of periods as operands: by name, as SYSTEM_TIME, or from two expressions.
 ghost use Rattle.std.specs.Prelude.{◌≡◌, ◌∷◌, [], ◌++◌, ◌||◌, IfOk, option_map};
 ghost use Rattle.tql_spec.specs.Names as names;
 ghost use Rattle.tql_spec.specs.Syntax as tree;
@@ -27,8 +27,8 @@ use tql_syntax_tree::expression::{Expr, Name, Named};
 use tql_value::refusal::Refusal;
 use tql_value::value::{Kind, Value};
 
-/// The ends of a period among the terms of its statement, with their kind, which is missing where it is not known, and
-/// the byte offset of the period in the statement's text, or 0.
+/// The start and the end of a period in the arena of its statement, with their type if that is known. `at` is the byte
+/// offset of the period in the statement's text, or 0.
 #[derive(Clone, Copy)]
 pub struct Ends {
     pub start: ExprId,
@@ -37,7 +37,7 @@ pub struct Ends {
     pub at: u32,
 }
 
-/// What stands in the place of a period that was not found.
+/// Returns the placeholder for a period that was not found.
 fn no_ends(terms: &mut Terms) -> Result<Ends, AllocError>
     ensures bound { IfOk result (λ x. ends_of terms.new x ≡ names.no_ends) }
     ensures stays { Stays terms.old terms.new }
@@ -52,7 +52,7 @@ fn no_ends(terms: &mut Terms) -> Result<Ends, AllocError>
     })
 }
 
-/// The period of these two columns.
+/// Adds the period of these two columns.
 pub(crate) fn ends_at(
     start: usize,
     end: usize,
@@ -74,7 +74,7 @@ pub(crate) fn ends_at(
     })
 }
 
-/// The columns of the period that a thing is, and the kind of its points.
+/// Returns the columns of a period and the type of its points. None for a column.
 fn as_period(thing: Thing<'_>) -> Option<(usize, usize, Kind)>
     ensures { option_map period_of result ≡ sole_period (thing_of thing.entry ∷ []) }
 {
@@ -84,7 +84,7 @@ fn as_period(thing: Thing<'_>) -> Option<(usize, usize, Kind)>
     }
 }
 
-/// The columns of the period that a name stands for, where it stands for one and nothing else.
+/// Returns the columns of the period that a name means. None unless it means exactly one period and nothing else.
 fn sole_period(found: &[Thing<'_>]) -> Option<(usize, usize, Kind)>
     ensures { option_map period_of result ≡ sole_period (things_of found.now) }
 {
@@ -94,7 +94,7 @@ fn sole_period(found: &[Thing<'_>]) -> Option<(usize, usize, Kind)>
     }
 }
 
-/// The period that a name stands for, where it stands for one and nothing else.
+/// Looks up a name as a period. None unless it means exactly one period and nothing else.
 pub(crate) fn named_period(
     memory: Memory,
     scope: &[Known<'_>],
@@ -107,7 +107,7 @@ pub(crate) fn named_period(
     Ok(sole_period(&found))
 }
 
-/// A period by its name.
+/// Binds a period by its name.
 #[tactic(auto, using(tql_bind_expr::proofs::Gathering::gathering))]
 fn one_period(
     memory: Memory,
@@ -136,7 +136,7 @@ fn one_period(
     }
 }
 
-/// Adds the system period of a reference, if it has one.
+/// Adds the system period of a table reference, if it has one.
 fn system_period(known: &Known<'_>, found: &mut Vec<System, Memory>) -> Result<(), AllocError>
     ensures { IfOk result (λ _. periods_of found.new.items ≡ periods_of found.old.items
         ++ names.system_ends (known_of known.now) (option_map system_of known.now.system)) }
@@ -150,7 +150,7 @@ fn system_period(known: &Known<'_>, found: &mut Vec<System, Memory>) -> Result<(
     Ok(())
 }
 
-/// The system periods of the references that are meant.
+/// Returns the system periods of the table references that the qualifier allows.
 fn system_periods(
     memory: Memory,
     scope: &[Known<'_>],
@@ -168,7 +168,7 @@ fn system_periods(
     Ok(found)
 }
 
-/// The system periods of the references that a name means.
+/// Returns the system periods of the table references that the optional qualifier allows.
 fn system_periods_of(
     memory: Memory,
     scope: &[Known<'_>],
@@ -186,7 +186,7 @@ fn system_periods_of(
     }
 }
 
-/// Returns what the fault of SYSTEM_TIME is about where it is a period of no table reference, or of several.
+/// Returns what the fault of SYSTEM_TIME is about, if it is a period of no table reference, or of several.
 fn no_system_time(at: u32, found: &[System]) -> About {
     match found {
         [] => About::at(Cause::NoSystemTime, at),
@@ -194,7 +194,7 @@ fn no_system_time(at: u32, found: &[System]) -> About {
     }
 }
 
-/// Exactly one system period.
+/// Adds the system period, if there is exactly one.
 #[tactic(auto, using(tql_bind_expr::proofs::Gathering::gathering))]
 fn only_one(
     at: u32,
@@ -220,7 +220,7 @@ fn only_one(
     }
 }
 
-/// Returns the byte offset of the name of a table reference, or 0 where there is none.
+/// Returns the byte offset of a qualifier, or 0 if there is none.
 fn qualifier_start(qualifier: Option<Name<'_>>) -> u32 {
     match qualifier {
         Some(name) => name.start,
@@ -228,7 +228,7 @@ fn qualifier_start(qualifier: Option<Name<'_>>) -> u32 {
     }
 }
 
-/// The one system period that is meant.
+/// Binds SYSTEM_TIME, with or without a qualifier.
 fn system_time(
     memory: Memory,
     scope: &[Known<'_>],
@@ -246,7 +246,7 @@ fn system_time(
     only_one(qualifier_start(qualifier), &found, terms, faults)
 }
 
-/// Whether a kind is known and not one of points.
+/// Whether a type is known and is neither DATE nor TIMESTAMP.
 fn is_no_point(kind: Option<Kind>) -> bool
     ensures { result ≡ names.is_no_point (option_map plain_kind kind) }
 {
@@ -256,7 +256,7 @@ fn is_no_point(kind: Option<Kind>) -> bool
     }
 }
 
-/// Whether two kinds are not those of the ends of one period.
+/// Whether two types cannot be those of the start and the end of one period.
 fn are_no_ends(start: Option<Kind>, end: Option<Kind>) -> bool
     ensures { result ≡ (names.is_no_point (option_map plain_kind start)
         || names.is_no_point (option_map plain_kind end)
@@ -265,7 +265,7 @@ fn are_no_ends(start: Option<Kind>, end: Option<Kind>) -> bool
     is_no_point(start) || is_no_point(end) || differ(start, end)
 }
 
-/// The period from one expression to another.
+/// Binds the period from one expression to another.
 fn from_ends(
     memory: Memory,
     scope: &[Known<'_>],
@@ -297,7 +297,7 @@ fn from_ends(
     })
 }
 
-/// PERIOD (..), or a system period.
+/// Binds PERIOD (..) or SYSTEM_TIME.
 pub(crate) fn marked(
     memory: Memory,
     scope: &[Known<'_>],
@@ -317,7 +317,7 @@ pub(crate) fn marked(
     }
 }
 
-/// A period as an operand.
+/// Binds a period as an operand.
 pub(crate) fn operand(
     memory: Memory,
     scope: &[Known<'_>],

@@ -1,4 +1,4 @@
-//! Tests of periods: the relations of two, and CONTAINS.
+//! Binding of period predicates: the relations of two periods, and CONTAINS.
 ghost use Rattle.std.specs.Prelude.{IfOk};
 ghost use Rattle.tql_spec.specs.Names as names;
 ghost use Rattle.tql_spec.specs.Period.{Includes};
@@ -31,7 +31,7 @@ use tql_syntax_tree::expression::{Expr, Named};
 use tql_value::refusal::Refusal;
 use tql_value::value::Kind;
 
-/// Two periods of one kind in a relation.
+/// Adds a relation of two periods. Adds a fault if the types of their points are known and differ.
 fn related(
     which: Relation,
     left: Ends,
@@ -57,7 +57,7 @@ fn related(
     terms.push_related(which, (left.start, left.end), (right.start, right.end))
 }
 
-/// A relation of two periods that is written as a word.
+/// Binds a relation of two periods other than CONTAINS.
 pub(crate) fn relation_test(
     memory: Memory,
     scope: &[Known<'_>],
@@ -79,7 +79,7 @@ pub(crate) fn relation_test(
     related(relation(which), left, right, terms, faults)
 }
 
-/// CONTAINS with PERIOD (..) or a system period.
+/// Binds CONTAINS with PERIOD (..) or SYSTEM_TIME.
 pub(crate) fn contains_period(
     memory: Memory,
     scope: &[Known<'_>],
@@ -99,7 +99,7 @@ pub(crate) fn contains_period(
     related(Relation::Contains, left, right, terms, faults)
 }
 
-/// CONTAINS with a point, of the kind of the period's points.
+/// Binds CONTAINS with a point. Adds a fault if its type and that of the period's points are known and differ.
 fn contained_point(
     memory: Memory,
     scope: &[Known<'_>],
@@ -126,7 +126,7 @@ fn contained_point(
     terms.push_contains_point((period.start, period.end), point.expr)
 }
 
-/// CONTAINS with the application period of these two columns.
+/// Binds CONTAINS with the application period of these two columns.
 fn contained_period(
     period: Ends,
     start: usize,
@@ -147,7 +147,7 @@ fn contained_period(
     related(Relation::Contains, period, right, terms, faults)
 }
 
-/// CONTAINS with a name: an application period's, or a point's.
+/// Binds CONTAINS with a name, which means an application period or else a point.
 fn contained_named(
     memory: Memory,
     scope: &[Known<'_>],
@@ -173,7 +173,7 @@ fn contained_named(
     }
 }
 
-/// CONTAINS with an expression: a period where it is the name of one, and else a point.
+/// Binds CONTAINS with an expression: a period if it is the name of one, else a point.
 fn contained(
     memory: Memory,
     scope: &[Known<'_>],
@@ -195,7 +195,7 @@ fn contained(
     }
 }
 
-/// CONTAINS with an expression behind it.
+/// Binds CONTAINS with an expression.
 pub(crate) fn contains_point(
     memory: Memory,
     scope: &[Known<'_>],

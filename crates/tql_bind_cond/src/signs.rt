@@ -1,4 +1,4 @@
-//! The words of the trees as those of bound conditions.
+//! Comparisons and period relations: from the syntax tree to bound conditions.
 ghost use Rattle.std.specs.Prelude.{◌≡◌};
 ghost use Rattle.tql_period.specs.Relations.{plain_relation};
 ghost use Rattle.tql_syntax_tree.specs.Conditions.{comparison_of, relation_of};
@@ -8,7 +8,7 @@ use tql_period::predicates as period;
 use tql_syntax_tree::condition::{Comparison, Relation};
 use tql_value::comparison as value;
 
-/// The comparison.
+/// Returns the bound form of a comparison.
 pub(crate) fn comparison(written: Comparison) -> value::Comparison
     ensures { plain_comparison result ≡ comparison_of written }
 {
@@ -22,7 +22,7 @@ pub(crate) fn comparison(written: Comparison) -> value::Comparison
     }
 }
 
-/// The relation of two periods.
+/// Returns the bound form of a relation of two periods.
 pub(crate) fn relation(written: Relation) -> period::Relation
     ensures { plain_relation result ≡ relation_of written }
 {

@@ -1,4 +1,4 @@
-//! The name that an expression is.
+//! Expressions that are nothing but a name.
 ghost use Rattle.std.specs.Prelude.{◌≡◌, option_map};
 ghost use Rattle.tql_spec.specs.Names as names;
 ghost use Rattle.tql_syntax_tree.specs.Expressions.{named_of, expr_of, term_of, signed_of, primary_of};
@@ -6,7 +6,7 @@ ghost use Rattle.tql_bind_cond.specs.SoleNames.{name_at, name_in, sole_factor};
 
 use tql_syntax_tree::expression::{Expr, Named, Primary, Sign, Signed, Term};
 
-/// The name that a primary is.
+/// Returns the name that a primary is, if it is one.
 fn name_at<'a>(primary: &Primary<'a>) -> Option<Named<'a>>
     ensures { option_map named_of result ≡ name_at (primary_of primary.now) }
 {
@@ -22,7 +22,7 @@ fn name_at<'a>(primary: &Primary<'a>) -> Option<Named<'a>>
     }
 }
 
-/// The name that a primary is, without a sign before it.
+/// Returns the name that a signed primary is, if it is one and has no sign.
 fn name_in<'a>(signed: &Signed<'a>) -> Option<Named<'a>>
     ensures { option_map named_of result ≡ name_in (signed_of signed.now) }
 {
@@ -32,7 +32,7 @@ fn name_in<'a>(signed: &Signed<'a>) -> Option<Named<'a>>
     }
 }
 
-/// The name that a product is, where it is one and nothing else.
+/// Returns the name that a product is, if it is one and nothing else.
 fn sole_factor<'a>(product: &Term<'a>) -> Option<Named<'a>>
     ensures { option_map named_of result ≡ sole_factor (term_of product.now) }
 {
@@ -43,7 +43,7 @@ fn sole_factor<'a>(product: &Term<'a>) -> Option<Named<'a>>
     }
 }
 
-/// The name that an expression is, where it is one and nothing else.
+/// Returns the name that an expression is, if it is one and nothing else.
 pub fn sole_name<'a>(expr: &Expr<'a>) -> Option<Named<'a>>
     ensures { option_map named_of result ≡ names.sole_name (expr_of expr.now) }
 {

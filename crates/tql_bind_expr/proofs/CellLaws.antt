@@ -1,4 +1,4 @@
--- A cell that is an expression.
+-- A value of VALUES or SET that is an expression.
 use Rattle.std.specs.Prelude.{◌≡◌, Bool, List, Option}
 use Rattle.tql_spec.specs.Binding.{cell}
 use Rattle.tql_spec.specs.Creation.{has_aggregate}
@@ -8,7 +8,7 @@ use Rattle.tql_spec.specs.Syntax as tree
 use Rattle.tql_bind_expr.specs.Gathered.{Gathers}
 use Rattle.tql_bind_expr.proofs.Gathering.{bound, unless_asked}
 
--- no aggregate may stand in it
+-- it must not contain an aggregate
 pub cell_bound : (s : List Known) (e : tree.Sum) (old mid now : Option Refusal) (a : Typed) (b : Bool)
     → b ≡ has_aggregate a.expr → Gathers (expr s e) old mid a → Gathers (refuse_if b FormNotAllowedHere) mid now tt
     → Gathers (cell s (tree.ValueCell e)) old now a

@@ -1,4 +1,4 @@
--- Operations that are added at the end of others.
+-- Operations appended to a chain.
 use Rattle.std.specs.Prelude.{◌≡◌, refl, Bool, ◌||◌, List, [], ◌∷◌, ◌++◌, map, All, Option, Some, option_map}
 use Rattle.std.proofs.Common.{sym, ap, ◌∙◌, subst}
 use Rattle.std.proofs.lemmas.List.{map-append}
@@ -22,13 +22,13 @@ use Rattle.tql_bind_expr.proofs.Gathering.{unless_asked}
 use Rattle.tql_bind_expr.specs.Chains.{step_of, chain_of, HoldsChain}
 use Rattle.tql_bind_expr.proofs.Arena.{expr_there, expr_kept}
 
--- one more operation
+-- the last operation of a chain
 pub chain_last : (e : Expr) (xs : List (datum.Operation × Expr)) (x : datum.Operation × Expr)
     → chain e (xs ++ x ∷ []) ≡ Binary x.0 (chain e xs) x.1
 chain_last e [] x = refl
 chain_last e (y ∷ ys) x = chain_last (Binary y.0 e y.1) ys x
 
--- the operands stay
+-- the operands keep their meaning
 rest_kept : {t u : Terms} → Stays t u → (xs : List (Operation × ExprId)) → All (λ x. HasExpr t x.1) xs
     → map (step_of u) xs ≡ map (step_of t) xs
 rest_kept {t} {u} s [] h = refl
@@ -54,7 +54,7 @@ chain_kept {t} {u} s c h =
 pub chain_there : {t u : Terms} → Stays t u → (c : Chain) → HoldsChain t c → HoldsChain u c
 chain_there {t} {u} s c h = record { first = expr_there s c.first h.first; rest = rest_there s c.rest.items h.rest }
 
--- one more operation on what stands before it
+-- a chain with one more operation
 pub record IsLonger (c d : Chain) (op : Operation) (right : Typed) : Type 0 where
   pub first : d.first ≡ c.first
   pub rest : d.rest.items ≡ c.rest.items ++ (op, right.expr) ∷ []

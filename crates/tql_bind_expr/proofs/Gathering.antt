@@ -1,4 +1,4 @@
--- How faults gather.
+-- How faults are collected.
 use Rattle.std.specs.Prelude.{◌≡◌, refl, Bool, List, [], ◌∷◌, ◌++◌, Option, Some, None, Result, Ok, Err, IfOk}
 use Rattle.std.specs.declared.alloc.AllocError.{AllocError}
 use Rattle.std.proofs.Common.{ℕ, ◌+◌, ◌<◌, ◌≤◌, length, map, drop, get_or, sym, ap, subst, ◌∙◌, append-nil}
@@ -10,19 +10,19 @@ use Rattle.tql_spec.specs.Names.{Checked, ◌>>=◌, sound, unless, refuse_if, c
 use Rattle.tql_spec.proofs.FirstFaults.{sooner, first_append}
 use Rattle.tql_bind_expr.specs.Gathered.{after, Gathers}
 
--- one fault is the first of itself
+-- the first of an optional fault is that fault
 first_listed : (o : Option Refusal) → first (listed o) ≡ o
 first_listed None = refl
 first_listed (Some e) = refl
 
 -- ---- the laws of `after`
 
--- no fault changes nothing
+-- an empty list changes nothing
 pub after_nil : (o : Option Refusal) → after o [] ≡ o
 unfolding after
 after_nil o = ap first (append-nil (listed o)) ∙ first_listed o
 
--- faults one list after the other
+-- two lists of faults, in order
 pub after_append : (o : Option Refusal) (xs ys : List Refusal) → after o (xs ++ ys) ≡ after (after o xs) ys
 unfolding after
 after_append None xs ys =
@@ -32,14 +32,14 @@ after_append (Some e) xs ys =
     first_append (e ∷ xs) ys ∙ ap (λ p. sooner p (first ys)) (sym (first_listed (first (e ∷ xs))))
     ∙ sym (first_append (listed (first (e ∷ xs))) ys)
 
--- from none on, it is the first of the faults
+-- from no fault on, the result is the first fault of the list
 pub after_none : (xs : List Refusal) → after None xs ≡ first xs
 unfolding after
 after_none xs = refl
 
--- ---- one definition behind another
+-- ---- definitions in sequence
 
--- what is left of a definition gives, from the fault now, what the whole gives from the fault before
+-- the rest of a definition gives, from the current fault, what the whole gives from the first one
 pub record Leads {B : Type 0} (c : Checked B) (old : Option Refusal) (rest : Checked B) (now : Option Refusal) : Type
     0 where
   pub value : rest.value ≡ c.value
@@ -64,7 +64,7 @@ gone_on d old c f mid now x l g =
     let b = begun c f mid now x g in
     record { value = b.value ∙ l.value; least = b.least ∙ l.least }
 
--- nothing is left but a value
+-- only a value remains
 pub ended : {B : Type 0} (c : Checked B) (old now : Option Refusal) (x : B) → Leads c old (sound x) now
     → Gathers c old now x
 ended c old now x l = record { value = l.value; least = sym (after_nil now) ∙ l.least }
@@ -74,14 +74,14 @@ pub done : {B : Type 0} (c d : Checked B) (old mid now : Option Refusal) (x : B)
     → Gathers d mid now x → Gathers c old now x
 done c d old mid now x l g = record { value = g.value ∙ l.value; least = g.least ∙ l.least }
 
--- one definition behind another
+-- two definitions in sequence
 pub bound : {A B : Type 0} (c : Checked A) (f : A → Checked B) (old mid now : Option Refusal) (x : A) (y : B)
     → Gathers c old mid x → Gathers (f x) mid now y → Gathers (c >>= f) old now y
 bound c f old mid now x y g h = done (c >>= f) (f x) old mid now y (begun c f old mid x g) h
 
 -- ---- lists
 
--- the elements checked so far, and those that are left, give what all give
+-- the elements checked so far and the remaining ones give what all give
 pub record EachLeads {A B : Type 0} (f : A
     → Checked B) (all : List A) (old : Option Refusal) (bound : List B) (left : List A) (now : Option Refusal) : Type
     0 where
@@ -105,7 +105,7 @@ each_on f all old bound x left mid now y l g =
           ∙ ap (λ es. after mid ((f x).faults ++ es)) (sym more) ∙ l.least;
     }
 
--- no element is left
+-- no element remains
 pub each_ended : {A B : Type 0} (f : A
     → Checked B) (all : List A) (old : Option Refusal) (bound : List B) (now : Option Refusal)
     → EachLeads f all old bound [] now → Gathers (check_each f all) old now bound
@@ -121,26 +121,26 @@ sound_here x now = record { value = refl; least = sym (after_nil now) }
 -- for `grind`
 pub ruleset gathering = (after_nil, after_append)
 
--- ---- loops over a list, at an index
+-- ---- loops over a list, by index
 
--- from an index on there is its element and what is behind it
+-- the rest of a list from an index: its element and the elements after it
 at_index : {X : Type 0} (xs : List X) (i : ℕ) (x : X) → i < length xs → x ≡ get_or xs i x
     → drop i xs ≡ x ∷ drop (i + 1) xs
 at_index xs i x h is = at_drop_more (λ l. l) xs i x h ∙ ap (λ y. y ∷ drop (i + 1) xs) (sym is)
 
--- the element that is next
+-- the next element
 pub next_item : {X B : Type 0} (G : List X
     → Checked B) (d : Checked B) (old mid : Option Refusal) (xs : List X) (i : ℕ) (x : X) → i < length xs
     → x ≡ get_or xs i x → Leads d old (G (drop i xs)) mid → Leads d old (G (x ∷ drop (i + 1) xs)) mid
 next_item G d old mid xs i x h is l = subst (λ ys. Leads d old (G ys) mid) (at_index xs i x h is) l
 
--- no element is next
+-- no next element
 pub no_item : {X B : Type 0} (G : List X
     → Checked B) (d : Checked B) (old mid : Option Refusal) (xs : List X) (i : ℕ) → length xs ≤ i
     → Leads d old (G (drop i xs)) mid → Leads d old (G []) mid
 no_item G d old mid xs i h l = subst (λ ys. Leads d old (G ys) mid) (drop_all i xs h) l
 
--- the element that is next is checked, and its value pushed
+-- the next element is checked, and its value pushed
 pub each_item : {X Y A B : Type 0} (f : A → Checked B) (g : X → A) (h : Y
     → B) (all : List A) (old mid now : Option Refusal) (xs : List X) (i : ℕ) (x : X) (ys zs : List Y) (y : Y)
     → i < length xs → x ≡ get_or xs i x → zs ≡ ys ++ y ∷ []
@@ -152,7 +152,7 @@ each_item f g h all old mid now xs i x ys zs y within is pushed l checked =
     ∙ map-append h ys (y ∷ [])))
     (each_on f all old (map h ys) (g x) (map g (drop (i + 1) xs)) mid now (h y) here checked)
 
--- no element is next
+-- no next element
 pub each_done : {X Y A B : Type 0} (f : A → Checked B) (g : X → A) (h : Y
     → B) (all : List A) (old now : Option Refusal) (xs : List X) (i : ℕ) (ys : List Y)
     → length xs ≤ i → EachLeads f all old (map h ys) (map g (drop i xs)) now
@@ -161,16 +161,16 @@ each_done f g h all old now xs i ys past l =
     each_ended f all old (map h ys) now
     (subst (λ l'. EachLeads f all old (map h ys) (map g l') now) (drop_all i xs past) l)
 
--- ---- the end
+-- ---- the result
 
--- from no fault on, the fault in the end is the first of all
+-- from no fault on, the final fault is the first of all
 pub first_is : {B : Type 0} (c : Checked B) (old new : Option Refusal) (x : B) → old ≡ None → Gathers c old new x
     → first c.faults ≡ new
 first_is c old new x none g = sym (after_none c.faults) ∙ ap (λ o. after o c.faults) (sym none) ∙ sym g.least
 
 -- ---- functions that end in a call
 
--- one definition behind another, where the second is the last call
+-- two definitions in sequence, the second as the last call
 pub bound_ok : {A B Y : Type 0} (c : Checked A) (f : A → Checked B) (view : Y
     → B) (old mid now : Option Refusal) (x : A) (r : Result Y AllocError)
     → Gathers c old mid x → IfOk r (λ y. Gathers (f x) mid now (view y))
@@ -187,7 +187,7 @@ sound_ok c x view old (Ok y) is h = subst (λ d. Gathers d old old (view y)) (sy
 })
 sound_ok c x view old (Err e) is h = tt
 
--- a value under a fault that was asked for
+-- a value with a fault under a condition
 pub unless_asked : {B : Type 0} (b b' : Bool) (e : Refusal) (x : B) (old new : Option Refusal) → b ≡ b'
     → Gathers (refuse_if b e) old new tt → Gathers (unless b' e x) old new x
 unless_asked b b' e x old new is g = record { value = refl; least = g.least ∙ ap (λ t. after old (fault_if t e)) is }

@@ -1,4 +1,4 @@
--- The loops over the terms of a sum and the factors of a product, and the signs before a primary.
+-- The loops over the terms of a sum and the factors of a product, and the signs of primaries.
 use Rattle.std.specs.Prelude.{◌≡◌, refl, ℕ, ◌+◌, ◌<◌, ◌≤◌, true, false, List, [], ◌∷◌, length, map, Option}
 use Rattle.std.specs.Prelude.{None, Bool, Result, Ok, Err, IfOk}
 use Rattle.std.specs.declared.alloc.AllocError.{AllocError}
@@ -33,9 +33,9 @@ use Rattle.tql_bind_expr.proofs.Gathering.{Leads, begun, gone_on, bound, bound_o
 use Rattle.tql_bind_expr.proofs.Gathering.{no_item}
 use Rattle.tql_bind_expr.proofs.Views.{expr_out, added_out, term_out, signed_out}
 
--- ---- operations that are bound so far
+-- ---- the operations bound so far
 
--- what is left, behind the operations so far, gives the whole; and what was there stays
+-- the rest, applied to the operations so far, gives the whole, and all earlier nodes stay
 pub record ChainLeads (whole : Checked Typed) (start : arena.Terms) (old : Option Refusal) (t : arena.Terms)
     (c : Chain) (rest : Typed → Checked Typed) (now : Option Refusal) : Type 0 where
   pub stays : Stays start t
@@ -75,7 +75,7 @@ chain_step whole start old t u c d mid m now op right rest b l s g h added held 
           (subst (λ (a : Typed). Gathers (arithmetic op a (typed_of u b)) m now (chain_of u d)) kept added));
     }
 
--- no operand is left
+-- no operand remains
 pub chain_ended : (whole : Checked Typed) (start : arena.Terms) (old : Option Refusal) (t u : arena.Terms)
     (c : Chain) (now : Option Refusal) (r : Result code.Typed AllocError)
     → ChainLeads whole start old t c sound now → IfOk r (λ y. typed_of u y ≡ chain_of t c)
@@ -84,9 +84,9 @@ chain_ended whole start old t u c now (Ok y) l is =
     subst (λ (x : Typed). Gathers whole old now x) (sym is) (ended whole old now (chain_of t c) l.leads)
 chain_ended whole start old t u c now (Err e) l is = tt
 
--- ---- elements at an index
+-- ---- elements by index
 
--- from an index on there is its element and what is behind it
+-- the rest of a list from an index: its element and the elements after it
 next_chain : {X : Type 0} (G : List X → Typed
     → Checked Typed) (whole : Checked Typed) (start : arena.Terms) (old : Option Refusal) (t : arena.Terms)
     (c : Chain) (mid : Option Refusal) (xs : List X) (i : ℕ) (x : X)
@@ -99,7 +99,7 @@ next_chain G whole start old t c mid xs i x within is l =
       leads = next_item (λ ys. G ys (chain_of t c)) whole old mid xs i x within is l.leads;
     }
 
--- no element is left
+-- no element remains
 last_chain : {X : Type 0} (G : List X → Typed
     → Checked Typed) (whole : Checked Typed) (start : arena.Terms) (old : Option Refusal) (t : arena.Terms)
     (c : Chain) (now : Option Refusal) (xs : List X) (i : ℕ)
@@ -113,11 +113,11 @@ last_chain G whole start old t c now xs i past l =
 
 -- ---- sums
 
--- the terms that are left, behind what stands before them
+-- the remaining terms, applied to the sum so far
 abbrev pub terms_left : {A : Type 0} → List Known → List (AddedTermIn A) → Typed → Checked Typed
 terms_left s xs a = more_terms s (terms_of (map added_of xs)) a
 
--- what one more term means, whichever sign it has
+-- the meaning of one more term, with either sign
 term_step : (s : List Known) (b : Bool) (p : tree.Product) (rest : tree.MoreTerms) (a : Typed)
     → more_terms s (with_term (record { is_minus = b; term = p }) rest) a ≡
     (product s p >>= arithmetic (sign_of b) a >>= more_terms s rest)
@@ -176,7 +176,7 @@ sum_done {A} s whole start old t u c now xs i r past l is =
 
 -- ---- products
 
--- the factors that are left, behind what stands before them
+-- the remaining factors, applied to the product so far
 abbrev pub factors_left : {A : Type 0} → List Known → List (SignedIn A) → Typed → Checked Typed
 factors_left s xs a = more_factors s (factors_of (map signed_of xs)) a
 
@@ -224,7 +224,7 @@ pub signed_is : {A : Type 0} (s : List Known) (x : SignedIn A) (g : Sign) → (o
 signed_is {A} s x g by_sign = ap (signed s) (signed_out x
     ∙ ap (λ (h : Sign). signed_by h (primary_of (out-SignedIn A x).primary)) by_sign)
 
--- `-` before what is no number
+-- `-` before anything but a number literal
 pub negative_other : (p : tree.Primary) (c : Checked Typed) → digits_in p ≡ None → negative p c ≡ (c >>= negation)
 negative_other (NumberLiteral es) c is = absurd (cc)
 negative_other (TextLiteral t) c is = refl
@@ -248,7 +248,7 @@ positive_bound {A} s x old mid now a b plus asked g h =
     (λ y. unless (is_other_kind Ints y.kind) TypesDoNotFit y) old mid now a a g
     (unless_asked b _ TypesDoNotFit a mid now asked h))
 
--- `-` before a primary that is no number
+-- `-` before a primary that is not a number literal
 pub negative_bound : {A Y : Type 0} (s : List Known) (x : SignedIn A) (view : Y
     → Typed) (old mid now : Option Refusal) (a : Typed) (r : Result Y AllocError)
     → (out-SignedIn A x).sign ≡ sign.Minus → digits_in (primary_of (out-SignedIn A x).primary) ≡ None
@@ -264,7 +264,7 @@ negative_bound {A} s x view old mid now a r minus other g h =
 
 -- ---- names
 
--- a list of one element is that element
+-- a list of one element
 pub only : {X : Type 0} (xs : List X) (x : X) → 1 ≤ length xs → length xs < 2 → x ≡ get_or xs 0 x → xs ≡ x ∷ []
 only [] x some few is = absurd (omega arith)
 only (y ∷ []) x some few is = ap (λ z. z ∷ []) (sym is)

@@ -1,4 +1,4 @@
--- The trees of the code's trees, one layer at a time.
+-- The specification's trees of the code's trees, one layer at a time.
 use Rattle.std.specs.Prelude.{◌≡◌, ℕ, List, map, Box}
 use Rattle.std.proofs.Common.{ap, sym, ◌∙◌}
 use denote.Ref.{Bor}

@@ -19,7 +19,7 @@ use Rattle.tql_catalog.specs.declared.definition.System as code_system
 use Rattle.tql_catalog.proofs.Definitions.{has_its_system}
 use Rattle.tql_bind_expr.specs.Within.{HasEnds, HasSystem}
 
--- a number that a test finds below the width
+-- a number that the test finds below the width
 below : (i w : ℕ) → IsTrue (nat_lt i w) → i ≤ w
 below i w h = let less : i < w = ltb-true i w h in omega arith
 
@@ -57,7 +57,7 @@ system_within d w s width system right x is =
     let both = system_of_two (system_of x) w here in
     record { start = both.0; end = both.1 }
 
--- an end of a period
+-- an end column of a period
 end_within : (columns : List Column) (system : Option System) (i : ℕ)
     → IsTrue (is_end_at (map (λ (c : Column). c.required) columns) system i) → i ≤ length columns
 end_within columns system i h =
@@ -77,12 +77,12 @@ ends_within columns system a h =
     (are_ends (slice_index_or kinds a.start Ints) (slice_index_or kinds a.end Ints)) (not (a.start == a.end)) h in
     (end_within columns system a.start both.0, end_within columns system a.end both.1)
 
--- the number of the column of the first end, 0 where there is no period
+-- the index of the start column of the first period, or 0 if there is none
 first_start : List Application → ℕ
 first_start [] = 0
 first_start (a ∷ as') = a.start
 
--- the number of the column of the other end, 0 where there is no period
+-- the index of the end column of the first period, or 0 if there is none
 first_end : List Application → ℕ
 first_end [] = 0
 first_end (a ∷ as') = a.end

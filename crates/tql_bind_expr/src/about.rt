@@ -1,5 +1,5 @@
-//! What a fault is about: its cause and its place in the statement. The crate `tql_bind_message` makes the message of a
-//! refusal of it. No contract depends on it.
+//! What a fault is about: its cause and its place in the statement. The crate `tql_bind_message` builds the message of
+//! a refusal from it. No contract depends on it.
 use tql_value::value::Kind;
 
 /// Why a statement is refused.
@@ -127,7 +127,8 @@ pub enum Cause {
     ReaderThere,
     /// The reader at `at` reads a table that is not system-versioned.
     PlainRead,
-    /// A point in time is before the horizon.
+    /// A cause and its details: byte offsets in the text of the statement, numbers, and the types of two operands.
+    /// Offset 0 means an unknown place, since the first word of a statement is never at fault.
     BeforeHorizon,
 }
 
@@ -145,7 +146,7 @@ pub struct About {
     pub other: Option<Kind>,
 }
 
-/// Returns a number in 32 bits, or the largest such number in place of a larger one.
+/// Returns a number as 32 bits, saturating.
 fn narrowed(number: usize) -> u32 {
     match u32::try_from(number) {
         Ok(number) => number,

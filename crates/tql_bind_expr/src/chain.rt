@@ -1,5 +1,5 @@
-//! Operations that are written one behind another. Their operands are bound first, so that the operations become one
-//! run of terms.
+//! Chains of operations such as `a + b - c`. All operands are bound first, so that the operations become one contiguous
+//! run of nodes in the arena.
 ghost use Rattle.std.specs.Prelude.{◌≡◌, IfOk};
 ghost use Rattle.tql_spec.specs.Names as names;
 ghost use Rattle.tql_expr.specs.Meaning.{HasExpr, Stays};
@@ -20,8 +20,8 @@ use tql_memory::Memory;
 use tql_value::refusal::Refusal;
 use tql_value::value::Kind;
 
-/// The first operand, and each operation on what stands before it with its right operand; the kind of what they give,
-/// and where they start.
+/// A chain of operations from left to right: its first operand, each operation with its right operand, the type of the
+/// result, and the byte offset at which it starts.
 #[derive(Drop)]
 pub(crate) struct Chain {
     first: ExprId,
@@ -31,7 +31,7 @@ pub(crate) struct Chain {
 }
 
 impl Chain {
-    /// The first operand alone.
+    /// Returns a chain of the first operand alone.
     pub(crate) fn new(memory: Memory, first: Typed) -> Chain
         ensures bound { (t : arena.Terms) → chain_of t result ≡ typed_of t first }
         ensures held { (t : arena.Terms) → HasExpr t first.expr → HoldsChain t result }
@@ -53,7 +53,7 @@ impl Chain {
         }
     }
 
-    /// One more operation, which wants whole numbers.
+    /// Appends an operation, which requires numbers on both sides.
     #[tactic(auto, using(crate::proofs::Gathering::gathering))]
     pub(crate) fn add(
         &mut self,
@@ -77,7 +77,7 @@ impl Chain {
         Ok(())
     }
 
-    /// The operations among the terms.
+    /// Adds the operations to the arena, and returns the expression that they form.
     pub(crate) fn push(&self, terms: &mut Terms) -> Result<Typed, AllocError>
         requires { HoldsChain terms.old self.now }
         ensures bound { IfOk result (λ t. typed_of terms.new t ≡ chain_of terms.old self.now) }

@@ -1,5 +1,7 @@
-//! Expressions. Each function is that of the definition of its name: the same parts, the same order, the same
-//! stand-ins.
+//! Binding of expressions: from the syntax tree to typed nodes in the arena of a statement. Each function follows the
+//! definition of `Names` in `tql_spec` that its contract names. It binds the same parts in the same order, with the
+//! same placeholder after a fault. The operands of a sum or a product are bound in one loop, so the recursion is only
+//! as deep as the parentheses.
 ghost use Rattle.std.specs.Prelude.{◌≡◌, IfOk, option_map};
 ghost use Rattle.tql_spec.specs.Names as names;
 ghost use Rattle.tql_spec.specs.Datum as datum;
@@ -31,7 +33,7 @@ fn no_number(operand: Typed) -> About {
     About::at(Cause::NoNumber, operand.start).kinds(operand.kind, None)
 }
 
-/// A sign before what is no number as written.
+/// Binds `-` before anything but a number literal.
 #[tactic(auto, using(crate::proofs::Gathering::gathering))]
 fn negation(
     start: u32,
@@ -58,7 +60,7 @@ fn negation(
     })
 }
 
-/// Whether a sum is taken of what is known to be no whole number.
+/// Whether the aggregate is SUM over an operand that is known not to be a number.
 fn is_no_sum(aggregate: Function, kind: Option<Kind>) -> bool
     ensures { result ≡ is_no_sum (function_of aggregate) (option_map plain_kind kind) }
 {
@@ -68,7 +70,7 @@ fn is_no_sum(aggregate: Function, kind: Option<Kind>) -> bool
     }
 }
 
-/// The kind of an aggregate over an expression of this kind.
+/// Returns the type of an aggregate over an operand of this type.
 fn aggregate_kind(aggregate: Function, kind: Option<Kind>) -> Option<Kind>
     ensures { option_map plain_kind result ≡ aggregate_kind (function_of aggregate) (option_map plain_kind kind) }
 {
@@ -78,7 +80,7 @@ fn aggregate_kind(aggregate: Function, kind: Option<Kind>) -> Option<Kind>
     }
 }
 
-/// An aggregate over an expression.
+/// Binds an aggregate over a bound operand.
 #[tactic(auto, using(crate::proofs::Gathering::gathering))]
 fn aggregate(
     start: u32,
@@ -108,7 +110,7 @@ fn aggregate(
     })
 }
 
-/// The number of the rows.
+/// Binds `COUNT(*)`.
 fn row_count(start: u32, terms: &mut Terms) -> Result<Typed, AllocError>
     ensures bound { IfOk result (λ t. typed_of terms.new t ≡ names.typed bound.CountRows datum.Ints) }
     ensures stays { Stays terms.old terms.new }
@@ -122,7 +124,7 @@ fn row_count(start: u32, terms: &mut Terms) -> Result<Typed, AllocError>
     })
 }
 
-/// The digits of a number, none of another primary.
+/// Returns the digits of a number literal. None for any other primary.
 fn digits_of<'a>(primary: &Primary<'a>) -> Option<&'a str>
     ensures { option_map digits_of result ≡ digits_in (primary_of primary.now) }
 {
@@ -138,7 +140,7 @@ fn digits_of<'a>(primary: &Primary<'a>) -> Option<&'a str>
     }
 }
 
-/// An expression.
+/// Binds an expression.
 #[cycle(expressions)]
 #[tactic(auto, using(crate::proofs::Gathering::gathering))]
 pub fn sum(
@@ -163,7 +165,7 @@ pub fn sum(
     chain.push(terms)
 }
 
-/// A product.
+/// Binds a product.
 #[cycle(expressions)]
 #[tactic(auto, using(crate::proofs::Gathering::gathering))]
 fn product(
@@ -188,7 +190,7 @@ fn product(
     chain.push(terms)
 }
 
-/// A primary with its sign.
+/// Binds a primary with its sign.
 #[cycle(expressions)]
 #[tactic(auto, using(crate::proofs::Gathering::gathering))]
 fn signed(
@@ -226,7 +228,7 @@ fn signed(
     }
 }
 
-/// A literal, a column, an expression in parentheses, an aggregate.
+/// Binds a literal, a column, an expression in parentheses or an aggregate.
 #[cycle(expressions)]
 #[tactic(auto, using(crate::proofs::Gathering::gathering))]
 fn primary(

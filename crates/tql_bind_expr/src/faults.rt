@@ -1,4 +1,4 @@
-//! The faults that were found so far, of which only the first in the order of report is kept.
+//! The faults found so far. Only the first in the order of report is kept.
 ghost use Rattle.std.specs.Prelude.{◌≡◌, Some, None, [], ◌∷◌, option_map};
 ghost use Rattle.tql_spec.specs.Creation as creation;
 ghost use Rattle.tql_spec.specs.Names.{refuse_if};
@@ -9,8 +9,8 @@ use crate::about::{About, Cause};
 use std::marker::Model;
 use tql_value::refusal::Refusal;
 
-/// The first of the faults so far, what it is about, and the byte offset of the aggregate that was bound last. A view
-/// shows only which refusal it is.
+/// The first fault so far, what it is about, and the byte offset of the aggregate that was bound last. Contracts see
+/// only which refusal it is.
 #[derive(Drop)]
 pub struct Faults {
     least: Option<Refusal>,
@@ -28,7 +28,7 @@ impl Model for Faults {
     ghost view = { λ f. option_map refusal_of f.least };
 }
 
-/// The first of a fault so far, if there is one, and of another.
+/// Returns the one of two faults that is reported first; the first may be missing.
 #[tactic(auto, unfolding(crate::specs::Gathered::after))]
 fn earlier(least: Option<Refusal>, refusal: Refusal) -> Refusal
     ensures { Some (refusal_of result) ≡ after (option_map refusal_of least) (refusal_of refusal ∷ []) }
@@ -40,7 +40,7 @@ fn earlier(least: Option<Refusal>, refusal: Refusal) -> Refusal
 }
 
 impl Faults {
-    /// No fault so far.
+    /// Returns an empty collection.
     pub fn none() -> Faults
         ensures { result ≡ None }
     {
@@ -51,7 +51,7 @@ impl Faults {
         }
     }
 
-    /// Returns what the first of the faults is about, after this one is added.
+    /// Returns what the first fault is about, after this one is added.
     fn first_about(&self, refusal: Refusal, about: About) -> About {
         match self.least {
             Some(least) if least.place() <= refusal.place() => self.about,
@@ -70,24 +70,24 @@ impl Faults {
         }
     }
 
-    /// Notes the byte offset of an aggregate that is bound.
+    /// Notes the byte offset of a bound aggregate.
     pub fn see_aggregate(&mut self, at: u32)
         ensures { self.new ≡ self.old }
     {
         self.aggregate = at;
     }
 
-    /// Returns what the fault of an aggregate that is not allowed is about: the aggregate that was bound last.
+    /// Returns what the fault of a forbidden aggregate is about: the aggregate that was bound last.
     pub fn of_aggregate(&self) -> About {
         About::at(Cause::AggregateHere, self.aggregate)
     }
 
-    /// Returns what the first of the faults is about.
+    /// Returns what the first fault is about.
     pub fn about(&self) -> About {
         self.about
     }
 
-    /// The number of a column; where there is none, a fault, and the first column stands for it.
+    /// Returns the index of a column. If there is none, adds a fault and returns 0, the first column, as a placeholder.
     #[tactic(auto, using(crate::proofs::Gathering::gathering))]
     pub fn or_first(&mut self, number: Option<usize>, about: About) -> usize
         ensures { Gathers (creation.or_first number) self.old self.new result }
@@ -101,7 +101,7 @@ impl Faults {
         }
     }
 
-    /// The first fault, if there is one.
+    /// Returns the first fault, if any.
     pub fn least(&self) -> Option<Refusal>
         ensures { option_map refusal_of result ≡ self.now }
     {

@@ -1,4 +1,4 @@
-//! Literals and columns.
+//! Binding of literals and of column names.
 ghost use Rattle.std.specs.Prelude.{◌≡◌, IfOk, option_map, Some, true};
 ghost use Rattle.tql_spec.specs.Calendar as calendar;
 ghost use Rattle.tql_spec.specs.Datum as datum;
@@ -30,7 +30,7 @@ use tql_value::refusal::Refusal;
 use tql_value::text::Text;
 use tql_value::value::{Kind, Value};
 
-/// A literal of this kind.
+/// Adds a literal of this type.
 fn literal(
     start: u32,
     terms: &mut Terms,
@@ -47,7 +47,7 @@ fn literal(
     Ok(Typed { expr, kind, start })
 }
 
-/// NULL, of no known kind.
+/// Adds NULL, whose type is unknown.
 pub(crate) fn null(start: u32, terms: &mut Terms) -> Result<Typed, AllocError>
     ensures bound { IfOk result (λ t. typed_of terms.new t ≡ names.nothing) }
     ensures stays { Stays terms.old terms.new }
@@ -56,7 +56,7 @@ pub(crate) fn null(start: u32, terms: &mut Terms) -> Result<Typed, AllocError>
     literal(start, terms, Value::Null, None)
 }
 
-/// The column with this number.
+/// Adds the column with this index.
 fn column_at(start: u32, terms: &mut Terms, number: usize, kind: Kind) -> Result<Typed, AllocError>
     ensures bound { IfOk result (λ t. typed_of terms.new t ≡ names.typed (bound.Column number) (plain_kind kind)) }
     ensures stays { Stays terms.old terms.new }
@@ -70,7 +70,7 @@ fn column_at(start: u32, terms: &mut Terms, number: usize, kind: Kind) -> Result
     })
 }
 
-/// Exactly one column.
+/// Binds a name that means `things`. Adds a fault unless it means exactly one column.
 fn one_column(
     scope: &[Known<'_>],
     start: u32,
@@ -96,7 +96,7 @@ fn one_column(
     }
 }
 
-/// A column by its name.
+/// Binds the name of a column.
 pub(crate) fn column(
     memory: Memory,
     scope: &[Known<'_>],
@@ -115,7 +115,7 @@ pub(crate) fn column(
     one_column(scope, start, &found, terms, faults)
 }
 
-/// Why a literal of this kind cannot be read.
+/// Returns why a literal of this type cannot be read.
 fn unreadable(kind: Kind) -> Cause {
     match kind {
         Kind::Day => Cause::NoDay,
@@ -124,7 +124,7 @@ fn unreadable(kind: Kind) -> Cause {
     }
 }
 
-/// What stands in the place of a literal that is out of range.
+/// Adds the fault of a literal that cannot be read, and returns NULL of its type as a placeholder.
 #[tactic(auto, using(crate::proofs::Gathering::gathering))]
 fn out_of_range(
     start: u32,
@@ -146,7 +146,7 @@ fn out_of_range(
     literal(start, terms, Value::Null, Some(kind))
 }
 
-/// A number, with `-` before it or without.
+/// Binds a number, with or without `-` before it.
 #[tactic(auto, using(crate::proofs::Gathering::gathering))]
 pub(crate) fn number(
     start: u32,
@@ -166,7 +166,7 @@ pub(crate) fn number(
     }
 }
 
-/// A text.
+/// Binds a character string literal.
 pub(crate) fn text(
     memory: Memory,
     start: u32,
@@ -182,7 +182,7 @@ pub(crate) fn text(
     literal(start, terms, Value::Text(text), Some(Kind::Text))
 }
 
-/// A date.
+/// Binds a DATE literal.
 #[tactic(auto, using(crate::proofs::Gathering::gathering))]
 pub(crate) fn date(
     memory: Memory,
@@ -204,7 +204,7 @@ pub(crate) fn date(
     }
 }
 
-/// A moment.
+/// Binds a TIMESTAMP literal.
 #[tactic(auto, using(crate::proofs::Gathering::gathering))]
 pub(crate) fn timestamp(
     memory: Memory,

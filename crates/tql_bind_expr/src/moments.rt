@@ -1,4 +1,4 @@
-//! Moments by their literals.
+//! TIMESTAMP literals that are read as points of time.
 ghost use Rattle.std.specs.Prelude.{IfOk, IfSome};
 ghost use Rattle.tql_spec.specs.Binding as binding;
 ghost use Rattle.tql_spec.specs.FirstToken.{content};
@@ -14,7 +14,8 @@ use tql_value::calendar::HIGH;
 use tql_value::literal::read_timestamp;
 use tql_value::refusal::Refusal;
 
-/// The moment that a literal reads as; where it reads as none, a fault, and the last moment stands for it.
+/// Returns a moment. If the literal could not be read, adds a fault and returns the last moment of the calendar as a
+/// placeholder.
 #[tactic(auto, using(crate::proofs::Gathering::gathering))]
 fn or_bad_moment(start: u32, moment: Option<i64>, faults: &mut Faults) -> i64
     requires { IfSome moment IsMoment }
@@ -34,8 +35,9 @@ fn or_bad_moment(start: u32, moment: Option<i64>, faults: &mut Faults) -> i64
     }
 }
 
-/// The moment of a TIMESTAMP literal by its quoted text, in microseconds since 1970-01-01. A fault where it reads as
-/// none; `start` is the byte offset of what the literal is given for. The only error is a refused growth.
+/// Returns the moment of a TIMESTAMP literal, given by its quoted text, in microseconds since 1970-01-01. Adds a fault
+/// if it cannot be read, at `start`: the byte offset of the table or period that the point is for. The only error is a
+/// refused allocation.
 pub fn moment(
     memory: Memory,
     start: u32,

@@ -1,4 +1,5 @@
-//! Names in a scope.
+//! Lookup of names in a scope. A name means every column and every application period of that name, in all table
+//! references or only in that of its qualifier. A column name is valid if it means exactly one column and nothing else.
 ghost use Rattle.std.specs.Prelude.{◌≡◌, ◌++◌, ◌∷◌, [], map, option_map, IfOk, string_bytes};
 ghost use Rattle.tql_spec.specs.Names as names;
 ghost use Rattle.tql_spec.specs.Words.{same_text};
@@ -25,7 +26,7 @@ pub fn start_of(named: Named<'_>) -> u32 {
     }
 }
 
-/// Whether a reference is the one that a qualifier names.
+/// Whether the qualifier of a name, if any, names this table reference.
 pub fn is_meant(qualifier: Option<&str>, known: &Known<'_>) -> bool
     ensures { result ≡ names.is_meant (option_map text_of qualifier.entry) (known_of known.now) }
 {
@@ -35,7 +36,7 @@ pub fn is_meant(qualifier: Option<&str>, known: &Known<'_>) -> bool
     }
 }
 
-/// Adds the columns of this name in one reference.
+/// Adds the columns of this name in one table reference.
 fn columns_named<'a>(
     name: &str,
     known: &Known<'a>,
@@ -54,7 +55,7 @@ fn columns_named<'a>(
     Ok(())
 }
 
-/// The kind of the column with this number.
+/// Returns the type of the column with this index, or INTEGER if there is none.
 fn kind_at(columns: &[Column], number: usize) -> Kind
     ensures { plain_kind result ≡ names.kind_at (map column_of columns.now) number }
 {
@@ -64,14 +65,14 @@ fn kind_at(columns: &[Column], number: usize) -> Kind
     }
 }
 
-/// Whether this is the name of the period.
+/// Whether the period has this name.
 fn is_called(application: &Application, name: &str) -> bool
     ensures { result ≡ same_text name.now (string_bytes application.now.name) }
 {
     name == application.name.as_str()
 }
 
-/// Adds the application periods of this name in one reference.
+/// Adds the application periods of this name in one table reference.
 fn periods_named<'a>(
     name: &str,
     known: &Known<'a>,
@@ -95,7 +96,7 @@ fn periods_named<'a>(
     Ok(())
 }
 
-/// Adds what this name stands for in one reference: its columns and its application periods.
+/// Adds what a name means in one table reference: columns and application periods.
 fn things_in<'a>(
     name: &str,
     known: &Known<'a>,
@@ -109,7 +110,7 @@ fn things_in<'a>(
     periods_named(name, known, found)
 }
 
-/// What a name stands for, in every reference that its qualifier names.
+/// Returns what a name means in all table references that its qualifier allows.
 fn things_called<'a>(
     memory: Memory,
     scope: &[Known<'a>],
@@ -130,7 +131,7 @@ fn things_called<'a>(
     Ok(found)
 }
 
-/// What a name stands for.
+/// Returns what a name with an optional qualifier means.
 pub fn things<'a>(
     memory: Memory,
     scope: &[Known<'a>],
@@ -148,7 +149,7 @@ pub fn things<'a>(
     }
 }
 
-/// Returns the byte offset of the table reference that has the column of this number.
+/// Returns the byte offset of the table reference that has the column with this index.
 fn table_start(scope: &[Known<'_>], number: usize) -> u32 {
     let mut start = 0;
     for known in scope {
@@ -159,7 +160,7 @@ fn table_start(scope: &[Known<'_>], number: usize) -> u32 {
     start
 }
 
-/// Returns the number of a column, or of the first column of a period.
+/// Returns the index of a column, or of the start column of a period.
 fn first_number(thing: Thing<'_>) -> usize {
     match thing {
         Thing::Column(number, _) | Thing::Period(number, _, _) => number,
@@ -178,7 +179,7 @@ pub fn no_column(scope: &[Known<'_>], start: u32, things: &[Thing<'_>]) -> About
     }
 }
 
-/// The number and the kind of the column that a thing is.
+/// Returns the index and the type of a column. None for a period.
 fn as_column(thing: Thing<'_>) -> Option<(usize, Kind)>
     ensures { option_map numbered result ≡ sole_column (thing_of thing.entry ∷ []) }
 {
@@ -188,7 +189,8 @@ fn as_column(thing: Thing<'_>) -> Option<(usize, Kind)>
     }
 }
 
-/// The number and the kind of the column that a name stands for, where it stands for one and nothing else.
+/// Returns the index and the type of the column that a name means. None unless it means exactly one column and nothing
+/// else.
 pub fn sole_column(found: &[Thing<'_>]) -> Option<(usize, Kind)>
     ensures { option_map numbered result ≡ sole_column (things_of found.now) }
 {

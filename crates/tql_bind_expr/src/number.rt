@@ -1,10 +1,10 @@
-//! The numbers that digits spell.
+//! Conversion of decimal digits to numbers.
 ghost use Rattle.std.specs.Prelude.{◌≡◌, ◌≤◌, ◌+◌, ◌-◌, ◌*◌, ◌^◌, MatchOption, option_map};
 ghost use Rattle.tql_spec.specs.Calendar.{number_of};
 ghost use Rattle.tql_spec.specs.Datum.{Int};
 ghost use Rattle.tql_bind_expr.specs.Numbers.{signed_value};
 
-/// A number with one more digit behind it.
+/// Appends a digit to a number. None if the result does not fit in 64 unsigned bits.
 fn with_digit(number: u64, digit: u8) -> Option<u64>
     ensures { MatchOption result (2 ^ 64 ≤ 10 * number + (digit - 48)) (λ n. n ≡ 10 * number + (digit - 48)) }
 {
@@ -12,7 +12,7 @@ fn with_digit(number: u64, digit: u8) -> Option<u64>
     number.checked_mul(10)?.checked_add(value)
 }
 
-/// The number that digits spell, if it lies within 64 bits without a sign.
+/// Returns the number that the digits spell. None if it does not fit in 64 unsigned bits.
 pub fn unsigned(digits: &[u8]) -> Option<u64>
     ensures { MatchOption result (2 ^ 64 ≤ number_of digits.now) (λ n. n ≡ number_of digits.now) }
 {
@@ -23,7 +23,7 @@ pub fn unsigned(digits: &[u8]) -> Option<u64>
     Some(number)
 }
 
-/// The number that digits spell, negative or not, if it lies within 64 bits.
+/// Returns the number that the digits spell, negated if `negative`. None if it does not fit in 64 signed bits.
 pub(crate) fn signed(digits: &[u8], negative: bool) -> Option<i64>
     ensures { option_map Int result ≡ signed_value negative digits.now }
 {

@@ -1,4 +1,4 @@
-//! Whether a name stands in a list, and whether one stands twice, of whatever has a name.
+//! Names in a list: whether one is there, and whether one is repeated.
 ghost use Rattle.std.specs.Prelude.{◌≡◌, ℕ, List, is_some, map};
 ghost use Rattle.tql_spec.specs.Creation as creation;
 
@@ -6,12 +6,12 @@ use crate::about::{About, Cause};
 use crate::scope::Known;
 use crate::texts::{Word, is_same_text};
 
-/// What has a name.
+/// An item with a name.
 pub trait HasName {
     /// The bytes of the name.
     ghost named: { Self → List ℕ };
 
-    /// The name.
+    /// Returns the name.
     fn name(&self) -> &str
         ensures { result.now ≡ named self.now };
 
@@ -45,7 +45,7 @@ impl HasName for Known<'_> {
     }
 }
 
-/// Whether one of these has the name.
+/// Whether an item has the name.
 pub fn has_name<T: HasName>(items: &[T], name: &str) -> bool
     ensures { result ≡ creation.has_name name.now (map T.named items.now) }
 {
@@ -57,7 +57,7 @@ pub fn has_name<T: HasName>(items: &[T], name: &str) -> bool
     false
 }
 
-/// Returns the first of these that has the name of another.
+/// Returns the first item whose name a later item has too.
 pub fn repeated<T: HasName>(items: &[T]) -> Option<&T>
     ensures { is_some result ≡ creation.repeats (map T.named items.now) }
 {

@@ -1,4 +1,4 @@
-//! Where names are sought, and what they are bound to.
+//! Scopes, in which names are looked up, and what names are bound to.
 ghost use Rattle.std.specs.Prelude.{◌<◌, ◌+◌, ◌^◌, All, length};
 ghost use Rattle.std.specs.Option.{ForSome};
 ghost use Rattle.tql_bind_expr.specs.Within.{HasEnds, HasSystem};
@@ -7,9 +7,9 @@ use tql_catalog::definition::{Application, Column, System};
 use tql_expr::terms::ExprId;
 use tql_value::value::Kind;
 
-/// A table reference in scope: how it is known, the columns of its table, its application periods and its system
-/// period, the number of the first of its columns, and the byte offset of its name in the text. A scope is a slice of
-/// these.
+/// A table reference in scope: its name, and the columns, application periods and system period of its table. `offset`
+/// is the index of its first column among those of the scope, and `start` the byte offset of its name in the text. A
+/// scope is a slice of these.
 #[derive(Clone, Copy)]
 pub struct Known<'a> {
     pub name: &'a str,
@@ -23,17 +23,17 @@ pub struct Known<'a> {
     ghost generated: { ForSome system (HasSystem (length columns.now)) },
 }
 
-/// What a name can stand for, by the numbers of columns.
+/// What a name can mean, by column indexes.
 #[derive(Clone, Copy)]
 pub enum Thing<'a> {
-    /// A column, with its number.
+    /// A column with its index.
     Column(usize, &'a Column),
-    /// An application period: the columns of its start and of its end, and the kind of its points.
+    /// An application period: the columns of its start and its end, and the type of its points.
     Period(usize, usize, Kind),
 }
 
-/// An expression among the terms of its statement, with its kind, which is missing where it is not known, and its byte
-/// offset in the statement's text.
+/// An expression in the arena of its statement, with its type if that is known, and its byte offset in the statement's
+/// text.
 #[derive(Clone, Copy)]
 pub struct Typed {
     pub expr: ExprId,

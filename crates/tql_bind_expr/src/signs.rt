@@ -1,4 +1,4 @@
-//! The words of the trees as those of bound expressions.
+//! Operations and aggregates: from the syntax tree to bound expressions.
 ghost use Rattle.std.specs.Prelude.{◌≡◌};
 ghost use Rattle.tql_expr.specs.Trees.{plain_function, plain_operation};
 ghost use Rattle.tql_syntax_tree.specs.Expressions.{function_of};
@@ -8,7 +8,7 @@ use tql_expr::node as expr;
 use tql_expr::node::Operation;
 use tql_syntax_tree::expression::Function;
 
-/// The operation that stands before a term.
+/// Returns the operation of the sign before a term.
 pub(crate) fn operation(is_minus: bool) -> Operation
     ensures { plain_operation result ≡ sign_of is_minus }
 {
@@ -19,7 +19,7 @@ pub(crate) fn operation(is_minus: bool) -> Operation
     }
 }
 
-/// The aggregate.
+/// Returns the bound form of an aggregate function.
 pub(crate) fn function(written: Function) -> expr::Function
     ensures { plain_function result ≡ function_of written }
 {

@@ -1,4 +1,4 @@
-//! Tables by their names, and as references in scope.
+//! Lookup of tables by name, and tables as references in scope.
 ghost use Rattle.std.specs.Prelude.{◌≡◌, ◌<◌, ◌+◌, ◌^◌, length, IfOk};
 ghost use Rattle.tql_spec.specs.Binding as binding;
 ghost use Rattle.tql_spec.specs.Words.{listed};
@@ -18,7 +18,7 @@ use tql_memory::Memory;
 use tql_syntax_tree::expression::Name;
 use tql_value::refusal::Refusal;
 
-/// The place of a table; where there is none, a fault, and the first place stands for it.
+/// Returns the index of a table. If there is none, adds a fault and returns 0 as a placeholder.
 #[tactic(auto, using(crate::proofs::Gathering::gathering))]
 fn or_no_table(start: u32, place: Option<usize>, faults: &mut Faults) -> usize
     ensures { Gathers (binding.or_no_table place) faults.old faults.new result }
@@ -36,7 +36,7 @@ fn or_no_table(start: u32, place: Option<usize>, faults: &mut Faults) -> usize
     }
 }
 
-/// The place of the table of this name among the tables. A fault where there is none.
+/// Returns the index of the table of this name in the catalog. Adds a fault if there is none.
 pub fn table_number(
     memory: Memory,
     catalog: &Catalog,
@@ -52,7 +52,8 @@ pub fn table_number(
     Ok(or_no_table(start, catalog.place_of(&name), faults))
 }
 
-/// A table that is there, known by a name, with the number of its first column and the byte offset of the name.
+/// Returns a table as a reference in scope: with the name by which it is known, the index of its first column, and the
+/// byte offset of the name.
 pub fn known_table<'a>(name: &'a str, table: &'a TableDef, offset: usize, start: u32) -> Known<'a>
     requires { offset + length table.now.columns < 2 ^ 64 }
     ensures known { known_of result ≡ record {

@@ -1,4 +1,4 @@
-//! Names and texts as they are meant.
+//! Names and quoted texts, decoded.
 ghost use Rattle.std.specs.Prelude.{◌≡◌, IfOk, string_bytes};
 ghost use Rattle.tql_spec.specs.FirstToken.{content};
 ghost use Rattle.tql_spec.specs.Words.{same_text};
@@ -10,28 +10,28 @@ use tql_memory::Memory;
 use tql_syntax_tree::expression::Name;
 use tql_syntax_tree::name::quoted_text;
 
-/// A name as it is meant, and its byte offset in the statement's text.
+/// A decoded name and its byte offset in the statement's text.
 #[derive(Drop)]
 pub struct Word {
     pub text: String<Memory>,
     pub start: u32,
 }
 
-/// Whether two texts are one.
+/// Whether two texts are equal.
 pub fn is_same_text(name: &str, other: &str) -> bool
     ensures { result ≡ same_text name.now other.now }
 {
     name == other
 }
 
-/// The name that is meant. The only error is a refused growth.
+/// Returns the decoded name. The only error is a refused allocation.
 pub fn meant(memory: Memory, name: Name<'_>) -> Result<String<Memory>, AllocError>
     ensures { IfOk result (λ text. string_bytes text ≡ name_of name.entry) }
 {
     name.meant(memory)
 }
 
-/// The name that is meant, with its byte offset. The only error is a refused growth.
+/// Returns the decoded name with its byte offset. The only error is a refused allocation.
 pub fn meant_word(memory: Memory, name: Name<'_>) -> Result<Word, AllocError>
     ensures { IfOk result (λ word. word_of word ≡ name_of name.entry) }
 {
@@ -41,7 +41,7 @@ pub fn meant_word(memory: Memory, name: Name<'_>) -> Result<Word, AllocError>
     })
 }
 
-/// What stands in the quotes of a literal. The only error is a refused growth.
+/// Returns the content of a quoted literal. The only error is a refused allocation.
 pub fn unquoted(memory: Memory, quoted: &str) -> Result<String<Memory>, AllocError>
     ensures { IfOk result (λ text. string_bytes text ≡ content 39 quoted.now) }
 {

@@ -1,4 +1,4 @@
--- The bound statements that those of the code stand for, and what is true of each.
+-- The bound statements of the specification that those of the code represent, and the properties of each.
 use Rattle.std.specs.Prelude.{◌≡◌, ◌<◌, ◌≤◌, List, length, None, string_bytes}
 use Rattle.tql_spec.specs.Definition.{TableDef, place_of}
 use Rattle.tql_spec.specs.Machine as machine
@@ -11,7 +11,7 @@ use Rattle.tql_bound.specs.declared.bound.Bound.TheVariants.{CreateTable, DropTa
 use Rattle.tql_bound.specs.declared.bound.Bound.TheVariants.{Modify, AnswerQuery, SetClock, Prune, Start}
 use Rattle.tql_bound.specs.declared.bound.Bound.TheVariants.{Commit, Rollback, OpenReader, Read, CloseReader}
 
--- ---- what they stand for
+-- ---- what they represent
 
 -- the statement
 abbrev pub bound_of : Bound → machine.Bound
@@ -30,7 +30,7 @@ bound_of Start = machine.Start
 bound_of Commit = machine.Commit
 bound_of Rollback = machine.Rollback
 
--- ---- what is true of them
+-- ---- properties
 
 -- no table has the name, there is room for one more, and it has at most 64 columns
 pub record IsSoundTable (defs : List TableDef) (d : TableDef) : Type 0 where
@@ -38,13 +38,13 @@ pub record IsSoundTable (defs : List TableDef) (d : TableDef) : Type 0 where
   pub room : length defs < 1000
   pub narrow : length d.columns ≤ 64
 
--- a moment that the clock or the horizon is set to has a text
+-- the moment that the clock or the horizon is set to is within the calendar
 abbrev pub HasMoment : Bound → Type 0
 HasMoment (SetClock m) = IsMoment m
 HasMoment (Prune m) = IsMoment m
 HasMoment _ = Unit {0}
 
--- over these tables
+-- a bound statement is valid for these tables
 abbrev pub IsSound : List TableDef → Bound → Type 0
 IsSound defs (CreateTable d) = IsSoundTable defs d
 IsSound defs (DropTable t) = t < length defs

@@ -1,4 +1,4 @@
--- The machine's changes that bound ones stand for.
+-- The changes of the reference model that bound ones represent.
 use Rattle.std.specs.Prelude.{List, map, option_map, Vec}
 use Rattle.tql_spec.specs.Expression as bound
 use Rattle.tql_spec.specs.Machine as machine

@@ -1,11 +1,11 @@
--- Queries whose tables are there.
+-- Queries whose tables exist.
 use Rattle.std.specs.Prelude.{◌≡◌, ◌<◌, ◌||◌, IsTrue, List, [], ◌∷◌, length, is_some}
 use Rattle.tql_spec.specs.Definition.{TableDef, table_at}
 use Rattle.tql_spec.specs.Query.{Chain, Cross, Inner, Join, Left, Query, Ref}
 use Rattle.tql_spec.specs.QueryLaws.{NamesGroups}
 use Rattle.tql_value.specs.When.{is_now}
 
--- a reference to a table that is there, system-versioned where its past is asked for, with as many columns
+-- a reference to an existing table, with its number of columns; the table is system-versioned if the past is read
 pub record IsPlacedRef (defs : List TableDef) (r : Ref) : Type 0 where
   pub table : r.table < length defs
   pub versioned : IsTrue (is_now r.when || is_some (table_at defs r.table).system)
@@ -17,19 +17,19 @@ ref_of (Inner r on) = r
 ref_of (Left r on) = r
 ref_of (Cross r) = r
 
--- so is that of each join
+-- each join has such a reference
 abbrev pub AreJoinsPlaced : List TableDef → List Join → Type 0
 AreJoinsPlaced defs [] = Unit {0}
 AreJoinsPlaced defs (j ∷ js) = IsPlacedRef defs (ref_of j) × AreJoinsPlaced defs js
 
--- and so are those of each chain
+-- each chain has such references
 abbrev pub AreChainsPlaced : List TableDef → List Chain → Type 0
 AreChainsPlaced defs [] = Unit {0}
 AreChainsPlaced defs (c ∷ cs) = (IsPlacedRef defs c.first × AreJoinsPlaced defs c.joins) × AreChainsPlaced defs cs
 
 -- ---- queries
 
--- its tables are there, and outside aggregates it names its grouping columns alone
+-- its tables exist, and outside aggregates it uses only its grouping columns
 pub record IsPlacedQuery (defs : List TableDef) (q : Query) : Type 0 where
   pub references : AreChainsPlaced defs q.chains
   pub grouped : NamesGroups q.grouping q.having q.items

@@ -1,4 +1,4 @@
--- The machine's queries that bound queries stand for.
+-- The queries of the reference model that bound queries represent.
 use Rattle.std.specs.Prelude.{List, ◌∷◌, map, option_map, string_bytes}
 use Rattle.std.specs.List.{flat_map}
 use Rattle.tql_spec.specs.Expression.{Cond}
@@ -21,7 +21,7 @@ join_by Inner r on = query.Inner r on
 join_by Left r on = query.Left r on
 join_by Cross r on = query.Cross r
 
--- one more reference of a chain
+-- a joined table reference of a chain
 abbrev pub join_of : Terms → Join → query.Join
 join_of t j = join_by j.kind (reference_of j.reference) (map (cond t) j.on.items)
 
@@ -46,7 +46,7 @@ bound_query_of x = record {
   ordering = map order_of x.ordering.items;
 }
 
--- the references of a chain, and those of a bound query, from the left
+-- the table references of a chain, and those of a bound query, from left to right
 abbrev pub references_in : Chain → List Reference
 references_in c = c.first ∷ map (λ (j : Join). j.reference) c.joins.items
 

@@ -1,4 +1,4 @@
--- The machine's references that bound ones stand for.
+-- The table references of the reference model that bound ones represent.
 use Rattle.tql_spec.specs.Query.{Ref}
 use Rattle.tql_value.specs.When.{when_of}
 use Rattle.tql_bound.specs.declared.reference.Reference.{Reference}

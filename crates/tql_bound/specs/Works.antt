@@ -1,4 +1,4 @@
--- What a touched row becomes.
+-- What becomes of an affected row.
 use Rattle.std.specs.Prelude.{List, [], map}
 use Rattle.tql_spec.specs.Change as change
 use Rattle.tql_expr.specs.Meaning.{expr}
@@ -11,7 +11,7 @@ use Rattle.tql_bound.specs.declared.change.Work.TheVariants.{Set, Remove}
 abbrev pub assignment_of : Terms → Assignment → change.Assignment
 assignment_of t a = record { column = a.column; value = expr t a.value }
 
--- what a touched row becomes
+-- what becomes of an affected row
 abbrev pub work_of : Terms → Work → change.Work
 work_of t (Set sets) = change.Work.Set (map (assignment_of t) sets.items)
 work_of t Remove = change.Work.Remove

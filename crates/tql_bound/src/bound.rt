@@ -1,16 +1,16 @@
-//! Statements whose names are bound.
+//! Bound statements: names are resolved to the indexes of tables and columns.
 use crate::change::{Insertion, Modification, QueryInsertion};
 use crate::query::BoundQuery;
 use crate::reader::ReaderQuery;
 use tql_catalog::table_def::TableDef;
 use tql_memory::Memory;
 
-/// A statement whose names are bound.
+/// A bound statement.
 #[derive(Drop)]
 pub enum Bound {
     /// CREATE TABLE.
     CreateTable(TableDef),
-    /// DROP TABLE of the table at this place.
+    /// DROP TABLE of the table at this index.
     DropTable(usize),
     /// INSERT of tuples.
     Insert(Insertion),

@@ -1,4 +1,5 @@
-//! Changes of a table whose names are bound. Each has terms of its own, among which its expressions and conditions are.
+//! Bound INSERT, UPDATE and DELETE. Each has an arena of its own for its expressions and conditions. Indexes of tables
+//! and columns count from 0.
 ghost use Rattle.std.specs.Prelude.{All};
 ghost use Rattle.tql_expr.specs.Meaning.{HasExpr, HasCond};
 ghost use Rattle.tql_bound.specs.Works.{sets_of};
@@ -8,8 +9,8 @@ use tql_expr::terms::{CondId, ExprId, Terms};
 use tql_memory::Memory;
 use tql_period::period::Period;
 
-/// New rows of a table, by its place among the tables: the columns that are given values, by their numbers from 0,
-/// and for each row the expressions of these values.
+/// INSERT of tuples into the table at an index: the indexes of the columns that are given values, and for each row the
+/// expressions of these values.
 pub struct Insertion {
     pub terms: Terms,
     pub table: usize,
@@ -32,8 +33,8 @@ impl Drop for Insertion {
     }
 }
 
-/// New rows of a table, by its place among the tables: the columns that are given values, by their numbers from 0,
-/// and the query whose rows they are.
+/// INSERT into the table at an index: the indexes of the columns that are given values, and the query that returns the
+/// new rows.
 #[derive(Drop)]
 pub struct QueryInsertion {
     pub table: usize,
@@ -41,24 +42,24 @@ pub struct QueryInsertion {
     pub query: BoundQuery,
 }
 
-/// A column, by its number from 0, and what it is set to.
+/// An assignment of SET: the index of a column, and its new value.
 #[derive(Clone, Copy)]
 pub struct Assignment {
     pub column: usize,
     pub value: ExprId,
 }
 
-/// What a touched row becomes.
+/// What becomes of an affected row.
 #[derive(Drop)]
 pub enum Work {
-    /// The row with these values in place of its own: UPDATE.
+    /// UPDATE: the row with these values in place of its own.
     Set(Vec<Assignment, Memory>),
-    /// Nothing: DELETE.
+    /// DELETE: nothing.
     Remove,
 }
 
-/// UPDATE or DELETE of a table, by its place among the tables: the portion of its application period that is changed,
-/// or none where all is, and what becomes of the rows of which all conjuncts are true.
+/// UPDATE or DELETE of the table at an index: the portion of its application period that is changed, if not all of it,
+/// and what becomes of the rows for which all conjuncts are true.
 pub struct Modification {
     pub terms: Terms,
     pub table: usize,

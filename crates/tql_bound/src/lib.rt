@@ -1,4 +1,4 @@
-//! Statements whose names are bound: what the binder gives, and what is run.
+//! Bound statements: the output of the binder, and the input of the engine.
 #![tactic(auto)]
 
 pub mod bound;

@@ -1,4 +1,4 @@
-//! Queries whose names are bound. Each has terms of its own, among which its expressions and conditions are.
+//! Bound queries. Each has an arena of its own for its expressions and conditions.
 ghost use Rattle.std.specs.Prelude.{All};
 ghost use Rattle.tql_expr.specs.Meaning.{HasExpr, HasCond};
 
@@ -6,19 +6,19 @@ use crate::reference::Reference;
 use tql_expr::terms::{CondId, ExprId, Terms};
 use tql_memory::Memory;
 
-/// How a reference is joined to the rows before it (ISO/IEC 9075-2:2011, 7.7 `<joined table>`).
+/// How a table reference is joined to the rows before it (ISO/IEC 9075-2:2011, 7.7 `<joined table>`).
 #[derive(Clone, Copy)]
 pub enum JoinKind {
     /// The pairs that pass ON.
     Inner,
-    /// These, and each row before it without a partner, with NULLs.
+    /// The pairs that pass ON, and each earlier row without a partner, with NULLs.
     Left,
     /// All pairs.
     Cross,
 }
 
-/// One more reference of a chain, with the conjuncts of its ON; CROSS JOIN has none. Their columns count from the
-/// first of the chain.
+/// A table reference that is joined to those before it in a chain, with the conjuncts of ON; CROSS JOIN has none. The
+/// columns in ON are counted from the first table reference of the chain.
 #[derive(Drop)]
 pub struct Join {
     pub kind: JoinKind,
@@ -26,27 +26,27 @@ pub struct Join {
     pub on: Vec<CondId, Memory>,
 }
 
-/// A chain of FROM: a reference, and those joined to it, from the left.
+/// A chain of joins in FROM: a table reference and those joined to it, from left to right.
 #[derive(Drop)]
 pub struct Chain {
     pub first: Reference,
     pub joins: Vec<Join, Memory>,
 }
 
-/// A key of ORDER BY: an output column, by its number from 0, and whether it falls.
+/// A key of ORDER BY: the index of an output column, from 0, and whether it is descending.
 #[derive(Clone, Copy)]
 pub struct OrderKey {
     pub column: usize,
     pub falls: bool,
 }
 
-/// SELECT: of the whole product of its chains the rows that pass WHERE; of these, or of their groups, those that pass
-/// HAVING; of each the values of the items, which have these headings.
+/// SELECT. WHERE is evaluated on the cross product of the chains, and HAVING on the rows that pass it, or on their
+/// groups. The items are evaluated on those that pass HAVING, and have these headings.
 pub struct BoundQuery {
     pub terms: Terms,
     pub chains: Vec<Chain, Memory>,
     pub filter: Vec<CondId, Memory>,
-    /// The columns of GROUP BY, none of them where there is no such clause; nothing where the query is not grouped.
+    /// The columns of GROUP BY. Empty if the query is grouped without that clause; None if it is not grouped.
     pub grouping: Option<Vec<usize, Memory>>,
     pub having: Vec<CondId, Memory>,
     pub items: Vec<ExprId, Memory>,

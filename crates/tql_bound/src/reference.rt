@@ -1,8 +1,8 @@
-//! Table references whose names are bound.
+//! Bound table references.
 
 use tql_value::when::When;
 
-/// A table reference: the place of its table among the tables, which of its versions, and how many columns it has.
+/// A table reference: the index of its table, the versions that it reads, and the number of its columns.
 #[derive(Clone, Copy)]
 pub struct Reference {
     pub table: usize,

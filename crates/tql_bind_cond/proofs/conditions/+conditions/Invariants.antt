@@ -3,7 +3,7 @@ use Rattle.tql_bind_expr.specs.Scopes.{scope_of}
 use Rattle.tql_bind_cond.proofs.Lists.{ConditionLeads, ConjLeads}
 use Rattle.tql_bind_cond.proofs.conditions.+conditions.Given as goal
 
--- the parts that are bound, and those that are left, are all
+-- the bound parts and the remaining ones give all
 abbrev pub invariant-condition-loop-part : goal.invariant-condition-loop-part
 invariant-condition-loop-part l =
     ConditionLeads (scope_of l.scope) l.condition l.part-items l.fn.terms l.fn.faults l.terms

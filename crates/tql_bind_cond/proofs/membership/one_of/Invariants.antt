@@ -5,7 +5,7 @@ use Rattle.tql_bind_expr.specs.Scopes.{scope_of}
 use Rattle.tql_bind_cond.proofs.Lists.{CondsLead, equals}
 use Rattle.tql_bind_cond.proofs.membership.one_of.Given as goal
 
--- the equalities that are bound, and those that are left, are all
+-- the bound equalities and the remaining ones give all
 abbrev pub invariant-loop-next : goal.invariant-loop-next
 invariant-loop-next l =
     CondsLead (equals (scope_of l.scope) (typed_of l.fn.terms l.operand))

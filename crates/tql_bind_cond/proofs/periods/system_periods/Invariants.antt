@@ -4,7 +4,7 @@ use Rattle.tql_bind_expr.specs.Scopes.{text_of, scope_of}
 use Rattle.tql_bind_cond.specs.Ends.{periods_of}
 use Rattle.tql_bind_cond.proofs.periods.system_periods.Given as goal
 
--- what was found so far and what is among the rest is what is found in all
+-- what was found so far, followed by what the remaining references have, is all
 abbrev pub invariant-loop-known : goal.invariant-loop-known
 invariant-loop-known l =
     periods_of l.found.items ++ system_periods (scope_of (drop l.known-index l.scope)) (option_map text_of l.qualifier)

@@ -4,7 +4,7 @@ use Rattle.tql_catalog.specs.Definitions.{column_of}
 use Rattle.tql_bind_expr.specs.Scopes.{things_of}
 use Rattle.tql_bind_expr.proofs.names.columns_named.Given as goal
 
--- the columns so far and those among the rest are those of all
+-- the columns found so far, followed by those among the remaining ones, are all of this name
 abbrev pub invariant-loop-index : goal.invariant-loop-index
 invariant-loop-index l =
     things_of l.found.items ++ columns_named l.name (l.known.offset + l.index) (map column_of (drop l.index l.columns))

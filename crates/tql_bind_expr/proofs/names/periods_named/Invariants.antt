@@ -4,7 +4,7 @@ use Rattle.tql_catalog.specs.Definitions.{column_of, application_of}
 use Rattle.tql_bind_expr.specs.Scopes.{things_of}
 use Rattle.tql_bind_expr.proofs.names.periods_named.Given as goal
 
--- the periods so far and those among the rest are those of all
+-- the periods found so far, followed by those among the remaining ones, are all of this name
 abbrev pub invariant-loop-application : goal.invariant-loop-application
 invariant-loop-application l =
     things_of l.found.items ++ periods_named l.name l.known.offset (map column_of l.known.columns.now)
