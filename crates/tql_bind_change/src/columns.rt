@@ -5,7 +5,8 @@ ghost use Rattle.tql_spec.specs.Binding as binding;
 ghost use Rattle.tql_spec.specs.Creation as creation;
 ghost use Rattle.tql_spec.specs.Creation.{names_of, kinds_of};
 ghost use Rattle.tql_spec.specs.Datum.{Ints};
-ghost use Rattle.tql_spec.specs.Names.{check_each};
+ghost use Rattle.tql_spec.specs.Names.{check_each, refuse_if};
+ghost use Rattle.tql_spec.specs.Refusal.{NameUnknownAmbiguousOrRepeated};
 ghost use Rattle.tql_syntax_tree.specs.Expressions.{name_of};
 ghost use Rattle.tql_value.specs.Views.{plain_kind};
 ghost use Rattle.tql_bind_expr.specs.Gathered.{Gathers};
@@ -87,6 +88,29 @@ fn listed_columns(
     Ok(numbers)
 }
 
+/// Adds a fault where a name is repeated. If a fault is known that is reported first or is of the same kind, such as
+/// an unknown column, the names are not compared. Otherwise all are names of a table's at most 64 columns, so that a
+/// repeat is found among any 65 of them.
+#[tactic(auto, using(crate::proofs::ColumnLaws::no_more))]
+fn refuse_repeated(names: &[Word], faults: &mut Faults)
+    ensures { Gathers (refuse_if (creation.repeats (map word_of names.now)) NameUnknownAmbiguousOrRepeated)
+        faults.old faults.new tt }
+{
+    let is_known = match faults.least() {
+        Some(least) => least.place() <= Refusal::NameUnknownAmbiguousOrRepeated.place(),
+        None => false,
+    };
+    if is_known {
+        return;
+    }
+    let repeated = repeated(names);
+    faults.refuse_if(
+        repeated.is_some(),
+        Refusal::NameUnknownAmbiguousOrRepeated,
+        about_repeated(repeated),
+    );
+}
+
 /// The numbers of the columns of these names. A fault where one is no column's, and where one stands twice.
 #[tactic(auto, using(tql_bind_expr::proofs::Gathering::gathering))]
 fn column_numbers(
@@ -100,12 +124,7 @@ fn column_numbers(
         faults.old faults.new numbers.items) }
 {
     let numbers = listed_columns(memory, definition, names, faults)?;
-    let repeated = repeated(names);
-    faults.refuse_if(
-        repeated.is_some(),
-        Refusal::NameUnknownAmbiguousOrRepeated,
-        about_repeated(repeated),
-    );
+    refuse_repeated(names, faults);
     Ok(numbers)
 }
 

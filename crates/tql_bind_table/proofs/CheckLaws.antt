@@ -24,8 +24,8 @@ use Rattle.tql_catalog.specs.declared.definition.Application as code
 use Rattle.tql_catalog.specs.declared.definition.System as code_system
 use Rattle.tql_bind_expr.specs.Within.{HasEnds, HasSystem}
 use Rattle.tql_bind_check.specs.Checking.{check_by, is_wrong_check}
-use Rattle.tql_bind_table.specs.NewTables.{names_in, generated_in, is_generated_in}
-use Rattle.tql_bind_table.specs.NewTables.{Written, application_in, system_in, implied_in, defined_in}
+use Rattle.tql_bind_draft.specs.Drafts.{names_in, is_generated_in, Written, application_in, system_in, implied_in}
+use Rattle.tql_bind_table.specs.NewTables.{generated_in, defined_in}
 use Rattle.tql_bind_table.proofs.ColumnNumbers.{within}
 use Rattle.tql_bind_table.proofs.NoFault.{front_none, behind_none, not_present, or_none}
 

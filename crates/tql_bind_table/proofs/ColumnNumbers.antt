@@ -9,7 +9,7 @@ use Rattle.tql_spec.specs.Definition.{Name, next_place}
 use Rattle.tql_spec.specs.Syntax.{ColumnTree}
 use Rattle.tql_spec.specs.Creation.{number_in, has_name, has_number, column}
 use Rattle.tql_spec.proofs.Constraints.{same_text-self, same_text-is}
-use Rattle.tql_bind_table.specs.NewTables.{names_in}
+use Rattle.tql_bind_draft.specs.Drafts.{names_in}
 
 -- ---- a name that is found
 

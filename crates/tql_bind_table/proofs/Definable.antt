@@ -22,11 +22,11 @@ use Rattle.tql_spec.specs.Binding.{generated_columns}
 use Rattle.tql_spec.proofs.Constraints.{same_text-self}
 use Rattle.tql_catalog.specs.Defined.{is_definable, is_system_period, is_application_period, are_constraints}
 use Rattle.tql_bind_check.specs.Checking.{check_by}
-use Rattle.tql_bind_table.specs.NewTables.{Written, KeyPart, application_part, names_in, kinds_in, kind_in, starts_in}
-use Rattle.tql_bind_table.specs.NewTables.{stops_in, is_generated_in, application_in, system_in, names_of_periods}
-use Rattle.tql_bind_table.specs.NewTables.{implied_in, primary_count_in, key_in, reference_in, flat_each, whole_in}
-use Rattle.tql_bind_table.specs.NewTables.{create_in, defined_in, scope_by}
-use Rattle.tql_bind_table.specs.declared.draft.NewApplication.{NewApplication}
+use Rattle.tql_bind_draft.specs.Drafts.{Written, KeyPart, application_part, names_in, kinds_in, kind_in, starts_in}
+use Rattle.tql_bind_draft.specs.Drafts.{stops_in, is_generated_in, application_in, system_in, names_of_periods}
+use Rattle.tql_bind_draft.specs.Drafts.{implied_in, primary_count_in, key_in}
+use Rattle.tql_bind_table.specs.NewTables.{reference_in, flat_each, whole_in, create_in, defined_in, scope_by}
+use Rattle.tql_bind_draft.specs.declared.draft.NewApplication.{NewApplication}
 use Rattle.tql_bind_table.proofs.ColumnNumbers.{within, apart, other_number, required_at, there}
 use Rattle.tql_bind_table.proofs.NoFault.{nothing_first, front_none, behind_none, not_present, or_none, not_none, found}
 use Rattle.tql_bind_table.proofs.Listings.{keys_right, references_right}

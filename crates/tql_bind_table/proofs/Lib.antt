@@ -1,7 +1,5 @@
-pub mod Drafts
-pub mod ColumnLaws
 pub mod ColumnNumbers
-pub mod ListLaws
+pub mod KindLaws
 pub mod Sequences
 pub mod Places
 pub mod Gathered

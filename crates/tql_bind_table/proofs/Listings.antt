@@ -15,9 +15,9 @@ use Rattle.tql_spec.specs.Binding.{is_generated}
 use Rattle.tql_catalog.specs.Defined.{is_key, is_reference}
 use Rattle.tql_catalog.specs.Rows.{are_assignable, numbers_repeat}
 use Rattle.tql_catalog.specs.Tables.{can_have, has_key_at}
-use Rattle.tql_bind_table.specs.NewTables.{Written, ListPart, KeyPart, ReferencePart, names_in, kinds_in}
-use Rattle.tql_bind_table.specs.NewTables.{is_generated_in, names_of_periods, listed_in, key_in, has_one_period}
-use Rattle.tql_bind_table.specs.NewTables.{reference_to, reference_at, reference_in, flat_each}
+use Rattle.tql_bind_draft.specs.Drafts.{Written, ListPart, KeyPart, ReferencePart, names_in, kinds_in, is_generated_in}
+use Rattle.tql_bind_draft.specs.Drafts.{names_of_periods, listed_in, key_in}
+use Rattle.tql_bind_table.specs.NewTables.{has_one_period, reference_to, reference_at, reference_in, flat_each}
 use Rattle.tql_bind_table.proofs.ColumnNumbers.{within, apart}
 use Rattle.tql_bind_table.proofs.NoFault.{front_none, behind_none, never, not_present, or_none, not_none, found}
 

@@ -9,7 +9,7 @@ use Rattle.tql_spec.specs.Syntax.{Element}
 use Rattle.tql_spec.specs.Creation.{application_parts, system_parts, constraints_of, application_period, system_period}
 use Rattle.tql_spec.specs.Creation.{keys, references, whole_faults, create}
 use Rattle.tql_catalog.specs.Tables.{can_have}
-use Rattle.tql_bind_table.specs.NewTables.{written_in, reference_parts}
+use Rattle.tql_bind_draft.specs.Drafts.{written_in, reference_parts}
 use Rattle.tql_bind_table.proofs.NoFault.{nothing_first, front_none, behind_none}
 use Rattle.tql_bind_table.proofs.Listings.{parents_right}
 use Rattle.tql_bind_table.proofs.Creations.{references_are}

@@ -9,7 +9,8 @@ use Rattle.tql_spec.specs.Creation.{column_number, column_numbers, names_of, kin
 use Rattle.tql_spec.specs.Creation.{periods_differ, application_kind, application_name, period_called, is_declared_key}
 use Rattle.tql_bind_expr.specs.Gathered.{after, Gathers}
 use Rattle.tql_bind_expr.proofs.Gathering.{bound, sound_here, unless_asked}
-use Rattle.tql_bind_table.specs.NewTables.{Written, ReferencePart, kinds_in, listed_in, has_one_period, reference_to}
+use Rattle.tql_bind_draft.specs.Drafts.{Written, ReferencePart, kinds_in, listed_in}
+use Rattle.tql_bind_table.specs.NewTables.{has_one_period, reference_to}
 
 -- a period is there where one is written
 pub some_same : {A B : Type 0} (g : A → B) (o : Option A) → is_some o ≡ is_some (option_map g o)

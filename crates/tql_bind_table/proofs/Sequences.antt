@@ -1,37 +1,13 @@
--- Parts that are bound one behind another.
+-- Parts that are bound one after the other, a list of each.
 use Rattle.std.proofs.Common.{◌≡◌, ℕ, ◌+◌, ◌<◌, ◌≤◌, List, [], ◌∷◌, ◌++◌, length, map, drop, get_or, sym, subst}
 use Rattle.std.proofs.Common.{ap, ◌∙◌, append-nil, append_assoc}
 use Rattle.std.specs.Prelude.{Option}
-use Rattle.std.proofs.lemmas.List.{map-id, drop_all, at_drop_more}
-use Rattle.tql_spec.specs.Names.{Checked, check_each}
+use Rattle.std.proofs.lemmas.List.{drop_all, at_drop_more}
+use Rattle.tql_spec.specs.Names.{Checked}
 use Rattle.tql_spec.specs.Refusal.{Refusal}
 use Rattle.tql_bind_expr.specs.Gathered.{after, Gathers}
-use Rattle.tql_bind_expr.proofs.Gathering.{EachLeads, each_item, each_ended, after_nil, after_append}
+use Rattle.tql_bind_expr.proofs.Gathering.{after_nil, after_append}
 use Rattle.tql_bind_table.specs.NewTables.{flat_each}
-
--- ---- one value of each
-
--- the element that is next is checked, and what it gives is pushed as it is
-pub plain_item : {X A B : Type 0} (f : A → Checked B) (g : X
-    → A) (all : List A) (old mid now : Option Refusal) (xs : List X) (i : ℕ) (x : X) (ys zs : List B) (y : B)
-    → i < length xs → x ≡ get_or xs i x → zs ≡ ys ++ y ∷ []
-    → EachLeads f all old ys (map g (drop i xs)) mid → Gathers (f (g x)) mid now y
-    → EachLeads f all old zs (map g (drop (i + 1) xs)) now
-plain_item {X} {A} {B} f g all old mid now xs i x ys zs y within is pushed l checked =
-    let here : EachLeads f all old (map (λ (b : B). b) ys) (map g (drop i xs)) mid =
-    subst (λ (bs : List B). EachLeads f all old bs (map g (drop i xs)) mid) (sym (map-id ys)) l in
-    subst (λ (bs : List B). EachLeads f all old bs (map g (drop (i + 1) xs)) now) (map-id zs)
-    (each_item f g (λ (b : B). b) all old mid now xs i x ys zs y within is pushed here checked)
-
--- no element is left
-pub plain_done : {X A B : Type 0} (f : A → Checked B) (g : X
-    → A) (all : List A) (old now : Option Refusal) (xs : List X) (i : ℕ) (ys : List B)
-    → length xs ≤ i → EachLeads f all old ys (map g (drop i xs)) now → Gathers (check_each f all) old now ys
-plain_done {X} {A} {B} f g all old now xs i ys past l =
-    each_ended f all old ys now
-    (subst (λ (left : List X). EachLeads f all old ys (map g left) now) (drop_all i xs past) l)
-
--- ---- a list of each
 
 -- the elements checked so far, and those that are left, give what all give
 pub record FlatLeads {A B : Type 0} (f : A

@@ -12,20 +12,23 @@ ghost use Rattle.tql_bind_expr.specs.Gathered.{Gathers};
 ghost use Rattle.tql_syntax_tree.specs.Statements.{create_of};
 ghost use Rattle.tql_bind_table.specs.Binds.{Binds};
 ghost use Rattle.tql_bind_check.specs.Checking.{checks_in, elements_in};
-ghost use Rattle.tql_bind_table.specs.NewTables.{column_of, application_part, columns_in, applications_in, systems_in};
-ghost use Rattle.tql_bind_table.specs.NewTables.{implied_in, starts_in, stops_in, whole_in, create_in, table_of};
-ghost use Rattle.tql_bind_table.specs.NewTables.{key_part, keys_in, written_of, primary_count_in};
+ghost use Rattle.tql_bind_draft.specs.Drafts.{column_of, application_part, columns_in, applications_in, systems_in};
+ghost use Rattle.tql_bind_draft.specs.Drafts.{implied_in, starts_in, stops_in, key_part, keys_in, written_of};
+ghost use Rattle.tql_bind_draft.specs.Drafts.{primary_count_in};
+ghost use Rattle.tql_bind_table.specs.NewTables.{whole_in, create_in, table_of};
 
 use crate::checks::table_checks;
-use crate::columns::{
-    are_all_generated, end_count, has_misfit, kind_of, limit_of, misfit, start_count,
-};
-use crate::draft::{Draft, NewApplication, NewColumn, NewKey, draft_of};
-use crate::keys::{bound_keys, primary_count};
-use crate::names::{is_implied, repeated_name};
-use crate::periods::{application_periods, first_application, first_system, system_periods};
 use crate::references::bound_references;
 use std::alloc::AllocError;
+use tql_bind_draft::columns::{
+    are_all_generated, end_count, has_misfit, kind_of, limit_of, misfit, start_count,
+};
+use tql_bind_draft::draft::{Draft, NewApplication, NewColumn, NewKey, draft_of};
+use tql_bind_draft::keys::{bound_keys, primary_count};
+use tql_bind_draft::names::{is_implied, repeated_name};
+use tql_bind_draft::periods::{
+    application_periods, first_application, first_system, system_periods,
+};
 use tql_bind_expr::about::{About, Cause};
 use tql_bind_expr::faults::Faults;
 use tql_bind_expr::texts::{Word, is_same_text, meant};

@@ -2,12 +2,6 @@
 #![tactic(auto)]
 
 mod checks;
-mod columns;
 pub mod create;
-mod draft;
-mod keys;
-mod lists;
-mod names;
 mod parents;
-mod periods;
 mod references;

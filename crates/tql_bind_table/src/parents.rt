@@ -10,16 +10,15 @@ ghost use Rattle.tql_value.specs.Views.{plain_kind};
 ghost use Rattle.tql_catalog.specs.Definitions.{application_of};
 ghost use Rattle.tql_bind_expr.specs.Gathered.{after, Gathers};
 ghost use Rattle.tql_bind_expr.specs.Scopes.{word_of};
-ghost use Rattle.tql_bind_table.specs.NewTables.{column_of, list_part, reference_part, kinds_in, columns_in};
-ghost use Rattle.tql_bind_table.specs.NewTables.{kind_in, has_one_period};
+ghost use Rattle.tql_bind_draft.specs.Drafts.{column_of, list_part, reference_part, kinds_in, columns_in, kind_in};
+ghost use Rattle.tql_bind_table.specs.NewTables.{has_one_period};
 
-use crate::columns::kind_at;
-use crate::draft::{Draft, NewColumn, NewList, NewReference};
-use crate::lists::period_called;
 use std::alloc::AllocError;
+use tql_bind_draft::columns::kind_at;
+use tql_bind_draft::draft::{Draft, NewColumn, NewList, NewReference};
+use tql_bind_draft::lists::{period_called, refuse_repeated};
 use tql_bind_expr::about::{About, Cause};
 use tql_bind_expr::faults::Faults;
-use tql_bind_expr::repeats::{about_repeated, repeated};
 use tql_bind_expr::texts::{Word, is_same_text};
 use tql_catalog::definition::Application;
 use tql_catalog::table_def::TableDef;
@@ -71,12 +70,7 @@ pub fn parent_columns(
         faults.old faults.new numbers.items) }
 {
     let numbers = listed_columns(memory, definition, names, faults)?;
-    let repeated = repeated(names);
-    faults.refuse_if(
-        repeated.is_some(),
-        Refusal::NameUnknownAmbiguousOrRepeated,
-        about_repeated(repeated),
-    );
+    refuse_repeated(names, faults);
     Ok(numbers)
 }
 
@@ -91,7 +85,7 @@ fn is_period_of(definition: &TableDef, name: &str) -> bool
 }
 
 /// A fault where the list names a period that is not the application period of the table.
-#[tactic(auto, using(tql_bind_expr::proofs::Gathering::gathering, crate::proofs::ListLaws::one_sought))]
+#[tactic(auto, using(tql_bind_expr::proofs::Gathering::gathering, tql_bind_draft::proofs::ListLaws::one_sought))]
 pub fn seek_period(definition: &TableDef, list: &NewList, faults: &mut Faults)
     ensures { faults.new ≡ after faults.old
         (check_each (spec.column_number (application_name definition.now.application))
@@ -130,7 +124,7 @@ fn is_other_kind(
 }
 
 /// Whether two lists of columns, of the new table and of its parent, differ in length or in a kind.
-#[tactic(auto, using(crate::proofs::ListLaws::rest_differs))]
+#[tactic(auto, using(crate::proofs::KindLaws::rest_differs))]
 pub fn kinds_differ(
     columns: &[NewColumn<'_>],
     numbers: &[usize],

@@ -5,15 +5,16 @@ ghost use Rattle.tql_catalog.specs.Definitions as catalog;
 ghost use Rattle.tql_catalog.specs.Definitions.{application_of};
 ghost use Rattle.tql_catalog.specs.Tables.{definitions_of};
 ghost use Rattle.tql_bind_expr.specs.Gathered.{Gathers};
-ghost use Rattle.tql_bind_table.specs.NewTables.{reference_part, written_of, reference_to, reference_in, flat_each};
+ghost use Rattle.tql_bind_draft.specs.Drafts.{reference_part, written_of};
+ghost use Rattle.tql_bind_table.specs.NewTables.{reference_to, reference_in, flat_each};
 
-use crate::draft::{Draft, NewReference};
-use crate::lists::listed_columns;
 use crate::parents::{
     differing, is_wrong_reference, kinds_differ, parent_columns, periods_differ, points_of,
     seek_period, wrong_reference,
 };
 use std::alloc::AllocError;
+use tql_bind_draft::draft::{Draft, NewReference};
+use tql_bind_draft::lists::listed_columns;
 use tql_bind_expr::about::{About, Cause};
 use tql_bind_expr::faults::Faults;
 use tql_catalog::catalog::Catalog;
@@ -66,6 +67,7 @@ fn bound_to(
         by_period: reference.child.period.is_some(),
         parent: reference.parent.text.clone()?,
         parent_columns: numbers,
+        name: reference.name.clone()?,
     })
 }
 

@@ -1,7 +1,8 @@
 use Rattle.std.proofs.Common.{◌≡◌, ◌++◌, map, drop}
 use Rattle.std.specs.Prelude.{is_some}
 use Rattle.tql_spec.specs.Creation.{numbers_where}
-use Rattle.tql_bind_table.specs.NewTables.{column_of, generated_in}
+use Rattle.tql_bind_draft.specs.Drafts.{column_of}
+use Rattle.tql_bind_table.specs.NewTables.{generated_in}
 use Rattle.tql_bind_table.proofs.checks.generated_numbers.Given as goal
 
 -- the numbers so far and those among the rest are those of all

@@ -1,4 +1,4 @@
-use Rattle.std.proofs.Common.{◌≡◌, List, map, IfOk, ap, subst, ◌∙◌}
+use Rattle.std.proofs.Common.{◌≡◌, List, map, ap, subst, sym, ◌∙◌}
 use Rattle.std.specs.Prelude.{Option, option_map}
 use Rattle.tql_spec.specs.Creation.{first_of, has_number}
 use Rattle.tql_spec.specs.Definition.{System}
@@ -9,9 +9,9 @@ use Rattle.tql_catalog.specs.Definitions as catalog
 use Rattle.tql_catalog.specs.Definitions.{application_of, system_of, checks_of}
 use Rattle.tql_bind_expr.specs.Gathered.{Gathers}
 use Rattle.tql_bind_check.specs.Checking.{check_by, checks_in, elements_in}
-use Rattle.tql_bind_table.specs.NewTables.{column_of, columns_in, generated_in}
-use Rattle.tql_bind_table.specs.NewTables.{is_generated_in, scope_by}
-use Rattle.tql_bind_table.specs.declared.draft.NewColumn.{NewColumn}
+use Rattle.tql_bind_draft.specs.Drafts.{column_of, columns_in, is_generated_in}
+use Rattle.tql_bind_table.specs.NewTables.{generated_in, scope_by}
+use Rattle.tql_bind_draft.specs.declared.draft.NewColumn.{NewColumn}
 use Rattle.tql_bind_table.proofs.CheckLaws.{generated_same}
 use Rattle.tql_bind_table.proofs.checks.table_checks.Goals as goal
 
@@ -29,6 +29,10 @@ returns c =
     (scope (option_map system_of c.first_system-system.result))
     ≡ check_by (is_generated_in (columns_in c.args.draft.now)) (scope (first_of (map system_of c.args.systems.now))) =
     λ j. check_by (generated j) (scope (c.first_system-system.ensures j)) in
-    subst (λ (f : Condition → Checked Cond). IfOk c.bound_checks.result
-    (λ bs. Gathers (check_each f (checks_in (elements_in c.args.create.now))) c.args.faults.now
-    c.bound_checks.new.faults (checks_of bs))) same c.bound_checks.ensures
+    let gathers : (Condition → Checked Cond) → List Cond → Type 0
+    = λ f bs. Gathers (check_each f (checks_in (elements_in c.args.create.now))) c.args.faults.now
+    c.bound_checks.new.faults bs in
+    let bound = subst (λ (f : Condition → Checked Cond). gathers f (checks_of c.in_ok-checks.checks)) same
+    c.in_ok-checks.ensures in
+    subst (gathers (check_by (is_generated_in (columns_in c.args.draft.now))
+    (scope (first_of (map system_of c.args.systems.now))))) (sym c.named.ensures) bound

@@ -1,7 +1,7 @@
 use Rattle.std.proofs.Common.{◌≡◌, ◌++◌, drop, map}
 use Rattle.tql_spec.specs.Creation.{column}
 use Rattle.tql_catalog.specs.Definitions as catalog
-use Rattle.tql_bind_table.specs.NewTables.{column_of, application_part, key_part, implied_in}
+use Rattle.tql_bind_draft.specs.Drafts.{column_of, application_part, key_part, implied_in}
 use Rattle.tql_bind_table.proofs.create.definitions.Given as goal
 
 abbrev pub invariant-loop-column : goal.invariant-loop-column

@@ -9,7 +9,8 @@ use Rattle.tql_syntax_tree.specs.Statements.{create_of}
 use Rattle.tql_bind_expr.specs.Gathered.{Gathers}
 use Rattle.tql_bind_expr.proofs.Gathering.{first_is}
 use Rattle.tql_bind_check.specs.Checking.{checks_in, elements_in}
-use Rattle.tql_bind_table.specs.NewTables.{written_of, create_in, table_of}
+use Rattle.tql_bind_draft.specs.Drafts.{written_of}
+use Rattle.tql_bind_table.specs.NewTables.{create_in, table_of}
 use Rattle.tql_bind_table.proofs.Creations.{IsDraft, bind_gathered}
 use Rattle.tql_bind_table.proofs.Definable.{can_stand}
 use Rattle.tql_bind_table.proofs.Gathered.{told, clean}

@@ -8,16 +8,15 @@ use Rattle.tql_catalog.specs.declared.definition.Application.{Application}
 use Rattle.tql_catalog.specs.Tables.{definitions_of}
 use Rattle.tql_bind_expr.specs.Gathered.{Gathers}
 use Rattle.tql_bind_check.specs.Checking.{check_by, checks_in, elements_in}
-use Rattle.tql_bind_table.specs.NewTables.{column_of, application_part, system_part, key_part, reference_part}
-use Rattle.tql_bind_table.specs.NewTables.{columns_in, applications_in, systems_in, written_of, application_in}
-use Rattle.tql_bind_table.specs.NewTables.{system_in, key_in, reference_in}
-use Rattle.tql_bind_table.specs.NewTables.{flat_each, implied_in, is_generated_in, defined_in, scope_by}
-use Rattle.tql_bind_table.specs.NewTables.{create_in, table_by}
-use Rattle.tql_bind_table.specs.declared.draft.NewColumn.{NewColumn}
-use Rattle.tql_bind_table.specs.declared.draft.NewApplication.{NewApplication}
-use Rattle.tql_bind_table.specs.declared.draft.NewSystem.{NewSystem}
-use Rattle.tql_bind_table.specs.declared.draft.NewKey.{NewKey}
-use Rattle.tql_bind_table.specs.declared.draft.NewReference.{NewReference}
+use Rattle.tql_bind_draft.specs.Drafts.{column_of, application_part, system_part, key_part, reference_part, columns_in}
+use Rattle.tql_bind_draft.specs.Drafts.{applications_in, systems_in, written_of, application_in, system_in, key_in}
+use Rattle.tql_bind_draft.specs.Drafts.{implied_in, is_generated_in}
+use Rattle.tql_bind_table.specs.NewTables.{reference_in, flat_each, defined_in, scope_by, create_in, table_by}
+use Rattle.tql_bind_draft.specs.declared.draft.NewColumn.{NewColumn}
+use Rattle.tql_bind_draft.specs.declared.draft.NewApplication.{NewApplication}
+use Rattle.tql_bind_draft.specs.declared.draft.NewSystem.{NewSystem}
+use Rattle.tql_bind_draft.specs.declared.draft.NewKey.{NewKey}
+use Rattle.tql_bind_draft.specs.declared.draft.NewReference.{NewReference}
 use Rattle.tql_bind_table.proofs.CheckLaws.{ends_within, systems_within, width_same}
 use Rattle.tql_bind_table.proofs.Creations.{draft_gathered}
 use Rattle.tql_bind_table.proofs.create.parts_of.Goals as goal

@@ -1,7 +1,7 @@
 use Rattle.std.proofs.Common.{◌∙◌, map, sym}
 use Rattle.tql_spec.specs.Creation.{kinds_of}
-use Rattle.tql_bind_table.specs.NewTables.{column_of, kinds_in}
-use Rattle.tql_bind_table.proofs.ListLaws.{some_left}
+use Rattle.tql_bind_draft.specs.Drafts.{column_of, kinds_in}
+use Rattle.tql_bind_table.proofs.KindLaws.{some_left}
 use Rattle.tql_bind_table.proofs.parents.kinds_differ.Goals as goal
 
 pub returns-in_default : goal.returns-in_default

@@ -1,6 +1,6 @@
 use Rattle.std.proofs.Common.{◌≡◌, drop, map}
 use Rattle.tql_spec.specs.Creation.{kinds_differ, kinds_at, kinds_of}
-use Rattle.tql_bind_table.specs.NewTables.{column_of, kinds_in}
+use Rattle.tql_bind_draft.specs.Drafts.{column_of, kinds_in}
 use Rattle.tql_bind_table.proofs.parents.kinds_differ.Given as goal
 
 -- those that are left tell what all tell

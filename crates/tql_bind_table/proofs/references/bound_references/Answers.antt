@@ -3,7 +3,8 @@ use Rattle.std.specs.Prelude.{option_map}
 use Rattle.tql_spec.specs.Words.{listed}
 use Rattle.tql_catalog.specs.Definitions.{application_of, reference_of}
 use Rattle.tql_catalog.specs.Tables.{definitions_of}
-use Rattle.tql_bind_table.specs.NewTables.{reference_part, written_of, reference_in}
+use Rattle.tql_bind_draft.specs.Drafts.{reference_part, written_of}
+use Rattle.tql_bind_table.specs.NewTables.{reference_in}
 use Rattle.tql_bind_table.proofs.Sequences.{flat_item, flat_done}
 use Rattle.tql_bind_table.proofs.references.bound_references.Goals as goal
 

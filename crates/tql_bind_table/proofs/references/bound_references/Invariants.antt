@@ -1,7 +1,8 @@
 use Rattle.std.proofs.Common.{drop, map}
 use Rattle.tql_catalog.specs.Definitions.{application_of, reference_of}
 use Rattle.tql_catalog.specs.Tables.{definitions_of}
-use Rattle.tql_bind_table.specs.NewTables.{reference_part, written_of, reference_in}
+use Rattle.tql_bind_draft.specs.Drafts.{reference_part, written_of}
+use Rattle.tql_bind_table.specs.NewTables.{reference_in}
 use Rattle.tql_bind_table.proofs.Sequences.{FlatLeads}
 use Rattle.tql_bind_table.proofs.references.bound_references.Given as goal
 

@@ -1,0 +1,5 @@
+pub mod Drafts
+pub mod ColumnLaws
+pub mod ListLaws
+pub mod Sequences
+pub mod Gathered

@@ -1,0 +1,179 @@
+//! What is asked of the columns of a new table.
+ghost use Rattle.std.specs.Prelude.{◌≡◌, ◌||◌, length, map, is_some, Some, None, if◌then◌else◌};
+ghost use Rattle.std.specs.List.{list_any, list_all};
+ghost use Rattle.tql_spec.specs.Calendar.{number_of};
+ghost use Rattle.tql_spec.specs.Creation as spec;
+ghost use Rattle.tql_spec.specs.Syntax as tree;
+ghost use Rattle.tql_spec.specs.Words.{same_text};
+ghost use Rattle.tql_syntax_tree.specs.Statements.{type_of};
+ghost use Rattle.tql_value.specs.Views.{plain_kind};
+ghost use Rattle.tql_bind_expr.specs.Scopes.{word_of};
+ghost use Rattle.tql_bind_draft.specs.Drafts.{column_of, names_in, starts_in, stops_in, kind_in, is_generated_in};
+
+use crate::draft::NewColumn;
+use tql_bind_expr::about::{About, Cause};
+use tql_bind_expr::number::unsigned;
+use tql_bind_expr::texts::is_same_text;
+use tql_syntax_tree::statement::{Generated, TypeName};
+use tql_value::value::Kind;
+
+/// Whether this is the name of the column.
+fn is_named(column: &NewColumn<'_>, name: &str) -> bool
+    ensures { result ≡ same_text name.now (word_of column.now.name) }
+{
+    is_same_text(name, &column.name.text)
+}
+
+/// The number of the column of this name, from 0.
+pub fn number_in(columns: &[NewColumn<'_>], name: &str) -> Option<usize>
+    ensures { result ≡ spec.number_in name.now (names_in (map column_of columns.now)) }
+{
+    columns.iter().position(|column| is_named(column, name))
+}
+
+/// Whether a column has this name.
+#[tactic(auto, using(crate::proofs::ColumnLaws::known_is))]
+pub fn has_column(columns: &[NewColumn<'_>], name: &str) -> bool
+    ensures { result ≡ spec.has_name name.now (names_in (map column_of columns.now)) }
+{
+    number_in(columns, name).is_some()
+}
+
+/// The length of a VARCHAR, from 1 to 65,535 characters, where it is allowed.
+fn length_of(digits: &[u8]) -> Option<u64>
+    ensures { result ≡ (if spec.is_length (number_of digits.now) then Some (number_of digits.now) else None) }
+{
+    let length = unsigned(digits)?;
+    if 1 <= length && length <= 65535 {
+        Some(length)
+    } else {
+        None
+    }
+}
+
+/// Whether the length or the precision of the type is not allowed.
+fn has_bad_number(type_name: TypeName<'_>) -> bool
+    ensures { result ≡ spec.has_bad_number (type_of type_name.entry) }
+{
+    match type_name {
+        TypeName::Varchar(digits) => length_of(digits.as_bytes()).is_none(),
+        TypeName::Timestamp(Some(digits)) => match unsigned(digits.as_bytes()) {
+            Some(precision) => 12 < precision,
+            None => true,
+        },
+        TypeName::Integer | TypeName::Date | TypeName::Timestamp(None) => false,
+    }
+}
+
+/// The kind of a type.
+pub fn kind_of(type_name: TypeName<'_>) -> Kind
+    ensures { plain_kind result ≡ spec.kind_of_type (type_of type_name.entry) }
+{
+    match type_name {
+        TypeName::Integer => Kind::Int,
+        TypeName::Varchar(_) => Kind::Text,
+        TypeName::Date => Kind::Day,
+        TypeName::Timestamp(_) => Kind::Moment,
+    }
+}
+
+/// The most characters of a type, where it limits them to a length that is allowed.
+pub fn limit_of(type_name: TypeName<'_>) -> Option<u64>
+    ensures { result ≡ spec.limit_of_type (type_of type_name.entry) }
+{
+    match type_name {
+        TypeName::Varchar(digits) => length_of(digits.as_bytes()),
+        TypeName::Integer | TypeName::Date | TypeName::Timestamp(_) => None,
+    }
+}
+
+/// Whether the type of some column has a length or a precision that is not allowed.
+pub fn has_misfit(columns: &[NewColumn<'_>]) -> bool
+    ensures { result ≡ list_any (λ (c : tree.ColumnTree). spec.has_bad_number c.type_name) (map column_of columns.now) }
+{
+    columns
+        .iter()
+        .any(|column| has_bad_number(column.type_name))
+}
+
+/// Returns what the fault of a type with a length or a precision out of range is about.
+pub fn misfit(columns: &[NewColumn<'_>]) -> About {
+    for column in columns {
+        if has_bad_number(column.type_name) {
+            return About::at(Cause::BadLength, column.name.start);
+        }
+    }
+    About::unknown()
+}
+
+/// Whether no column is left to which a user can give values.
+pub fn are_all_generated(columns: &[NewColumn<'_>]) -> bool
+    ensures { result ≡ list_all (λ (c : tree.ColumnTree). is_some c.generated) (map column_of columns.now) }
+{
+    columns.iter().all(|column| column.generated.is_some())
+}
+
+/// The kind of the column of this number; where there is none, that of integers stands for it.
+pub fn kind_at(columns: &[NewColumn<'_>], number: usize) -> Kind
+    ensures { plain_kind result ≡ kind_in (map column_of columns.now) number }
+{
+    match columns.get(number) {
+        Some(column) => kind_of(column.type_name),
+        None => Kind::Int,
+    }
+}
+
+/// Whether the column is ROW START.
+fn is_row_start(column: &NewColumn<'_>) -> bool
+    ensures { result ≡ spec.is_row_start (column_of column.now).generated }
+{
+    matches!(column.generated, Some(Generated::RowStart))
+}
+
+/// Whether the column is ROW END.
+fn is_row_end(column: &NewColumn<'_>) -> bool
+    ensures { result ≡ spec.is_row_end (column_of column.now).generated }
+{
+    matches!(column.generated, Some(Generated::RowEnd))
+}
+
+/// How many columns are ROW START.
+pub fn start_count(columns: &[NewColumn<'_>]) -> usize
+    ensures { result ≡ length (starts_in (map column_of columns.now)) }
+{
+    columns.iter().filter(|column| is_row_start(column)).count()
+}
+
+/// How many columns are ROW END.
+pub fn end_count(columns: &[NewColumn<'_>]) -> usize
+    ensures { result ≡ length (stops_in (map column_of columns.now)) }
+{
+    columns.iter().filter(|column| is_row_end(column)).count()
+}
+
+/// Whether a column of this number is there and is ROW START.
+pub fn is_start_at(columns: &[NewColumn<'_>], number: usize) -> bool
+    ensures { result ≡ spec.has_number number (starts_in (map column_of columns.now)) }
+{
+    match columns.get(number) {
+        Some(column) => is_row_start(column),
+        None => false,
+    }
+}
+
+/// Whether a column of this number is there and is ROW END.
+pub fn is_end_at(columns: &[NewColumn<'_>], number: usize) -> bool
+    ensures { result ≡ spec.has_number number (stops_in (map column_of columns.now)) }
+{
+    match columns.get(number) {
+        Some(column) => is_row_end(column),
+        None => false,
+    }
+}
+
+/// Whether a column of this number is there and is generated.
+pub fn is_generated_at(columns: &[NewColumn<'_>], number: usize) -> bool
+    ensures { result ≡ is_generated_in (map column_of columns.now) number }
+{
+    is_start_at(columns, number) || is_end_at(columns, number)
+}

@@ -1,0 +1,269 @@
+//! The names of the constraints of a new table. A constraint without a written name gets the one that PostgreSQL would
+//! give it: `PAY_PKEY`, `PAY_A_B_KEY`, `PAY_A_FKEY`, `PAY_CHECK`, or `PAY_A_CHECK` where a CHECK reads that column
+//! alone, and a number at the end where the table has a constraint of that name already. Names are for messages: no
+//! view of a definition shows them.
+
+use crate::draft::NewList;
+use indexmap::IndexMap;
+use std::alloc::AllocError;
+use std::hash::{BuildHasherDefault, FoldHasher};
+use tql_bind_expr::texts::meant;
+use tql_catalog::constraint::Checks;
+use tql_catalog::definition::Column;
+use tql_expr::search::Search;
+use tql_memory::Memory;
+use tql_syntax_tree::expression::Name;
+use tql_syntax_tree::statement::{Constraint, CreateTree, Element};
+
+/// Names, each with the last number that was put after it to make another.
+type Taken = IndexMap<String<Memory>, usize, BuildHasherDefault<FoldHasher>, Memory>;
+
+/// The table's name, and the names that its constraints have so far: at first the written ones, wherever they stand.
+pub struct ConstraintNames {
+    table: String<Memory>,
+    taken: Taken,
+}
+
+impl Drop for ConstraintNames {
+    fn drop(self) {
+        let ConstraintNames { table, taken } = self;
+        drop(table);
+        drop(taken);
+    }
+}
+
+/// The name with a number after it.
+fn numbered(memory: Memory, name: &str, number: usize) -> Result<String<Memory>, AllocError> {
+    let mut text = String::from_str(memory, name)?;
+    write!(text, "{number}")?;
+    Ok(text)
+}
+
+/// Puts an underscore and a name after others.
+fn push_part(name: &mut String<Memory>, part: &str) -> Result<(), AllocError> {
+    name.push('_')?;
+    name.push_str(part)
+}
+
+/// The table's name, the columns of the list, its period where it has one, and the ending.
+fn listed_name(
+    memory: Memory,
+    table: &str,
+    list: &NewList,
+    ending: &str,
+) -> Result<String<Memory>, AllocError> {
+    let mut name = String::from_str(memory, table)?;
+    for column in &list.columns {
+        push_part(&mut name, column.text.as_str())?;
+    }
+    if let Some(period) = &list.period {
+        push_part(&mut name, period.text.as_str())?;
+    }
+    push_part(&mut name, ending)?;
+    Ok(name)
+}
+
+/// The table's name, the column where there is one, and the ending.
+fn column_name(
+    memory: Memory,
+    table: &str,
+    column: Option<&Column>,
+    ending: &str,
+) -> Result<String<Memory>, AllocError> {
+    let mut name = String::from_str(memory, table)?;
+    if let Some(column) = column {
+        push_part(&mut name, column.name.as_str())?;
+    }
+    push_part(&mut name, ending)?;
+    Ok(name)
+}
+
+impl ConstraintNames {
+    /// Takes the names that the statement gives. The only error is a refused allocation.
+    pub fn written(memory: Memory, create: &CreateTree<'_>) -> Result<ConstraintNames, AllocError> {
+        let mut names = ConstraintNames {
+            table: meant(memory, create.table)?,
+            taken: IndexMap::new(memory),
+        };
+        names.take_written(memory, &create.first)?;
+        for element in &create.more {
+            names.take_written(memory, element)?;
+        }
+        Ok(names)
+    }
+
+    /// Takes the name that is written for the element, if any.
+    fn take_written(&mut self, memory: Memory, element: &Element<'_>) -> Result<(), AllocError> {
+        if let Element::Constraint(Some(name), _) = element {
+            let name = meant(memory, *name)?;
+            self.taken.insert(name, 0)?;
+        }
+        Ok(())
+    }
+
+    /// The number that was last put after this name.
+    fn last_number(&self, name: &str) -> usize {
+        match self.taken.get(name) {
+            Some(number) => *number,
+            None => 0,
+        }
+    }
+
+    /// The first number, after the last one for this name, that makes it a name which is free.
+    fn free_number(&self, memory: Memory, name: &str) -> Result<usize, AllocError> {
+        let last = self.last_number(name);
+        for number in last.saturating_add(1)..usize::MAX {
+            let text = numbered(memory, name, number)?;
+            if !self.taken.contains_key(text.as_str()) {
+                return Ok(number);
+            }
+        }
+        Ok(last)
+    }
+
+    /// Takes this name with a number after it.
+    fn take_numbered(
+        &mut self,
+        memory: Memory,
+        name: String<Memory>,
+    ) -> Result<String<Memory>, AllocError> {
+        let number = self.free_number(memory, name.as_str())?;
+        let given = numbered(memory, name.as_str(), number)?;
+        self.taken.insert(given.clone()?, 0)?;
+        self.taken.insert(name, number)?;
+        Ok(given)
+    }
+
+    /// Takes this name, or where it is taken this name with a number after it.
+    fn take(&mut self, memory: Memory, name: String<Memory>) -> Result<String<Memory>, AllocError> {
+        if self.taken.contains_key(name.as_str()) {
+            return self.take_numbered(memory, name);
+        }
+        self.taken.insert(name.clone()?, 0)?;
+        Ok(name)
+    }
+
+    /// Returns the name of a key: the written one, else one of its own. The only error is a refused allocation.
+    pub fn of_key(
+        &mut self,
+        memory: Memory,
+        written: Option<Name<'_>>,
+        is_primary: bool,
+        list: &NewList,
+    ) -> Result<String<Memory>, AllocError> {
+        if let Some(name) = written {
+            return meant(memory, name);
+        }
+        let name = if is_primary {
+            column_name(memory, self.table.as_str(), None, "PKEY")?
+        } else {
+            listed_name(memory, self.table.as_str(), list, "KEY")?
+        };
+        self.take(memory, name)
+    }
+
+    /// Returns the name of a reference: the written one, else one of its own. The only error is a refused allocation.
+    pub fn of_reference(
+        &mut self,
+        memory: Memory,
+        written: Option<Name<'_>>,
+        list: &NewList,
+    ) -> Result<String<Memory>, AllocError> {
+        if let Some(name) = written {
+            return meant(memory, name);
+        }
+        let name = listed_name(memory, self.table.as_str(), list, "FKEY")?;
+        self.take(memory, name)
+    }
+
+    /// Returns the name of a check without a written one, by its number.
+    fn of_unnamed_check(
+        &mut self,
+        memory: Memory,
+        columns: &[Column],
+        checks: &Checks,
+        number: usize,
+    ) -> Result<String<Memory>, AllocError> {
+        let column = only_column(columns, checks, number);
+        let name = column_name(memory, self.table.as_str(), column, "CHECK")?;
+        self.take(memory, name)
+    }
+
+    /// Returns the name of an element that is the check of this number; None where it is no check.
+    fn of_check(
+        &mut self,
+        memory: Memory,
+        element: &Element<'_>,
+        columns: &[Column],
+        checks: &Checks,
+        number: usize,
+    ) -> Result<Option<String<Memory>>, AllocError> {
+        match check_name(element) {
+            Some(Some(written)) => Ok(Some(meant(memory, written)?)),
+            Some(None) => {
+                let name = self.of_unnamed_check(memory, columns, checks, number)?;
+                Ok(Some(name))
+            }
+            None => Ok(None),
+        }
+    }
+}
+
+/// The written name of an element that is a check, if any; None where it is no check.
+fn check_name<'a>(element: &Element<'a>) -> Option<Option<Name<'a>>> {
+    match element {
+        Element::Constraint(written, constraint) if is_check(constraint) => Some(*written),
+        _ => None,
+    }
+}
+
+/// Whether a constraint is a check.
+fn is_check(constraint: &Constraint<'_>) -> bool {
+    match constraint {
+        Constraint::Check(_) => true,
+        Constraint::Key(_) | Constraint::Foreign(_) => false,
+    }
+}
+
+/// Whether a check, by its number, reads a column.
+fn reads(checks: &Checks, check: usize, column: usize) -> bool {
+    match checks.conditions.get(check) {
+        Some(condition) => checks.terms.finds_in(Search::OneOf(&[column]), *condition),
+        None => false,
+    }
+}
+
+/// The only column that a check, by its number, reads; none where it reads several, or none.
+fn only_column<'c>(columns: &'c [Column], checks: &Checks, check: usize) -> Option<&'c Column> {
+    let mut only = None;
+    for (number, column) in columns.iter().enumerate() {
+        if reads(checks, check, number) {
+            if only.is_some() {
+                return None;
+            }
+            only = Some(column);
+        }
+    }
+    only
+}
+
+/// Returns the names of the checks of a statement, which are bound, in its order. The only error is a refused
+/// allocation.
+pub fn check_names(
+    memory: Memory,
+    create: &CreateTree<'_>,
+    columns: &[Column],
+    checks: &Checks,
+) -> Result<Vec<String<Memory>, Memory>, AllocError> {
+    let mut names = ConstraintNames::written(memory, create)?;
+    let mut given: Vec<String<Memory>, Memory> = Vec::new(memory);
+    if let Some(name) = names.of_check(memory, &create.first, columns, checks, 0)? {
+        given.push(name)?;
+    }
+    for element in &create.more {
+        if let Some(name) = names.of_check(memory, element, columns, checks, given.len())? {
+            given.push(name)?;
+        }
+    }
+    Ok(given)
+}

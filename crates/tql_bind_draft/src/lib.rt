@@ -1,0 +1,11 @@
+//! What a CREATE TABLE writes: its columns, names, periods, lists of columns and keys, by the numbers of its columns.
+//! Every fault is collected, and the first in the order of report is kept.
+#![tactic(auto)]
+
+pub mod columns;
+pub mod constraint_names;
+pub mod draft;
+pub mod keys;
+pub mod lists;
+pub mod names;
+pub mod periods;

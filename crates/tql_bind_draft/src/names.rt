@@ -1,0 +1,82 @@
+//! The names of a new table: those of its columns and of its application periods.
+ghost use Rattle.std.specs.Prelude.{◌≡◌, ◌++◌, is_some, map};
+ghost use Rattle.std.specs.List.{flat_map};
+ghost use Rattle.tql_spec.specs.Creation as spec;
+ghost use Rattle.tql_spec.specs.Creation.{part_names};
+ghost use Rattle.tql_bind_draft.specs.Drafts.{column_of, application_part, names_in, names_of_periods, implied_in};
+ghost use Rattle.tql_bind_draft.specs.Drafts.{columns_in, applications_in, key_part};
+
+use crate::columns::has_column;
+use crate::draft::{Draft, NewApplication, NewColumn, NewKey};
+use crate::keys::is_in_primary;
+use tql_bind_expr::texts::{Word, is_same_text};
+
+/// Whether an application period has this name.
+pub fn has_period(periods: &[NewApplication], name: &str) -> bool
+    ensures { result ≡ spec.has_name name.now (names_of_periods (map application_part periods.now)) }
+{
+    for period in periods {
+        if is_same_text(name, &period.name.text) {
+            return true;
+        }
+    }
+    false
+}
+
+/// The first name that two application periods have.
+fn repeated_period(periods: &[NewApplication]) -> Option<&Word>
+    ensures { is_some result ≡ spec.repeats (names_of_periods (map application_part periods.now)) }
+{
+    let mut left = periods;
+    while let [period, others @ ..] = left {
+        if has_period(others, &period.name.text) {
+            return Some(&period.name);
+        }
+        left = others;
+    }
+    None
+}
+
+/// Whether a column or an application period has this name.
+fn is_taken(columns: &[NewColumn<'_>], periods: &[NewApplication], name: &str) -> bool
+    ensures { result ≡ spec.has_name name.now
+        (names_in (map column_of columns.now) ++ names_of_periods (map application_part periods.now)) }
+{
+    has_column(columns, name) || has_period(periods, name)
+}
+
+/// The first name that stands twice among those of the columns and of the application periods.
+pub fn repeated_name<'t>(draft: &'t Draft<'_>) -> Option<&'t Word>
+    ensures { is_some result
+        ≡ spec.repeats (names_in (columns_in draft.now) ++ names_of_periods (applications_in draft.now)) }
+{
+    let mut left = draft.columns.as_slice();
+    while let [column, others @ ..] = left {
+        if is_taken(others, &draft.applications, &column.name.text) {
+            return Some(&column.name);
+        }
+        left = others;
+    }
+    repeated_period(&draft.applications)
+}
+
+/// Whether a column of this name is one of an application period.
+fn is_of_period(periods: &[NewApplication], name: &str) -> bool
+    ensures { result ≡ spec.has_name name.now (flat_map part_names (map application_part periods.now)) }
+{
+    for period in periods {
+        if is_same_text(name, &period.start.text) || is_same_text(name, &period.end.text) {
+            return true;
+        }
+    }
+    false
+}
+
+/// Whether a column of this name is one of an application period or of a primary key.
+#[tactic(auto, using(crate::proofs::ListLaws::implied_by))]
+pub fn is_implied(periods: &[NewApplication], keys: &[NewKey], name: &str) -> bool
+    ensures { result ≡ spec.has_name name.now
+        (implied_in (map application_part periods.now) (map key_part keys.now)) }
+{
+    is_of_period(periods, name) || is_in_primary(keys, name)
+}
