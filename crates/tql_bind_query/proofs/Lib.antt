@@ -1,5 +1,7 @@
 pub mod ChainLaws
 pub mod FromLaws
+pub mod HeadedLaws
+pub mod Once
 pub mod QueryLaws
 pub mod ReferenceLaws
 pub mod ScopeLaws

@@ -1,8 +1,8 @@
 //! The columns of GROUP BY, and what may stand in a grouped query.
-ghost use Rattle.std.specs.Prelude.{◌≡◌, ◌||◌, All, IfOk, map};
+ghost use Rattle.std.specs.Prelude.{◌≡◌, ℕ, ◌||◌, All, IfOk, map};
 ghost use Rattle.std.specs.List.{list_any};
 ghost use Rattle.tql_spec.specs.Binding as binding;
-ghost use Rattle.tql_spec.specs.Creation.{has_expr, nests_aggregates};
+ghost use Rattle.tql_spec.specs.Creation.{has_expr, has_number, nests_aggregates};
 ghost use Rattle.tql_spec.specs.Names.{check_each};
 ghost use Rattle.tql_expr.specs.Meaning.{cond, expr, HasCond, HasExpr};
 ghost use Rattle.tql_syntax_tree.specs.Expressions.{named_of};
@@ -21,6 +21,9 @@ use tql_expr::terms::{CondId, ExprId, Terms};
 use tql_memory::Memory;
 use tql_syntax_tree::expression::Named;
 use tql_syntax_tree::statement::{Item, Items, SelectTree};
+
+/// The most columns of GROUP BY that are searched with their repeats.
+const FEW: usize = 8;
 
 /// The number of the column that a name stands for, where it stands for one and nothing else.
 fn sole_number(found: &[Thing<'_>]) -> Option<usize>
@@ -129,7 +132,7 @@ fn start_of_item(item: &Item<'_>) -> u32 {
 }
 
 /// Returns what the fault of the select list or of HAVING in a grouped query is about.
-pub fn about_grouping(
+fn about_grouping(
     is_faulty: bool,
     groups: &[usize],
     select: &SelectTree<'_>,
@@ -156,9 +159,9 @@ pub fn about_grouping(
     About::at(Cause::LooseHaving, 0)
 }
 
-/// Whether an aggregate stands inside an aggregate, or in a grouped query `*` or a column that is none of the
-/// grouping ones stands outside the aggregates (ISO/IEC 9075-2:2011, 7.12).
-pub fn has_grouping_fault(
+/// Whether an aggregate stands inside an aggregate, or in a grouped query `*` or a column that is none of these stands
+/// outside the aggregates.
+fn has_grouping_fault(
     is_grouped: bool,
     groups: &[usize],
     select: &SelectTree<'_>,
@@ -174,4 +177,58 @@ pub fn has_grouping_fault(
     terms.finds_any(Search::Nested, items)
         || terms.finds_any_in(Search::Nested, having)
         || (is_grouped && has_loose(groups, select, terms, items, having))
+}
+
+/// The fault of these columns of GROUP BY and what it is about.
+fn fault_among(
+    is_grouped: bool,
+    groups: &[usize],
+    select: &SelectTree<'_>,
+    terms: &Terms,
+    items: &[ExprId],
+    having: &[CondId],
+) -> (bool, About)
+    requires items { All (HasExpr terms.now) items.now }
+    requires having { All (HasCond terms.now) having.now }
+    ensures { result.0 ≡ binding.grouping_faults is_grouped groups.now (select_of select.now)
+        (map (expr terms.now) items.now) (map (cond terms.now) having.now) }
+{
+    let is_faulty = has_grouping_fault(is_grouped, groups, select, terms, items, having);
+    let about = about_grouping(is_faulty, groups, select, terms, items);
+    (is_faulty, about)
+}
+
+/// Numbers, each once.
+fn distinct(memory: Memory, numbers: &[usize]) -> Result<Vec<usize, Memory>, AllocError>
+    ensures { IfOk result (λ v. (i : ℕ) → has_number i v.items ≡ has_number i numbers.now) }
+{
+    let mut distinct = Vec::from_slice(memory, numbers)?;
+    distinct.sort_unstable();
+    distinct.dedup();
+    Ok(distinct)
+}
+
+/// Whether an aggregate stands inside an aggregate, or in a grouped query `*` or a column that is none of the
+/// grouping ones stands outside the aggregates (ISO/IEC 9075-2:2011, 7.12); and what the fault is about. Each column of
+/// each item is looked up among the grouping ones: where these are many, their repeats are dropped first. The only
+/// error is a refused growth.
+pub fn grouping_fault(
+    memory: Memory,
+    is_grouped: bool,
+    groups: &[usize],
+    select: &SelectTree<'_>,
+    terms: &Terms,
+    items: &[ExprId],
+    having: &[CondId],
+) -> Result<(bool, About), AllocError>
+    requires items { All (HasExpr terms.now) items.now }
+    requires having { All (HasCond terms.now) having.now }
+    ensures { IfOk result (λ r. r.0 ≡ binding.grouping_faults is_grouped groups.now (select_of select.now)
+        (map (expr terms.now) items.now) (map (cond terms.now) having.now)) }
+{
+    if groups.len() <= FEW {
+        return Ok(fault_among(is_grouped, groups, select, terms, items, having));
+    }
+    let distinct = distinct(memory, groups)?;
+    Ok(fault_among(is_grouped, &distinct, select, terms, items, having))
 }

@@ -12,4 +12,5 @@ pub mod query;
 mod reference_names;
 mod references;
 mod scopes;
+mod sorted_headings;
 mod sources;

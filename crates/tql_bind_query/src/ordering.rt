@@ -10,8 +10,10 @@ ghost use Rattle.tql_bound.specs.Queries as bound;
 ghost use Rattle.tql_syntax_tree.specs.Expressions.{name_of};
 ghost use Rattle.tql_syntax_tree.specs.Statements.{key_name_of, order_of};
 ghost use Rattle.tql_bind_expr.specs.Gathered.{Gathers};
+ghost use Rattle.tql_bind_query.specs.Headed.{AreSorted};
 ghost use Rattle.tql_bind_query.specs.Ordered.{place_at, position_place};
 
+use crate::sorted_headings::{Heading, only_heading, sorted_headings, with_name};
 use std::alloc::AllocError;
 use tql_bind_expr::about::{About, Cause};
 use tql_bind_expr::faults::Faults;
@@ -56,29 +58,52 @@ fn only_place(places: &[usize]) -> Option<usize>
     }
 }
 
-/// Returns what the fault of a heading that is at none of the places, or at several, is about.
-fn no_heading(places: &[usize], start: u32) -> About {
+/// Returns what the fault of a heading that is at none of so many places, or at several, is about.
+fn no_heading(places: usize, start: u32) -> About {
     match places {
-        [] => About::at(Cause::NoHeading, start),
+        0 => About::at(Cause::NoHeading, start),
         _ => About::at(Cause::AmbiguousHeading, start),
     }
+}
+
+/// The place of the output column with this heading, where there is exactly one, and what the fault is about where
+/// there is not. It is found by bisection where the headings are sorted.
+fn place_of(
+    memory: Memory,
+    headings: &[String<Memory>],
+    sorted: &[Heading<'_>],
+    name: &str,
+    start: u32,
+) -> Result<(Option<usize>, About), AllocError>
+    requires { AreSorted (map string_bytes headings.now) sorted.now }
+    ensures { IfOk result (λ r. binding.only_place (binding.places_of name.now 0 (map string_bytes headings.now))
+        ≡ or_first r.0) }
+{
+    if sorted.is_empty() {
+        let places = places_of(memory, headings, name)?;
+        return Ok((only_place(&places), no_heading(places.len(), start)));
+    }
+    let named = with_name(sorted, name);
+    Ok((only_heading(named), no_heading(named.len(), start)))
 }
 
 /// The output column with this heading.
 fn heading_place(
     memory: Memory,
     headings: &[String<Memory>],
+    sorted: &[Heading<'_>],
     name: Name<'_>,
     faults: &mut Faults,
 ) -> Result<usize, AllocError>
+    requires { AreSorted (map string_bytes headings.now) sorted.now }
     ensures { IfOk result
         (λ i. Gathers (binding.key_place (map string_bytes headings.now) (ByHeading (name_of name.entry)))
         faults.old faults.new i) }
 {
     let start = name.start;
     let name = meant(memory, name)?;
-    let places = places_of(memory, headings, name.as_str())?;
-    Ok(faults.or_first(only_place(&places), no_heading(&places, start)))
+    let (place, about) = place_of(memory, headings, sorted, name.as_str(), start)?;
+    Ok(faults.or_first(place, about))
 }
 
 /// The place, from 0, of a position, counted from 1, among so many columns.
@@ -107,15 +132,17 @@ fn position_place(digits: &str, width: usize, faults: &mut Faults) -> usize
 fn key_place(
     memory: Memory,
     headings: &[String<Memory>],
+    sorted: &[Heading<'_>],
     key: KeyName<'_>,
     faults: &mut Faults,
 ) -> Result<usize, AllocError>
+    requires { AreSorted (map string_bytes headings.now) sorted.now }
     ensures { IfOk result
         (λ i. Gathers (binding.key_place (map string_bytes headings.now) (key_name_of key.entry))
         faults.old faults.new i) }
 {
     match key {
-        KeyName::Heading(name) => heading_place(memory, headings, name, faults),
+        KeyName::Heading(name) => heading_place(memory, headings, sorted, name, faults),
         KeyName::Position(digits) => Ok(position_place(digits, headings.len(), faults)),
     }
 }
@@ -124,18 +151,27 @@ fn key_place(
 fn order_key(
     memory: Memory,
     headings: &[String<Memory>],
+    sorted: &[Heading<'_>],
     key: OrderTree<'_>,
     faults: &mut Faults,
 ) -> Result<OrderKey, AllocError>
+    requires { AreSorted (map string_bytes headings.now) sorted.now }
     ensures { IfOk result
         (λ k. Gathers (binding.order_key (map string_bytes headings.now) (order_of key.entry))
         faults.old faults.new (bound.order_of k)) }
 {
-    let column = key_place(memory, headings, key.key, faults)?;
+    let column = key_place(memory, headings, sorted, key.key, faults)?;
     Ok(OrderKey {
         column,
         falls: key.falls,
     })
+}
+
+/// How many keys name a heading.
+fn named(keys: &[OrderTree<'_>]) -> usize {
+    keys.iter()
+        .filter(|key| matches!(key.key, KeyName::Heading(_)))
+        .count()
 }
 
 /// The keys of ORDER BY: each names the output column with a heading, or at a position counted from 1. A fault where
@@ -151,10 +187,11 @@ pub fn order_keys(
         (λ v. Gathers (check_each (binding.order_key (map string_bytes headings.now)) (map order_of keys.now))
         faults.old faults.new (map bound.order_of v.items)) }
 {
+    let sorted = sorted_headings(memory, headings, named(keys))?;
     let mut bound = Vec::with_capacity(memory, keys.len())?;
     for index in 0..keys.len() {
         let written = keys[index];
-        let key = order_key(memory, headings, written, faults)?;
+        let key = order_key(memory, headings, &sorted, written, faults)?;
         bound.push(key)?;
     }
     Ok(bound)

@@ -45,11 +45,12 @@ returns-clause-bound c =
     c.is_grouped-grouped.ensures
     ∙ (λ i. binding.is_grouped s (map (expr t) (c.deref-2.ensures.value i))
     (map (cond t) (c.deref-3.ensures.value i))) in
-    let faulty : c.has_grouping_fault-is_faulty.result ≡ binding.grouping_faults (binding.is_grouped s es hs) groups
-    s es hs =
-    c.has_grouping_fault-is_faulty.ensures
-    ∙ (λ i. binding.grouping_faults (is i) (c.deref-4.ensures.value i) s (map (expr t) (c.deref-5.ensures.value i))
-    (map (cond t) (c.deref-6.ensures.value i))) in
+    let among : binding.grouping_faults c.is_grouped-grouped.result c.deref-4.result.now s
+    (map (expr t) c.deref-5.result.now) (map (cond t) c.deref-6.result.now)
+    ≡ binding.grouping_faults (binding.is_grouped s es hs) groups s es hs =
+    λ i. binding.grouping_faults (is i) (c.deref-4.ensures.value i) s (map (expr t) (c.deref-5.ensures.value i))
+    (map (cond t) (c.deref-6.ensures.value i)) in
+    let faulty = c.in_ok-is_faulty.ensures ∙ among in
     let refused = subst (λ (x : Bool). Gathers (refuse_if x FormNotAllowedHere) d new tt) faulty c.refuse_if.ensures in
     let grouping = c.grouping_of.ensures ∙ ap (λ (x : Bool). binding.grouping_of x groups) is in
     subst (λ (g : Option (List ℕ)). Gathers (clauses scope s) old new (record {
