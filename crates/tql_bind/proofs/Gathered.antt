@@ -1,4 +1,4 @@
--- Statements that are bound with their faults gathered.
+-- Statements that are bound with their faults collected.
 use Rattle.std.proofs.Common.{◌≡◌, refl, ap, sym, ◌∙◌, List, Option, Some, None, ℕ, ◌++◌}
 use Rattle.std.specs.Prelude.{is_none, unwrap_or}
 use Rattle.tql_spec.specs.Refusal as spec
@@ -17,7 +17,7 @@ first_listed : (o : Option spec.Refusal) → first (listed o) ≡ o
 first_listed None = refl
 first_listed (Some e) = refl
 
--- the first of some faults counts for them all
+-- the first of some faults represents them all
 after_first : (o : Option spec.Refusal) (faults : List spec.Refusal) → after o (listed (first faults)) ≡ after o faults
 unfolding after
 after_first o faults =

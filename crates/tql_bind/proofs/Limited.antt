@@ -1,4 +1,4 @@
--- The faults by the limits, gathered behind those of names, and told in front of them.
+-- The faults of the limits: collected after those of names, and reported before them.
 use Rattle.std.proofs.Common.{◌≡◌, Bool, true, false, List, [], ◌∷◌, ◌++◌, Option, Some, None, map, refl, sym, ap, ◌∙◌}
 use Rattle.std.proofs.Common.{◌<◌, length, arith, append-nil}
 use Rattle.std.specs.Prelude.{◌||◌, not, nat_le, IsTrue, is_some, is_none}
@@ -40,11 +40,11 @@ use Rattle.tql_bind.proofs.PlacedQueries.{behind_none, front_none, none_present,
 
 -- ---- faults
 
--- the faults by the limits behind the others
+-- the faults of the limits, appended to the others
 abbrev bind_late : Limits → List TableDef → Statement → Checked Bound
 bind_late l defs s = bind defs s >>= λ b. record { value = b; faults = bound_faults l defs b }
 
--- two lists of faults have one first, whichever stands in front
+-- the first fault of two lists does not depend on their order
 either_way : (xs ys : List spec.Refusal) → SameBag (xs ++ ys) (ys ++ xs)
 either_way xs ys = record { totals = λ w. omega (arith, sum_by-append w xs ys, sum_by-append w ys xs) }
 
@@ -54,7 +54,7 @@ first_either_way l defs s =
     first_by_bag (bind_under l defs s).faults (bind_late l defs s).faults
     (either_way (bound_faults l defs (bind defs s).value) (bind defs s).faults)
 
--- the faults by the limits are gathered last
+-- the faults of the limits are collected last
 limited : (l : Limits) (defs : List TableDef) (s : Statement) (old mid new : Option spec.Refusal) (x : Bound)
     → Gathers (bind defs s) old mid x → Gathers (refuse_for (bound_faults l defs x)) mid new tt
     → Gathers (bind_late l defs s) old new x
@@ -62,7 +62,7 @@ limited l defs s old mid new x g r =
     bound (bind defs s) (λ y. record { value = y; faults = bound_faults l defs y }) old mid new x x g
     (record { value = refl; least = r.least })
 
--- so the first fault in the end is the first of all
+-- so the final fault is the first of all
 pub first_under : (l : Limits) (defs : List TableDef) (s : Statement) (old mid new : Option spec.Refusal) (x : Bound)
     → old ≡ None → Gathers (bind defs s) old mid x → Gathers (refuse_for (bound_faults l defs x)) mid new tt
     → first (bind_under l defs s).faults ≡ new
@@ -70,21 +70,21 @@ first_under l defs s old mid new x none g r =
     first_either_way l defs s
     ∙ first_is (bind_late l defs s) old new x none (limited l defs s old mid new x g r)
 
--- no fault of names is present where none of both is
+-- without any fault, there is none of names
 pub names_clean : (l : Limits) (defs : List TableDef) (s : Statement) → first (bind_under l defs s).faults ≡ None
     → first (bind defs s).faults ≡ None
 names_clean l defs s e =
     ap first (behind_none (bound_faults l defs (bind defs s).value) (bind defs s).faults
     (none_present (bind_under l defs s).faults e))
 
--- nor is one by the limits
+-- nor is there one of the limits
 pub limits_clean : (l : Limits) (defs : List TableDef) (s : Statement) → first (bind_under l defs s).faults ≡ None
     → bound_faults l defs (bind defs s).value ≡ []
 limits_clean l defs s e =
     front_none (bound_faults l defs (bind defs s).value) (bind defs s).faults
     (none_present (bind_under l defs s).faults e)
 
--- ---- what the limits let through
+-- ---- what the limits allow
 
 present : (b : Bool) (e : spec.Refusal) → fault_if (not b) e ≡ [] → b ≡ true
 present true e is = refl
@@ -94,7 +94,7 @@ neither : (a b : Bool) (e : spec.Refusal) → fault_if (not a || b) e ≡ [] →
 neither true b e is = (refl, not_present b e is)
 neither false b e is = absurd (cc)
 
--- a reader is opened: no reader of this name is open, and fewer are than may be
+-- OPEN READER: no reader of this name is open, and fewer are open than are allowed
 pub may_open : (l : Limits) (defs : List TableDef) (n : Name) → bound_faults l defs (OpenReader n) ≡ []
     → (is_named n l.names ≡ false) × (length l.names < most_readers)
 may_open l defs n is =
@@ -104,12 +104,12 @@ may_open l defs n is =
           (not_present (nat_le most_readers (length l.names)) TooManyTablesOrReaders (front_none many _ is)),
     )
 
--- one that is closed is open
+-- CLOSE READER: the reader is open
 pub may_close : (l : Limits) (defs : List TableDef) (n : Name) → bound_faults l defs (CloseReader n) ≡ []
     → is_named n l.names ≡ true
 may_close l defs n is = present (is_named n l.names) ReaderNotUsable is
 
--- one that is read is open, each table that the query reads is versioned, and it asks for nothing before the horizon
+-- READ: the reader is open, each table of the query is system-versioned, and the query reads nothing before the horizon
 pub may_read : (l : Limits) (defs : List TableDef) (n : Name) (q : Query) → bound_faults l defs (Read n q) ≡ []
     → (is_named n l.names ≡ true) × (reads_plain defs q ≡ false) × (asks_before l.horizon q ≡ false)
 may_read l defs n q is =
@@ -117,7 +117,7 @@ may_read l defs n q is =
     let used = neither (is_named n l.names) (reads_plain defs q) ReaderNotUsable (front_none unusable _ is) in
     (used.0, used.1, not_present (asks_before l.horizon q) BeforeTheHorizon (behind_none unusable _ is))
 
--- so is the table of each of its references
+-- so the table of each of its references is system-versioned
 pub each_versioned : (defs : List TableDef) (q : Query) → reads_plain defs q ≡ false → (r : Ref) → In r (refs q)
     → IsTrue (is_some (table_at defs r.table).system)
 each_versioned defs q is r there =
@@ -128,9 +128,9 @@ each_versioned defs q is r there =
     here None e = absurd (cc)
     here (Some x) e = refl
 
--- ---- one by one
+-- ---- each fault by its test
 
--- the faults by the limits, each by its test
+-- the faults of the limits, each by its test
 abbrev one_by_one : Limits → List TableDef → Bound → List spec.Refusal
 one_by_one l defs b =
     fault_if (opens_too_many l b) TooManyTablesOrReaders
@@ -154,7 +154,7 @@ by_tests l defs (OpenReader n) =
 by_tests l defs (Read n q) = refl
 by_tests l defs (CloseReader n) = append-nil (fault_if (is_unusable l defs (CloseReader n)) ReaderNotUsable)
 
--- three faults, one after another, are those by the limits
+-- three faults in sequence are those of the limits
 pub gathered_by_tests : (l : Limits) (defs : List TableDef) (b : Bound) (old first second new : Option spec.Refusal)
     → Gathers (refuse_if (opens_too_many l b) TooManyTablesOrReaders) old first tt
     → Gathers (refuse_if (is_unusable l defs b) ReaderNotUsable) first second tt
@@ -190,11 +190,11 @@ joined t j = by_kind j.kind
     by_kind Cross = refl
 
 module _ (test : Ref → Bool) where
-  -- the test of a reference as it is bound
+  -- the test of a bound table reference
   abbrev bound_test : Reference → Bool
   bound_test r = test (reference_of r)
 
-  -- some join's reference passes it
+  -- the reference of some join passes it
   joins_tested : (t : Terms) (js : List Join)
       → list_any test (map joined_ref (map (join_of t) js))
       ≡ list_any bound_test (map (λ (j : Join). j.reference) js)
@@ -219,7 +219,7 @@ module _ (test : Ref → Bool) where
       ∙ sym (list_any-append test (chain_refs (chain_of t c)) (flat_map chain_refs (map (chain_of t) cs)))
       ∙ ap (list_any test) (sym (flat_map-cons chain_refs (chain_of t c) (map (chain_of t) cs)))
 
--- a test asked of each join is asked of its reference
+-- a test of each join's reference is a test of the references
 pub joins_asked : (test : Reference → Bool) (js : List Join)
     → list_any (λ (j : Join). test j.reference) js ≡ list_any test (map (λ (j : Join). j.reference) js)
 joins_asked test [] = refl
@@ -227,7 +227,7 @@ joins_asked test (j ∷ js) = ap (λ b. test j.reference || b) (joins_asked test
 
 -- ---- readers
 
--- a name is sought among the names of some things
+-- a name is looked up among the names of some items
 pub name_sought : {X : Type 0} (name : X → Name) (n : Name) (xs : List X)
     → list_any (λ x. same_text n (name x)) xs ≡ is_named n (map name xs)
 name_sought name n [] = refl

@@ -1,4 +1,4 @@
--- What is bound without a fault names tables that are there.
+-- A statement that is bound without a fault names existing tables.
 use Rattle.std.proofs.Common.{◌≡◌, ◌<◌, subst, List, [], length, None}
 use Rattle.std.specs.Prelude.{IsTrue, not}
 use Rattle.tql_spec.specs.Binding.{bind, insert_columns, select, table_number}
@@ -19,12 +19,12 @@ use Rattle.tql_bind.proofs.PlacedQueries.{behind_none, front_none, none_present,
 
 -- ---- statements
 
--- of a change, those of its query
+-- for a change: the tables of its query exist
 abbrev pub AreSourcesPlaced : List TableDef → Change → Type 0
 AreSourcesPlaced defs (InsertQuery t columns q) = IsPlacedQuery defs q
 AreSourcesPlaced defs _ = Unit {0}
 
--- the tables that it names are there
+-- the tables that it names exist
 abbrev pub IsPlaced : List TableDef → Bound → Type 0
 IsPlaced defs (CreateTable d) = Unit {0}
 IsPlaced defs (DropTable t) = t < length defs
@@ -62,7 +62,7 @@ placed defs (OpenTree n) e = tt
 placed defs (ReadTree n s keys) e = query_placed defs s keys (front_none (select defs s keys).faults _ e)
 placed defs (CloseTree n) e = tt
 
--- ---- the code's
+-- ---- statements of the code
 
 creates_none : (defs : List TableDef) (s : Statement) (d : TableDef) → IsTrue (not (is_creation s))
     → (bind defs s).value ≡ CreateTable d → ⊥
@@ -99,7 +99,7 @@ sound_by defs s statement.Start other is timed there = tt
 sound_by defs s statement.Commit other is timed there = tt
 sound_by defs s statement.Rollback other is timed there = tt
 
--- what is bound without a fault is right
+-- a statement that is bound without a fault is valid
 pub sound_where_clean : (defs : List TableDef) (s : Statement) (b : bound.Bound) → IsTrue (not (is_creation s))
     → first (bind defs s).faults ≡ None → (bind defs s).value ≡ bound_of b → HasMoment b
     → IsSound defs b

@@ -1,4 +1,4 @@
--- A query that is bound without a fault names tables that are there, and outside aggregates its grouping columns alone.
+-- A query that is bound without a fault names existing tables, and uses only its grouping columns outside aggregates.
 use Rattle.std.proofs.Common.{◌≡◌, refl, ℕ, suc, ◌<◌, Bool, true, false, List, [], ◌∷◌, ◌++◌}
 use Rattle.std.proofs.Common.{Some, None, Option, length, map, arith}
 use Rattle.std.specs.Prelude.{◌||◌, ◌&&◌, IsTrue, not, if◌then◌else◌, is_none, is_some}
@@ -53,7 +53,7 @@ here_or_later true o t e n within = let k = first_place t e in omega (arith, k)
 here_or_later false o t e n within = let k = no_next o t e in let l = within k.0 k.1 in let j : t ≡ suc k.0 =
     k.2 in omega (arith, l, j)
 
--- the place of a table that is found is one of theirs
+-- the index of a table that is found is within the list
 place_within : (n : Name) (defs : List TableDef) (t : ℕ) → place_of n defs ≡ Some t → t < length defs
 place_within n [] t e = cc
 place_within n (d ∷ defs) t e =

@@ -1,4 +1,4 @@
--- Where a new table is bound without a fault, its name is free and there is room for it.
+-- If a new table is bound without a fault, its name is free and there is room for it.
 use Rattle.std.proofs.Common.{◌≡◌, ◌<◌, ◌≤◌, ◌+◌, ℕ, Bool, true, false, List, [], ◌∷◌, ◌++◌, length, refl, ap, arith}
 use Rattle.std.proofs.Common.{None}
 use Rattle.std.specs.Prelude.{◌||◌, ◌==◌, not, nat_le, nat_lt, is_some, if◌then◌else◌, Option, Some}
@@ -35,7 +35,7 @@ not_present false e = refl
 less : (n : ℕ) → nat_le 1000 n ≡ false → n < 1000
 less n e = grind (arith, nat_tests)
 
--- the faults of the table as a whole but the last
+-- all faults of the table as a whole except the last one
 abbrev earlier_faults : List TableDef → Name → List Element → Bool → List Refusal
 earlier_faults defs n es versioned =
     fault_if (is_some (place_of n defs)) TableUnknownOrAlreadyThere
@@ -64,7 +64,7 @@ not_there (Some t) e = absurd (cc)
 never : (f : Refusal) (fs : List Refusal) → f ∷ fs ≡ [] → ⊥
 never f fs e = cc
 
--- the faults of the table as a whole, by whether its name is there
+-- the faults of the table as a whole, given whether its name exists
 abbrev faults_where : List TableDef → List Element → Bool → Bool → List Refusal
 faults_where defs es versioned there =
     fault_if there TableUnknownOrAlreadyThere
@@ -94,7 +94,7 @@ table_in : TableDef → Bound → TableDef
 table_in d (CreateTable t) = t
 table_in d _ = d
 
--- two statements that are one make one table
+-- equal CREATE TABLE statements have equal tables
 pub same_table : (d t : TableDef) → CreateTable d ≡ CreateTable t → d ≡ t
 unfolding table_in
 same_table d t e = ap (table_in d) e

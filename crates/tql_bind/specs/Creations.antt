@@ -1,4 +1,4 @@
--- The statements that give a definition.
+-- Which statements create a table.
 use Rattle.std.specs.Prelude.{Bool, true, false}
 use Rattle.tql_spec.specs.Syntax.{Statement, CreateTree}
 

@@ -1,4 +1,4 @@
--- What a statement is bound to under limits.
+-- How a statement is bound under limits.
 use Rattle.std.specs.Prelude.{Bool, false, not, ◌||◌, nat_le, List, length, ◌++◌, ℤ, int_lt, is_none}
 use Rattle.tql_spec.specs.Definition.{TableDef, table_at}
 use Rattle.tql_spec.specs.Horizon.{is_before, asks_before}
@@ -15,35 +15,35 @@ use Rattle.tql_bound.specs.Readers.{names_of}
 use Rattle.tql_bound.specs.declared.reference.Reference.{Reference}
 use Rattle.tql_bind.specs.declared.limits.Limits.{Limits}
 
--- the limits among the definitions' limits
+-- the limits as the specification has them
 abbrev pub limits_of : Limits → readers.Limits
 limits_of l = record { horizon = l.horizon; names = names_of l.readers.now }
 
 -- ---- references
 
--- whether a reference asks for what lies before the horizon
+-- whether a table reference reads moments before the horizon
 abbrev pub asks : ℤ → Reference → Bool
 asks h r = is_before h (when_of r.when)
 
--- whether a reference is to a table that is not versioned
+-- whether a table reference is to a table that is not system-versioned
 abbrev pub is_plain : List TableDef → Reference → Bool
 is_plain defs r = is_none (table_at defs r.table).system
 
--- ---- the faults by the limits, one by one
+-- ---- the faults of the limits, each by its test
 
--- a reader is opened where no more may be
+-- OPEN READER with one reader too many
 abbrev pub opens_too_many : readers.Limits → Bound → Bool
 opens_too_many l (OpenReader n) = nat_le most_readers (length l.names)
 opens_too_many l _ = false
 
--- the reader cannot be used so
+-- OPEN READER, READ or CLOSE READER with a reader that does not allow it
 abbrev pub is_unusable : readers.Limits → List TableDef → Bound → Bool
 is_unusable l defs (OpenReader n) = is_named n l.names
 is_unusable l defs (Read n q) = not (is_named n l.names) || reads_plain defs q
 is_unusable l defs (CloseReader n) = not (is_named n l.names)
 is_unusable l defs _ = false
 
--- what lies before the horizon is asked for, or the horizon is set to a moment before it
+-- a query reads moments before the horizon, or PRUNE HISTORY sets the horizon to an earlier moment
 abbrev pub is_too_early : readers.Limits → Bound → Bool
 is_too_early l (ChangeRows (InsertQuery t columns q)) = asks_before l.horizon q
 is_too_early l (AnswerQuery q) = asks_before l.horizon q
@@ -53,7 +53,7 @@ is_too_early l _ = false
 
 -- ---- statements
 
--- what the names say, with the faults by the limits in front of those of names, kinds, forms and literals
+-- the statement as it is bound; its faults are those of the limits, then those of names, types, forms and literals
 abbrev pub bind_under : readers.Limits → List TableDef → Statement → Checked Bound
 bind_under l defs s =
     let b : Checked Bound = bind defs s in record { value = b.value; faults = bound_faults l defs b.value ++ b.faults }

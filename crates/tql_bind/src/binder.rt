@@ -1,4 +1,7 @@
-//! The names of a statement, bound.
+//! Binding of a whole statement: from the syntax tree to resolved names. All faults of names, types, forms and literals
+//! are collected in one pass. Then the limits, the horizon and the open readers, are tested on the bound statement. Of
+//! all faults the first in the order of report is the refusal. CREATE TABLE is bound by `tql_bind_table`; no limit
+//! applies to it.
 ghost use Rattle.std.specs.Prelude.{◌≤◌, All, IsFalse, IsTrue, IfOk, length, not};
 ghost use Rattle.tql_spec.specs.Binding.{bind};
 ghost use Rattle.tql_bind.specs.Limited.{bind_under, limits_of};
@@ -27,7 +30,7 @@ use tql_memory::Memory;
 use tql_syntax_tree::statement::{CreateTree, Statement};
 use tql_value::refusal::Refusal;
 
-/// CREATE TABLE with its names bound.
+/// Binds CREATE TABLE.
 fn create(memory: Memory, tables: &Catalog, create: &CreateTree<'_>) -> Result<Bound, Refusal>
     requires narrow { IsFalse (is_too_wide (create_of create.now)) }
     ensures binds { Binds bound_of (bind (definitions_of tables.now) (create_of create.now)) result }
@@ -39,8 +42,8 @@ fn create(memory: Memory, tables: &Catalog, create: &CreateTree<'_>) -> Result<B
     }
 }
 
-/// A statement other than CREATE TABLE with its names bound. Faults: those of names, kinds, forms and literals. The
-/// only error is a refused growth.
+/// Binds a statement other than CREATE TABLE. Adds the faults of names, types, forms and literals. The only error is a
+/// refused allocation.
 fn bound(
     memory: Memory,
     tables: &Catalog,
@@ -91,7 +94,7 @@ fn bound(
     }
 }
 
-/// A statement other than CREATE TABLE, bound without a fault, or the first of its faults, those by the limits too.
+/// Binds a statement other than CREATE TABLE. Refused for the first of its faults, including those of the limits.
 fn faultless(
     memory: Memory,
     tables: &Catalog,
@@ -114,12 +117,16 @@ fn faultless(
     }
 }
 
-/// The statement with its names bound: one of at most 64 columns or 8 table references, over tables of at most 64
-/// columns. CREATE TABLE is bound whole, with its keys, references and checks. Refused: the first of the faults of
-/// names, kinds, forms and literals, and of those by the limits (a query that asks for what lies before the horizon,
-/// also an INSERT's or a READ's, and PRUNE HISTORY with a moment before it; a reader opened that is open, or beside 256
-/// others; one read or closed that is not open, or read for a table that is not versioned), in the order of report; or
-/// memory.
+/// Binds a statement of at most 64 columns and 8 table references, over tables of at most 64 columns. CREATE TABLE is
+/// bound with its keys, references and checks.
+///
+/// # Errors
+///
+/// The first fault in the order of report, of names, types, forms and literals, and of the limits; or a refused
+/// allocation. The faults of the limits are:
+/// * A query, also that of an INSERT or a READ, reads moments before the horizon, or PRUNE HISTORY would move it back.
+/// * OPEN READER names an open reader, or 256 readers are open.
+/// * READ or CLOSE READER names a reader that is not open, or READ reads a table that is not system-versioned.
 pub fn bind(
     memory: Memory,
     tables: &Catalog,
@@ -138,7 +145,7 @@ pub fn bind(
     }
 }
 
-/// Returns the byte offset of the name of the reader that a statement opens, reads or closes, or 0 where it has none.
+/// Returns the byte offset of the name of the reader that a statement opens, reads or closes. 0 if it has none.
 fn reader_start(statement: &Statement<'_>) -> u32 {
     match statement {
         Statement::OpenReader(name) | Statement::Read(name, _) | Statement::CloseReader(name) => {
@@ -148,7 +155,7 @@ fn reader_start(statement: &Statement<'_>) -> u32 {
     }
 }
 
-/// Returns what a fault is about, with the byte offset of the reader's name where the fault is one of readers.
+/// Returns what a fault is about, with the byte offset of the reader's name if it is a fault of readers.
 fn at_reader(about: About, statement: &Statement<'_>) -> About {
     match about.cause {
         Cause::TooManyReaders | Cause::NoReader | Cause::ReaderThere | Cause::PlainRead => {
@@ -158,8 +165,8 @@ fn at_reader(about: About, statement: &Statement<'_>) -> About {
     }
 }
 
-/// Returns what the first fault of a statement that `bind` refuses is about: its cause and its place. The statement is
-/// bound once more. Where `bind` refuses nothing, the cause is not known. The only error is a refused allocation.
+/// Returns what the first fault of a statement that `bind` refuses is about: its cause and its place. It binds the
+/// statement once more. If `bind` refuses nothing, the cause is unknown. The only error is a refused allocation.
 pub fn about(
     memory: Memory,
     tables: &Catalog,

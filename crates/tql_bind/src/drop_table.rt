@@ -1,4 +1,4 @@
-//! DROP TABLE.
+//! Binding of DROP TABLE.
 ghost use Rattle.std.specs.Prelude.{IfOk, option_map};
 ghost use Rattle.tql_spec.specs.Binding.{bind};
 ghost use Rattle.tql_spec.specs.Machine.{DropTable};
@@ -19,7 +19,7 @@ use tql_memory::Memory;
 use tql_syntax_tree::expression::Name;
 use tql_value::refusal::Refusal;
 
-/// Returns what the fault of a DROP of the table at this place, whose name is at `start`, is about.
+/// Returns what the fault of DROP TABLE is about: the table at this index, whose name is at `start`.
 fn about_drop(tables: &Catalog, place: Option<usize>, start: u32) -> About {
     let Some(place) = place else {
         return About::at(Cause::NoTable, start);
@@ -33,7 +33,7 @@ fn about_drop(tables: &Catalog, place: Option<usize>, start: u32) -> About {
     }
 }
 
-/// Adds a fault to those so far, if there is one.
+/// Adds a fault, if there is one.
 #[tactic(auto, using(tql_bind_expr::proofs::Gathering::gathering))]
 fn refuse_for(fault: Option<Refusal>, about: About, faults: &mut Faults)
     ensures { Gathers (names.refuse_for (listed (option_map refusal_of fault))) faults.old faults.new tt }
@@ -43,8 +43,8 @@ fn refuse_for(fault: Option<Refusal>, about: About, faults: &mut Faults)
     }
 }
 
-/// The place of the table that is dropped. The fault is the one that the catalog reports: no table has the name, or a
-/// reference names the table. The only error is a refused growth.
+/// Returns the index of the table to drop. Adds the fault that the catalog reports: no table has the name, or a
+/// reference names the table. The only error is a refused allocation.
 pub(crate) fn bind_drop(
     memory: Memory,
     tables: &Catalog,

@@ -1,4 +1,4 @@
-//! INSERT.
+//! Binding of INSERT.
 ghost use Rattle.std.specs.Prelude.{◌≤◌, All, IfOk, IsFalse, length};
 ghost use Rattle.tql_spec.specs.Binding.{bind};
 ghost use Rattle.tql_catalog.specs.Tables.{definitions_of};
@@ -16,10 +16,10 @@ use tql_catalog::catalog::Catalog;
 use tql_memory::Memory;
 use tql_syntax_tree::statement::{Insert, RowSource};
 
-/// INSERT with its names bound. Faults: no table has the name; a column of the list is unknown or repeated; a tuple
-/// has another number of cells than columns, or a cell of another kind than its column; a generated column in the
-/// list, an aggregate; a literal out of range; of a query, what it may be refused for, and that its output columns do
-/// not fit. The only error is a refused growth.
+/// Binds INSERT. Adds a fault if no table has the name, or if a column of the list is unknown, repeated or generated.
+/// The values of a tuple must be as many as the columns and fit their types; an aggregate or a literal out of range is
+/// a fault. For a query, adds the faults of the query, and one if its output columns do not fit. The only error is a
+/// refused allocation.
 pub(crate) fn insert(
     memory: Memory,
     tables: &Catalog,

@@ -1,4 +1,4 @@
-//! Names, kinds and forms: from the tree of a statement to what it does.
+//! The binder: from the syntax tree of a statement to a bound statement, with names resolved and types checked.
 #![tactic(auto)]
 
 pub mod binder;

@@ -1,4 +1,5 @@
-//! What names are bound under, and what that refuses.
+//! The limits that a statement is bound under: the horizon and the open readers. They are tested on the bound
+//! statement.
 ghost use Rattle.std.specs.Prelude.{◌≡◌, List, map, not, string_bytes};
 ghost use Rattle.std.specs.List.{list_any};
 ghost use Rattle.tql_spec.specs.Horizon as spec;
@@ -27,19 +28,19 @@ use tql_catalog::catalog::Catalog;
 use tql_value::refusal::Refusal;
 use tql_value::when::When;
 
-/// The most readers that are open at once. The limit is this project's choice.
+/// The greatest number of open readers. The limit is this project's choice.
 const MOST_READERS: usize = 256;
 
-/// What names are bound under.
+/// The limits that a statement is bound under.
 #[derive(Clone, Copy)]
 pub struct Limits<'a> {
-    /// The moment before which no query may ask, in microseconds since 1970-01-01.
+    /// The earliest moment that a query may read, in microseconds since 1970-01-01.
     pub horizon: i64,
-    /// The readers that are open.
+    /// The open readers.
     pub readers: &'a [Reader],
 }
 
-/// Whether a moment asked for, or the first of a range, lies before the horizon, also where the range is empty.
+/// Whether the moment to read, or the start of the range, is before the horizon. True even if the range is empty.
 fn is_before(when: When, limits: &Limits<'_>) -> bool
     ensures { result ≡ spec.is_before limits.now.horizon (when_of when) }
 {
@@ -51,7 +52,7 @@ fn is_before(when: When, limits: &Limits<'_>) -> bool
     }
 }
 
-/// Whether the reference of some join asks for what lies before the horizon.
+/// Whether the table reference of some join reads moments before the horizon.
 fn do_joins_ask_before(joins: &[Join], limits: &Limits<'_>) -> bool
     ensures { result ≡ list_any (asks limits.now.horizon) (map (λ (j : joined.Join). j.reference) joins.now) }
 {
@@ -60,14 +61,14 @@ fn do_joins_ask_before(joins: &[Join], limits: &Limits<'_>) -> bool
         .any(|join| is_before(join.reference.when, limits))
 }
 
-/// Whether some reference of a chain asks for what lies before the horizon.
+/// Whether some table reference of a chain reads moments before the horizon.
 fn does_chain_ask_before(chain: &Chain, limits: &Limits<'_>) -> bool
     ensures { result ≡ list_any (asks limits.now.horizon) (references_in chain.now) }
 {
     is_before(chain.first.when, limits) || do_joins_ask_before(&chain.joins, limits)
 }
 
-/// Whether some reference of a query asks for what lies before the horizon.
+/// Whether some table reference of a query reads moments before the horizon.
 fn does_ask_before(query: &BoundQuery, limits: &Limits<'_>) -> bool
     ensures { result ≡ spec.asks_before limits.now.horizon (bound_query_of query.now) }
 {
@@ -77,7 +78,7 @@ fn does_ask_before(query: &BoundQuery, limits: &Limits<'_>) -> bool
         .any(|chain| does_chain_ask_before(chain, limits))
 }
 
-/// Whether a bound statement asks for what lies before the horizon, or sets the horizon to a moment before it.
+/// Whether a bound statement reads moments before the horizon, or sets the horizon to an earlier moment.
 fn is_too_early(bound: &Bound, limits: &Limits<'_>) -> bool
     ensures { result ≡ limited.is_too_early (limits_of limits.now) (bound_of bound.now) }
 {
@@ -99,14 +100,14 @@ fn is_too_early(bound: &Bound, limits: &Limits<'_>) -> bool
     }
 }
 
-/// Whether a reference is to a table that is not versioned.
+/// Whether a table reference is to a table that is not system-versioned.
 fn is_plain(reference: &Reference, tables: &Catalog) -> bool
     ensures { result ≡ limited.is_plain (definitions_of tables.now) reference.now }
 {
     !tables.is_versioned(reference.table)
 }
 
-/// Whether the reference of some join is to a table that is not versioned.
+/// Whether some join is to a table that is not system-versioned.
 fn do_joins_read_plain(joins: &[Join], tables: &Catalog) -> bool
     ensures { result
         ≡ list_any (limited.is_plain (definitions_of tables.now)) (map (λ (j : joined.Join). j.reference) joins.now) }
@@ -114,14 +115,14 @@ fn do_joins_read_plain(joins: &[Join], tables: &Catalog) -> bool
     joins.iter().any(|join| is_plain(&join.reference, tables))
 }
 
-/// Whether some reference of a chain is to a table that is not versioned.
+/// Whether some table reference of a chain is to a table that is not system-versioned.
 fn does_chain_read_plain(chain: &Chain, tables: &Catalog) -> bool
     ensures { result ≡ list_any (limited.is_plain (definitions_of tables.now)) (references_in chain.now) }
 {
     is_plain(&chain.first, tables) || do_joins_read_plain(&chain.joins, tables)
 }
 
-/// Whether some reference of a query is to a table that is not versioned.
+/// Whether some table reference of a query is to a table that is not system-versioned.
 fn reads_plain(query: &BoundQuery, tables: &Catalog) -> bool
     ensures { result ≡ readers.reads_plain (definitions_of tables.now) (bound_query_of query.now) }
 {
@@ -131,7 +132,7 @@ fn reads_plain(query: &BoundQuery, tables: &Catalog) -> bool
         .any(|chain| does_chain_read_plain(chain, tables))
 }
 
-/// Whether this is the name of the reader.
+/// Whether the reader has this name.
 fn is_named(reader: &Reader, name: &str) -> bool
     ensures { result ≡ same_text name.now (string_bytes reader.now.name) }
 {
@@ -145,7 +146,7 @@ fn is_open(name: &str, limits: &Limits<'_>) -> bool
     limits.readers.iter().any(|reader| is_named(reader, name))
 }
 
-/// Whether a bound statement opens a reader where no more may be open.
+/// Whether a bound statement opens one reader too many.
 fn opens_too_many(bound: &Bound, limits: &Limits<'_>) -> bool
     ensures { result ≡ limited.opens_too_many (limits_of limits.now) (bound_of bound.now) }
 {
@@ -167,8 +168,8 @@ fn opens_too_many(bound: &Bound, limits: &Limits<'_>) -> bool
     }
 }
 
-/// Whether a bound statement opens a reader that is open, reads or closes one that is not, or reads a table that is not
-/// versioned.
+/// Whether a bound statement opens a reader that is open, or reads or closes one that is not. Also true if READ reads a
+/// table that is not system-versioned.
 fn is_unusable(bound: &Bound, tables: &Catalog, limits: &Limits<'_>) -> bool
     ensures { result ≡ limited.is_unusable (limits_of limits.now) (definitions_of tables.now) (bound_of bound.now) }
 {
@@ -190,8 +191,8 @@ fn is_unusable(bound: &Bound, tables: &Catalog, limits: &Limits<'_>) -> bool
     }
 }
 
-/// Returns what the fault of a reader is about that is open or not, against what the statement needs, or that reads a
-/// table that is not versioned.
+/// Returns what the fault of a reader is about: it is already open, it is not open, or it reads a table that is not
+/// system-versioned.
 fn about_reader(bound: &Bound, limits: &Limits<'_>) -> About {
     let cause = match bound {
         Bound::OpenReader(_) => Cause::ReaderThere,
@@ -201,7 +202,7 @@ fn about_reader(bound: &Bound, limits: &Limits<'_>) -> About {
     About::at(cause, 0)
 }
 
-/// The faults of a bound statement by the limits.
+/// Adds the faults of a bound statement that the limits cause.
 pub(crate) fn refuse_by_limits(
     bound: &Bound,
     tables: &Catalog,

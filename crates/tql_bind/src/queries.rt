@@ -1,4 +1,4 @@
-//! SELECT and READ.
+//! Binding of SELECT and READ.
 ghost use Rattle.std.specs.Prelude.{◌≤◌, All, IfOk, IsFalse, length};
 ghost use Rattle.tql_spec.specs.Binding.{bind};
 ghost use Rattle.tql_spec.specs.Machine.{AnswerQuery};
@@ -20,9 +20,9 @@ use tql_memory::Memory;
 use tql_syntax_tree::expression::Name;
 use tql_syntax_tree::statement::Query;
 
-/// SELECT with its names bound. Faults: no table has the name; a name is unknown, ambiguous or repeated; kinds do not
-/// fit; a form that is not allowed, as an aggregate in WHERE, or a column that is not grouped; a literal out of
-/// range. The only error is a refused growth.
+/// Binds SELECT. Adds a fault if no table has the name, or a name is unknown, ambiguous or repeated. Types that do not
+/// fit, and literals out of range, are faults too. So are forms that are not allowed, such as an aggregate in WHERE, or
+/// a column that is not grouped. The only error is a refused allocation.
 pub(crate) fn bind_query(
     memory: Memory,
     tables: &Catalog,
@@ -45,7 +45,7 @@ pub(crate) fn bind_query(
     Ok(query)
 }
 
-/// READ with its names bound; its faults are those of its query. The only error is a refused growth.
+/// Binds READ. Its faults are those of its query. The only error is a refused allocation.
 pub(crate) fn bind_read(
     memory: Memory,
     tables: &Catalog,

@@ -1,4 +1,4 @@
--- What the changes make, from what their parts make.
+-- The effect of the changes, from the effects of their parts.
 use Rattle.std.specs.Prelude.{◌≡◌, ℕ, ℤ, List, [], map, length, slice_index_or, All, Option, Some, None, Ok, Err}
 use Rattle.std.specs.Prelude.{Result, IsErr, IsErrAnd, pos}
 use Rattle.std.proofs.Common.{sym, ap, subst, ◌∙◌}
@@ -35,7 +35,7 @@ use Rattle.tql_expr.proofs.Printing.{RowsPrint}
 use Rattle.tql_dml.proofs.Texts.{tuples_print, coming_fit}
 use Rattle.tql_dml.proofs.Inserting.{new_cells, first_of}
 
--- a fault is told
+-- a fault is reported
 pub tells : (id : ℕ) (gone : List ℕ) (new : ℤ → List Stamped) (outcome : ℤ → Outcome) (e : Refusal)
     → ((m : ℤ) → first (outcome m).faults ≡ Some (refusal_of e)) → Alters id gone new outcome (Err e)
 tells id gone new outcome r.OutOfMemory h = tt
@@ -43,7 +43,7 @@ tells id gone new outcome e h = h
 
 -- ---- INSERT
 
--- rows that have a fault are refused
+-- rows with a fault are refused
 pub insert_refused : (d : TableDef) (id : ℕ) (js : List ℕ) (tuples rows : List Row) (e : Refusal) → IsDefinition d
     → rows ≡ map (stored_cells d js) tuples → Some (refusal_of e) ≡ first (rows_faults d rows)
     → Alters id [] (λ m. (added_rows d js (Some tuples) m).rows) (added_rows d js (Some tuples)) (Err e)
@@ -66,7 +66,7 @@ insert_adds d id js tuples delta s table removed rows count faults = record {
   sound = λ m. first_of d m js tuples (rows_of delta.added.items) None s rows faults;
 }
 
--- what is added fits the table
+-- added rows fit the table
 pub insert_fits : (d : TableDef) (js : List ℕ) (tuples rows : List Row) → IsDefinition d
     → All (All IsPrintable) tuples → rows ≡ map (stored_cells d js) tuples
     → None ≡ first (rows_faults d rows) → All (IsRowOf d) rows
@@ -84,7 +84,7 @@ insert_fits d js tuples rows s prints is none =
 pub values_print : (x : Insertion) (tuples : List Row) → tuples_in x ≡ Some tuples → All (All IsPrintable) tuples
 values_print x tuples v = subst RowsPrint v (tuples_print x.terms x.tuples.items)
 
--- an INSERT of tuples is that of their values
+-- an INSERT of tuples is an INSERT of their values
 pub of_values : (d : TableDef) (id : ℕ) (x : Insertion) (o p : Option (List Row)) (result : Result Delta Refusal)
     → o ≡ p
     → Alters id [] (λ m. (added_rows d x.columns.items p m).rows) (added_rows d x.columns.items p) result
@@ -108,11 +108,11 @@ insert_fails d id x e (Err why) h f = insert_ends d id x why (subst (Fails (tupl
 
 -- ---- UPDATE and DELETE
 
--- what a modification does to versions
+-- the effect of a modification on versions
 abbrev pub parts_of : TableDef → List Version → Modification → Option Parts
 parts_of d found x = parts d (portion_in x) (work_of x.terms x.work) (conds_in x) found
 
--- the fates of the versions, where all is evaluated
+-- the fates of the versions, if all evaluations are in range
 told : (d : TableDef) (found : List Version) (x : Modification) (p : Parts) (m : ℤ) → parts_of d found x ≡ Some p
     → (fs : List Fate) × ((fates d found x m ≡ Some fs) × Told fs (gone d x found) p)
 told d found x p m e =
@@ -144,7 +144,7 @@ modify_fails d id found x e (Ok delta) h f = absurd cc
 modify_fails d id found x e (Err why) h f =
     modify_ends d id found x why (subst (Fails (parts_of d found x)) (sym h.1) f)
 
--- the first fault of the rows that come
+-- the first fault of the added rows
 modify_faults : (d : TableDef) (found : List Version) (x : Modification) (p : Parts) (o : Option spec.Refusal)
     (m : ℤ) → IsDefinition d → AreRows d found → parts_of d found x ≡ Some p
     → o ≡ first (rows_faults d p.come) → first (modified d found x m).faults ≡ o
@@ -157,7 +157,7 @@ modify_faults d found x p o m s h e f =
     ∙ ap first (stored_faults d (change.new_rows t.0) s (subst (Fit d) (sym cells) fits))
     ∙ ap (λ rows. first (rows_faults d rows)) cells ∙ sym f
 
--- rows that have a fault are refused
+-- rows with a fault are refused
 pub modify_refused : (d : TableDef) (id : ℕ) (found : List Version) (x : Modification) (p : Parts) (e : Refusal)
     → IsDefinition d → AreRows d found → parts_of d found x ≡ Some p
     → Some (refusal_of e) ≡ first (rows_faults d p.come)
@@ -166,7 +166,7 @@ modify_refused d id found x p e s h v f =
     tells id (gone d x found) (λ m. coming (fates d found x m)) (modified d found x) e
     (λ m. modify_faults d found x p (Some (refusal_of e)) m s h v f)
 
--- rows without a fault come
+-- rows without a fault are added
 pub modify_gives : (d : TableDef) (id : ℕ) (found : List Version) (x : Modification) (p : Parts) (delta : Delta)
     → IsDefinition d → AreRows d found → parts_of d found x ≡ Some p
     → delta.table ≡ id → delta.removed.items ≡ p.gone → rows_of delta.added.items ≡ p.come → delta.count ≡ length p.gone
@@ -184,7 +184,7 @@ modify_gives d id found x p delta s h v table removed rows count faults = record
   sound = λ m. modify_faults d found x p None m s h v faults;
 }
 
--- what comes fits the table
+-- added rows fit the table
 pub modify_fits : (d : TableDef) (found : List Version) (x : Modification) (p : Parts) (rows : List Row)
     → IsDefinition d → AreRows d found → parts_of d found x ≡ Some p → rows ≡ p.come
     → None ≡ first (rows_faults d p.come) → All (IsVersionOf d) found → AreTyped d found x → All (IsRowOf d) rows

@@ -1,4 +1,4 @@
--- Conditions that read no generated column, on rows that differ in those alone.
+-- Conditions that read no generated column, on rows that differ in generated columns only.
 use Rattle.std.proofs.Common.{◌≡◌, ℕ, Bool, true, false, not, ◌||◌, List, [], ◌∷◌, ◌++◌, length, refl, ap}
 use Rattle.std.specs.Prelude.{pos, Some}
 use Rattle.std.specs.List.{list_all}
@@ -35,7 +35,7 @@ module _ (p : ℕ → Bool) (x y : Row) (alike : (i : ℕ) → p i ≡ false →
   same_value CountRows h = refl
   same_value (Aggregate f e) h = refl
 
-  -- no truth of a condition in which no such column stands differs
+  -- a condition without such columns has the same truth value
   same_truth : (c : Cond) → has_expr names c ≡ false → judge [] x c ≡ judge [] y c
   same_truth (Compare s a b) h =
       let q = or_parts (names a) (names b) h in
@@ -60,7 +60,7 @@ module _ (p : ℕ → Bool) (x y : Row) (alike : (i : ℕ) → p i ≡ false →
       let q = or_parts (has_expr names c) (has_expr names d) h in
       (λ i. both or (same_truth c q.0 i) (same_truth d q.1 i))
 
--- ---- the checks of a table
+-- ---- the CHECKs of a table
 
 none_generated : (a g : Bool) → not (a || g) ≡ true → g ≡ false
 none_generated true g h = absurd cc
@@ -76,7 +76,7 @@ each_law d x y alike (c ∷ cs) h =
     (none_generated (has_expr has_aggregate c) (has_expr (uses_column (is_generated d)) c) p.0) in
     (λ i. check_fault (here i) ++ each_law d x y alike cs p.1 i)
 
--- a row's faults by the checks of its table are those of its stored cells, whichever moments stand in the others
+-- the CHECKs of a table depend on the stored cells of a row only, whatever the moments in the generated columns
 pub checks_law : (d : TableDef) (r : Stamped) → IsDefinition d → length r.cells ≡ length (kept d.system d.columns)
     → checks_faults d.checks (shown d r) ≡ checks_faults d.checks (unstamped d r.cells)
 checks_law d r h k =

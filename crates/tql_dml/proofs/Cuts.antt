@@ -16,7 +16,7 @@ map_whole : (d : TableDef) (rows : List Row) → map (within d None) rows ≡ ro
 map_whole d [] = refl
 map_whole d (row ∷ rows) = ap {B = List Row} (λ rs. row ∷ rs) (map_whole d rows)
 
--- the row is left whole
+-- the row is not cut
 pub whole_cut : (d : TableDef) (row : Row)
     → Cuts d None row (Some (record { before = None; inside = None; after = None }))
 whole_cut d row = record {
@@ -34,7 +34,7 @@ rising_is x p e = by_rises (rises x) e
     by_rises true e = cc
     by_rises false e = absurd (cc)
 
--- a part that is not there does not rise, and one that is does
+-- a missing part does not rise, and a part that is there does
 none_of : (x : Period) → [] ≡ if_any x → rises x ≡ false
 none_of x e = by_rises (rises x) refl e
   where
@@ -49,7 +49,7 @@ one_of x y e = by_rises (rises x) refl e
     by_rises true r e = (r, cc)
     by_rises false r e = absurd (cc)
 
--- the period of a row, by the code's
+-- the period of a row as the code computes it
 period_is : (d : TableDef) (row : Row) (o : Option code.Period) (p : code.Period) → o ≡ Some p
     → option_map points_of o ≡ where_rising (period_of d row) → points_of p ≡ period_of d row
 period_is d row o p is e = rising_is (period_of d row) (points_of p) (sym (ap (option_map points_of) is) ∙ e)
@@ -65,7 +65,7 @@ none_inside d portion row o p None is e i none =
     ap (λ (x : Period). share_a_point x portion) (sym (period_is d row o p is e))
     ∙ none_of (inside portion (points_of p)) i
 
--- the parts of a row that is reached
+-- the parts of a row that is touched
 pub some_inside : (d : TableDef) (portion : Period) (row : Row) (o : Option code.Period) (p : code.Period)
     (cut : Pieces) → o ≡ Some p
     → option_map points_of o ≡ where_rising (period_of d row)

@@ -1,4 +1,4 @@
--- Cells and checks by their numbers.
+-- Cells and CHECKs by their numbers.
 use Rattle.std.proofs.Common.{◌≡◌, ℕ, List}
 use Rattle.std.specs.Prelude.{option_map, slice_get}
 use Rattle.std.proofs.lemmas.Option.{slice_get-map}

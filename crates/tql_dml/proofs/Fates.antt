@@ -1,4 +1,4 @@
--- What becomes of versions, by the definitions' fates and by what goes and comes.
+-- The effect on versions, by the fates of the definitions and by the removed and added rows.
 use Rattle.std.specs.Prelude.{◌≡◌, refl, ℕ, suc, ◌+◌, ◌<◌, ℤ, Bool, true, false, cond, List, [], ◌∷◌, ◌++◌, map}
 use Rattle.std.specs.Prelude.{filter, length, slice_index_or, Option, Some, None, ⊤}
 use Rattle.std.proofs.Common.{sym, ap, subst, append_assoc, ◌∙◌, drop}
@@ -43,7 +43,7 @@ one_more_version d portion work conds vs i v p n all l is e h =
 
 -- ---- the fates
 
--- what goes and comes is what the fates say
+-- the removed ids and the added rows are those of the fates
 pub record Told (fs : List Fate) (ids : List ℕ) (p : Parts) : Type 0 where
   pub come : map (λ (r : Stamped). r.cells) (new_rows fs) ≡ p.come
   pub gone : ids ≡ p.gone
@@ -92,7 +92,7 @@ step d m cut v kept (Some false) made None (Some q) h = absurd h
 step d m cut v kept (Some false) made (Some fs) None h = absurd h
 step d m cut v kept (Some false) made (Some fs) (Some q) h = record { come = h.come; gone = h.gone; count = h.count }
 
--- the fates of versions' rows say what goes and comes
+-- the fates of the versions' rows agree with the effect
 pub fates_agree : (d : TableDef) (m : ℤ) (portion : Option Period) (work : Work) (conds : List Cond) (vs : List Version)
     → Agree (map_all (λ r. fate d m portion work conds (shown d r)) (rows_in vs))
     (ids_of (filter (λ (v : Version). is_yes (is_touched d portion conds (shown d (version_of v).row))) vs))
@@ -106,7 +106,7 @@ fates_agree d m portion work conds (v ∷ vs) =
     (map_all (λ r. fate d m portion work conds (shown d r)) (rows_in vs)) (parts d portion work conds vs)
     (fates_agree d m portion work conds vs)
 
--- where all is evaluated, so are the fates
+-- if all evaluations are in range, so are the fates
 pub agreed : (fs : Option (List Fate)) (ids : List ℕ) (q : Option Parts) (p : Parts) → q ≡ Some p → Agree fs ids q
     → (gs : List Fate) × ((fs ≡ Some gs) × Told gs ids p)
 agreed None ids None p e h = absurd cc
@@ -114,7 +114,7 @@ agreed None ids (Some q) p e h = absurd h
 agreed (Some gs) ids None p e h = absurd h
 agreed (Some gs) ids (Some q) p e h = let same : q ≡ p = cc in (gs, (refl, subst (λ x. Told gs ids x) same h))
 
--- and where it is not, neither are they
+-- if an evaluation is out of range, so are the fates
 pub disagreed : (fs : Option (List Fate)) (ids : List ℕ) (q : Option Parts) → q ≡ None → Agree fs ids q → fs ≡ None
 disagreed None ids q e h = refl
 disagreed (Some gs) ids None e h = absurd h

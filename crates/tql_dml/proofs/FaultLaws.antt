@@ -1,4 +1,4 @@
--- The faults of new rows: those of the cells that are stored, and the first of them.
+-- The faults of new rows: those of the stored cells, and the first of them.
 use Rattle.std.specs.Prelude.{◌≡◌, refl, ℕ, zero, suc, ◌+◌, ◌<◌, ◌≤◌, ◌≢◌, ℤ, pos, Bool, true, false, not, ◌&&◌, ◌||◌}
 use Rattle.std.specs.Prelude.{nat_lt, List, [], ◌∷◌, ◌++◌, map, length, insert, remove, slice_index_or, zip, Option}
 use Rattle.std.specs.Prelude.{Some, None, Vec, if◌then◌else◌}
@@ -66,7 +66,7 @@ shown_by s cs cells m e false h w k =
     moment_in cs (insert cells s.end (Moment e)) s.start m w.start (omega arith)
     ∙ moment_in (remove cs s.start) cells s.end e (omega arith) (omega arith)
 
--- the faults of a row as it is shown are those of its stored cells
+-- the faults of a full row are those of its stored cells
 pub shown_law : (s : Option System) (cs : List Column) (cells : Row) (m e : ℤ) → has_system s (length cs) ≡ true
     → length cells ≡ length (kept s cs)
     → cell_faults cs (with_generated s cells m e) ≡ cell_faults (kept s cs) cells
@@ -89,7 +89,7 @@ same_fall : (o : Option Application) (row other : Row) → SameEnds o row other 
 same_fall None row other e = refl
 same_fall (Some a) row other e = λ i. falls (e.start i) (e.end i)
 
--- whichever moments stand in the generated columns
+-- the same, whatever the moments in the generated columns
 period_law : (d : TableDef) (r : Stamped) → IsDefinition d → length r.cells ≡ length (kept d.system d.columns)
     → period_faults d (shown d r) ≡ fault_if (falls_by d.application (unstamped d r.cells)) PeriodNotRising
 period_law d r h k =
@@ -106,7 +106,7 @@ plain_faults d r h k =
 
 -- ---- the first fault of a row's cells
 
--- by whether some text is too long, and whether some value is missing
+-- the fault, from whether a text is too long and whether a value is missing
 abbrev pub verdict : Bool → Bool → Option Refusal
 verdict true b = Some ValueOutOfRange
 verdict false true = Some NullNotAllowed
@@ -137,19 +137,19 @@ cells_first (k ∷ ks) (v ∷ vs) =
     first_append here (cell_faults ks vs) ∙ ap (sooner (first here)) (cells_first ks vs)
     ∙ one_cell p q (has_long_text ks vs) (lacks_a_value ks vs)
 
--- what the two tests say, of the columns as the code has them
+-- the results of the two tests, with the columns as the code has them
 pub verdict_is : (cs stored : List Column) (row : Row) (a b : Bool) → cs ≡ stored → a ≡ has_long_text cs row
     → b ≡ lacks_a_value cs row → verdict a b ≡ first (cell_faults stored row)
 verdict_is cs stored row a b is e f =
     (λ i. verdict (e i) (f i)) ∙ sym (cells_first cs row) ∙ ap (λ ks. first (cell_faults ks row)) is
 
--- ---- the first fault of lists one behind the other
+-- ---- the first fault of lists in order
 
 first_listed : (o : Option Refusal) → first (listed o) ≡ o
 first_listed None = refl
 first_listed (Some e) = refl
 
--- their first faults stand for them
+-- the first fault of two lists is that of their first faults
 pub first_of_both : (xs ys : List Refusal) (o p : Option Refusal) → o ≡ first xs → p ≡ first ys
     → first (listed o ++ listed p) ≡ first (xs ++ ys)
 first_of_both xs ys o p e f =
@@ -157,12 +157,12 @@ first_of_both xs ys o p e f =
     ∙ (λ i. sooner ((first_listed o ∙ e) i) ((first_listed p ∙ f) i))
     ∙ sym (first_append xs ys)
 
--- what was found so far stands before what is left
+-- the first fault so far, and those of the items left, give the first of all
 abbrev pub Finds : {X Y : Type 0} → (Y → List Refusal) → (X → Y) → List X → Option Refusal → ℕ → Type 0
 Finds f g xs found i =
     first (listed found ++ flat_map f (map g (drop i xs))) ≡ first (flat_map f (map g xs))
 
--- one more is found, at an index
+-- one more item, at an index
 pub find_at : {X Y : Type 0} (f : Y
     → List Refusal) (g : X → Y) (xs : List X) (i : ℕ) (x : X) (found here next : Option Refusal)
     → i < length xs → here ≡ first (f (g (get_or xs i x))) → next ≡ first (listed found ++ listed here)
@@ -179,7 +179,7 @@ find_at f g xs i x found here next inside h n l =
     ∙ sym (at_drop_more (λ ys. first (listed found ++ flat_map f (map g ys))) xs i x inside)
     ∙ l
 
--- one more is found, which stands there
+-- one more item, which is there
 pub find_one : {X Y : Type 0} (f : Y
     → List Refusal) (g : X → Y) (xs : List X) (i : ℕ) (x : X) (found here next : Option Refusal)
     → i < length xs → x ≡ get_or xs i x → here ≡ first (f (g x)) → next ≡ first (listed found ++ listed here)
@@ -187,7 +187,7 @@ pub find_one : {X Y : Type 0} (f : Y
 find_one f g xs i x found here next inside is h n l =
     find_at f g xs i x found here next inside (h ∙ ap (λ y. first (f (g y))) is) n l
 
--- none is left
+-- no item is left
 pub found_all : {X Y : Type 0} (f : Y
     → List Refusal) (g : X → Y) (xs : List X) (i : ℕ) (found : Option Refusal) → length xs ≤ i
     → Finds f g xs found i → found ≡ first (flat_map f (map g xs))

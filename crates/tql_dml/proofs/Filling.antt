@@ -1,4 +1,4 @@
--- The cells of a new row: their number, their values, and the row whose values are given in order.
+-- The cells of a new row: their number, their values, and rows whose values are given in order.
 use Rattle.std.specs.Prelude.{◌≡◌, refl, ℕ, ◌<◌, Bool, true, false, not, ◌&&◌, ◌||◌, ◌==◌, nat_lt, List, [], ◌∷◌, map}
 use Rattle.std.specs.Prelude.{filter, length, replicate, slice_set, slice_index_or, All, Vec, nat_eq, Option}
 use Rattle.std.specs.Prelude.{Some, None}
@@ -35,7 +35,7 @@ neither_right : (a b : Bool) → a || b ≡ false → b ≡ false
 neither_right true b h = absurd cc
 neither_right false b h = h
 
--- a column that is not filled
+-- a column without a given value
 not_filled : (row : Row) (js : List ℕ) (vs : Row) (i : ℕ) → has_number i js ≡ false
     → cell (filled row js vs) i ≡ cell row i
 not_filled row [] vs i h = refl
@@ -48,7 +48,7 @@ not_filled row (j ∷ js) (v ∷ vs) i h =
 abbrev is_open : TableDef → ℕ → Bool
 is_open d i = nat_lt i (length d.columns) && not (is_generated d i)
 
--- the cells of the columns that are filled
+-- the cells of the columns with a given value
 filled_cells : (d : TableDef) (row : Row) (js : List ℕ) (vs : Row) → length row ≡ length d.columns
     → length vs ≡ length js
     → list_all (is_open d) js ≡ true → numbers_repeat js ≡ false → map (cell (filled row js vs)) js ≡ vs
@@ -76,7 +76,7 @@ without_is (Some s) row = refl
 pub length-row : (d : TableDef) (js : List ℕ) (vs : Row) → length (new_row d js vs) ≡ length d.columns
 length-row d js vs = length-filled (replicate (length d.columns) Null) js vs ∙ length-replicate (length d.columns) Null
 
--- the cells of the columns that are not generated, in order
+-- the cells of the stored columns, in order
 pub kept_cells : (d : TableDef) (row : Row) → IsDefinition d → length row ≡ length d.columns
     → without_generated d.system row ≡ map (cell row) (all_assignable d)
 kept_cells d row s k =
@@ -89,7 +89,7 @@ stored_law : (d : TableDef) (js : List ℕ) (vs : Row) → IsDefinition d
     → stored_cells d js vs ≡ map (cell (new_row d js vs)) (all_assignable d)
 stored_law d js vs s = kept_cells d (new_row d js vs) s (length-row d js vs)
 
--- a new row whose values are given for all its columns in order
+-- a new row with a value for each stored column, in order
 pub usual_row : (d : TableDef) (js : List ℕ) (vs : Row) → IsDefinition d → js ≡ all_assignable d
     → are_assignable d js ≡ true → length vs ≡ length js → stored_cells d js vs ≡ vs
 usual_row d js vs s e a k =
@@ -111,7 +111,7 @@ printable_filled row (j ∷ js) (v ∷ vs) p q =
     printable_filled (slice_set row j v) js vs (All-set IsPrintable row j v (All-head IsPrintable v vs q) p)
     (All-tail IsPrintable v vs q)
 
--- what is stored
+-- the stored values
 pub stored_prints : (d : TableDef) (js : List ℕ) (vs : Row) → IsDefinition d → All IsPrintable vs
     → All IsPrintable (stored_cells d js vs)
 stored_prints d js vs s h =
@@ -123,7 +123,7 @@ stored_prints d js vs s h =
     (All-map IsPrintable (cell row) (all_assignable d)
     (λ k i l. printable_cell row (slice_index_or (all_assignable d) k i) printable))
 
--- new rows whose values are given for all columns in order
+-- new rows with a value for each stored column, in order
 pub usual_rows : {A : Type 0} (d : TableDef) (js : List ℕ) (tuples : List (Vec Value A)) → IsDefinition d
     → js ≡ all_assignable d → are_assignable d js ≡ true
     → list_all (λ (t : Vec Value A). nat_eq (length t.items) (length js)) tuples ≡ true

@@ -1,4 +1,4 @@
--- What an insert makes, from what its parts make.
+-- The effect of an INSERT, from the effects of its parts.
 use Rattle.std.specs.Prelude.{◌≡◌, refl, ℕ, ℤ, List, [], ◌∷◌, ◌++◌, map, length, Option}
 use Rattle.std.specs.List.{flat_map}
 use Rattle.std.proofs.Common.{sym, ap, ◌∙◌}
@@ -16,11 +16,11 @@ use Rattle.tql_catalog.proofs.Kept.{kept, kept_law}
 use Rattle.tql_dml.proofs.FaultLaws.{plain_faults}
 use Rattle.tql_dml.proofs.Filling.{length-stored}
 
--- the new rows of a moment: these values in these columns, and null in the others
+-- the new rows at a moment: these values in these columns, and NULL in the others
 abbrev pub new_rows : TableDef → ℤ → List ℕ → List Row → List Stamped
 new_rows d m columns tuples = map (λ values. stamped d m (new_row d columns values)) tuples
 
--- all that they can be refused for
+-- all faults of the new rows
 abbrev pub new_faults : TableDef → ℤ → List ℕ → List Row → List spec.Refusal
 new_faults d m columns tuples = flat_map (λ r. row_faults d (shown d r)) (new_rows d m columns tuples)
 
@@ -30,7 +30,7 @@ pub new_cells : (d : TableDef) (m : ℤ) (js : List ℕ) (tuples : List Row)
 new_cells d m js [] = refl
 new_cells d m js (vs ∷ tuples) = ap {B = List Row} (λ rows. stored_cells d js vs ∷ rows) (new_cells d m js tuples)
 
--- the columns that are not generated
+-- the stored columns
 pub kept_columns : (d : TableDef) → IsDefinition d → kept d.system d.columns ≡ stored_columns d
 kept_columns d s = kept_law no_column d.system d.columns (has_its_system d s)
 
@@ -48,7 +48,7 @@ faults_are : (d : TableDef) (m : ℤ) (js : List ℕ) (tuples : List Row) → Is
 faults_are d m js [] s = refl
 faults_are d m js (vs ∷ tuples) s = λ i. one_row d m js vs s i ++ faults_are d m js tuples s i
 
--- the first fault of the new rows, from that of what is stored
+-- the first fault of the new rows is that of their stored cells
 pub first_of : (d : TableDef) (m : ℤ) (js : List ℕ) (tuples rows : List Row) (o : Option spec.Refusal)
     → IsDefinition d → rows ≡ map (stored_cells d js) tuples
     → o ≡ first (rows_faults d rows) → first (new_faults d m js tuples) ≡ o

@@ -1,4 +1,4 @@
--- What a modification makes of the rows of a table, from what it made of the versions that were read.
+-- The rows of a table after a modification, from its effect on the versions that were read.
 use Rattle.std.proofs.Common.{◌≡◌, refl, ap, sym, subst, ◌∙◌, Bool, true, false, List, [], ◌∷◌, ◌++◌, map, filter}
 use Rattle.std.proofs.Common.{cond, Option, Some, None}
 use Rattle.std.specs.Prelude.{ℤ, not}
@@ -17,7 +17,7 @@ use Rattle.tql_spec.specs.ChangeLaws.{goes, SameOutcome, ChangesKeepNoOrder, Cha
 use Rattle.tql_store.specs.Changes.{starting, rows_after}
 use Rattle.tql_dml.specs.Alters.{is_yes, coming}
 
--- ---- lists of what may be missing
+-- ---- lists of optional values
 
 -- both parts of a list that is there
 front : {A : Type 0} (o : Option A) (os : Option (List A)) (zs : List A) → with_front o os ≡ Some zs
@@ -29,7 +29,7 @@ front {A} (Some y) (Some ys) zs e = (y, ys, refl, refl, same (y ∷ ys) zs e)
     same : (us vs : List A) → Some us ≡ Some vs → vs ≡ us
     same us vs e = cc
 
--- new rows of a moment
+-- new rows at a moment
 abbrev begun_at : ℤ → List Row → List Stamped
 begun_at m rows = map (starting m) rows
 
@@ -40,11 +40,11 @@ touches d portion conds r = is_yes (is_touched d portion conds (shown d r))
 -- the laws of changes, as tql_spec states them
 module _ (no_order : ChangesKeepNoOrder) (by_parts : ChangesByParts) (d : TableDef) (m : ℤ) (portion : Option Period)
     (work : Work) (conds : List Cond) where
-  -- what becomes of a row
+  -- the fate of a row
   abbrev fate_of : Stamped → Option Fate
   fate_of r = fate d m portion work conds (shown d r)
 
-  -- ---- a row that goes is one that is touched
+  -- ---- a removed row is one that is touched
 
   abbrev made_fate : Row → List Row → Option Fate
   made_fate row made = Some (Replaced (map (stamped d m) (pieces d portion row made)))
@@ -61,7 +61,7 @@ module _ (no_order : ChangesKeepNoOrder) (by_parts : ChangesByParts) (d : TableD
       → cond (not a) (r ∷ xs) xs ≡ cond (not b) (r ∷ ys) ys
   stay_by a b r xs ys e f = λ i. cond (not (e i)) (r ∷ f i) (f i)
 
-  -- so the same rows stay
+  -- the same rows stay
   same_stay : (rows : List Stamped) (fs : List Fate) → map_all fate_of rows ≡ Some fs
       → filter (λ r. not (goes (fate_of r))) rows ≡ filter (λ r. not (touches d portion conds r)) rows
   same_stay [] fs e = refl
@@ -73,7 +73,7 @@ module _ (no_order : ChangesKeepNoOrder) (by_parts : ChangesByParts) (d : TableD
 
   -- ---- new rows begin at the moment
 
-  -- rows that are their cells, begun at the moment
+  -- rows that are their cells, beginning at the moment
   abbrev Begun : List Stamped → Type 0
   Begun rows = rows ≡ begun_at m (map (λ (r : Stamped). r.cells) rows)
 
@@ -124,9 +124,9 @@ module _ (no_order : ChangesKeepNoOrder) (by_parts : ChangesByParts) (d : TableD
       (news_begun (shown d r) (is_touched d portion conds (shown d r)) (made_of work (shown d r)) k.0 k.2)
       (all_begun rows k.1 k.3))
 
-  -- ---- the rows after it
+  -- ---- the rows after the change
 
-  -- where there is no fault, no fate is missing
+  -- without a fault no fate is missing
   pub fates_there : (rows : List Stamped) (o : Option (List Fate)) → map_all fate_of rows ≡ o
       → first (modify d m rows portion work conds).faults ≡ None → (fs : List Fate) × (o ≡ Some fs)
   fates_there rows None e k = absurd (missing rows e k)
@@ -136,7 +136,7 @@ module _ (no_order : ChangesKeepNoOrder) (by_parts : ChangesByParts) (d : TableD
       missing xs e k = cc
   fates_there rows (Some fs) e k = (fs, refl)
 
-  -- the rows that stay, and those that come, begun at the moment
+  -- the rows that stay, and the added rows, beginning at the moment
   pub made_after : (rows : List Stamped) (fs : List Fate) (added : List Row) → map_all fate_of rows ≡ Some fs
       → map (λ (r : Stamped). r.cells) (new_rows fs) ≡ added
       → SameBag (after_fates rows fs) (rows_after m (touches d portion conds) added rows)
@@ -146,7 +146,7 @@ module _ (no_order : ChangesKeepNoOrder) (by_parts : ChangesByParts) (d : TableD
       (λ i. same_stay rows fs e i ++ (all_begun rows fs e ∙ ap (begun_at m) cells) i)
       parts
 
-  -- what it makes of any rows that are the same bag as those that were read
+  -- its effect on any rows that are the same bag as those read
   pub rows_made : (read rows : List Stamped) (added : List Row) → SameBag read rows
       → first (modify d m read portion work conds).faults ≡ None
       → map (λ (r : Stamped). r.cells) (coming (map_all fate_of read)) ≡ added

@@ -1,4 +1,4 @@
--- What a change of a portion makes of a row has values that have texts: each part's period lies within the row's.
+-- The values that a change of a portion makes have texts: the period of each part lies within the row's.
 use Rattle.std.specs.Prelude.{◌≡◌, refl, ℤ, ◌≤ℤ◌, Bool, true, false, IsTrue, List, [], ◌∷◌, ◌++◌, map, All, Option}
 use Rattle.std.specs.Prelude.{Some, None, if◌then◌else◌}
 use Rattle.std.proofs.Common.{sym, ap, subst, ◌∙◌, arith, inl, inr}
@@ -27,20 +27,20 @@ pub record LiesWithin (x p : Period) : Type 0 where
   pub end_from : x.start ≤ℤ p.end
   pub end_to : p.end ≤ℤ x.end
 
--- a row of a table whose values are of its kinds and have texts, without null in the columns of its period
+-- a row of a table whose values have texts and are of its kinds, with no NULL in the columns of its period
 pub record IsRight (d : TableDef) (row : Row) : Type 0 where
   pub kinds : AreOfKinds (kinds_of d) row
   pub period : HasPeriod d row
   pub prints : All IsPrintable row
 
--- a point between two days is a day; likewise of moments
+-- a point between two days is a day; the same for moments
 day_between : (s e p : ℤ) → IsDay s → IsDay e → s ≤ℤ p → p ≤ℤ e → IsDay p
 day_between s e p h k l m = let low = h.0 in let up = k.1 in (omega (arith, ints), omega (arith, ints))
 
 moment_between : (s e p : ℤ) → IsMoment s → IsMoment e → s ≤ℤ p → p ≤ℤ e → IsMoment p
 moment_between s e p h k l m = let low = h.0 in let up = k.1 in (omega (arith, ints), omega (arith, ints))
 
--- a point between those of a row's period has a text in another row's columns of it
+-- a point in a row's period has a text in another row's columns of the period
 start_prints : (d : TableDef) (a : Application) (row other : Row) → d.application ≡ Some a
     → IsTrue (are_ends (column_kind d a.start) (column_kind d a.end)) → IsRight d row → IsRight d other
     → (p : ℤ) → (period_of d row).start ≤ℤ p → p ≤ℤ (period_of d row).end
@@ -130,7 +130,7 @@ inside_within x portion r =
       end_to = grind (arith, ints, clamps);
     }
 
--- the rows that replace a touched one
+-- the rows that replace a touched row
 pub pieces_print : (d : TableDef) → IsTypedDefinition d → (portion : Period) (work : Work)
     → IsTypedWork d (Some portion) work → (row : Row) → IsRight d row
     → share_a_point (period_of d row) portion ≡ true → (made : List Row) → made_of work row ≡ Some made

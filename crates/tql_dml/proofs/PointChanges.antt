@@ -1,4 +1,5 @@
--- What is given of a table is, at each point, what the change as the point is given it makes of the slice.
+-- At each point, the slice of the table after a change is what the plain change of that point makes of the slice
+-- before.
 use Rattle.std.proofs.Common.{◌≡◌, refl, sym, ap, subst, ◌∙◌, ℕ, Bool, true, false, List, [], ◌∷◌, ◌++◌, map, filter}
 use Rattle.std.proofs.Common.{cond, inl, inr}
 use Rattle.std.specs.Prelude.{ℤ, not, Option, Some, None, Result, Ok, Err, IfOk}
@@ -36,11 +37,11 @@ use Rattle.tql_dml.proofs.Modified.{touches, fates_there, made_after}
 
 -- ---- the versions that stay, by their ids
 
--- versions whose ids differ
+-- versions with different ids
 abbrev AreApart : List Version → Type 0
 AreApart found = Apart (map (λ (v : Version). v.id) found)
 
--- two with one id are one
+-- versions with the same id are equal
 one_version : (found : List Version) → AreApart found → (u v : Version) → In u found → In v found → u.id ≡ v.id → u ≡ v
 one_version [] a u v m n e = absurd m
 one_version (x ∷ xs) a u v (inl p) (inl q) e = p ∙ sym q
@@ -59,7 +60,7 @@ same_filter p q (x ∷ xs) h =
     ap (λ b. cond b (x ∷ filter p xs) (filter p xs)) (h x (inl refl))
     ∙ ap (λ ys. cond (q x) (x ∷ ys) ys) (same_filter p q xs (λ y m. h y (inr m)))
 
--- a version's id is among those that a test keeps, where the test keeps it
+-- the id of a version is among the ids kept by a test if and only if the test keeps the version
 id_kept : (t : Version → Bool) (found : List Version) → AreApart found → (v : Version) → In v found
     → has_number v.id (map (λ (z : Version). z.id) (filter t found)) ≡ t v
 id_kept t found a v m = by_bool (t v)
@@ -72,7 +73,7 @@ id_kept t found a v m = by_bool (t v)
 
 -- ---- bags
 
--- the slices of one bag are one bag
+-- the slices of a bag are a bag
 slice_same : (defs : List TableDef) (d : TableDef) → IsPointTable defs d → (p : ℤ) (xs ys : List Stamped)
     → SameBag xs ys → (w : Row → ℕ)
     → sum_by w (slice d p (map (shown d) xs)) ≡ sum_by w (slice d p (map (shown d) ys))
@@ -131,7 +132,7 @@ starts_so d m columns [] = refl
 starts_so d m columns (t ∷ ts) =
     ap {B = List Stamped} (λ rows. stamped d m (new_row d columns t) ∷ rows) (starts_so d m columns ts)
 
--- the rows after an INSERT of values that are there, and its faults
+-- the rows after an INSERT of given values, and its faults
 inserted_rows : (d : TableDef) (m : ℤ) (rows : List Stamped) (columns : List ℕ) (o : Option (List Row))
     (added : List Row) → first (insert d m [] columns o).faults ≡ None
     → map (λ (r : Stamped). r.cells) (insert d m [] columns o).rows ≡ added

@@ -1,4 +1,4 @@
--- A change of a table is refused as the points refuse the changes that they are given.
+-- A change of a table is refused as the points refuse their plain changes.
 use Rattle.std.proofs.Common.{◌≡◌, refl, ap, ◌∙◌, ℕ, List, []}
 use Rattle.std.specs.Prelude.{ℤ, Option, Some, None, Result, Ok, Err}
 use Rattle.tql_spec.specs.Datum.{Row}
@@ -24,7 +24,7 @@ use Rattle.tql_dml.specs.PointChanges.{exprs_in}
 use Rattle.tql_dml.specs.PointRefusals.{IsRefusedAsPoints, modified_at, inserted_at, RefusesModificationAsPoints}
 use Rattle.tql_dml.specs.PointRefusals.{RefusesInsertionAsPoints}
 
--- what refuses an outcome exactly with its first fault refuses it as the points do, where its first fault is theirs
+-- if a result refuses an outcome exactly with its first fault, it refuses as the points do if that is their first fault
 refused_so : (id : ℕ) (gone : List ℕ) (new : ℤ → List Stamped) (outcome : ℤ → Outcome) (m : ℤ) (given : ℤ → Outcome)
     (result : Result Delta Refusal)
     → (first (outcome m).faults ≡ None → (p : ℤ) → (given p).faults ≡ [])

@@ -1,4 +1,4 @@
--- Values taken out of a row, told of their data; and values that are added one by one.
+-- Values removed from a row, as data; and values added one after another.
 use Rattle.std.specs.Prelude.{◌≡◌, refl, min, ℕ, suc, ◌+◌, ◌<◌, ◌≤◌, List, [], ◌∷◌, ◌++◌, map, take, drop, remove}
 use Rattle.std.specs.Prelude.{length, Option, Some, option_map, Vec, slice_set, slice_index_or}
 use Rattle.std.proofs.Common.{sym, ap, append_assoc, ◌∙◌, arith, lt-ltb}
@@ -13,7 +13,7 @@ use Rattle.tql_catalog.specs.declared.definition.System.{System}
 use Rattle.tql_value.specs.Views.{datum_of_value, row_of, rows_of}
 use Rattle.tql_value.specs.declared.value.Value.{Value}
 
--- a value taken out
+-- a removed value
 pub row_remove : (values : List Value) (i : ℕ) → row_of (remove values i) ≡ remove (row_of values) i
 row_remove values i = map-append datum_of_value (take i values) (drop (suc i) values)
     ∙ (λ j. sym (take-map datum_of_value i values) j ++ sym (drop-map datum_of_value (suc i) values) j)
@@ -22,13 +22,13 @@ both_removed : (old mid new : List Value) (i j : ℕ) → row_of mid ≡ remove 
     → row_of new ≡ remove (row_of mid) j → row_of new ≡ remove (remove (row_of old) i) j
 both_removed old mid new i j e f = f ∙ ap (λ r. remove r j) e
 
--- ROW END stands further right
+-- ROW END is further right
 pub end_removed_first : (o : Option System) (s : System) (old mid new : List Value) → o ≡ Some s → s.start < s.end
     → row_of mid ≡ remove (row_of old) s.end
     → row_of new ≡ remove (row_of mid) s.start → row_of new ≡ without_generated (option_map system_of o) (row_of old)
 end_removed_first o s old mid new e l f g = rw (e, lt-ltb s.start s.end l) (both_removed old mid new s.end s.start f g)
 
--- ROW START stands further right
+-- ROW START is further right
 pub start_removed_first : (o : Option System) (s : System) (old mid new : List Value) → o ≡ Some s → s.end ≤ s.start
     → row_of mid ≡ remove (row_of old) s.start
     → row_of new ≡ remove (row_of mid) s.end → row_of new ≡ without_generated (option_map system_of o) (row_of old)
@@ -60,14 +60,14 @@ pub all_filled : (row : Row) (js : List ℕ) (values : List Value) (p : ℕ) (al
 all_filled row js values p all past h =
     sym (none_filled row (drop p js) (drop p values) (omega (arith, length-drop p js, length-drop p values))) ∙ h
 
--- ---- tuples one by one
+-- ---- tuples one after another
 
--- this tuple, and those behind it
+-- this tuple, and those after it
 this_tuple : {A : Type 0} (items : List (Vec Value A)) (i : ℕ) (x : Vec Value A) → i < length items
     → x ≡ slice_index_or items i x → drop i items ≡ x ∷ drop (i + 1) items
 this_tuple {A} items i x l e = drop_more items i x l ∙ ap {B = List (Vec Value A)} (λ y. y ∷ drop (i + 1) items) (sym e)
 
--- one more row made of its tuple
+-- one more row, from its tuple
 pub one_more_row : {A : Type 0} (f : Row
     → Row) (rows items made : List (Vec Value A)) (i : ℕ) (x y row : Vec Value A) (all : List Row) → i < length items
     → x ≡ slice_index_or items i x

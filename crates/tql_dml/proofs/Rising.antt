@@ -35,7 +35,7 @@ no_null : (required null : Bool) → required && null ≡ false → required ≡
 no_null true null h e = h
 no_null false null h e = absurd cc
 
--- what is required is there
+-- a required value is there
 required_there : (cs : List Column) (row : Row) (i : ℕ) → cell_faults cs row ≡ [] → i < length cs
     → length row ≡ length cs
     → slice_index_or (map (λ (c : Column). c.required) cs) i false ≡ true → is_null (cell row i) ≡ false
@@ -52,7 +52,7 @@ required_there (c ∷ cs) (v ∷ vs) (suc i) h l w r =
     fault_if (is_too_long c.limit v) ValueOutOfRange ++ fault_if (c.required && is_null v) NullNotAllowed in
     required_there cs vs i (right_none here (cell_faults cs vs) h) (omega arith) (omega arith) r
 
--- points that are there and do not fall rise
+-- two ends that are not NULL, and do not fall, rise
 not_falling : (s e p : Bool) → not s && not e && not p ≡ false → s ≡ false → e ≡ false → p ≡ true
 not_falling true e p h k l = absurd cc
 not_falling false true p h k l = absurd cc
@@ -108,7 +108,7 @@ each_sound d (row ∷ rows) h =
     (left_none (stored_faults d row) (rows_faults d rows) h)
     (each_sound d rows (right_none (stored_faults d row) (rows_faults d rows) h))
 
--- rows without a fault, of the width of the table's, whose values have texts
+-- rows without a fault fit the table, if they have its width and their values have texts
 pub rows_fit : (d : TableDef) (rows : List Row) → IsDefinition d → Fit d rows → All (All IsPrintable) rows
     → None ≡ first (rows_faults d rows) → All (IsRowOf d) rows
 rows_fit d rows h wide prints none =

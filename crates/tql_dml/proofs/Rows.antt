@@ -1,5 +1,4 @@
--- The widths of rows: as they are stored, as they are shown, and of those that replace others; and the faults of rows
--- of their width.
+-- The widths of rows, stored and full, and of those that replace others; and the faults of rows of the right width.
 use Rattle.std.specs.Prelude.{◌≡◌, refl, ℕ, ◌+◌, ◌<◌, ◌≤◌, ◌≢◌, ℤ, Bool, true, false, nat_lt, List, [], ◌∷◌, ◌++◌}
 use Rattle.std.specs.Prelude.{map, length, insert, All, Option, Some, None, ⊤, if◌then◌else◌}
 use Rattle.std.specs.List.{flat_map, AllByRecursion}
@@ -30,11 +29,11 @@ use Rattle.tql_dml.proofs.Filling.{kept_cells}
 use Rattle.tql_dml.proofs.Inserting.{kept_columns}
 use Rattle.tql_catalog.proofs.Kept.{kept, Within, within, two_less}
 
--- so many columns are stored
+-- the number of stored columns
 pub kept_width : (d : TableDef) → IsDefinition d → length (kept d.system d.columns) ≡ stored_width d
 kept_width d s = ap length (kept_columns d s) ∙ length-map (all_assignable d) _
 
--- ---- rows as they are shown
+-- ---- full rows
 
 two_inserted : (s : System) (cells : Row) (n : ℕ) (m e : ℤ) (b : Bool) → nat_lt s.start s.end ≡ b → Within s n
     → length cells + 2 ≡ n
@@ -61,20 +60,20 @@ generated_width (Some s) cs cells m e h k =
     let n = two_less s cs (nat_lt s.start s.end) refl w in
     two_inserted s cells (length cs) m e (nat_lt s.start s.end) refl w (omega arith)
 
--- a row as it is shown has all columns
+-- a full row has all columns
 pub shown_width : (d : TableDef) (r : Stamped) → IsDefinition d → length r.cells ≡ stored_width d
     → length (shown d r) ≡ length d.columns
 shown_width d r s k = generated_width d.system d.columns r.cells r.start high (has_its_system d s) (k
     ∙ sym (kept_width d s))
 
--- and without the generated ones it is stored
+-- without the generated columns it has the stored width
 without_width : (d : TableDef) (row : Row) → IsDefinition d → length row ≡ length d.columns
     → length (without_generated d.system row) ≡ stored_width d
 without_width d row s k = ap length (kept_cells d row s k) ∙ length-map (all_assignable d) (cell row)
 
--- ---- rows that a modification makes
+-- ---- rows that a modification adds
 
--- the rows that come have the width of stored ones
+-- the added rows have the stored width
 abbrev pub Fit : TableDef → List Row → Type 0
 Fit d rows = All (λ (cells : Row). length cells ≡ stored_width d) rows
 
@@ -87,7 +86,7 @@ both_fit d None q h k = tt
 both_fit d (Some x) None h k = tt
 both_fit d (Some x) (Some y) h k = All-append (λ (cells : Row). length cells ≡ stored_width d) x.come y.come h k
 
--- full rows are stored
+-- full rows without their generated columns fit
 all_fit : (d : TableDef) (rows : List Row) → IsDefinition d → AllWide (length d.columns) rows
     → AllByRecursion (λ (cells : Row). length cells ≡ stored_width d) (map (without_generated d.system) rows)
 all_fit d [] s h = tt
@@ -131,7 +130,7 @@ parts_fit d portion work conds (v ∷ vs) s h =
 
 -- ---- their faults
 
--- the faults of rows of their width are those of what is stored
+-- the faults of rows of the right width are those of their stored cells
 pub stored_faults : (d : TableDef) (rs : List Stamped) → IsDefinition d → Fit d (map (λ (r : Stamped). r.cells) rs)
     → flat_map (λ r. row_faults d (shown d r)) rs ≡ rows_faults d (map (λ (r : Stamped). r.cells) rs)
 stored_faults d [] s h = refl

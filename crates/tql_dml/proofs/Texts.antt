@@ -1,4 +1,4 @@
--- New rows have values that have texts, where those that they are computed on have.
+-- The values of new rows have texts, if the values from which they are computed have.
 use Rattle.std.specs.Prelude.{◌≡◌, refl, ℕ, suc, IsTrue, is_some, Bool, true, false, nat_lt, List, [], ◌∷◌, map}
 use Rattle.std.specs.Prelude.{remove, slice_set, take, drop, All, Vec, Option, Some, None, ⊤, if◌then◌else◌}
 use Rattle.std.specs.List.{AllByRecursion}
@@ -42,7 +42,7 @@ use Rattle.tql_dml.proofs.Rows.{AreRows, PartsFit, parts_fit}
 
 -- ---- INSERT
 
--- the values of tuples of expressions without columns have texts
+-- the values of expressions without columns have texts
 pub tuples_print : {A : Type 0} (t : Terms) (tuples : List (Vec ExprId A))
     → RowsPrint (map_all (map_all (eval [] [])) (map (tuple_of t) tuples))
 tuples_print t [] = All-nil (All IsPrintable)
@@ -84,7 +84,7 @@ without_prints : (s : Option System) (row : Row) → All IsPrintable row → All
 without_prints None row h = h
 without_prints (Some s) row h = either_removed s row (nat_lt s.start s.end) h
 
--- what comes, if it is known
+-- the added rows, if they are in range
 abbrev PartsPrint : Option Parts → Type 0
 PartsPrint None = ⊤
 PartsPrint (Some p) = All (All IsPrintable) p.come
@@ -109,13 +109,13 @@ made_print t (work.Set sets) row made h e x m =
         elim (subst (λ (xs : List Row). In x xs) (sym same) m)
         [ inl z ↦ subst (All IsPrintable) (sym z) k | inr z ↦ absurd z ]
 
--- full rows, without their generated columns
+-- full rows without their generated columns
 all_print : (d : TableDef) (rows : List Row) → ((x : Row) → In x rows → All IsPrintable x)
     → AllByRecursion (All IsPrintable) (map (without_generated d.system) rows)
 all_print d [] h = tt
 all_print d (x ∷ xs) h = (without_prints d.system x (h x (inl refl)), all_print d xs (λ y m. h y (inr m)))
 
--- what replaces a touched row
+-- the rows that replace a touched row
 touched_print : (d : TableDef) (portion : Option Period) (work : Work) (id : ℕ) (row : Row)
     → ((made : List Row) → made_of work row ≡ Some made → (x : Row) → In x (pieces d portion row made)
     → All IsPrintable x)
@@ -146,7 +146,7 @@ shares d portion conds row e = by_point (share_a_point (period_of d row) portion
     by_point true q = refl
     by_point false q = absurd (cc)
 
--- no null stands in the period of a row that is a version's
+-- the row of a version has no NULL in its period
 has_period : (d : TableDef) (v : Version) → IsVersionOf d v → HasPeriod d (shown d (version_of v).row)
 has_period d v f a q =
     let rising : RisesBy (Some a) (shown d (version_of v).row) =
@@ -193,7 +193,7 @@ parts_print d portion t w conds (v ∷ vs) h k =
     (parts_print d portion t w conds vs (All-tail (IsVersionOf d) v vs h)
     (λ s. record { definition = (k s).definition; gives = (k s).gives; rows = All-tail typed v vs (k s).rows }))
 
--- the rows that come fit the table where those that go do
+-- the added rows fit the table if the removed ones do
 pub coming_fit : (d : TableDef) (portion : Option Period) (t : Terms) (w : code.Work) (conds : List Cond)
     (found : List Version) (p : Parts) → IsDefinition d → AreRows d found
     → parts d portion (work_of t w) conds found ≡ Some p → None ≡ first (rows_faults d p.come)

@@ -1,4 +1,4 @@
--- What a touched row becomes, part by part.
+-- The effect on a touched row, part by part.
 use Rattle.std.specs.Prelude.{◌≡◌, ℕ, List, [], ◌∷◌, ◌++◌, map, Option, option_map, Some, None}
 use Rattle.std.proofs.Common.{sym, ap, ◌∙◌, append_assoc}
 use Rattle.std.proofs.lemmas.List.{map-append}
@@ -12,14 +12,14 @@ use Rattle.tql_period.specs.declared.pieces.Pieces.{Pieces}
 use Rattle.tql_dml.specs.Cutting.{within, left, left_cells, made_cells, IsCut}
 use Rattle.tql_dml.specs.Parts.{Parts, before, with_rows, touched_part}
 
--- what goes before it is gathered
+-- the effect so far, with one more removed id
 abbrev pub with_id : Parts → ℕ → Parts
 with_id p id = record { gone = p.gone ++ id ∷ []; come = p.come }
 
 inner : {A : Type 0} (x y : A) → Some x ≡ Some y → y ≡ x
 inner x y e = cc
 
--- the new rows are those that are left and those that are made
+-- the new rows are those left and those made
 pub touch_is : (d : TableDef) (portion : Option Period) (work : Work) (id : ℕ) (row : Row) (cut : Pieces)
     → IsCut d portion row cut
     → (p q s : Parts) → with_rows (with_id p id) (Some (left_cells d row cut.before)) ≡ Some q

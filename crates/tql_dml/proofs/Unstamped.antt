@@ -1,4 +1,4 @@
--- What stands in the columns of a stored row that are not generated, whichever moments stand in the others.
+-- The cells of a stored row in the stored columns, whatever the moments in the generated columns.
 use Rattle.std.proofs.Common.{◌≡◌, ℕ, ◌+◌, ◌-◌, ◌<◌, ◌≤◌, Bool, true, false, List, length, map, refl}
 use Rattle.std.proofs.Common.{sym, subst, ◌∙◌, inl, inr, arith}
 use Rattle.std.specs.Prelude.{◌≢◌, ℤ, not, ◌&&◌, ◌||◌, ◌==◌, nat_lt, IsTrue, insert, slice_index_or, Option, Some}
@@ -18,7 +18,7 @@ use Rattle.tql_catalog.proofs.Kept.{kept, Within, within, two_less}
 
 -- ---- the columns of an application period
 
--- a column that is there, takes no null, and is not generated
+-- a column that exists, is NOT NULL, and is not generated
 pub record IsEnd (columns : List Column) (system : Option System) (i : ℕ) : Type 0 where
   pub within : i < length columns
   pub required : slice_index_or (map (λ (c : Column). c.required) columns) i false ≡ true
@@ -34,7 +34,7 @@ not_is : (b : Bool) → not b ≡ true → b ≡ false
 not_is true h = absurd cc
 not_is false h = refl
 
--- which of them take no null
+-- which of the columns are NOT NULL
 abbrev required_in : List Column → List Bool
 required_in columns = map (λ (c : Column). c.required) columns
 
@@ -51,7 +51,7 @@ an_end columns system i h =
       stored = not_is (has_number i (generated_columns system)) all.2;
     }
 
--- both columns are so
+-- both columns are such
 pub record AreEnds (columns : List Column) (system : Option System) (a : Application) : Type 0 where
   pub start : IsEnd columns system a.start
   pub end : IsEnd columns system a.end
@@ -69,9 +69,9 @@ are_ends columns system a h =
     (ends_fit (slice_index_or kinds a.start Ints) (slice_index_or kinds a.end Ints)) (not (a.start == a.end)) h in
     record { start = an_end columns system a.start both.0; end = an_end columns system a.end both.1 }
 
--- ---- values that are added
+-- ---- inserted values
 
--- a value that is added leaves the other columns
+-- a value that is inserted leaves the other columns
 one_added : (row : Row) (k i : ℕ) (v w : Datum) → k ≤ length row → i ≢ k
     → cell (insert row k v) i ≡ cell (insert row k w) i
 one_added row k i v w most other = elim (cases_lt i k) [
@@ -80,7 +80,7 @@ one_added row k i v w most other = elim (cases_lt i k) [
       ∙ sym (read_behind row k k i w (omega arith) (omega arith))
 ]
 
--- so does a second one behind it
+-- so does a second one after it
 both_added : (xs ys : Row) (j k i : ℕ) (v w : Datum) → length xs ≡ length ys → k ≤ length xs → j < k → i ≢ k → i ≢ j
     → ((n : ℕ) → n ≢ j → cell xs n ≡ cell ys n) → cell (insert xs k v) i ≡ cell (insert ys k w) i
 both_added xs ys j k i v w long most before other another same = elim (cases_lt i k) [
@@ -139,7 +139,7 @@ others_stay (Some s) columns cells m e n f i h k g =
 
 -- ---- the ends of an application period
 
--- two rows have the same
+-- two rows have the same ends
 pub record HaveEnds (a : Application) (row other : Row) : Type 0 where
   pub start : cell row a.start ≡ cell other a.start
   pub end : cell row a.end ≡ cell other a.end

@@ -28,7 +28,7 @@ use Rattle.tql_value.specs.declared.refusal.Refusal.{Refusal}
 use Rattle.tql_value.specs.declared.refusal.Refusal.TheVariants.{OutOfMemory}
 use Rattle.tql_value.specs.Views.{rows_of}
 
--- what a change gives: which versions go, the rows that come, their count, and no fault, whatever the moment
+-- the effect of a change without a fault: the removed versions, the added rows and their count, at every moment
 pub record Gives (id : ℕ) (gone : List ℕ) (new : ℤ → List Stamped) (outcome : ℤ
     → Outcome) (delta : Delta) : Type 0 where
   pub table : delta.table ≡ id
@@ -37,7 +37,7 @@ pub record Gives (id : ℕ) (gone : List ℕ) (new : ℤ → List Stamped) (outc
   pub count : (m : ℤ) → delta.count ≡ (outcome m).count
   pub sound : (m : ℤ) → first (outcome m).faults ≡ None
 
--- by its result: the change, memory, or the first fault of the outcome
+-- by its result: the change, a refused allocation, or the first fault of the outcome
 abbrev pub Alters : ℕ → List ℕ → (ℤ → List Stamped) → (ℤ → Outcome) → Result Delta Refusal → Type 0
 Alters id gone new outcome (Ok delta) = Gives id gone new outcome delta
 Alters id gone new outcome (Err OutOfMemory) = ⊤
@@ -45,15 +45,15 @@ Alters id gone new outcome (Err e) = (m : ℤ) → first (outcome m).faults ≡ 
 
 -- ---- INSERT
 
--- the values of the tuples, none where an evaluation is out of range
+-- the values of the tuples; None if an evaluation is out of range
 abbrev pub tuples_in : Insertion → Option (List Row)
 tuples_in x = map_all (map_all (eval [] [])) (map (tuple_of x.terms) x.tuples.items)
 
--- what an INSERT of these values into these columns makes of no rows: what it adds to any
+-- the outcome of an INSERT into an empty table, which is what it adds to any table
 abbrev pub added_rows : TableDef → List ℕ → Option (List Row) → ℤ → Outcome
 added_rows d columns tuples m = change.insert d m [] columns tuples
 
--- what an INSERT of tuples makes of them
+-- the outcome of an INSERT of tuples
 abbrev pub inserted : TableDef → Insertion → ℤ → Outcome
 inserted d x = added_rows d x.columns.items (tuples_in x)
 
@@ -63,7 +63,7 @@ inserted d x = added_rows d x.columns.items (tuples_in x)
 abbrev pub rows_in : List Version → List Stamped
 rows_in found = map (λ (v : Version). (version_of v).row) found
 
--- what a row that a modification touches becomes
+-- the work of a modification on a touched row
 abbrev pub work_in : Modification → Work
 work_in x = work_of x.terms x.work
 
@@ -75,15 +75,15 @@ conds_in x = map (cond x.terms) x.conjuncts.items
 abbrev pub portion_in : Modification → Option Period
 portion_in x = option_map points_of x.portion
 
--- what a modification makes of these rows
+-- the outcome of a modification of these rows
 abbrev pub modified : TableDef → List Version → Modification → ℤ → Outcome
 modified d found x m = change.modify d m (rows_in found) (portion_in x) (work_in x) (conds_in x)
 
--- what becomes of each of them, none where an evaluation is out of range
+-- the fate of each of these rows; None if an evaluation is out of range
 abbrev pub fates : TableDef → List Version → Modification → ℤ → Option (List Fate)
 fates d found x m = map_all (λ r. fate d m (portion_in x) (work_in x) (conds_in x) (shown d r)) (rows_in found)
 
--- the rows that come
+-- the added rows
 abbrev pub coming : Option (List Fate) → List Stamped
 coming None = []
 coming (Some fs) = change.new_rows fs
@@ -93,23 +93,23 @@ abbrev pub is_yes : Option Bool → Bool
 is_yes None = false
 is_yes (Some b) = b
 
--- the versions that go: those whose row is touched
+-- the ids of the removed versions: those whose row is touched
 abbrev pub gone : TableDef → Modification → List Version → List ℕ
 gone d x found = map (λ (v : Version). v.id)
     (filter (λ (v : Version). is_yes (is_touched d (portion_in x) (conds_in x) (shown d (version_of v).row))) found)
 
--- a version of the table's rows: as many cells as are stored, each of which has a text, since a moment that has one
+-- a version of the table's rows: it has the stored cells, each of which has a text, and begins at a moment
 pub record IsVersionOf (d : TableDef) (v : Version) : Type 0 where
   pub cells : IsRowOf d (version_of v).row.cells
   pub start : IsMoment v.start
 
--- rows of their columns' kinds, and a change that gives values of these kinds, of a portion none to the columns of the
--- period
+-- the values of the rows are of their columns' kinds, and so are those that the change gives; a change of a portion
+-- gives none to the columns of the period
 pub record IsTypedFor (d : TableDef) (found : List Version) (portion : Option Period) (work : Work) : Type 0 where
   pub definition : IsTypedDefinition d
   pub gives : IsTypedWork d portion work
   pub rows : All (λ (v : Version). AreOfKinds (kinds_of d) (shown d (version_of v).row)) found
 
--- so for a change of a portion
+-- the same for a change of a portion
 abbrev pub AreTyped : TableDef → List Version → Modification → Type 0
 AreTyped d found x = IsTrue (is_some (portion_in x)) → IsTypedFor d found (portion_in x) (work_in x)

@@ -1,4 +1,4 @@
--- What a modification takes from a table and gives to it, version by version and without moments.
+-- The effect of a modification, version by version and without moments.
 use Rattle.std.specs.Prelude.{ℕ, Bool, true, false, List, [], ◌∷◌, ◌++◌, map, Option, Some, None}
 use Rattle.tql_spec.specs.Words.{◌>>=◌}
 use Rattle.tql_spec.specs.Datum.{Row}
@@ -11,47 +11,47 @@ use Rattle.tql_versions.specs.declared.version.Version.{Version}
 use Rattle.tql_value.specs.Views.{rows_of}
 use Rattle.tql_dml.specs.declared.modification.Changed.{Changed}
 
--- versions that go, by their ids, and the cells of rows that come
+-- the ids of removed versions, and the stored cells of added rows
 pub record Parts : Type 0 where
   pub gone : List ℕ
   pub come : List Row
 
--- nothing goes and nothing comes
+-- no effect
 abbrev pub no_part : Parts
 no_part = record { gone = []; come = [] }
 
--- these before the others, where the others are there
+-- these before the others, if those are in range
 abbrev pub before : Parts → Option Parts → Option Parts
 before p None = None
 before p (Some q) = Some (record { gone = p.gone ++ q.gone; come = p.come ++ q.come })
 
--- these rows come too, where they are there
+-- these rows are added too, if they are in range
 abbrev pub with_rows : Parts → Option (List Row) → Option Parts
 with_rows p None = None
 with_rows p (Some rows) = Some (record { gone = p.gone; come = p.come ++ rows })
 
--- a version whose row is touched goes, and what it becomes comes, with its parts before and after the portion
+-- a touched version is removed; what it becomes is added, with the parts before and after the portion
 abbrev pub touched_part : TableDef → Option Period → Work → ℕ → Row → Option Parts
 touched_part d portion work id row =
     made_of work row >>= λ made. Some
     (record { gone = id ∷ []; come = map (without_generated d.system) (pieces d portion row made) })
 
--- one that is not touched stays
+-- a version that is not touched stays
 abbrev pub part_where : Bool → Option Parts → Option Parts
 part_where true o = o
 part_where false o = Some no_part
 
--- what a modification does to a version, none where an evaluation is out of range
+-- the effect on a version; None if an evaluation is out of range
 abbrev pub part_of : TableDef → Option Period → Work → List Cond → ℕ → Row → Option Parts
 part_of d portion work conds id row =
     is_touched d portion conds row >>= λ b. part_where b (touched_part d portion work id row)
 
--- and to several
+-- the effect on several versions
 abbrev pub parts : TableDef → Option Period → Work → List Cond → List Version → Option Parts
 parts d portion work conds [] = Some no_part
 parts d portion work conds (v ∷ vs) =
     part_of d portion work conds v.id (shown d (version_of v).row) >>= λ p. before p (parts d portion work conds vs)
 
--- what is gathered so far
+-- the effect so far
 abbrev pub parts_in : Changed → Parts
 parts_in c = record { gone = c.removed.items; come = rows_of c.added.items }

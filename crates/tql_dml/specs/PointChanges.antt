@@ -1,4 +1,4 @@
--- What the changes of a table are at each point.
+-- The effects of changes of a table, point by point.
 use Rattle.std.specs.Prelude.{◌≡◌, ◌&&◌, not, IsTrue, ℤ, List, [], ◌++◌, map, filter, None}
 use Rattle.std.specs.List.{list_all}
 use Rattle.tql_spec.specs.Words.{map_all}
@@ -21,23 +21,23 @@ use Rattle.tql_versions.specs.declared.version.Version.{Version}
 use Rattle.tql_value.specs.Views.{rows_of}
 use Rattle.tql_dml.specs.Alters.{rows_in, portion_in, work_in, conds_in}
 
--- the rows that a change adds, of the moment
+-- the rows that a change adds at a moment
 abbrev pub rows_added : Delta → ℤ → List Stamped
 rows_added delta m = map (starting m) (rows_of delta.added.items)
 
--- the versions that a change does not take away
+-- the versions that a change does not remove
 abbrev pub versions_left : List Version → Delta → List Version
 versions_left found delta = filter (λ (v : Version). not (has_number v.id delta.removed.items)) found
 
--- at the point the change that the point is given has no fault, and what it leaves is the slice of these rows
+-- at this point the plain change has no fault, and its result is the slice of these rows
 pub record DoesAtPoint (defs : List TableDef) (d : TableDef) (p : ℤ) (rows : List Stamped)
     (given : Outcome) : Type 0 where
   pub sound : given.faults ≡ []
   pub slice : AreSlice d (point_table defs d) p rows given.rows
 
--- UPDATE and DELETE: where SET and WHERE name no period, each point's slice of the table after the change is what the
--- change as the point is given it makes of the slice before it: without its portion where the point lies in it, and
--- nothing beside it
+-- UPDATE and DELETE, if SET and WHERE name no period: each point's slice of the table after the change is what the
+-- plain change of that point makes of the slice before. That has no portion. Points outside of the portion are not
+-- changed
 abbrev pub ModifiesAtPoints : TableDef → List Version → Modification → Delta → Type 0
 ModifiesAtPoints d found x delta =
     IsTrue (is_free_work d (work_in x) && list_all (is_free_cond d) (conds_in x))
@@ -51,8 +51,8 @@ ModifiesAtPoints d found x delta =
 abbrev pub exprs_in : Insertion → List (List Expr)
 exprs_in x = map (tuple_of x.terms) x.tuples.items
 
--- INSERT of tuples: each point's slice of the table after it, whatever its rows, is what the INSERT as the point is
--- given it makes of the slice before it: of the tuples whose period holds the point, without the period's cells
+-- INSERT of tuples: each point's slice of the table after it, whatever the rows, is what the plain INSERT of that point
+-- makes of the slice before. That has the tuples whose period contains the point, without the cells of the period
 abbrev pub InsertsAtPoints : TableDef → Insertion → Delta → Type 0
 InsertsAtPoints d x delta =
     IsTrue (are_filled d x.columns.items)

@@ -1,4 +1,4 @@
--- How the changes of a table are refused, by the changes that the points are given.
+-- How the changes of a table are refused, by the plain changes of the points.
 use Rattle.std.specs.Prelude.{◌≡◌, ◌&&◌, IsTrue, ℤ, List, [], None, Result, Ok, Err, ⊤}
 use Rattle.std.specs.List.{list_all}
 use Rattle.tql_spec.specs.Words.{map_all}
@@ -20,8 +20,8 @@ use Rattle.tql_value.specs.declared.refusal.Refusal.TheVariants.{OutOfMemory}
 use Rattle.tql_dml.specs.Alters.{rows_in, portion_in, work_in, conds_in}
 use Rattle.tql_dml.specs.PointChanges.{exprs_in}
 
--- by the result of a change: no point's change has a fault; or some point refuses its own so, none with an earlier
--- refusal, and it is a value out of range, NULL or a CHECK; memory may have run out
+-- by the result of a change: no point's plain change has a fault; or some point's is refused with this refusal, none
+-- with an earlier one, and it is a value out of range, NULL or a CHECK; or an allocation was refused
 abbrev pub IsRefusedAsPoints : {A : Type 0} → (ℤ → Outcome) → Result A Refusal → Type 0
 IsRefusedAsPoints given (Ok x) = (p : ℤ) → (given p).faults ≡ []
 IsRefusedAsPoints given (Err OutOfMemory) = ⊤
@@ -29,13 +29,13 @@ IsRefusedAsPoints given (Err e) = IsFirstAtPoints given (refusal_of e)
 
 -- ---- UPDATE and DELETE
 
--- the one that a point is given, of its slice of the rows
+-- the plain change of a point, on its slice of the rows
 abbrev pub modified_at : List TableDef → TableDef → Modification → ℤ → (ℤ → List Stamped) → ℤ → Outcome
 modified_at defs d x m others p =
     modify (point_table defs d) m (others p) None (renumbered_work (moved d) (work_in x))
     (conds_at d p (portion_in x) (conds_in x))
 
--- where SET and WHERE name no period, and the rows are sound: each has a period that rises, and no fault
+-- if SET and WHERE name no period, and the rows are sound: each has a period that rises, and no fault
 abbrev pub RefusesModificationAsPoints : {A : Type 0} → TableDef → List Version → Modification → Result A Refusal
     → Type 0
 RefusesModificationAsPoints d found x result =
@@ -46,13 +46,13 @@ RefusesModificationAsPoints d found x result =
 
 -- ---- INSERT
 
--- the one that a point is given, into its slice of the rows
+-- the plain INSERT of a point, into its slice of the rows
 abbrev pub inserted_at : List TableDef → TableDef → Insertion → ℤ → (ℤ → List Stamped) → ℤ → Outcome
 inserted_at defs d x m others p =
     insert (point_table defs d) m (others p) (columns_at d x.columns.items)
     (map_all (map_all (eval [] [])) (tuples_at d p x.columns.items (exprs_in x)))
 
--- whatever rows the table has, where each tuple gives a period that rises: a tuple of another one is given to no point
+-- if each tuple has a period that rises, whatever rows the table has; other tuples belong to no point
 abbrev pub RefusesInsertionAsPoints : {A : Type 0} → TableDef → Insertion → Result A Refusal → Type 0
 RefusesInsertionAsPoints d x result =
     IsTrue (are_filled d x.columns.items)

@@ -1,4 +1,4 @@
-//! The row that an UPDATE makes of another, and what a change of a portion leaves of one.
+//! The new row of an UPDATE, and the rows that a change of a portion leaves before and after it.
 ghost use Rattle.std.specs.Prelude.{◌≡◌, All, map, option_map, IfOk, IfErr};
 ghost use Rattle.tql_spec.specs.Change.{assigned};
 ghost use Rattle.tql_spec.specs.Definition.{with_period, without_generated};
@@ -24,7 +24,7 @@ use tql_period::period::Period;
 use tql_value::refusal::Refusal;
 use tql_value::value::Value;
 
-/// The values of all columns of a row, in memory of their own.
+/// Returns copies of all values of a row. The only error is a refused allocation.
 fn copied(memory: Memory, row: &StoredRow<'_>) -> Result<Vec<Value, Memory>, Refusal>
     ensures row { IfOk result (λ cells. row_of cells.items ≡ shown_by row.now) }
     ensures memory { IfErr result (λ e. e ≡ OutOfMemory) }
@@ -37,7 +37,7 @@ fn copied(memory: Memory, row: &StoredRow<'_>) -> Result<Vec<Value, Memory>, Ref
     Ok(cells)
 }
 
-/// Puts the values of assignments, each computed on the old row, into their columns.
+/// Sets each assigned column to its value, which is computed on the old row.
 fn assign(
     memory: Memory,
     terms: &Terms,
@@ -56,8 +56,8 @@ fn assign(
     Ok(())
 }
 
-/// The cells of the row that assignments make of a row: its values, with each assigned column set to a value that is
-/// computed on the old row; within a part of its application period, or wholly; without the generated columns.
+/// Returns the stored cells of the new row of an UPDATE. Each assigned column has its value, which is computed on the
+/// old row. With a `part`, the new row's application period is that part.
 pub(crate) fn changed_row(
     memory: Memory,
     terms: &Terms,
@@ -79,7 +79,8 @@ pub(crate) fn changed_row(
     Ok(cells)
 }
 
-/// The cells of a row's old values within a part of its application period, without the generated columns.
+/// Returns the stored cells of a row with its old values, for a part of its application period. The only error is a
+/// refused allocation.
 pub(crate) fn left_row(
     memory: Memory,
     definition: &TableDef,

@@ -1,5 +1,5 @@
-//! Which row a refused change fails in, and in what. The tests of `faults` are run again in loops that remember where
-//! they are, so a change that is not refused pays nothing for it.
+//! Finds the row, and the column or CHECK, for which a change is refused. The tests of `faults` are run again with loop
+//! counters, after the refusal only, so a change that succeeds pays nothing for it.
 ghost use Rattle.std.specs.Prelude.{◌≡◌, ◌<◌, All, IfOk, IfSome, IsTrue, Some, length, map, option_map, slice_get};
 ghost use Rattle.tql_spec.specs.Binding.{all_assignable};
 ghost use Rattle.tql_catalog.specs.Definitions.{checks_of};
@@ -30,37 +30,37 @@ use tql_value::truth::Truth;
 use tql_value::value::Value;
 use tql_versions::version::{HIGH, Version};
 
-/// What a row fails in. A column is named by its number among those that are not generated, from 0, and a CHECK by its
-/// number among those of the table, from 0.
+/// The reason why a row fails. Columns are numbered among the stored columns, and CHECKs among those of the table, both
+/// from 0.
 #[derive(Clone, Copy)]
 pub enum Failed {
-    /// A text is longer than its column takes.
+    /// A text is longer than its column allows.
     LongText(usize),
-    /// NULL is in a column that takes none.
+    /// NULL in a column that is NOT NULL.
     Null(usize),
-    /// The application period does not rise.
+    /// The application period does not start before its end.
     Period,
-    /// A CHECK calculates a number out of range.
+    /// A CHECK computes a number that overflows 64 bits.
     CheckRange(usize),
     /// A CHECK is FALSE.
     Check(usize),
 }
 
-/// A row that fails, by its number among the new rows, from 0, and what it fails in.
+/// A row that fails, by its index among the new rows, and the reason.
 #[derive(Clone, Copy)]
 pub struct Failure {
     pub row: usize,
     pub failed: Failed,
 }
 
-/// A value that an INSERT cannot calculate, by the numbers of its tuple and of the value in that, both from 0.
+/// A value of an INSERT that cannot be computed. `row` is the index of its tuple, and `value` its index in the tuple.
 #[derive(Clone, Copy)]
 pub struct ValueFailure {
     pub row: usize,
     pub value: usize,
 }
 
-/// A new row as its table shows it. No test reads a generated column, so any moments may stand there.
+/// Returns a new row with generated columns. No test reads these, so their moments are arbitrary.
 fn new_row<'a>(definition: &TableDef, cells: &'a [Value]) -> StoredRow<'a>
     ensures { shown_by result ≡ unstamped definition.now (row_of cells.now) }
 {
@@ -72,7 +72,7 @@ fn new_row<'a>(definition: &TableDef, cells: &'a [Value]) -> StoredRow<'a>
     }
 }
 
-/// Whether a cell is a text longer than its column takes.
+/// Whether a cell is a text longer than its column allows.
 #[tactic(auto, using(crate::proofs::Failing::cell_at))]
 fn is_long_cell(definition: &TableDef, cells: &[Value], number: usize) -> bool
     ensures { result ≡ spec.is_long_cell definition.now.columns (slice_get (all_assignable definition.now) number)
@@ -84,7 +84,7 @@ fn is_long_cell(definition: &TableDef, cells: &[Value], number: usize) -> bool
     }
 }
 
-/// Whether a cell is NULL, and its column takes none.
+/// Whether a cell is NULL in a column that is NOT NULL.
 #[tactic(auto, using(crate::proofs::Failing::cell_at))]
 fn is_lacking_cell(definition: &TableDef, cells: &[Value], number: usize) -> bool
     ensures { result ≡ spec.is_lacking_cell definition.now.columns (slice_get (all_assignable definition.now) number)
@@ -96,7 +96,7 @@ fn is_lacking_cell(definition: &TableDef, cells: &[Value], number: usize) -> boo
     }
 }
 
-/// Whether the application period of a row does not rise.
+/// Whether a row's application period has both ends and does not start before its end.
 fn has_fallen(definition: &TableDef, row: &StoredRow<'_>) -> bool
     ensures { result ≡ falls_by definition.now.application (shown_by row.now) }
 {
@@ -106,7 +106,7 @@ fn has_fallen(definition: &TableDef, row: &StoredRow<'_>) -> bool
     }
 }
 
-/// Whether a CHECK calculates a number out of range on a row.
+/// Whether a CHECK overflows on a row.
 #[tactic(auto, using(crate::proofs::Failing::check_at))]
 fn is_check_out_of_range(checks: &Checks, number: usize, row: &StoredRow<'_>) -> bool
     ensures { result ≡ spec.is_check_out_of_range (slice_get (checks_of checks.now) number) (shown_by row.now) }
@@ -128,7 +128,7 @@ fn is_check_false(checks: &Checks, number: usize, row: &StoredRow<'_>) -> bool
     }
 }
 
-/// Whether a row fails as it is said.
+/// Whether a row fails for this reason.
 fn fails(definition: &TableDef, cells: &[Value], failed: Failed) -> bool
     ensures { result ≡ spec.fails definition.now (row_of cells.now) failed }
 {
@@ -143,7 +143,7 @@ fn fails(definition: &TableDef, cells: &[Value], failed: Failed) -> bool
     }
 }
 
-/// What a cell with this number can fail in, where a row is refused so.
+/// Returns the reason for this refusal that lies in the cell at an index, if a cell can be the reason.
 fn by_cell(refusal: Refusal, number: usize) -> Option<Failed> {
     match refusal {
         Refusal::ValueOutOfRange => Some(Failed::LongText(number)),
@@ -152,7 +152,7 @@ fn by_cell(refusal: Refusal, number: usize) -> Option<Failed> {
     }
 }
 
-/// What a row can fail in by a CHECK with this number, where it is refused so.
+/// Returns the reason for this refusal that lies in the CHECK at an index, if a CHECK can be the reason.
 fn by_check(refusal: Refusal, number: usize) -> Option<Failed> {
     match refusal {
         Refusal::ValueOutOfRange => Some(Failed::CheckRange(number)),
@@ -161,7 +161,7 @@ fn by_check(refusal: Refusal, number: usize) -> Option<Failed> {
     }
 }
 
-/// The first cell in which a row fails, where it is refused so.
+/// Returns the first cell for which a row fails with this refusal.
 fn failed_cell(definition: &TableDef, cells: &[Value], refusal: Refusal) -> Option<Failed> {
     for number in 0..cells.len() {
         let failed = by_cell(refusal, number)?;
@@ -172,7 +172,7 @@ fn failed_cell(definition: &TableDef, cells: &[Value], refusal: Refusal) -> Opti
     None
 }
 
-/// The first CHECK in which a row fails, where it is refused so.
+/// Returns the first CHECK for which a row fails with this refusal.
 fn failed_check(definition: &TableDef, cells: &[Value], refusal: Refusal) -> Option<Failed> {
     for number in 0..definition.checks().conditions.len() {
         let failed = by_check(refusal, number)?;
@@ -183,7 +183,7 @@ fn failed_check(definition: &TableDef, cells: &[Value], refusal: Refusal) -> Opt
     None
 }
 
-/// What a row fails in, where it is refused so.
+/// Returns the reason why a row fails with this refusal. For an application period the row is not tested.
 fn failed_in(definition: &TableDef, cells: &[Value], refusal: Refusal) -> Option<Failed> {
     if refusal == Refusal::PeriodNotRising {
         return Some(Failed::Period);
@@ -194,7 +194,7 @@ fn failed_in(definition: &TableDef, cells: &[Value], refusal: Refusal) -> Option
     }
 }
 
-/// Whether one of these rows fails as it is said.
+/// Whether the row of a failure fails for its reason.
 fn is_failure(definition: &TableDef, rows: &[Vec<Value, Memory>], failure: Failure) -> bool
     ensures { result ≡ spec.is_failure definition.now (rows_of rows.now) failure }
 {
@@ -204,7 +204,7 @@ fn is_failure(definition: &TableDef, rows: &[Vec<Value, Memory>], failure: Failu
     }
 }
 
-/// The failure of a row with this number, where it is refused so.
+/// Returns the failure of the row at an index, for this refusal. None if that row does not fail so.
 fn failure_at(
     definition: &TableDef,
     rows: &[Vec<Value, Memory>],
@@ -223,9 +223,8 @@ fn failure_at(
     }
 }
 
-/// The first of new rows that fails in what they are refused for: in a text, a NULL, its application period or a CHECK
-/// (E30 and E32 to E34). What is reported is a failure of that row. The rows have the cells of the columns that are not
-/// generated.
+/// Returns the first of the new rows that fails with this refusal, and why: a text, a NULL, the application period or a
+/// CHECK (E30 and E32 to E34). The rows have the stored columns only.
 pub fn first_failure(
     definition: &TableDef,
     rows: &[Vec<Value, Memory>],
@@ -241,7 +240,7 @@ pub fn first_failure(
     None
 }
 
-/// The number of the first of these expressions that cannot be calculated.
+/// Returns the index of the first of these expressions that cannot be computed.
 fn failed_value(terms: &Terms, tuple: &[ExprId]) -> Option<usize>
     requires { All (HasExpr terms.now) tuple.now }
     ensures { IfSome result (λ value. value < length tuple.now) }
@@ -254,7 +253,7 @@ fn failed_value(terms: &Terms, tuple: &[ExprId]) -> Option<usize>
     None
 }
 
-/// The first value that an INSERT cannot calculate within 64 bits (E30): it is one of its tuples' values.
+/// Returns the first value of an INSERT whose evaluation overflows 64 bits (E30).
 pub fn first_failed_value(insertion: &Insertion) -> Option<ValueFailure>
     ensures { IfSome result (λ f. f.row < length insertion.now.tuples.items) }
 {
@@ -266,7 +265,7 @@ pub fn first_failed_value(insertion: &Insertion) -> Option<ValueFailure>
     None
 }
 
-/// The rows that an INSERT of these values would add, also where one of them has a fault. The only error is a refused
+/// Returns the rows that an INSERT of these values would add, even if they have faults. The only error is a refused
 /// allocation.
 pub fn inserted_rows(
     memory: Memory,
@@ -280,8 +279,8 @@ pub fn inserted_rows(
     new_rows(memory, &table.definition, columns, values)
 }
 
-/// The rows that an INSERT of tuples would add, also where one of them has a fault. Refused where an evaluation is out
-/// of range, or for memory.
+/// Returns the rows that an INSERT of tuples would add, even if they have faults. Refused if an evaluation overflows 64
+/// bits, or if an allocation is refused.
 pub fn tuple_rows(
     memory: Memory,
     table: &Table,
@@ -295,8 +294,8 @@ pub fn tuple_rows(
     inserted_rows(memory, table, &insertion.columns, tuples)
 }
 
-/// The rows that an UPDATE or DELETE of these versions would add, also where one of them has a fault. Refused where an
-/// evaluation is out of range, or for memory.
+/// Returns the rows that an UPDATE or DELETE of these versions would add, even if they have faults. Refused if an
+/// evaluation overflows 64 bits, or if an allocation is refused.
 pub fn modified_rows(
     memory: Memory,
     table: &Table,

@@ -1,4 +1,5 @@
-//! The tests of new rows.
+//! The tests of new rows: text lengths, NOT NULL, application periods and CHECKs. All rows are tested, and the fault
+//! that comes first in the order of report is reported.
 ghost use Rattle.std.specs.Prelude.{◌≡◌, ◌&&◌, ◌++◌, All, map, option_map, slice_index_or};
 ghost use Rattle.tql_spec.specs.Datum.{is_null};
 ghost use Rattle.tql_spec.specs.Refusal.{PeriodNotRising, first, fault_if};
@@ -29,7 +30,7 @@ use tql_value::truth::Truth;
 use tql_value::value::{Value, View};
 use tql_versions::version::HIGH;
 
-/// Whether a value is a text of more characters than its column takes.
+/// Whether a value is a text with more characters than its column allows.
 fn is_too_long(column: &Column, value: &Value) -> bool
     ensures { result ≡ too_long column.now.limit (datum_of_value value.now) }
 {
@@ -39,14 +40,14 @@ fn is_too_long(column: &Column, value: &Value) -> bool
     }
 }
 
-/// Whether a value is NULL in a column that takes none.
+/// Whether a value is NULL in a column that is NOT NULL.
 fn is_lacking(column: &Column, value: &Value) -> bool
     ensures { result ≡ (column.now.is_required && is_null (datum_of_value value.now)) }
 {
     column.is_required && value.view().is_null()
 }
 
-/// Whether a value is too long for the column with a number.
+/// Whether a value is a text too long for the column at an index.
 pub(crate) fn is_too_long_at(columns: &[Column], number: usize, value: &Value) -> bool
     ensures { result ≡ too_long (slice_index_or (map column_of columns.now) number no_column).limit
         (datum_of_value value.now) }
@@ -57,7 +58,7 @@ pub(crate) fn is_too_long_at(columns: &[Column], number: usize, value: &Value) -
     }
 }
 
-/// Whether a value is NULL where the column with a number takes none.
+/// Whether a value is NULL and the column at an index is NOT NULL.
 pub(crate) fn is_lacking_at(columns: &[Column], number: usize, value: &Value) -> bool
     ensures { result ≡ (slice_index_or (map column_of columns.now) number no_column).required
         && is_null (datum_of_value value.now) }
@@ -68,7 +69,7 @@ pub(crate) fn is_lacking_at(columns: &[Column], number: usize, value: &Value) ->
     }
 }
 
-/// Whether some text of a row is longer than its column takes. The row has the cells of the columns with these numbers.
+/// Whether some text of a row is longer than its column allows. `stored` has the number of the column of each cell.
 fn has_long_text(columns: &[Column], stored: &[usize], row: &[Value]) -> bool
     ensures { result ≡ long_in (columns_at (map column_of columns.now) stored.now) (row_of row.now) }
 {
@@ -78,7 +79,7 @@ fn has_long_text(columns: &[Column], stored: &[usize], row: &[Value]) -> bool
         .any(|(number, value)| is_too_long_at(columns, *number, value))
 }
 
-/// Whether NULL stands in some column that takes none. The row has the cells of the columns with these numbers.
+/// Whether some cell of a row is NULL in a column that is NOT NULL. `stored` has the number of the column of each cell.
 fn lacks_a_value(columns: &[Column], stored: &[usize], row: &[Value]) -> bool
     ensures { result ≡ lacking_in (columns_at (map column_of columns.now) stored.now) (row_of row.now) }
 {
@@ -88,15 +89,15 @@ fn lacks_a_value(columns: &[Column], stored: &[usize], row: &[Value]) -> bool
         .any(|(number, value)| is_lacking_at(columns, *number, value))
 }
 
-/// Whether two points are there, and the first is not before the second.
+/// Whether both values are not NULL, and the end is not after the start.
 pub(crate) fn falls(start: View<'_>, end: View<'_>) -> bool
     ensures { result ≡ falling (datum_of_view start.entry) (datum_of_view end.entry) }
 {
     !start.is_null() && !end.is_null() && point(end) <= point(start)
 }
 
-/// The first fault of a row's cells: a text longer than its column takes, then NULL in a column that takes none. They
-/// are the cells of the columns that are not generated.
+/// Returns the first fault of the stored cells of a row: a text longer than its column allows, then NULL in a column
+/// that is NOT NULL.
 fn cell_fault(definition: &TableDef, cells: &[Value]) -> Option<Refusal>
     ensures { option_map refusal_of result ≡ first (cell_faults (stored_columns definition.now) (row_of cells.now)) }
 {
@@ -111,7 +112,7 @@ fn cell_fault(definition: &TableDef, cells: &[Value]) -> Option<Refusal>
     None
 }
 
-/// The fault of a row's application period: it is without NULL and does not rise.
+/// Returns the fault of a row's application period: both ends are not NULL, and the start is not before the end.
 fn period_fault(definition: &TableDef, row: &StoredRow<'_>) -> Option<Refusal>
     ensures { option_map refusal_of result
         ≡ first (fault_if (falls_by definition.now.application (shown_by row.now)) PeriodNotRising) }
@@ -122,7 +123,7 @@ fn period_fault(definition: &TableDef, row: &StoredRow<'_>) -> Option<Refusal>
     }
 }
 
-/// The fault of a CHECK: it is out of range, or FALSE. UNKNOWN passes.
+/// Returns the fault of a CHECK: it overflows, or is FALSE. UNKNOWN passes.
 fn truth_fault(truth: Result<Truth, Range>) -> Option<Refusal>
     ensures { option_map refusal_of result ≡ first (check_fault (judged truth)) }
 {
@@ -133,7 +134,7 @@ fn truth_fault(truth: Result<Truth, Range>) -> Option<Refusal>
     }
 }
 
-/// The first of two faults in the order of report, where they are there.
+/// Returns the fault that comes first in the order of report, if there is any.
 fn sooner(fault: Option<Refusal>, other: Option<Refusal>) -> Option<Refusal>
     ensures { option_map refusal_of result
         ≡ first (listed (option_map refusal_of fault) ++ listed (option_map refusal_of other)) }
@@ -145,7 +146,7 @@ fn sooner(fault: Option<Refusal>, other: Option<Refusal>) -> Option<Refusal>
     }
 }
 
-/// The first fault of a row by CHECKs. Each is evaluated.
+/// Returns the first fault of a row by the CHECKs, of which each is evaluated.
 fn checks_fault(terms: &Terms, checks: &[CondId], row: &StoredRow<'_>) -> Option<Refusal>
     requires { All (HasCond terms.now) checks.now }
     ensures { option_map refusal_of result
@@ -158,8 +159,8 @@ fn checks_fault(terms: &Terms, checks: &[CondId], row: &StoredRow<'_>) -> Option
     found
 }
 
-/// The first fault of a row. It has the cells of the columns that are not generated; no test reads a generated one, so
-/// that any moments may stand there.
+/// Returns the first fault of a row, given its stored cells. No test reads a generated column, so their moments are
+/// arbitrary.
 fn row_fault(definition: &TableDef, checks: &Checks, cells: &[Value]) -> Option<Refusal>
     ensures { option_map refusal_of result
         ≡ first (faults_by (stored_columns definition.now) (checks_of checks.now) definition.now (row_of cells.now)) }
@@ -176,9 +177,9 @@ fn row_fault(definition: &TableDef, checks: &Checks, cells: &[Value]) -> Option<
     sooner(plain, checked)
 }
 
-/// The first fault of rows of a table, in the order of report: in any of them a text that is too long or a CHECK that
-/// is out of range, then NULL in a column that takes none, an application period that does not rise, and a CHECK that
-/// is FALSE. The rows have the cells of the columns that are not generated.
+/// Returns the first fault of the rows of a table, given their stored cells. The order of report, over all rows, is: a
+/// text that is too long or a CHECK that overflows; NULL in a column that is NOT NULL; an application period that does
+/// not start before its end; a CHECK that is FALSE.
 pub fn first_fault(definition: &TableDef, rows: &[Vec<Value, Memory>]) -> Option<Refusal>
     ensures fault { option_map refusal_of result ≡ first (rows_faults definition.now (rows_of rows.now)) }
     ensures right { IsDefinition definition.now }

@@ -1,4 +1,4 @@
-//! INSERT of rows, and of tuples of expressions.
+//! INSERT of values, and of tuples of expressions.
 ghost use Rattle.std.specs.Prelude.{[], All, IfOk, Some};
 ghost use Rattle.tql_catalog.specs.Rows.{IsRowOf};
 ghost use Rattle.tql_dml.specs.Alters.{Alters, added_rows, inserted};
@@ -17,10 +17,14 @@ use tql_store::store::Delta;
 use tql_value::refusal::Refusal;
 use tql_value::value::Value;
 
-/// The change that adds a row for each list of values: the values in the columns that are given them, and NULL in the
-/// others. Refused, the first of them over all rows: a text longer than its column takes or a CHECK that is out of
-/// range, a NULL in a column that takes none, an application period that does not rise, a CHECK that is FALSE; memory.
-/// Nothing is changed. Each CHECK is evaluated on each row. The rows that come fit the table.
+/// Returns the change that adds a row for each list of values. Columns without a value are NULL. The new rows fit the
+/// table.
+///
+/// # Errors
+///
+/// The first of these over all rows: a text longer than its column allows or a CHECK that overflows; NULL in a column
+/// that is NOT NULL; an application period that does not start before its end; a CHECK that is FALSE. Or a refused
+/// allocation. Each CHECK is evaluated on each row. Nothing is changed.
 pub fn insert_rows(
     memory: Memory,
     table: &Table,
@@ -46,10 +50,17 @@ pub fn insert_rows(
     }
 }
 
-/// The change that adds a row for each tuple, by the values of its expressions: ISO/IEC 9075-2:2011, 14.11. Refused
-/// as in `insert_rows`, and, before all of these, where an evaluation is out of range. At each point of time it adds
-/// the tuples whose application period holds the point. Where each tuple gives a period that rises, it is refused
-/// exactly where the INSERT of the tuples of some point is, with the first of their refusals.
+/// Returns the change that adds a row for each tuple, with the values of its expressions: ISO/IEC 9075-2:2011, 14.11.
+///
+/// # Errors
+///
+/// An evaluation that overflows 64 bits, and then the errors of `insert_rows`.
+///
+/// # What is proved besides
+///
+/// Clause `points`: at each point of time it adds the tuples whose application period contains the point. Clause
+/// `refusals`: let each tuple have a period that starts before its end. Then it is refused if, and only if, the INSERT
+/// of the tuples of some point is. The refusal is the first of theirs, memory apart.
 pub fn insert_tuples(memory: Memory, table: &Table, insertion: &Insertion) -> Result<Delta, Refusal>
     ensures alters { Alters table.now.id [] (λ m. (inserted table.now.definition insertion.now m).rows)
         (inserted table.now.definition insertion.now) result }

@@ -1,4 +1,4 @@
-//! Changes of a table: what is added and taken away, with the tests of each new row.
+//! INSERT, UPDATE and DELETE: the rows that a change removes and adds, and the tests of each new row.
 #![tactic(auto)]
 
 mod assignment;

@@ -1,4 +1,8 @@
-//! UPDATE and DELETE.
+//! UPDATE and DELETE, also FOR PORTION OF.
+//!
+//! Each current version that the change touches is removed. An UPDATE adds its new row. With a portion, the row is cut
+//! into the parts of its period before, within and after the portion. The new row gets the part within, and the old
+//! values are added again for the parts before and after.
 ghost use Rattle.std.specs.Prelude.{◌≡◌, All, length, option_map, IfOk, Some};
 ghost use Rattle.tql_spec.specs.Definition.{shown};
 ghost use Rattle.tql_catalog.specs.Rows.{IsRowOf, stored_width};
@@ -30,8 +34,7 @@ use tql_value::table::TableId;
 use tql_value::value::Value;
 use tql_versions::version::{HIGH, Version};
 
-/// What a modification does so far: the versions that go, by their ids, and the rows that come, without generated
-/// columns.
+/// The effect of a change so far: the ids of the removed versions, and the added rows as stored cells.
 pub(crate) struct Changed {
     removed: Vec<usize, Memory>,
     added: Vec<Vec<Value, Memory>, Memory>,
@@ -46,7 +49,7 @@ impl Drop for Changed {
 }
 
 impl Changed {
-    /// The change of a table that this is. Each version that goes was touched, and is counted.
+    /// Returns this as a change of a table. The count is that of the removed versions, which are the rows touched.
     fn of_table(self, table: TableId) -> Delta
         ensures table { result.table ≡ table }
         ensures removed { result.removed.items ≡ self.removed.items }
@@ -62,7 +65,7 @@ impl Changed {
         }
     }
 
-    /// The rows that come.
+    /// Returns the added rows.
     pub(crate) fn into_added(self) -> Vec<Vec<Value, Memory>, Memory>
         ensures { result.items ≡ self.added.items }
     {
@@ -71,7 +74,7 @@ impl Changed {
     }
 }
 
-/// A current version as its table shows it.
+/// Returns a current version as a full row of its table.
 fn shown_row<'a>(definition: &TableDef, version: Version<'a>) -> StoredRow<'a>
     ensures { shown_by result ≡ shown definition.now (version_of version.entry).row }
 {
@@ -83,7 +86,7 @@ fn shown_row<'a>(definition: &TableDef, version: Version<'a>) -> StoredRow<'a>
     }
 }
 
-/// Adds a row's old values within a part of its application period, where it has that part.
+/// Adds a row's old values for a part of its application period, if there is one.
 fn add_left(
     memory: Memory,
     definition: &TableDef,
@@ -101,7 +104,7 @@ fn add_left(
     Ok(())
 }
 
-/// Adds what a touched row becomes, within a part of its application period or wholly: under UPDATE its new row.
+/// Adds the new row of an UPDATE. With a `part`, its application period is that part. Adds nothing for a DELETE.
 fn add_made(
     memory: Memory,
     definition: &TableDef,
@@ -124,8 +127,8 @@ fn add_made(
     }
 }
 
-/// Adds what becomes of a row that the modification touches: its version goes, and in its place comes under UPDATE its
-/// new row; of a change of a portion, within that, and before and after it its old values.
+/// Adds the effect on a row that is touched. Its version is removed, and its old values are added for the parts of its
+/// period before and after the portion. An UPDATE adds the new row for the part within, or wholly.
 fn touch(
     memory: Memory,
     definition: &TableDef,
@@ -146,7 +149,7 @@ fn touch(
     add_left(memory, definition, row, cut.after, changed)
 }
 
-/// Adds what becomes of a version.
+/// Adds the effect on a version. It is untouched if it shares no point with the portion, or fails WHERE.
 fn add_version(
     memory: Memory,
     definition: &TableDef,
@@ -176,7 +179,7 @@ fn add_version(
     Ok(())
 }
 
-/// What becomes of versions.
+/// Returns the effect on these versions.
 pub(crate) fn changes(
     memory: Memory,
     definition: &TableDef,
@@ -197,17 +200,25 @@ pub(crate) fn changes(
     Ok(changed)
 }
 
-/// The change that UPDATE or DELETE makes of these versions, the current ones of the table: those whose row is touched
-/// go, and under UPDATE the row that each becomes comes. Of a change of a portion a row is touched where its
-/// application period shares a point with the portion; what it becomes is kept within the portion, and its old values
-/// come before and after it (ISO/IEC 9075-2:2011, 14.9 and 14.14). Refused, the first of them over all rows: an
-/// evaluation out of range, a text longer than its column takes or a CHECK that is out of range, a NULL in a column
-/// that takes none, an application period that does not rise, a CHECK that is FALSE; memory. Nothing is changed. Each
-/// CHECK is evaluated on each row that comes, the parts before and after a portion among them. Where the versions are
-/// rows of the table, and a portion's values are of their columns' kinds, so are those that come. Where SET and WHERE
-/// name no period, at each point of time what stays and what comes is what the plain change makes of the rows that hold
-/// there; and where the old rows have rising periods and no fault, the change is refused exactly where the plain change
-/// of some point is, with the first of their refusals.
+/// Returns the change that an UPDATE or DELETE makes of these versions, the current ones of the table. Versions whose
+/// row is touched are removed, and an UPDATE adds the new row of each. With a portion, a row is touched if its
+/// application period shares a point with the portion. Its change is confined to the portion, and its old values are
+/// kept before and after it (ISO/IEC 9075-2:2011, 14.9 and 14.14).
+///
+/// # Errors
+///
+/// The first of these over all rows: an evaluation that overflows 64 bits; a text longer than its column allows or a
+/// CHECK that overflows; NULL in a column that is NOT NULL; an application period that does not start before its end; a
+/// CHECK that is FALSE. Or a refused allocation. Each CHECK is evaluated on each added row, also on the parts before
+/// and after a portion. Nothing is changed.
+///
+/// # What is proved besides
+///
+/// Clause `fits`: the added rows fit the table if the versions do, and the portion's values are of the kinds of their
+/// columns. Clause `points`: let SET and WHERE name no period. Then the rows at each point of time after the change are
+/// what the plain change makes of the rows at that point. Clause `refusals`: let also the old rows have no fault, and
+/// periods that start before their end. Then the change is refused if, and only if, the plain change of some point is.
+/// The refusal is the first of theirs, memory apart.
 pub fn modify(
     memory: Memory,
     table: &Table,

@@ -15,7 +15,7 @@ use tql_period::period::Period;
 use tql_period::pieces::{Pieces, split};
 use tql_value::value::{Value, View};
 
-/// The point that a value is, in days or microseconds since 1970-01-01; 0 for what is none.
+/// Returns the point of a value, in days or microseconds since 1970-01-01. Returns 0 for a value that is not a point.
 pub(crate) fn point(value: View<'_>) -> i64
     ensures { result ≡ point_of (datum_of_view value.entry) }
 {
@@ -26,7 +26,7 @@ pub(crate) fn point(value: View<'_>) -> i64
     }
 }
 
-/// The application period of a row; none where it does not rise, or the table has none.
+/// Returns the application period of a row. None if its start is not before its end, or the table has none.
 fn period(definition: &TableDef, row: &StoredRow<'_>) -> Option<Period>
     ensures { option_map points_of result ≡ where_rising (period_of definition.now (shown_by row.now)) }
 {
@@ -36,8 +36,8 @@ fn period(definition: &TableDef, row: &StoredRow<'_>) -> Option<Period>
     Period::new(start, end)
 }
 
-/// The parts into which the portion of a change, or none, cuts a row: before it, within it, and after it; where it
-/// leaves the row whole, none of the three. None where the portion shares no point with the row's period.
+/// Returns the parts of a row's period before, within and after the portion of a change. None if the period and the
+/// portion share no point. A change without a portion cuts nothing: all three parts are None.
 pub(crate) fn cut(
     definition: &TableDef,
     portion: Option<Period>,
@@ -60,7 +60,7 @@ pub(crate) fn cut(
     }
 }
 
-/// The point as a value of the kind of the one at a place.
+/// Returns a point as a value of the kind that the cell at an index has.
 fn like(cells: &[Value], place: usize, point: i64) -> Value
     ensures { datum_of_value result ≡ point_like (cell (row_of cells.now) place) point }
 {
@@ -70,7 +70,7 @@ fn like(cells: &[Value], place: usize, point: i64) -> Value
     }
 }
 
-/// Puts another application period into a row of all columns.
+/// Sets the application period of a full row.
 pub(crate) fn put_period(definition: &TableDef, period: Period, cells: &mut [Value])
     ensures { row_of cells.new ≡ with_period definition.now (points_of period) (row_of cells.old) }
 {

@@ -1,4 +1,5 @@
-//! The cells of new rows: the values given, each in its column, NULL in the others, and none for the generated columns.
+//! The cells of new rows. Each value goes to its column, columns without a value are NULL, and the generated columns
+//! are left out.
 ghost use Rattle.std.specs.Prelude.{◌≡◌, IsTrue, nat_eq, replicate, remove, slice_set, length, map, option_map, IfOk};
 ghost use Rattle.std.specs.Prelude.{IfErr};
 ghost use Rattle.std.specs.List.{list_all};
@@ -17,7 +18,7 @@ use tql_memory::Memory;
 use tql_value::refusal::Refusal;
 use tql_value::value::Value;
 
-/// So many NULLs.
+/// Returns a row of `width` NULLs. The only error is a refused allocation.
 fn nulls(memory: Memory, width: usize) -> Result<Vec<Value, Memory>, Refusal>
     ensures row { IfOk result (λ row. row_of row.items ≡ replicate width Null) }
     ensures memory { IfErr result (λ e. e ≡ OutOfMemory) }
@@ -29,7 +30,7 @@ fn nulls(memory: Memory, width: usize) -> Result<Vec<Value, Memory>, Refusal>
     Ok(row)
 }
 
-/// Puts a value into a column; past the last column nothing is put.
+/// Sets a column to a value. Does nothing past the last column.
 pub(crate) fn put(row: &mut [Value], column: usize, value: Value)
     ensures { row_of row.new ≡ slice_set (row_of row.old) column (datum_of_value value) }
 {
@@ -38,7 +39,7 @@ pub(crate) fn put(row: &mut [Value], column: usize, value: Value)
     }
 }
 
-/// Moves values into their columns, as many as there are of both.
+/// Moves the values into their columns. The longer of the two lists is cut.
 fn fill(row: &mut [Value], columns: &[usize], values: &mut [Value])
     ensures { row_of row.new ≡ filled (row_of row.old) columns.now (row_of values.old) }
 {
@@ -48,7 +49,7 @@ fn fill(row: &mut [Value], columns: &[usize], values: &mut [Value])
     }
 }
 
-/// Takes out the cell at a place; past the last one there is none.
+/// Removes the cell at an index. Does nothing past the last cell.
 fn take_out(row: &mut Vec<Value, Memory>, place: usize)
     ensures { row_of row.new.items ≡ remove (row_of row.old.items) place }
 {
@@ -57,7 +58,7 @@ fn take_out(row: &mut Vec<Value, Memory>, place: usize)
     }
 }
 
-/// Takes the cells of the generated columns out of a row.
+/// Removes the cells of the generated columns from a row.
 pub(crate) fn drop_generated(row: &mut Vec<Value, Memory>, system: Option<System>)
     ensures { row_of row.new.items ≡ without_generated (option_map system_of system) (row_of row.old.items) }
 {
@@ -72,8 +73,8 @@ pub(crate) fn drop_generated(row: &mut Vec<Value, Memory>, system: Option<System
     }
 }
 
-/// The cells of a new row: these values in these columns, and NULL in the others, without the generated columns. The
-/// values are moved out.
+/// Returns the stored cells of a new row: these values in these columns, and NULL in the others. The values are moved
+/// out. The only error is a refused allocation.
 fn spread(
     memory: Memory,
     definition: &TableDef,
@@ -89,7 +90,7 @@ fn spread(
     Ok(row)
 }
 
-/// The cells of each new row. The values are moved out.
+/// Returns the stored cells of each new row. The values are moved out. The only error is a refused allocation.
 fn spread_each(
     memory: Memory,
     definition: &TableDef,
@@ -107,14 +108,14 @@ fn spread_each(
     Ok(rows)
 }
 
-/// Whether each tuple has so many values.
+/// Whether each tuple has `width` values.
 fn are_wide(tuples: &[Vec<Value, Memory>], width: usize) -> bool
     ensures { result ≡ list_all (λ tuple. nat_eq (length tuple.items) width) tuples.now }
 {
     tuples.iter().all(|tuple| tuple.len() == width)
 }
 
-/// Whether tuples give a value to each column that is not generated, in order: then they are the cells of the new rows.
+/// Whether the tuples have a value for each stored column, in order. Then they already are the cells of the new rows.
 fn are_stored(definition: &TableDef, columns: &[usize], tuples: &[Vec<Value, Memory>]) -> bool
     ensures { IsTrue result → rows_of tuples.now ≡ map (stored_cells definition.now columns.now) (rows_of tuples.now) }
 {
@@ -127,7 +128,8 @@ fn are_stored(definition: &TableDef, columns: &[usize], tuples: &[Vec<Value, Mem
     are_wide(tuples, columns.len())
 }
 
-/// The cells of each new row. Where the tuples are these already, nothing is moved.
+/// Returns the stored cells of each new row. Tuples that already have this form are returned as they are. The only
+/// error is a refused allocation.
 pub fn new_rows(
     memory: Memory,
     definition: &TableDef,

@@ -1,4 +1,4 @@
-//! The values that a change computes.
+//! The values that an INSERT computes.
 ghost use Rattle.std.specs.Prelude.{[], All, map};
 ghost use Rattle.tql_spec.specs.Expression as bound;
 ghost use Rattle.tql_spec.specs.Words.{map_all};
@@ -14,7 +14,7 @@ use tql_memory::Memory;
 use tql_value::refusal::Refusal;
 use tql_value::value::Value;
 
-/// The values of tuples of expressions in which no column stands.
+/// Returns the values of tuples of expressions that name no column.
 pub(crate) fn tuples_of(
     memory: Memory,
     terms: &Terms,

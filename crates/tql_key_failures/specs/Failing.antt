@@ -17,27 +17,27 @@ use Rattle.tql_key_failures.specs.declared.failures.ReferenceFailure.{ReferenceF
 
 -- ---- keys
 
--- a row of the table, if it stays
+-- a row of the table, if it survives the change
 abbrev pub if_it_stays : Bool → Option Row → Option Row
 if_it_stays true row = None
 if_it_stays false row = row
 
--- a new row, or one of the table that stays
+-- a new row, or a surviving row of the table
 abbrev pub row_at : TableDef → (ℕ → Option Stamped) → List ℕ → List Row → RowRef → Option Row
 row_at d named removed new (Added n) = slice_get new n
 row_at d named removed new (Stored id) = if_it_stays (is_among id removed) (option_map (shown d) (named id))
 
--- whether two rows are there and clash in a key that is there
+-- whether there are two rows and a key, and the rows clash in it
 abbrev pub do_clash : TableDef → Option Key → Option Row → Option Row → Bool
 do_clash d (Some k) (Some r) (Some s) = clash d k r s
 do_clash d k r s = false
 
--- whether this is another row than the new one of a number
+-- whether this is a different row than the new one at an index
 abbrev pub is_another : ℕ → RowRef → Bool
 is_another n (Added m) = not (nat_eq n m)
 is_another n (Stored id) = true
 
--- whether a new row clashes with another new row, or with one of the table that stays
+-- whether a new row clashes with another new row, or with a surviving row of the table
 abbrev pub is_key_failure : TableDef → (ℕ → Option Stamped) → List ℕ → List Row → KeyFailure → Bool
 is_key_failure d named removed new f =
     is_another f.row f.other
@@ -45,7 +45,7 @@ is_key_failure d named removed new f =
 
 -- ---- references
 
--- a reference of the table at a place, by its number, which held, does not hold after a change
+-- the reference at an index of the table at another index held before the change, and does not hold after it
 abbrev pub FailsAfter : StoreModel → List Table → ℕ → List ℕ → ℤ → List Row → ℕ → ℕ → Type 0
 FailsAfter h tables t removed m added child n =
     (copy : Copy) (gone : Stamped → Bool) (f : Reference) → IsCopyOf h tables copy
@@ -57,7 +57,7 @@ FailsAfter h tables t removed m added child n =
     (table_rows (definitions_of tables) (copy_after m t gone added copy) child) f
     (place_of f.parent (definitions_of tables)) ≡ false
 
--- the reference that is reported is one of a table that is there
+-- the reported reference belongs to a table of the catalog, and fails
 abbrev pub IsReferenceFailure : StoreModel → List Table → ℕ → List ℕ → ℤ → List Row → ReferenceFailure → Type 0
 IsReferenceFailure h tables t removed m added f =
     (f.child < length tables) × FailsAfter h tables t removed m added f.child f.reference

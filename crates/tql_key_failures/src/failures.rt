@@ -1,5 +1,6 @@
-//! Which row fails in which key or reference. The tests of a refused change are run again in loops that remember where
-//! they are, so a change that is not refused pays nothing for it.
+//! Finds the row that fails in a key or reference, for the diagnostic of a refused change. The tests of `tql_keys` only
+//! answer whether all keys and references hold. So they are run again here, in loops that know their position, and a
+//! change that is accepted pays nothing for it.
 ghost use Rattle.std.specs.Prelude.{◌≡◌, ◌<◌, IfOk, IfSome, IsTrue, length, map, option_map, slice_get};
 ghost use Rattle.tql_spec.specs.Bag.{SameBag};
 ghost use Rattle.tql_spec.specs.Definition.{shown, table_at};
@@ -32,21 +33,21 @@ use tql_keys::rivals::can_clash;
 use tql_memory::Memory;
 use tql_store::store::{Delta, Store};
 
-/// A row.
+/// A row of a changed table, or of a table that refers to it.
 #[derive(Clone, Copy)]
 pub enum RowRef {
-    /// One that the change adds, by its number among these from 0.
+    /// A row that the change adds, by its index among the added rows.
     Added(usize),
-    /// One of the table, by its id.
+    /// A row of the table, by its id.
     Stored(usize),
 }
 
 /// A key that does not hold after a change.
 #[derive(Clone, Copy)]
 pub struct KeyFailure {
-    /// The key, by its number among those of the table, from 0.
+    /// The index of the key among those of the table.
     pub key: usize,
-    /// The row that fails in it, by its number among those that the change adds, from 0.
+    /// The index of the failing row among the added rows.
     pub row: usize,
     /// The row that it clashes with.
     pub other: RowRef,
@@ -55,22 +56,22 @@ pub struct KeyFailure {
 /// A reference that does not hold after a change.
 #[derive(Clone, Copy)]
 pub struct ReferenceFailure {
-    /// The table that it is a reference of, by its index in the catalog.
+    /// The index in the catalog of the child table.
     pub child: usize,
-    /// The reference, by its number among those of that table, from 0.
+    /// The index of the reference among those of the child table.
     pub reference: usize,
-    /// A row of that table which no row of the referenced table matches.
+    /// A row of the child table that no row of the parent table matches.
     pub row: RowRef,
 }
 
-/// A row that the change adds, and its number.
+/// An added row and its index.
 #[derive(Clone, Copy)]
 struct Numbered<'a> {
     row: StoredRow<'a>,
     number: usize,
 }
 
-/// Two rows that the change adds, by their numbers.
+/// Two added rows by their indexes, the smaller one first.
 #[derive(Clone, Copy)]
 struct Pair {
     first: usize,
@@ -78,7 +79,7 @@ struct Pair {
 }
 
 impl Pair {
-    /// The numbers in their order.
+    /// Returns the pair of two indexes in rising order.
     fn of(number: usize, other: usize) -> Pair {
         Pair {
             first: number.min(other),
@@ -86,7 +87,7 @@ impl Pair {
         }
     }
 
-    /// Of two pairs the one whose second row comes first.
+    /// Returns the pair whose second row comes first.
     fn sooner(self, other: Option<Pair>) -> Pair {
         match other {
             Some(other) if other.second <= self.second => other,
@@ -95,7 +96,7 @@ impl Pair {
     }
 }
 
-/// The rows that the change adds and that can clash with others.
+/// Returns the added rows that can clash with others.
 fn numbered_rivals<'a>(
     memory: Memory,
     definition: &TableDef,
@@ -112,7 +113,7 @@ fn numbered_rivals<'a>(
     Ok(rivals)
 }
 
-/// Sorts rows by their ranks, and those of one rank by their numbers.
+/// Sorts rows by their ranks, and rows of one rank by their indexes.
 fn sort_rivals(definition: &TableDef, key: &Key, rivals: &mut Vec<Numbered<'_>, Memory>) {
     rivals.sort_unstable_by(|a, b| {
         let by_number = a.number.cmp(&b.number);
@@ -120,8 +121,8 @@ fn sort_rivals(definition: &TableDef, key: &Key, rivals: &mut Vec<Numbered<'_>, 
     });
 }
 
-/// Two of the rows that the change adds that clash. Where two of them do, two neighbours do that are sorted by their
-/// ranks; of these the pair whose second row comes first.
+/// Returns two added rows that clash, if any do. Sorted by their ranks, two rows clash only if two neighbours do. Of
+/// the neighbours that clash, it returns the pair whose second row comes first.
 fn clashing_pair(
     memory: Memory,
     definition: &TableDef,
@@ -141,7 +142,7 @@ fn clashing_pair(
     Ok(found)
 }
 
-/// The id of the first row of the table that stays and clashes with a row that is added.
+/// Returns the id of the first unchanged row of the table that clashes with an added row.
 fn rival_of<I: IntervalIndex>(
     memory: Memory,
     store: &Store<I>,
@@ -164,7 +165,7 @@ fn rival_of<I: IntervalIndex>(
     Ok(None)
 }
 
-/// A key failure by a row that is added and one of the table, or one that is added before it.
+/// Returns the failure of an added row, if it clashes with the row `rival` of the table or is the second row of `pair`.
 fn failure_of(
     key: usize,
     row: usize,
@@ -179,8 +180,8 @@ fn failure_of(
     Some(KeyFailure { key, row, other })
 }
 
-/// The first row that fails in a key, by its number: it clashes with a row of the table, or with one that is added
-/// before it.
+/// Returns a row that fails in a key: the first added row that clashes with an unchanged row, or is the second of the
+/// pair that `clashing_pair` chooses.
 fn failed_row<I: IntervalIndex>(
     memory: Memory,
     store: &Store<I>,
@@ -205,7 +206,7 @@ fn failed_row<I: IntervalIndex>(
     Ok(None)
 }
 
-/// A row that the change adds, as its table shows it.
+/// Returns an added row, as its table shows it.
 fn added_row<'a>(definition: &TableDef, change: &Change<'a>, number: usize) -> Option<StoredRow<'a>>
     ensures { option_map shown_by result
         ≡ slice_get (new_rows definition.now change.now.moment (rows_of change.now.added.now)) number }
@@ -214,7 +215,7 @@ fn added_row<'a>(definition: &TableDef, change: &Change<'a>, number: usize) -> O
     Some(current_row(definition, cells, change.moment))
 }
 
-/// A row of the table that stays, as the table shows it.
+/// Returns a row of the table, as the table shows it. None if the change removes it.
 fn staying_row<'s, I: IntervalIndex>(
     store: &'s Store<I>,
     table: &Table,
@@ -232,7 +233,7 @@ fn staying_row<'s, I: IntervalIndex>(
     Some(current_row(&table.definition, named.row, named.start))
 }
 
-/// Whether two rows are there, and clash in a key that is there.
+/// Whether there are two rows and a key, and the rows clash in it.
 fn do_clash(
     definition: &TableDef,
     key: Option<&Key>,
@@ -248,7 +249,7 @@ fn do_clash(
     }
 }
 
-/// The key with a number.
+/// Returns the key at an index.
 fn key_at(definition: &TableDef, number: usize) -> Option<&Key>
     ensures { option_map (λ k. key_of k.now) result ≡ slice_get definition.now.keys number }
 {
@@ -256,7 +257,7 @@ fn key_at(definition: &TableDef, number: usize) -> Option<&Key>
     Some(key)
 }
 
-/// The row that a row which is added clashes with, as its table shows it.
+/// Returns the row that an added row clashes with, as its table shows it.
 fn other_row<'a, I: IntervalIndex>(
     store: &'a Store<I>,
     table: &Table,
@@ -274,7 +275,7 @@ fn other_row<'a, I: IntervalIndex>(
     }
 }
 
-/// Whether this is another row than the one that is added with a number.
+/// Whether `other` is a different row than the added row at index `row`.
 fn is_another(row: usize, other: RowRef) -> bool
     ensures { result ≡ spec.is_another row other }
 {
@@ -284,7 +285,7 @@ fn is_another(row: usize, other: RowRef) -> bool
     }
 }
 
-/// Whether a row that is added clashes, as it is said, with another one, or with a row of the table that stays.
+/// Whether the failure is one: the added row clashes with another added row, or with an unchanged row of the table.
 fn is_failure<I: IntervalIndex>(
     store: &Store<I>,
     table: &Table,
@@ -302,7 +303,7 @@ fn is_failure<I: IntervalIndex>(
     is_another(failure.row, failure.other) && do_clash(&table.definition, key, row, other)
 }
 
-/// The failure, where it is one.
+/// Returns the failure if it is one.
 fn tested<I: IntervalIndex>(
     store: &Store<I>,
     table: &Table,
@@ -322,7 +323,7 @@ fn tested<I: IntervalIndex>(
     }
 }
 
-/// The first row that fails in the key with a number, where that does not hold after a change.
+/// Returns a row that fails in the key at an index. None if the key holds after the change.
 fn failed_at<I: IntervalIndex>(
     memory: Memory,
     store: &Store<I>,
@@ -341,7 +342,7 @@ fn failed_at<I: IntervalIndex>(
     failed_row(memory, store, table, key, number, change)
 }
 
-/// The first key that does not hold after a change, and the first row that fails in it.
+/// Returns the first key that does not hold after a change, with a row that fails in it.
 fn first_failed<I: IntervalIndex>(
     memory: Memory,
     store: &Store<I>,
@@ -359,10 +360,9 @@ fn first_failed<I: IntervalIndex>(
     Ok(None)
 }
 
-/// The first key of a table that does not hold after a change whose new rows begin at the moment, in microseconds since
-/// 1970-01-01, and the first row that fails in it. What is reported is a failure: the row clashes with another new one,
-/// or with a row of the table that stays. The only error is a refused allocation. It costs what the test of the keys
-/// costs.
+/// Returns the first key of a table that does not hold after a change, with a row that fails in it. Added rows start at
+/// `moment`, in microseconds since 1970-01-01. What it reports is a failure: the row clashes with another added row, or
+/// with an unchanged row of the table. The only error is a refused allocation. Costs as much as the test of the keys.
 pub fn failed_key<I: IntervalIndex>(
     memory: Memory,
     store: &Store<I>,
@@ -386,7 +386,7 @@ pub fn failed_key<I: IntervalIndex>(
     Ok(tested(store, table, &change, found))
 }
 
-/// The first row that a change adds to a child table which no row of the parent table matches.
+/// Returns the first row added to a child table that no row of the parent table matches.
 fn unmet_added<I: IntervalIndex>(
     memory: Memory,
     store: &Store<I>,
@@ -408,7 +408,7 @@ fn unmet_added<I: IntervalIndex>(
     Ok(None)
 }
 
-/// The first child row of a parent row that no row of the parent table matches after a change of that.
+/// Returns the first child row of a parent row that no row of the parent table matches after a change to that table.
 fn unmet_child<I: IntervalIndex>(
     memory: Memory,
     store: &Store<I>,
@@ -442,9 +442,9 @@ fn unmet_child<I: IntervalIndex>(
     Ok(None)
 }
 
-/// The first child row of these parent rows, which are sorted by their ranks where periods count, that no row of the
-/// parent table matches after a change of that. Each parent row is tested as in the test of the reference; of the first
-/// that is not spared the child rows are looked at again.
+/// Returns a child row of the removed parent rows that no row of the parent table matches after the change. By period,
+/// the removed rows are sorted by their ranks. They are tested as the reference is; the child rows of the first one
+/// that fails are then tested again.
 fn unmet_among<I: IntervalIndex>(
     memory: Memory,
     store: &Store<I>,
@@ -477,7 +477,7 @@ fn unmet_among<I: IntervalIndex>(
     Ok(None)
 }
 
-/// The first row of a child table that no row of the parent table matches after a change of that.
+/// Returns a row of a child table that no row of the parent table matches after a change to the parent table.
 fn unmet_stored<I: IntervalIndex>(
     memory: Memory,
     store: &Store<I>,
@@ -501,7 +501,7 @@ fn unmet_stored<I: IntervalIndex>(
     )
 }
 
-/// The row of a child table that a reference which does not hold after a change leaves without a match.
+/// Returns a row of a child table that a reference leaves without a match after a change.
 fn unmet_row<I: IntervalIndex>(
     memory: Memory,
     catalog: &Catalog,
@@ -529,7 +529,7 @@ fn unmet_row<I: IntervalIndex>(
     unmet_stored(memory, store, from, reference, to, change)
 }
 
-/// The failure of a reference by a row, where there is one.
+/// Returns the failure of a reference by a row, if there is one.
 fn reference_failure(
     child: usize,
     reference: usize,
@@ -545,8 +545,8 @@ fn reference_failure(
     })
 }
 
-/// The failure of the reference with a number, where it does not hold after a change of the table at one place; it is
-/// one of the table at another, or the same.
+/// Returns the failure of the reference at index `number` of the table at index `child`. None if it holds after the
+/// change to the table at `place`, which may be the same table.
 fn unmet_at<I: IntervalIndex>(
     memory: Memory,
     catalog: &Catalog,
@@ -574,8 +574,8 @@ fn unmet_at<I: IntervalIndex>(
     Ok(reference_failure(child, number, row))
 }
 
-/// The first reference of the table at one place that does not hold after a change of the table at another, or the
-/// same.
+/// Returns the first reference of the table at index `child` that does not hold after a change to the table at `place`.
+/// The two may be the same table.
 fn failed_of<I: IntervalIndex>(
     memory: Memory,
     catalog: &Catalog,
@@ -600,8 +600,8 @@ fn failed_of<I: IntervalIndex>(
     Ok(None)
 }
 
-/// The first reference that does not hold after a change: of the references of the table at a place, and then of those
-/// to it.
+/// Returns the first reference that does not hold after a change to the table at `place`. The table's own references
+/// come first, then those to it.
 fn failed_reference_after<I: IntervalIndex>(
     memory: Memory,
     catalog: &Catalog,
@@ -627,10 +627,10 @@ fn failed_reference_after<I: IntervalIndex>(
     Ok(None)
 }
 
-/// The first reference that does not hold after a change of the table at a place, whose new rows begin at the moment,
-/// in microseconds since 1970-01-01, and a row that it leaves without a match. What is reported is a failure: where the
-/// reference held before the change, it does not hold after it. The only error is a refused allocation. It costs what
-/// the test of the references costs.
+/// Returns the first reference that does not hold after a change to the table at `place`, with a row that it leaves
+/// without a match. Added rows start at `moment`, in microseconds since 1970-01-01. What it reports is a failure: if
+/// the reference held before the change, it does not hold after it. The only error is a refused allocation. Costs as
+/// much as the test of the references.
 pub fn failed_reference<I: IntervalIndex>(
     memory: Memory,
     catalog: &Catalog,

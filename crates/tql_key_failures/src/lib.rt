@@ -1,4 +1,4 @@
-//! Which rows of a refused change fail in which key or reference.
+//! Finds the row of a refused change that fails in a key or a reference.
 #![tactic(auto)]
 
 pub mod failures;

@@ -1,4 +1,4 @@
--- Of rows that are sorted by their tuples those with one tuple lie side by side.
+-- In rows sorted by their tuples, the rows with one tuple are adjacent.
 use Rattle.std.proofs.Common.{◌≡◌, ℕ, zero, suc, ◌+◌, ◌-◌, ◌<◌, ◌≤◌, Bool, true, false, List, [], ◌∷◌, map, length}
 use Rattle.std.proofs.Common.{take, drop, refl, sym, ap, ◌∙◌, arith, ⊎_elim}
 use Rattle.std.specs.Prelude.{◌&&◌, ◌||◌, slice_index_or}
@@ -18,12 +18,12 @@ use Rattle.tql_spec.proofs.Orders.{by_columns-total}
 use Rattle.tql_keys.specs.Touched.{tuple, has_tuple}
 use Rattle.tql_keys.proofs.Tuples.{equals, equals_is}
 
--- ---- the elements between two places
+-- ---- the elements between two positions
 
 or_false : (a b : Bool) → a ≡ false → a || b ≡ b
 or_false a b e = ap (λ c. c || b) e
 
--- whether some element passes is told by those between two places, where no other does
+-- if no element outside a range passes, some element passes exactly if one within the range does
 any_between : {X : Type 0} (p : X → Bool) (xs : List X) (i n : ℕ) → i + n ≤ length xs
     → AllWithin (λ x. p x ≡ false) xs 0 i → AllWithin (λ x. p x ≡ false) xs (i + n) (length xs)
     → list_any p (take n (drop i xs)) ≡ list_any p xs
@@ -43,7 +43,7 @@ any_between p (x ∷ xs) (suc i) n l a c =
     (λ k d lo hi. c (suc k) d (omega (arith, lo)) (omega (arith, hi)))
     ∙ sym (or_false (p x) (list_any p xs) (a 0 x (omega arith) (omega arith)))
 
--- whether some image passes
+-- whether some element of a mapped list passes
 pub any_map : {A B : Type 0} (p : B → Bool) (f : A → B) (xs : List A)
     → list_any p (map f xs) ≡ list_any (λ x. p (f x)) xs
 any_map p f [] = refl
@@ -84,7 +84,7 @@ not_both Greater h k = cc
 
 -- ---- rows with a tuple
 
--- a row that has a tuple has it as its own
+-- a row that has a tuple: its own tuple is that one
 has_is : (cs : List ℕ) (vs : List Datum) (r : Row) → has_tuple cs vs r ≡ true → tuple cs r ≡ vs
 has_is [] [] r e = refl
 has_is [] (v ∷ vs) r e = cc
@@ -95,7 +95,7 @@ has_is (c ∷ cs) (v ∷ vs) r e =
     let y = has_is cs vs r b.1 in
     cc
 
--- one whose tuple lies elsewhere has it not
+-- a row whose tuple compares differently does not have the tuple
 has_not : (cs : List ℕ) (vs : List Datum) (r : Row) → is_eq (by_columns (tuple cs r) vs) ≡ false
     → has_tuple cs vs r ≡ false
 has_not cs vs r n = by_bool (has_tuple cs vs r)
@@ -139,7 +139,7 @@ module _ {A : Type 0} (view : A → Row) (cs : List ℕ) (vs : List Datum) (rows
       (b.1 j d (omega arith) (omega (arith, h, l)))))
       (λ h. h) (cases_lt j i)
 
-  -- a row with the tuple that passes a test is between two places
+  -- whether a row with the tuple passes a test depends only on the rows between two positions
   pub some_between : (test : Row → Bool) (i j : ℕ) → i ≤ length rows → j ≤ length rows → Begins i → Ends j
       → list_any (λ r. has_tuple cs vs (view r) && test (view r)) (take (j - i) (drop i rows))
       ≡ list_any (λ r. has_tuple cs vs (view r) && test (view r)) rows

@@ -1,4 +1,4 @@
--- Rows that are alike in some columns, and where it counts in their periods: keys and references see no more of them.
+-- Rows with the same values in some columns and, by period, the same periods. Keys and references read no more of them.
 use Rattle.std.proofs.Common.{◌≡◌, refl, sym, ap, ◌∙◌, ℕ, Bool, true, false, List}
 use Rattle.std.specs.Prelude.{◌&&◌, ◌||◌, not, ℤ}
 use Rattle.std.specs.List.{list_any}
@@ -20,7 +20,7 @@ use Rattle.tql_keys.proofs.Gathering.{parents_is}
 use Rattle.tql_keys.proofs.Sameness.{clash_turned}
 use Rattle.tql_keys.proofs.Tuples.{match_tuple}
 
--- the same tuple, and where it counts the same period
+-- the same tuple and, by period, the same period
 pub record AreAlike (d : TableDef) (columns : List ℕ) (by_period : Bool) (r s : Row) : Type 0 where
   pub tuples : tuple columns r ≡ tuple columns s
   pub periods : by_period ≡ true → period_of d r ≡ period_of d s
@@ -30,15 +30,15 @@ level Less e = absurd (cc)
 level Equal e = refl
 level Greater e = absurd (cc)
 
--- tuples that lie level are one
+-- tuples that compare equal are the same
 one_tuple : (a b : Row) → is_eq (by_columns a b) ≡ true → a ≡ b
 one_tuple a b e = by_columns-ties a b (level (by_columns a b) e)
 
--- from a start to an end
+-- the period from a start to an end
 abbrev between : ℤ → ℤ → Period
 between start end = record { start = start; end = end }
 
--- periods with the same ends are one
+-- periods with the same ends are the same
 one_period : (x y : Period) → same_ends x y ≡ true → x ≡ y
 one_period x y e =
     let b = both (int_eq x.start y.start) (int_eq x.end y.end) e in
@@ -46,7 +46,7 @@ one_period x y e =
     let t : x.end ≡ y.end = (Decides-int_eq x.end y.end).0 b.1 in
     ap (λ z. between z x.end) s ∙ ap (between y.start) t
 
--- what the test tells
+-- what `are_alike` implies
 pub alike_says : (d : TableDef) (columns : List ℕ) (by_period : Bool) (r s : Row)
     → are_alike d columns by_period r s ≡ true → AreAlike d columns by_period r s
 alike_says d columns by_period r s e =
@@ -56,13 +56,13 @@ alike_says d columns by_period r s e =
       periods = λ p. one_period (period_of d r) (period_of d s) (sym (ap (λ c. not c || same_period d r s) p) ∙ b.1);
     }
 
--- a row is like itself
+-- a row is alike itself
 pub alike_itself : (d : TableDef) (columns : List ℕ) (by_period : Bool) (r : Row) → AreAlike d columns by_period r r
 alike_itself d columns by_period r = record { tuples = refl; periods = λ p. refl }
 
 -- ---- keys
 
--- a row matches those that are alike alike
+-- a row matches two alike rows equally
 pub matches_alike : (cs : List ℕ) (c : Row) (ks : List ℕ) (r s : Row) → tuple ks r ≡ tuple ks s
     → match_on cs c ks r ≡ match_on cs c ks s
 matches_alike cs c ks r s e =
@@ -81,7 +81,7 @@ clash_second d k a r s h =
     shared false x y z q = refl
     shared true x y z q = ap (share_a_point x) (q refl)
 
--- rows clash as those do that are like them
+-- two rows clash exactly if two rows alike them do
 pub clash_alike : (d : TableDef) (k : Key) (a b r s : Row) → AreAlike d k.columns k.by_period a b
     → AreAlike d k.columns k.by_period r s → clash d k a r ≡ clash d k b s
 clash_alike d k a b r s h j =
@@ -92,7 +92,7 @@ clash_alike d k a b r s h j =
 any_null : (columns : List ℕ) (r : Row) → has_null columns r ≡ list_any is_null (tuple columns r)
 any_null columns r = sym (any_map is_null (cell r) columns)
 
--- a child row is met as one is that is like it
+-- a child row is met exactly if a row alike it is
 pub met_alike : (c p : TableDef) (f : Reference) (parents : List Row) (r s : Row) → AreAlike c f.columns f.by_period r s
     → is_met c p f parents r ≡ is_met c p f parents s
 met_alike c p f parents r s h =

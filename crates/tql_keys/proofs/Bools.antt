@@ -1,4 +1,4 @@
--- Tests over lists: joined, kept, mapped, exchanged.
+-- Tests over lists: conjunction, filter, map and exchange of two quantifiers.
 use Rattle.std.proofs.Common.{◌≡◌, refl, sym, ap, ◌∙◌, Bool, true, false, cond, List, [], ◌∷◌, ◌++◌, map, filter}
 use Rattle.std.specs.Prelude.{◌&&◌, ◌||◌, not}
 use Rattle.std.specs.List.{list_all}
@@ -42,7 +42,7 @@ pub all_true : {A : Type 0} (xs : List A) → list_all (λ x. true) xs ≡ true
 all_true [] = refl
 all_true (x ∷ xs) = all_true xs
 
--- one element more among those kept
+-- prepending an element to a filtered list
 kept_step : {A : Type 0} (p : A → Bool) (b : Bool) (x : A) (ys : List A) → p x && list_all p ys ≡ true
     → list_all p (cond b (x ∷ ys) ys) ≡ true
 kept_step p true x ys h = h
@@ -54,7 +54,7 @@ all_kept p q (x ∷ xs) h =
     let b = both (p x) (list_all p xs) h in
     kept_step p (q x) x (filter q xs) (and_true (p x) (list_all p (filter q xs)) b.0 (all_kept p q xs b.1))
 
--- a test with a premise is a test of those that meet it
+-- a test of the form "if b then q" over a list is a test of the elements with b
 premise_step : {A : Type 0} (q : A → Bool) (b : Bool) (x : A) (ys : List A)
     → not (b && q x) && list_all (λ y. not (q y)) ys ≡ list_all (λ y. not (q y)) (cond b (x ∷ ys) ys)
 premise_step q true x ys = refl
@@ -78,7 +78,7 @@ all_and p q [] = refl
 all_and p q (x ∷ xs) =
     ap (λ b. (p x && q x) && b) (all_and p q xs) ∙ cross_and (p x) (q x) (list_all p xs) (list_all q xs)
 
--- each of one list with each of another, either way around
+-- two nested tests over all elements can be exchanged
 pub all_swap : {A B : Type 0} (t : A → B → Bool) (xs : List A) (ys : List B)
     → list_all (λ x. list_all (t x) ys) xs ≡ list_all (λ y. list_all (λ x. t x y) xs) ys
 all_swap t [] ys = sym (all_true ys)

@@ -1,4 +1,4 @@
--- A reference after a change of its child table, by the rows that come.
+-- A reference after a change to its child table is decided by the added rows.
 use Rattle.std.proofs.Common.{◌≡◌, refl, sym, ap, ◌∙◌, ℕ, Bool, true, false, List, [], ◌∷◌, ◌++◌, map, filter}
 use Rattle.std.specs.Prelude.{not, ◌&&◌, ◌||◌, ℤ, Option, Some, All}
 use Rattle.std.specs.List.{list_all, list_any}
@@ -23,15 +23,15 @@ pub all_stay : (rows : List Stamped) → filter (λ r. not false) rows ≡ rows
 all_stay [] = refl
 all_stay (r ∷ rows) = ap {B = List Stamped} (λ rs. r ∷ rs) (all_stay rows)
 
--- where no row goes and none comes
+-- a change without removed or added rows leaves the rows as they are
 pub unchanged : (m : ℤ) (rows : List Stamped) → rows_after m (λ r. false) [] rows ≡ rows
 unchanged m rows = append-nil (filter (λ r. not false) rows) ∙ all_stay rows
 
--- no id listed names a row that goes, as none does
+-- the empty list of ids represents a change that removes no row
 pub none_judged : (named : ℕ → Option Stamped) → IsJudged named (λ r. false) []
 none_judged named id r e = refl
 
--- a reference that held is told by the rows that come
+-- a reference that held holds after the change exactly if the added rows are met
 pub child_after : (d p : TableDef) (f : Reference) (parents : List Stamped) (m : ℤ) (gone : Stamped → Bool)
     (added : List Row) (rows : List Stamped) (b : Bool)
     → reference_holds d p f (shown_rows p parents) (shown_rows d rows) ≡ true
@@ -44,14 +44,14 @@ child_after d p f parents m gone added rows b h e =
     ∙ child_joined d p f (shown_rows p parents) (shown_rows d (staying gone rows)) (new_rows d m added)
     (child_kept d p f (shown_rows p parents) (λ r. not (gone r)) rows h))
 
--- the parents of a child row after a change of the parent table that count: of those that stay those that share a point
--- with it where periods count, and those that come
+-- the parents that matter for a child row after a change to the parent table: the unchanged rows, by period only those
+-- that share a point with it, and the added rows
 abbrev pub parents_near : TableDef → TableDef → Reference → Row → List Row → List Row → List Row
 parents_near c d f r stay new =
     filter (λ s. has_tuple f.parent_columns (tuple f.columns r) s && is_touched d f.by_period (period_of c r) s) stay
     ++ with_tuple f.parent_columns (tuple f.columns r) new
 
--- a test of them, by what was found
+-- a test of these parents, expressed by the found rows
 pub parents_told : (c d : TableDef) (f : Reference) (r : Row) (m : ℤ) (added : List Row) (rows : List Stamped)
     (named : ℕ → Option Stamped) (gone : Stamped → Bool) (removed : List ℕ) (found : List Version)
     → SameBag (map row_found found)
@@ -69,7 +69,7 @@ parents_told c d f r m added rows named gone removed found bag names judged test
     ∙ ap (λ b. any_left d removed test found || b)
     (sym (any_kept (has_tuple f.parent_columns (tuple f.columns r)) test (new_rows d m added)))
 
--- they decide whether it is met
+-- these parents decide whether the child row is met
 pub parents_decide : ReferenceTestIsRight → (c d : TableDef) (f : Reference) (r : Row) (m : ℤ) (gone : Stamped → Bool)
     (added : List Row) (rows : List Stamped)
     → is_met_by c d f.by_period (parents_near c d f r (shown_rows d (staying gone rows)) (new_rows d m added)) r

@@ -1,4 +1,4 @@
--- Coverage by the points that it speaks of, from the law of its test.
+-- Coverage of a period, point by point, from the law of its test.
 use Rattle.std.proofs.Common.{◌≡◌, ◌<◌, refl, sym, ap, ◌∙◌, subst, ℕ, zero, suc, Bool, true, false, List, [], ◌∷◌}
 use Rattle.std.proofs.Common.{◌++◌, length, arith, inl, inr}
 use Rattle.std.specs.Prelude.{◌||◌, ℤ, Some, Contains, get_or}
@@ -12,7 +12,7 @@ use Rattle.tql_spec.specs.Constraint.{ReferenceHolds, parents_of}
 use Rattle.tql_spec.proofs.Members.{by_bool}
 use Rattle.tql_keys.proofs.Bools.{and_yes}
 
--- ---- a table and a reference of one row, to ask of a period alone
+-- ---- a table and a reference with one row, to apply the law to a single period
 
 abbrev whole_table : TableDef
 whole_table = record no_table { application = Some (record { name = []; start = 0; end = 1 }) }
@@ -50,7 +50,7 @@ holds_if x p h = grind (arith, ints, h.0, h.1)
 if_holds : (x : Period) (p : ℤ) → holds x p ≡ true → Holds x p
 if_holds x p e = (grind (arith, ints), grind (arith, ints))
 
--- some row of a list whose period holds the point
+-- some row of a list has a period that holds the point
 abbrev Held : TableDef → List Row → ℤ → Type 0
 Held parent ps p = (s : Row) × Contains ps s × Holds (period_of parent s) p
 
@@ -65,7 +65,7 @@ held_by parent (s ∷ ps) p e = by_bool (holds (period_of parent s) p)
 
 -- ---- coverage
 
--- a period that is covered: each of its points is held
+-- if a period is covered, each of its points is held
 pub covered_says : ReferenceTestIsRight → (parent : TableDef) (ps : List Row) (x : Period) → covered parent ps x ≡ true
     → (p : ℤ) → Holds x p → held_at parent ps p ≡ true
 covered_says law parent ps x e p h =
@@ -82,7 +82,7 @@ covered_says law parent ps x e p h =
         let c : Contains ps m.0 = subst (λ (rs : List Row). Contains rs m.0) (all_of ps x) m.1 in
         passes (λ s. holds (period_of parent s) p) ps m.0 c.0 c.1 c.2 (holds_if (period_of parent m.0) p m.2)
 
--- and the other way
+-- the converse
 pub covered_if : ReferenceTestIsRight → (parent : TableDef) (ps : List Row) (x : Period)
     → ((p : ℤ) → Holds x p → held_at parent ps p ≡ true) → covered parent ps x ≡ true
 covered_if law parent ps x h =
@@ -107,7 +107,7 @@ any_more t (x ∷ xs) ys e = by_bool (t x)
     (λ h. ap (λ b. b || list_any t (xs ++ ys)) h)
     (λ n. ap (λ b. b || list_any t (xs ++ ys)) n ∙ any_more t xs ys (sym (ap (λ b. b || list_any t xs) n) ∙ e))
 
--- a child row that is met is met by more
+-- a child row that is met is still met with more parents
 pub met_by_more : ReferenceTestIsRight → (child parent : TableDef) (b : Bool) (ps qs : List Row) (r : Row)
     → is_met_by child parent b ps r ≡ true → is_met_by child parent b (ps ++ qs) r ≡ true
 met_by_more law child parent true ps qs r e = covered_if law parent (ps ++ qs) (period_of child r)

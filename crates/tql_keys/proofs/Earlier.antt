@@ -1,4 +1,4 @@
--- The parents of a catalog's references are earlier tables.
+-- The parent tables of a catalog's references are earlier tables.
 use Rattle.std.proofs.Common.{◌≡◌, ◌<◌, refl, sym, ap, subst, ◌∙◌, ℕ, ◌+◌, zero, suc, Bool, true, false, List, []}
 use Rattle.std.proofs.Common.{◌∷◌, ◌++◌, length, arith, append_assoc, length-append}
 use Rattle.std.specs.Prelude.{◌&&◌, ◌||◌, not, nat_lt, Option, Some, None, if◌then◌else◌}
@@ -17,7 +17,7 @@ use Rattle.tql_catalog.specs.Rows.{are_assignable}
 use Rattle.tql_catalog.specs.Tables.{has_key_at, can_have, have_parents}
 use Rattle.tql_keys.specs.Checked.{has_parent_at, has_parent}
 
--- a name that is found is found where it was, with more tables behind
+-- a name that is found keeps its index if tables are appended
 place_stays : (n : Name) (defs more : List TableDef) (p : ℕ) → place_of n defs ≡ Some p
     → place_of n (defs ++ more) ≡ Some p
 place_stays n [] more p e = absurd (cc)
@@ -36,7 +36,7 @@ place_stays n (d ∷ defs) more p e = by_bool (same_text n d.name)
 below : (p n : ℕ) → p < n → nat_lt p n ≡ true
 below p n l = grind (arith, nat_tests, l)
 
--- what a table can have with the tables before it, it has behind them
+-- a reference that is valid with the tables before it stays valid with more tables after them
 parent_kept : (before more : List TableDef) (t : ℕ) → t ≡ length before → (f : Reference) → can_have before f ≡ true
     → has_parent (before ++ more) t f ≡ true
 parent_kept before more t e f h = at (place_of f.parent before) refl h
@@ -68,14 +68,14 @@ parents_from before (d ∷ ds) (suc t) h l =
     let n : length (before ++ d ∷ []) + t ≡ length before + suc t = omega (arith, length-append before (d ∷ [])) in
     sym (λ i. list_all (has_parent (append_assoc before (d ∷ []) ds i) (n i)) (table_at ds t).references) ∙ rest
 
--- each reference of a table is to a key of an earlier one
+-- each reference of a table is to a key of an earlier table
 pub parents_are_earlier : (defs : List TableDef) (t : ℕ) → have_parents [] defs ≡ true → t < length defs
     → list_all (has_parent defs t) (table_at defs t).references ≡ true
 parents_are_earlier defs t h l =
     let e : 0 + t ≡ t = omega arith in
     subst (λ n. list_all (has_parent defs n) (table_at defs t).references ≡ true) e (parents_from [] defs t h l)
 
--- what is told of a reference's parent, where it is found
+-- the parent of a reference, if its name is found
 pub parent_found : (defs : List TableDef) (t : ℕ) (f : Reference) (o : Option ℕ) (p : ℕ) → has_parent defs t f ≡ true
     → o ≡ place_of f.parent defs → o ≡ Some p
     → (p < t) × (is_declared_key (table_at defs p) f.by_period f.parent_columns ≡ true)
@@ -88,7 +88,7 @@ parent_found defs t f o p h e q =
     less : (i n : ℕ) → nat_lt i n ≡ true → i < n
     less i n l = grind (arith, nat_tests, l)
 
--- and it is found
+-- its name is found
 pub parent_there : (defs : List TableDef) (t : ℕ) (f : Reference) → has_parent defs t f ≡ true
     → place_of f.parent defs ≡ None → ⊥
 parent_there defs t f h e = let w : false ≡ true = sym (ap (has_parent_at defs t f) e) ∙ h in cc
@@ -104,7 +104,7 @@ numbers_one (x ∷ xs) (y ∷ ys) e =
     let p : x ≡ y = grind (arith, nat_tests, b.0) in
     let q = numbers_one xs ys b.1 in cc
 
--- those of a declared key are such as a key has
+-- the columns of a declared key are assignable
 pub declared_columns : (d : TableDef) (by_period : Bool) (is : List ℕ) → list_all (is_key d) d.keys ≡ true
     → is_declared_key d by_period is ≡ true → are_assignable d is ≡ true
 declared_columns d by_period is h e = among d.keys h e

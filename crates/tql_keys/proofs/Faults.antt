@@ -1,4 +1,4 @@
--- The faults of a copy by the tests of its keys and references.
+-- The faults of a copy, from the tests of its keys and references.
 use Rattle.std.proofs.Common.{◌≡◌, refl, ap, ◌∙◌, Bool, true, false, List, [], ◌++◌}
 use Rattle.std.specs.Prelude.{not, Some, None}
 use Rattle.tql_spec.specs.Definition.{TableDef}
@@ -15,12 +15,12 @@ none true true e = (refl, refl)
 none true false e = absurd (cc)
 none false b e = absurd (cc)
 
--- where there is none, both hold
+-- without a fault, all keys and references hold
 pub no_faults : (defs : List TableDef) (copy : Copy) → constraint_faults defs copy ≡ []
     → (keys_hold defs copy ≡ true) × (references_hold defs copy ≡ true)
 no_faults defs copy e = none (keys_hold defs copy) (references_hold defs copy) e
 
--- a key that fails is the first
+-- if a key fails, that is the first fault
 pub key_first : (defs : List TableDef) (copy : Copy) → keys_hold defs copy ≡ false
     → first (constraint_faults defs copy) ≡ Some DuplicateKey
 key_first defs copy e =
@@ -30,13 +30,13 @@ key_first defs copy e =
     before true = refl
     before false = refl
 
--- where keys hold, a reference that fails is
+-- if all keys hold and a reference fails, that is the first fault
 pub reference_first : (defs : List TableDef) (copy : Copy) → keys_hold defs copy ≡ true
     → references_hold defs copy ≡ false → first (constraint_faults defs copy) ≡ Some ReferenceNotMet
 reference_first defs copy e f =
     ap (λ a. first (tested a (references_hold defs copy))) e ∙ ap (λ b. first (tested true b)) f
 
--- where both hold there is none
+-- if all keys and references hold, there is no fault
 pub none_first : (defs : List TableDef) (copy : Copy) → keys_hold defs copy ≡ true
     → references_hold defs copy ≡ true → first (constraint_faults defs copy) ≡ None
 none_first defs copy e f =

@@ -1,4 +1,4 @@
--- The rows that a store finds by stored columns and a period are those of a tuple that share a point with it.
+-- The rows that a store finds by stored columns and a period: those with the tuple that share a point with it.
 use Rattle.std.proofs.Common.{◌≡◌, refl, sym, ap, ◌∙◌, ℕ, Bool, true, false, cond, List, [], ◌∷◌, map, filter, length}
 use Rattle.std.specs.Prelude.{◌&&◌, Option, Some, None}
 use Rattle.std.specs.List.{sum_by}
@@ -22,14 +22,14 @@ use Rattle.tql_keys.proofs.Bools.{and_yes}
 use Rattle.tql_keys.proofs.FoundRows.{rows_passing, stored_tuple}
 use Rattle.tql_keys.proofs.Sharing.{falling_first, falling_second, not_risen, risen}
 
--- where periods do not count: those of the tuple
+-- without a period: the rows with the tuple
 pub in_without : (d : TableDef) (cs : List ℕ) (vs : List Datum) (b : Bool) (x : Period) (rows : List Stamped)
     → b ≡ false → rows_with d cs vs rows ≡ rows_in d cs vs b x rows
 in_without d cs vs b x rows e =
     ap (λ (p : Stamped → Bool). filter p rows) (λ i r. (sym (and_yes (has_tuple cs vs (shown d r)))) i)
     ∙ sym (ap (λ c. rows_in d cs vs c x rows) e)
 
--- the period of a row of its table's width, by its stored cells
+-- the period of a row with its table's width, from its stored cells
 pub stored_period : (d : TableDef) (o : Option Application) (ends : ℕ × ℕ) → d.application ≡ o
     → IsPeriodStoredAt d o (Some ends) → (r : Stamped) → length r.cells ≡ stored_width d
     → period_between r.cells ends.0 ends.1 ≡ period_of d (shown d r)
@@ -41,7 +41,7 @@ stored_period d (Some a) ends e timed r wide =
       end = point_of (timed.1 r.cells r.start high wide i);
     }))
 
--- the rows of the tuple that share a point with it
+-- the rows with the tuple that share a point with the period
 pub rows_in_are_found : (h : StoreModel) (table : Table) (cs ks : List ℕ) (vs : List Datum) (ends : ℕ × ℕ)
     (x y : Period) (b : Bool) (found : List Version) → AreStoredAt table.definition cs ks
     → IsPeriodStoredAt table.definition table.definition.application (Some ends) → Some y ≡ where_rising x → b ≡ true
@@ -61,7 +61,7 @@ rows_in_are_found h table cs ks vs ends x y b found stored timed is_x by is rows
           ∙ sym (ap (λ c. sum_by w (rows_in d cs vs c x rows)) by);
     }
 
--- none shares a point
+-- none of them shares a point
 none_kept : (h q : Stamped → Bool) (rows : List Stamped) → ((r : Stamped) → q r ≡ false)
     → [] ≡ filter (λ r. h r && q r) rows
 none_kept h q [] n = refl
@@ -80,7 +80,7 @@ none_in d cs vs b x rows e n =
     none_kept (λ r. has_tuple cs vs (shown d r)) (λ r. is_touched d true x (shown d r)) rows (λ r. n (shown d r))
     ∙ sym (ap (λ c. rows_in d cs vs c x rows) e)
 
--- with a period that does not rise, and in a table that has no application period
+-- an empty period, or a table without an application period, yields no rows
 pub none_in_falling : (d : TableDef) (cs : List ℕ) (vs : List Datum) (b : Bool) (x : Period) (rows : List Stamped)
     → b ≡ true → None ≡ where_rising x → [] ≡ rows_in d cs vs b x rows
 none_in_falling d cs vs b x rows e f =
@@ -96,7 +96,7 @@ none_in_timeless d cs vs b x rows e timed =
     by_option None q t r = ap (λ p. share_a_point (period_by p r) x) q ∙ falling_first (period_by None r) x refl
     by_option (Some a) q t r = absurd t
 
--- the same under other names of the columns and values
+-- the same with equal columns and values
 pub found_in_as : (d : TableDef) (cs ks : List ℕ) (vs ws : List Datum) (b : Bool) (x : Period) (rows : List Stamped)
     (found : List Version) → cs ≡ ks → vs ≡ ws → SameBag (map row_found found) (rows_in d cs vs b x rows)
     → SameBag (map row_found found) (rows_in d ks ws b x rows)

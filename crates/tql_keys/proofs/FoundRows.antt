@@ -1,4 +1,4 @@
--- The rows that a store finds by stored columns are those of a tuple of its table.
+-- The rows that a store finds by stored columns are those of its table with the tuple.
 use Rattle.std.proofs.Common.{◌≡◌, ◌≤◌, ◌<◌, refl, sym, ap, subst, ◌∙◌, ℕ, zero, suc, ◌+◌, Bool, true, false, cond}
 use Rattle.std.proofs.Common.{List, []}
 use Rattle.std.proofs.Common.{◌∷◌, map, filter, length, get_or, arith}
@@ -28,7 +28,7 @@ use Rattle.tql_keys.specs.Touched.{has_tuple}
 
 -- ---- tuples of stored cells
 
--- whether values equal others, one by one
+-- whether each value equals the corresponding other one
 abbrev all_equal : List Datum → List Datum → Bool
 all_equal [] [] = true
 all_equal (a ∷ as') (b ∷ bs) = is_true (compare Equals a b) && all_equal as' bs
@@ -46,16 +46,16 @@ tuple_as [] (v ∷ vs) row = refl
 tuple_as (c ∷ cs) [] row = refl
 tuple_as (c ∷ cs) (v ∷ vs) row = ap (λ b. is_true (compare Equals (cell row c) v) && b) (tuple_as cs vs row)
 
--- a row of its table's width has a tuple where its stored cells have
+-- a row with its table's width has a tuple exactly if its stored cells have the values
 pub stored_tuple : (d : TableDef) (cs ks : List ℕ) (vs : List Datum) (r : Stamped) → AreStoredAt d cs ks
     → length r.cells ≡ stored_width d → is_at ks vs r.cells ≡ has_tuple cs vs (shown d r)
 stored_tuple d cs ks vs r stored wide =
     at_as ks vs r.cells ∙ ap (λ xs. all_equal xs vs) (sym (stored r.cells r.start high wide))
     ∙ sym (tuple_as cs vs (shown d r))
 
--- ---- rows that are kept
+-- ---- filtered lists
 
--- of images
+-- filtering a mapped list
 kept_images : {A B : Type 0} (f : A → B) (p : A → Bool) (q : B → Bool) (xs : List A)
     → filter q (map f (filter p xs)) ≡ map f (filter (λ x. p x && q (f x)) xs)
 kept_images f p q [] = refl
@@ -73,21 +73,21 @@ kept_images f p q (x ∷ xs) = at (p x) (kept_images f p q xs)
         one false h = h
         one true h = ap (λ ys. f x ∷ ys) h
 
--- by tests that agree on them
+-- filtering by tests that agree on the elements
 kept_alike : {A : Type 0} (p q : A → Bool) (xs : List A) → All (λ x. p x ≡ q x) xs → filter p xs ≡ filter q xs
 kept_alike p q [] h = refl
 kept_alike p q (x ∷ xs) h =
     ap (λ b. cond b (x ∷ filter p xs) (filter p xs)) (h 0 x (omega arith))
     ∙ ap (λ ys. cond (q x) (x ∷ ys) ys) (kept_alike p q xs (λ k d l. h (suc k) d (omega arith)))
 
--- ---- what is found
+-- ---- the rows that are found
 
 images : (found : List Version) → map row_found found
     ≡ map (λ (v : definition.Version). v.row) (map version_shown found)
 images [] = refl
 images (v ∷ found) = ap (λ rs. row_found v ∷ rs) (images found)
 
--- those whose stored cells pass
+-- the found rows are those whose stored cells pass
 pub rows_passing : (h : StoreModel) (table : Table) (p q : Row → Bool) (found : List Version)
     → ((r : Stamped) → length r.cells ≡ stored_width table.definition → p r.cells ≡ q (shown table.definition r))
     → IsFound h table.id Now p found → (rows : List Stamped) → AreRowsOf h table rows
@@ -103,7 +103,7 @@ rows_passing h table p q found alike is rows of = record {
       (λ k d l. alike (get_or rows k d) (of.wide k d l)));
 }
 
--- the rows of the tuple
+-- the found rows are those with the tuple
 pub rows_are_found : (h : StoreModel) (table : Table) (cs ks : List ℕ) (vs : List Datum) (found : List Version)
     → AreStoredAt table.definition cs ks → IsFound h table.id Now (is_at ks vs) found → (rows : List Stamped)
     → AreRowsOf h table rows → SameBag (map row_found found) (rows_with table.definition cs vs rows)
@@ -111,7 +111,7 @@ rows_are_found h table cs ks vs found stored =
     rows_passing h table (is_at ks vs) (has_tuple cs vs) found
     (λ r wide. stored_tuple table.definition cs ks vs r stored wide)
 
--- ---- the ids of what is found
+-- ---- the ids of the found rows
 
 counting : (i : ℕ) (v : Version) (vs : List Version)
     → count_by (λ (x : Version). nat_eq x.id i) (v ∷ vs) ≡ cond {A = ℕ} (nat_eq v.id i) 1 0 + count_by
@@ -130,7 +130,7 @@ counted (v ∷ vs) zero d l =
 counted (v ∷ vs) (suc k) d l =
     omega (arith, counting (get_or vs k d).id v vs, counted vs k d (omega arith))
 
--- each names the current row that it is found with
+-- the id of a found row names that row, which is current
 pub names_are_found : (h : StoreModel) (t : ℕ) (test : Row → Bool) (found : List Version)
     → IsFound h t Now test found → All (λ (f : Version). row_named h t f.id ≡ Some (row_found f)) found
 names_are_found h t test found is k d l =

@@ -1,4 +1,4 @@
--- Rows of a tuple that a store finds, against the rows of a copy.
+-- The rows that a store finds for a tuple, compared with the rows of a copy.
 use Rattle.std.proofs.Common.{◌≡◌, refl, sym, ap, ◌∙◌, ℕ, suc, Bool, true, false, cond, List, [], ◌∷◌, map, filter}
 use Rattle.std.proofs.Common.{arith}
 use Rattle.std.specs.Prelude.{◌&&◌, ◌||◌, not, All, Option, Some, ℤ}
@@ -18,9 +18,9 @@ use Rattle.tql_keys.proofs.Bools.{all_map, all_premised, all_same, or_no}
 use Rattle.tql_keys.proofs.Wheres.{all_where, all_where_map, all_staying, all_bag}
 use Rattle.tql_keys.proofs.KeyLaw.{key_joined, key_kept}
 
--- ---- what a store finds
+-- ---- the rows that a store finds
 
--- whether what was found goes, by its id and by its row
+-- a found row is removed by its id exactly if it is removed by its value
 found_goes : (q : Stamped → Bool) (named : ℕ → Option Stamped) (gone : Stamped → Bool) (removed : List ℕ)
     (found : List Version) → All (λ f. named f.id ≡ Some (row_found f)) found → IsJudged named gone removed
     → list_all (λ (f : Version). is_among f.id removed || q (row_found f)) found
@@ -32,7 +32,7 @@ found_goes q named gone removed (f ∷ found) h j =
     ∙ ap (λ b. (gone (row_found f) || q (row_found f)) && b)
     (found_goes q named gone removed found (λ k d l. h (suc k) d (omega arith)) j)
 
--- a test of what was found and does not go is one of the rows that stay of those that were asked for
+-- a test of the found rows that survive is a test of the surviving rows that were looked up
 pub found_all : (d : TableDef) (h q : Row → Bool) (rows : List Stamped)
     (named : ℕ → Option Stamped) (gone : Stamped → Bool) (removed : List ℕ) (found : List Version)
     → SameBag (map row_found found) (filter (λ r. h (shown d r)) rows)
@@ -48,7 +48,7 @@ found_all d h q rows named gone removed found bag names judged =
     ∙ all_staying gone k s rows
     ∙ sym (all_where_map (shown d) h q (staying gone rows))
 
--- none of a sort, as none of those of a sort that are of another
+-- no element passes both tests exactly if no element of the first passes the second
 none_left : {A : Type 0} (h q : A → Bool) (xs : List A)
     → list_all (λ x. false) (filter (λ x. h x && q x) xs) ≡ list_all (λ x. not (q x)) (filter h xs)
 none_left h q xs =
@@ -56,7 +56,7 @@ none_left h q xs =
     ∙ all_same (λ x. not (h x && q x) || false) (λ x. not (h x && q x)) xs (λ x. or_no (not (h x && q x)))
     ∙ all_premised h q xs
 
--- a new row is free where each that was found, as it collides with it, goes
+-- a new row is free exactly if each found row that collides with it is removed
 pub found_free : (d : TableDef) (k : Key) (a : Row) (rows : List Stamped) (named : ℕ → Option Stamped)
     (gone : Stamped → Bool) (removed : List ℕ) (found : List Version)
     → SameBag (map row_found found) (rows_in d k.columns (tuple k.columns a) k.by_period (period_of d a) rows)
@@ -70,7 +70,7 @@ found_free d k a rows named gone removed found bag names judged =
     ∙ none_left (has_tuple k.columns (tuple k.columns a)) (λ r. collide d k.by_period r a)
     (shown_rows d (staying gone rows))
 
--- some pass where not all fail
+-- some element passes exactly if not all fail
 pub some_passes : {A : Type 0} (p : A → Bool) (xs : List A) → list_any p xs ≡ not (list_all (λ x. not (p x)) xs)
 some_passes p [] = refl
 some_passes p (x ∷ xs) = ap (λ b. p x || b) (some_passes p xs) ∙ turned (p x) (list_all (λ y. not (p y)) xs)
@@ -79,7 +79,7 @@ some_passes p (x ∷ xs) = ap (λ b. p x || b) (some_passes p xs) ∙ turned (p 
     turned true b = refl
     turned false b = refl
 
--- whether some of those that were found and do not go passes a test
+-- whether some found row that survives passes a test
 pub found_any : (d : TableDef) (h q : Row → Bool) (rows : List Stamped)
     (named : ℕ → Option Stamped) (gone : Stamped → Bool) (removed : List ℕ) (found : List Version)
     → SameBag (map row_found found) (filter (λ r. h (shown d r)) rows)
@@ -97,7 +97,7 @@ found_any d h q rows named gone removed found bag names judged =
     turned true b = refl
     turned false b = refl
 
--- whether some row of a tuple passes a test
+-- whether some row with a tuple passes a test
 pub any_kept : {A : Type 0} (h q : A → Bool) (xs : List A) → list_any (λ x. h x && q x) xs ≡ list_any q (filter h xs)
 any_kept h q [] = refl
 any_kept h q (x ∷ xs) = ap (λ b. (h x && q x) || b) (any_kept h q xs) ∙ kept (h x) x (filter h xs)
@@ -108,7 +108,7 @@ any_kept h q (x ∷ xs) = ap (λ b. (h x && q x) || b) (any_kept h q xs) ∙ kep
 
 -- ---- a key after a change
 
--- by whether the new rows are apart, and free
+-- it holds exactly if the new rows do not clash with each other, and each of them is free
 pub key_after : (d : TableDef) (k : Key) (m : ℤ) (gone : Stamped → Bool) (added : List Row) (rows : List Stamped)
     (apart free : Bool) → key_holds d (shown_rows d rows) k ≡ true → apart ≡ key_holds d (new_rows d m added) k
     → free ≡ list_all (is_free d k (shown_rows d (staying gone rows))) (new_rows d m added)

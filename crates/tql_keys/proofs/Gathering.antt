@@ -1,4 +1,4 @@
--- Periods as they are gathered, and what they cover.
+-- Collected periods, and what they cover.
 use Rattle.std.proofs.Common.{◌≡◌, ◌<◌, refl, sym, ap, ◌∙◌, ℕ, zero, suc, Bool, true, false, List, [], ◌∷◌}
 use Rattle.std.proofs.Common.{map, filter, length, get_or, arith}
 use Rattle.std.specs.Prelude.{◌||◌, ◌↔◌, ℤ, Contains, IsTrue}
@@ -56,7 +56,7 @@ part_some (x ∷ periods) p part (suc k) l e h =
     yes true = refl
     yes false = refl
 
--- the sweep over periods says what the test of the definitions says
+-- the sweep over periods gives the same answer as the test in the definitions
 pub covers_is : ReferenceTestIsRight → (parent : TableDef) (ps : List Row) (periods : List code.Period) (whole : Period)
     (b : Bool) → IsTrue b ↔ Covers (map points_of periods) whole
     → ((p : ℤ) → any_holds periods p ≡ held_at parent ps p) → b ≡ covered parent ps whole
@@ -68,7 +68,7 @@ covers_is law parent ps periods whole b told same = same_bool b (covered parent 
         → held_at parent ps p ≡ true
     held p h m = sym (same p) ∙ part_some periods p m.0 m.1.0 m.1.1 m.1.2 m.2
 
--- a period that does not rise is covered by nothing
+-- an empty period is covered by any rows, even by none
 pub covers_nothing : ReferenceTestIsRight → (parent : TableDef) (ps : List Row) (whole : Period)
     → rises whole ≡ false → covered parent ps whole ≡ true
 covers_nothing law parent ps whole e =

@@ -19,7 +19,7 @@ and_no : (a : Bool) → a && false ≡ false
 and_no true = refl
 and_no false = refl
 
--- where all of one sort pass, those of another pass where those pass of it that are not of the first
+-- if all of one kind pass, all of another kind pass exactly if those outside the first kind do
 all_but : {A : Type 0} (h k q : A → Bool) (xs : List A) → list_all q (filter k xs) ≡ true
     → list_all (λ x. k x || q x) (filter h xs) ≡ list_all q (filter h xs)
 all_but h k q xs e =
@@ -33,7 +33,7 @@ all_but h k q xs e =
     turned true b w = sym w
     turned false b w = refl
 
--- the child rows of a parent row, where those of the next ones are met
+-- if the child rows of the later parent rows are met, those need not be tested again
 but_spared : (c p : TableDef) (f : Reference) (ps rows gs : List Row) (g : Row)
     → list_all (is_spared c p f ps rows) gs ≡ true → is_spared_but c p f ps rows gs g ≡ is_spared c p f ps rows g
 but_spared c p f ps rows [] g e = refl
@@ -41,11 +41,11 @@ but_spared c p f ps rows (n ∷ gs) g e =
     all_but (is_child_of c p f g) (is_child_of c p f n) (is_met c p f ps) rows
     (both (is_spared c p f ps rows n) (list_all (is_spared c p f ps rows) gs) e).0
 
--- rows that are left as they are
+-- a list is the same bag as itself
 pub same_rows : (rows : List Row) → SameBag rows rows
 same_rows rows = same-refl rows
 
--- so those of all are met where they are in turn
+-- the child rows of all parent rows are met exactly if they are when tested in order
 pub spared_in_turn : (c p : TableDef) (f : Reference) (ps rows gs : List Row)
     → are_spared c p f ps rows gs ≡ list_all (is_spared c p f ps rows) gs
 spared_in_turn c p f ps rows [] = refl
@@ -56,7 +56,7 @@ spared_in_turn c p f ps rows (g ∷ gs) =
     (λ n. ap (λ b. is_spared_but c p f ps rows gs g && b) n ∙ and_no (is_spared_but c p f ps rows gs g)
     ∙ sym (ap (λ b. is_spared c p f ps rows g && b) n ∙ and_no (is_spared c p f ps rows g)))
 
--- those of the rows that are left, and of one before them
+-- the child rows of the remaining parent rows, and of one before them
 pub first_left : {A : Type 0} (s : A → Row) (c p : TableDef) (f : Reference) (ps rows : List Row) (xs : List A) (i : ℕ)
     → i < length xs
     → are_spared c p f ps rows (map s (drop i xs))
@@ -73,7 +73,7 @@ first_left s c p f ps rows xs i l =
     from (y ∷ ys) zero m = refl
     from (y ∷ ys) (suc k) m = from ys k (omega arith)
 
--- of none
+-- no parent row remains
 pub none_left : {A : Type 0} (s : A → Row) (c p : TableDef) (f : Reference) (ps rows : List Row) (xs : List A) (i : ℕ)
     → length xs ≤ i → are_spared c p f ps rows (map s (drop i xs)) ≡ true
 none_left s c p f ps rows xs i l = ap (λ ys. are_spared c p f ps rows (map s ys)) (drop_all i xs l)

@@ -1,4 +1,4 @@
--- A key that held holds where the rows that come are like those that go.
+-- A key that held still holds if the added rows are alike the removed ones.
 use Rattle.std.proofs.Common.{◌≡◌, refl, sym, ap, ◌∙◌, ℕ, Bool, true, false, List, [], ◌∷◌, nat_eq, arith}
 use Rattle.std.specs.Prelude.{◌&&◌, not, ℤ, Some}
 use Rattle.std.specs.List.{list_all}
@@ -30,7 +30,7 @@ module _ (h : StoreModel) (t : ℕ) (d : TableDef) (k : Key) where
   abbrev apart : Stamped → Stamped → Bool
   apart r s = not (clash d k (shown d r) (shown d s))
 
-  -- the rows of two ids do not
+  -- the rows of two different ids do not clash
   abbrev AreTwoApart : Type 0
   AreTwoApart = (a b : ℕ) (r s : Stamped) → nat_eq a b ≡ false → row_named h t a ≡ Some r → row_named h t b ≡ Some s
       → apart r s ≡ true
@@ -46,7 +46,7 @@ module _ (h : StoreModel) (t : ℕ) (d : TableDef) (k : Key) where
   not_yes true e = absurd (cc)
   not_yes false e = refl
 
-  -- those that come do not clash with one another
+  -- the added rows do not clash with each other
   new_apart : AreTwoApart → (ids : List ℕ) (new : List Row) → are_distinct ids ≡ true
       → are_kept d k.columns k.by_period (row_named h t) ids new ≡ true → key_holds d new k ≡ true
   new_apart two [] [] a e = refl
@@ -70,7 +70,7 @@ module _ (h : StoreModel) (t : ℕ) (d : TableDef) (k : Key) where
   one_row : (r s : Stamped) → Some r ≡ Some s → r ≡ s
   one_row r s e = cc
 
-  -- nor with those that stay
+  -- nor do they clash with the unchanged rows
   new_free : AreTwoApart → (gone : Stamped → Bool) (rows : List Stamped) → SameBag rows (current_rows h t)
       → (ids : List ℕ) (new : List Row)
       → ((id : ℕ) (r : Stamped) → In id ids → row_named h t id ≡ Some r → gone r ≡ true)

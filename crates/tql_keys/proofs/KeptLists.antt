@@ -1,4 +1,4 @@
--- Ids beside the rows that come for them, and ids that stand once.
+-- Ids paired with the rows that replace theirs, and lists of distinct ids.
 use Rattle.std.proofs.Common.{◌≡◌, ◌≤◌, ◌<◌, refl, sym, ap, ◌∙◌, ℕ, zero, suc, ◌+◌, Bool, true, false, List, [], ◌∷◌}
 use Rattle.std.proofs.Common.{length, arith, nat_eq, nat_lt, get_or, subst, add-one, Vec}
 use Rattle.std.specs.Prelude.{◌&&◌, not, zip, ℤ, Option}
@@ -19,7 +19,7 @@ use Rattle.tql_keys.proofs.Listed.{some_is}
 use Rattle.tql_keys.proofs.Sameness.{any_bag}
 use Rattle.tql_keys.proofs.Stepping.{new_row}
 
--- each id with the row that comes for it
+-- each id with the row that replaces its row
 pub kept_zipped : {A : Type 0} (d : TableDef) (columns : List ℕ) (by_period : Bool) (named : ℕ → Option Stamped) (m : ℤ)
     (ids : List ℕ) (rows : List (Vec Value A)) → length ids ≡ length rows
     → list_all (λ (x : ℕ × Vec Value A). is_kept d columns by_period (named x.0) (new_row d m x.1)) (zip ids rows)
@@ -35,7 +35,7 @@ no : (b : Bool) → b && false ≡ false
 no true = refl
 no false = refl
 
--- where there are not as many, none is kept
+-- if the counts differ, the rows are not kept
 pub not_one_each : {A : Type 0} (d : TableDef) (columns : List ℕ) (by_period : Bool) (named : ℕ → Option Stamped)
     (m : ℤ) (ids : List ℕ) (rows : List (Vec Value A)) → (length ids ≡ length rows → ⊥)
     → are_kept d columns by_period named ids (new_rows d m (rows_of rows)) ≡ false
@@ -47,7 +47,7 @@ not_one_each d columns by_period named m (id ∷ ids) (v ∷ rows) n =
     (not_one_each d columns by_period named m ids rows (λ e. n (omega arith)))
     ∙ no (is_kept d columns by_period (named id) (new_row d m v))
 
--- ---- ids that stand once
+-- ---- distinct ids
 
 all_by_places : (p : ℕ → Bool) (xs : List ℕ) → ((k : ℕ) → k < length xs → p (get_or xs k 0) ≡ true)
     → list_all p xs ≡ true
@@ -85,7 +85,7 @@ twice (x ∷ y ∷ xs) (suc k) l e =
     ap (λ b. list_all (λ j. not (nat_eq x j)) (y ∷ xs) && b) (twice (y ∷ xs) k (omega (arith, l)) e)
     ∙ no (list_all (λ j. not (nat_eq x j)) (y ∷ xs))
 
--- of numbers that rise, what a test of neighbours answers
+-- in a rising list, a test of neighbours decides whether the numbers are distinct
 pub distinct_told : (xs : List ℕ) (r : Bool) → AreRising xs → IsAllAdjacentAnswer (λ x y b. b ≡ nat_lt x y) xs r
     → r ≡ are_distinct xs
 distinct_told xs true up h =
@@ -101,7 +101,7 @@ distinct_told xs false up h =
     same : (a b : ℕ) → false ≡ nat_lt a b → a ≤ b → a ≡ b
     same a b e l = grind (arith, nat_tests, e, l)
 
--- the order is nothing to whether ids stand once
+-- whether ids are distinct does not depend on their order
 pub distinct_either : (xs ys : List ℕ) → SameBag xs ys → are_distinct xs ≡ are_distinct ys
 distinct_either xs ys h = same_bool (are_distinct xs) (are_distinct ys) (pairs_by_bag nat_eq turned xs ys h)
     (pairs_by_bag nat_eq turned ys xs (same-sym h))
@@ -109,6 +109,6 @@ distinct_either xs ys h = same_bool (are_distinct xs) (are_distinct ys) (pairs_b
     turned : (a b : ℕ) → nat_eq a b ≡ nat_eq b a
     turned a b = grind (arith, nat_tests)
 
--- nor to which ids stand there
+-- nor does membership
 pub among_bag : (i : ℕ) (xs ys : List ℕ) → SameBag xs ys → is_among i xs ≡ is_among i ys
 among_bag i xs ys h = sym (some_is i xs) ∙ any_bag (nat_eq i) h ∙ some_is i ys

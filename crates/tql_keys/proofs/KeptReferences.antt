@@ -1,4 +1,4 @@
--- A reference that held holds where the rows that come to one of its tables are like those that go.
+-- A reference that held still holds if the rows added to one of its tables are alike the removed ones.
 use Rattle.std.proofs.Common.{◌≡◌, refl, sym, ap, subst, ◌∙◌, ℕ, Bool, true, false, List, [], ◌∷◌, ◌++◌, map}
 use Rattle.std.proofs.Common.{inl, inr}
 use Rattle.std.specs.Prelude.{◌&&◌, ◌||◌, not, ℤ, Some}
@@ -27,7 +27,7 @@ use Rattle.tql_keys.proofs.NamedRows.{in_bag, kept_in, store_names}
 
 -- ---- the child table
 
--- the rows that come to it are met as those that go were
+-- the rows added to the child table are met, as the removed ones were
 pub child_kept_after : (h : StoreModel) (t : ℕ) (c p : TableDef) (f : Reference) (parents : List Stamped) (m : ℤ)
     (gone : Stamped → Bool) (added : List Row) (rows : List Stamped) (ids : List ℕ)
     → SameBag rows (current_rows h t)
@@ -45,7 +45,7 @@ child_kept_after h t c p f parents m gone added rows ids same e held =
 
 -- ---- the parent table
 
--- some element passes, and which
+-- if some element passes, one that does
 some_in : {A : Type 0} (q : A → Bool) (xs : List A) → list_any q xs ≡ true → (x : A) × In x xs × (q x ≡ true)
 some_in q [] e = absurd (cc)
 some_in q (x ∷ xs) e = by_bool (q x)
@@ -61,7 +61,7 @@ in_some q (y ∷ xs) x (inr m) e = ap (λ b. q y || b) (in_some q xs x m e) ∙ 
     yes true = refl
     yes false = refl
 
--- each row of one list has one of another that is like it
+-- each row of one list has a row of another that is alike it
 abbrev Covers : TableDef → List ℕ → Bool → List Row → List Row → Type 0
 Covers d columns by_period others rows =
     (s : Row) → In s rows → (x : Row) × In x others × AreAlike d columns by_period s x
@@ -71,7 +71,7 @@ module _ (law : ReferenceTestIsRight) (c p : TableDef) (f : Reference) (old new 
   abbrev of_child : Row → Bool
   of_child s = match_on f.columns r f.parent_columns s
 
-  -- a test that passes of a parent passes of one like it
+  -- if some parent passes a test, so does one alike it
   any_like : (q : Row → Bool) → ((s x : Row) → AreAlike p f.parent_columns f.by_period s x → q s ≡ q x)
       → list_any q (parents_of f old r) ≡ true → list_any q (parents_of f new r) ≡ true
   any_like q alike e =
@@ -90,7 +90,7 @@ module _ (law : ReferenceTestIsRight) (c p : TableDef) (f : Reference) (old new 
       any_like (λ s. holds (period_of p s) z) (λ s x a. ap (λ y. holds y z) (a.periods q))
       (covered_says law p (parents_of f old r) (period_of c r) e z i))
 
-  -- a child row that was met is met by parents like those that were there
+  -- a child row that was met is met by parents alike the earlier ones
   pub still_met : is_met c p f old r ≡ true → is_met c p f new r ≡ true
   still_met e = by_bool (has_null f.columns r)
       (λ z. ap (λ b. b || is_met_by c p f.by_period (parents_of f new r) r) z)
@@ -98,7 +98,7 @@ module _ (law : ReferenceTestIsRight) (c p : TableDef) (f : Reference) (old new 
       ∙ met_like f.by_period refl
       (sym (ap (λ b. b || is_met_by c p f.by_period (parents_of f old r) r) z) ∙ e))
 
--- each row that stood has one like it that stays or comes
+-- each earlier row has one alike it that survives or is added
 pub like_each : (h : StoreModel) (t : ℕ) (d : TableDef) (columns : List ℕ) (by_period : Bool) (m : ℤ)
     (gone : Stamped → Bool) (added : List Row) (rows : List Stamped) (ids removed : List ℕ)
     → SameBag rows (current_rows h t) → IsJudged (row_named h t) gone removed

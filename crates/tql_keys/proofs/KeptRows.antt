@@ -1,4 +1,4 @@
--- Rows that come in the place of others, one by one, and the rows that ids name.
+-- Added rows that replace others, each at its position, and the rows that ids name.
 use Rattle.std.proofs.Common.{◌≡◌, ◌<◌, refl, sym, ap, ◌∙◌, ℕ, zero, suc, Bool, true, false, cond, List, [], ◌∷◌, map}
 use Rattle.std.proofs.Common.{filter, inl, inr, arith, nat_eq, nat_lt}
 use Rattle.std.specs.Prelude.{◌&&◌, Option, Some, None, option_map, slice_get, slice_index_or, if◌then◌else◌}
@@ -20,14 +20,14 @@ use Rattle.tql_keys.proofs.NamedRows.{store_names}
 
 -- ---- rows that are kept
 
--- an id names a row like this one
+-- the id names a row alike this one
 pub record Stands (d : TableDef) (columns : List ℕ) (by_period : Bool) (named : ℕ → Option Stamped) (id : ℕ) (x : Row)
     : Type 0 where
   pub row : Stamped
   pub is : named id ≡ Some row
   pub alike : AreAlike d columns by_period (shown d row) x
 
--- what the test of one row tells
+-- what `is_kept` implies for one row
 pub stands : (d : TableDef) (columns : List ℕ) (by_period : Bool) (named : ℕ → Option Stamped) (id : ℕ) (x : Row)
     (o : Option Stamped) → named id ≡ o → is_kept d columns by_period o x ≡ true
     → Stands d columns by_period named id x
@@ -38,7 +38,7 @@ stands d columns by_period named id x (Some r) e k = record {
   alike = alike_says d columns by_period (shown d r) x k;
 }
 
--- each row that comes is like that of some id
+-- each added row is alike the row of some id
 pub of_row : (d : TableDef) (columns : List ℕ) (by_period : Bool) (named : ℕ → Option Stamped) (ids : List ℕ)
     (rows : List Row) → are_kept d columns by_period named ids rows ≡ true → (x : Row) → In x rows
     → (id : ℕ) × In id ids × Stands d columns by_period named id x
@@ -55,7 +55,7 @@ of_row d columns by_period named (id ∷ ids) (y ∷ rows) e x (inr m) =
     let b = both (is_kept d columns by_period (named id) y) (are_kept d columns by_period named ids rows) e in
     let r = of_row d columns by_period named ids rows b.1 x m in (r.0, inr r.1, r.2)
 
--- and each id is that of one like a row that comes
+-- each id names a row that some added row is alike
 pub of_id : (d : TableDef) (columns : List ℕ) (by_period : Bool) (named : ℕ → Option Stamped) (ids : List ℕ)
     (rows : List Row) → are_kept d columns by_period named ids rows ≡ true → (id : ℕ) → In id ids
     → (x : Row) × In x rows × Stands d columns by_period named id x
@@ -127,7 +127,7 @@ later h P (v ∷ vs) zero (suc b) r s l p q e =
 later h P (v ∷ vs) (suc a) (suc b) r s l p q e =
     later h P vs a b r s (omega (arith, l)) p q (rest_pairs P v vs e)
 
--- where a test that knows no order passes of all pairs of a store's current rows, it does of those of two ids
+-- a symmetric test that passes for all pairs of current rows passes for the rows of two different ids
 pub of_two : (h : StoreModel) (t : ℕ) (P : Stamped → Stamped → Bool) → ((x y : Stamped) → P x y ≡ P y x)
     → all_pairs P (current_rows h t) ≡ true → (a b : ℕ) (r s : Stamped) → nat_eq a b ≡ false
     → row_named h t a ≡ Some r → row_named h t b ≡ Some s → P r s ≡ true

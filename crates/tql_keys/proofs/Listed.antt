@@ -1,4 +1,4 @@
--- Whether a number is among others, by a binary search and in any order.
+-- Membership of a number in a list, by binary search and in any order.
 use Rattle.std.proofs.Common.{◌≡◌, ◌≤◌, ◌<◌, refl, sym, ap, ◌∙◌, ℕ, zero, suc, Bool, true, false, List, [], ◌∷◌, length}
 use Rattle.std.proofs.Common.{get_or, nat_eq, arith, IsPermutation}
 use Rattle.std.specs.Prelude.{◌||◌, nat_lt, Result, Ok, Err, is_ok, MatchResult}
@@ -13,7 +13,7 @@ pub some_is : (i : ℕ) (js : List ℕ) → list_any (nat_eq i) js ≡ is_among 
 some_is i [] = refl
 some_is i (j ∷ js) = ap (λ (b : Bool). nat_eq i j || b) (some_is i js)
 
--- the order is nothing to it
+-- it does not depend on the order
 pub among_either : (i : ℕ) (xs ys : List ℕ) → IsPermutation xs ys → is_among i ys ≡ is_among i xs
 among_either i xs ys p =
     sym (some_is i ys) ∙ sym (list_any-IsPermutation (nat_eq i) xs ys p) ∙ some_is i xs
@@ -39,7 +39,7 @@ nowhere x (y ∷ xs) h =
     other false e = e
     other true e = absurd (h 0 (omega arith) (grind (arith, nat_tests, e)))
 
--- what a binary search answers
+-- the answer of a binary search
 pub search_tells : (xs : List ℕ) (x : ℕ) (r : Result ℕ ℕ)
     → MatchResult r (λ i. (i < length xs) × (get_or xs i 0 ≡ x)) (λ i. (i ≤ length xs)
     × ((k : ℕ) → k < i → get_or xs k 0 < x) × ((k : ℕ) → i ≤ k → k < length xs → x < get_or xs k 0))

@@ -1,4 +1,4 @@
--- The rows that go, by their ids and by their values.
+-- The removed rows, by their ids and by their values.
 use Rattle.std.proofs.Common.{◌≡◌, ◌<◌, refl, sym, ap, subst, ◌∙◌, ℕ, zero, suc, Bool, true, false, cond, List, [], ◌∷◌}
 use Rattle.std.proofs.Common.{filter, inl, inr, arith, nat_eq}
 use Rattle.std.specs.Prelude.{◌&&◌, ◌||◌, Option, Some, None, option_map, slice_get, slice_index_or, if◌then◌else◌}
@@ -17,12 +17,12 @@ use Rattle.tql_keys.specs.Asked.{IsJudged, current_rows, row_named}
 use Rattle.tql_keys.specs.Named.{of_named, AreNamed}
 use Rattle.tql_keys.proofs.Bools.{same_bool}
 
--- a row of one of two equal bags is one of the other
+-- a row of one of two equal bags is in the other
 pub in_bag : (r : Stamped) {xs ys : List Stamped} → SameBag xs ys → In r xs → In r ys
 in_bag r {xs} {ys} h m =
     there_if r ys (subst (λ n. 0 < n) (h.totals (λ s. cond (same_stamped r s) 1 0)) (times_some r xs m))
 
--- a member that passes is among those kept
+-- a member that passes is in the filtered list
 pub kept_in : {A : Type 0} (p : A → Bool) (x : A) (xs : List A) → In x xs → p x ≡ true → In x (filter p xs)
 kept_in p x [] m e = absurd m
 kept_in p x (y ∷ xs) (inl q) e = at (p y) (sym (ap p q) ∙ e)
@@ -36,14 +36,14 @@ kept_in p x (y ∷ xs) (inr m) e = at (p y) (kept_in p x xs m e)
     at true n = inr n
     at false n = n
 
--- a number that is among others is a member of them
+-- `is_among` implies membership
 pub among_in : (i : ℕ) (js : List ℕ) → is_among i js ≡ true → In i js
 among_in i [] e = absurd (cc)
 among_in i (j ∷ js) e = by_bool (nat_eq i j)
     (λ h. inl (grind (arith, nat_tests)))
     (λ h. inr (among_in i js (sym (ap (λ b. b || is_among i js) h) ∙ e)))
 
--- and the other way
+-- the converse
 pub in_among : (i : ℕ) (js : List ℕ) → In i js → is_among i js ≡ true
 in_among i [] m = absurd m
 in_among i (j ∷ js) (inl q) = ap (λ b. b || is_among i js) (is i j q)
@@ -56,7 +56,7 @@ in_among i (j ∷ js) (inr m) = ap (λ b. nat_eq i j || b) (in_among i js m) ∙
     yes true = refl
     yes false = refl
 
--- a test of the rows that the ids name is one of the rows that go
+-- a test of the rows that the ids name is a test of the removed rows
 pub gone_by_ids : (q : Stamped → Bool) (named : ℕ → Option Stamped) (gone : Stamped → Bool) (removed : List ℕ)
     (rows base : List Stamped) → SameBag rows base → AreNamed named base → IsJudged named gone removed
     → list_all (λ id. of_named q (named id)) removed ≡ list_all q (filter gone rows)
@@ -141,7 +141,7 @@ store_names h t r = (to, from)
         by_option None e q = absurd (cc)
         by_option (Some v) e q = of_version v e q
 
--- what a change's ids say of versions, of rows
+-- what a change's ids say of versions, said of rows
 pub judged_rows : (h : StoreModel) (t : ℕ) (gone : Stamped → Bool) (removed : List ℕ) → Judged h t gone removed
     → IsJudged (row_named h t) gone removed
 judged_rows h t gone removed j id r e = by_option (named h t id) refl e

@@ -1,4 +1,4 @@
--- Of the parents of a child row those that share a point with it decide whether it is met.
+-- Only the parents of a child row that share a point with it decide whether it is met.
 use Rattle.std.proofs.Common.{◌≡◌, refl, sym, ap, ◌∙◌, Bool, true, false, List, [], ◌++◌, filter, arith}
 use Rattle.std.specs.Prelude.{◌&&◌, ◌||◌, not, ℤ}
 use Rattle.std.specs.List.{list_any}
@@ -14,11 +14,11 @@ use Rattle.tql_keys.proofs.Bools.{and_yes, same_bool}
 use Rattle.tql_keys.proofs.Covering.{covered_if, covered_says}
 use Rattle.tql_keys.proofs.Freely.{any_kept}
 
--- two periods that hold a point share it
+-- two periods that hold a common point share it
 pub share_if : (x y : Period) (p : ℤ) → holds y p ≡ true → Holds x p → share_a_point y x ≡ true
 share_if x y p e h = grind (arith, ints, clamps, e, h.0, h.1)
 
--- whichever comes first
+-- in either order
 share_turned : (x y : Period) → share_a_point x y ≡ share_a_point y x
 share_turned x y = grind (arith, ints, clamps)
 
@@ -26,7 +26,7 @@ pub touched_turned : (c d : TableDef) (b : Bool) (r s : Row)
     → is_touched c b (period_of d s) r ≡ is_touched d b (period_of c r) s
 touched_turned c d b r s = ap (λ q. not b || q) (share_turned (period_of c r) (period_of d s))
 
--- a test that only those of a sort pass asks for these alone
+-- if only elements of a kind can pass a test, it can be restricted to these
 any_near : {A : Type 0} (h s q : A → Bool) (xs : List A) → ((x : A) → q x ≡ true → s x ≡ true)
     → list_any q (filter (λ x. h x && s x) xs) ≡ list_any q (filter h xs)
 any_near h s q xs k =
@@ -43,7 +43,7 @@ any_near h s q xs k =
     turned true b true w = ap (λ z. z && true) (w refl)
     turned true b false w = and_no b
 
--- a period is covered by those that share a point with it, and others
+-- a period is covered exactly if it is covered by the rows that share a point with it, and others
 covered_near : ReferenceTestIsRight → (d : TableDef) (h : Row → Bool) (xs ys : List Row) (x : Period)
     → covered d (filter (λ s. h s && share_a_point (period_of d s) x) xs ++ ys) x ≡ covered d (filter h xs ++ ys) x
 covered_near law d h xs ys x =
@@ -62,7 +62,7 @@ covered_near law d h xs ys x =
         (λ s e. share_if x (period_of d s) p e k))
         ∙ sym (list_any-append (λ s. holds (period_of d s) p) (filter h xs) ys)
 
--- a child row is met by those that share a point with it, and others, where it is met by all
+-- a child row is met exactly if it is met by the rows that share a point with it, and others
 pub met_near : ReferenceTestIsRight → (c d : TableDef) (h : Row → Bool) (xs ys : List Row) (r : Row) (b : Bool)
     → is_met_by c d b (filter (λ s. h s && is_touched d b (period_of c r) s) xs ++ ys) r
     ≡ is_met_by c d b (filter h xs ++ ys) r

@@ -1,4 +1,4 @@
--- Of rows that are sorted by their ranks some clash exactly where two neighbours do.
+-- In rows sorted by their ranks, two rows clash exactly if two neighbours do.
 use Rattle.std.proofs.Common.{◌≡◌, refl, sym, ap, subst, ◌∙◌, ℕ, ◌+◌, ◌<◌, Bool, true, false, cond, List, [], ◌∷◌}
 use Rattle.std.proofs.Common.{◌++◌, map, filter, length, arith}
 use Rattle.std.specs.Prelude.{◌&&◌, ◌||◌, not, ℤ, ◌≤ℤ◌}
@@ -27,7 +27,7 @@ use Rattle.tql_keys.proofs.Sharing.{falling_first, falling_second}
 use Rattle.tql_keys.proofs.Tuples.{match_is, match_tuple}
 use Rattle.tql_keys.proofs.Wheres.{all_where}
 
--- ---- orders, one after another
+-- ---- lexicographic orders
 
 then_same : (o : Ordering) → ordering_then o Equal ≡ o
 then_same Less = refl
@@ -39,7 +39,7 @@ then_then Less p q = refl
 then_then Equal p q = refl
 then_then Greater p q = refl
 
--- not above by both: not above by the first
+-- not greater in the combined order: not greater in the first one
 first_upto : (o p : Ordering) → is_gt (ordering_then o p) ≡ false → is_gt o ≡ false
 first_upto Less p e = refl
 first_upto Equal p e = refl
@@ -56,14 +56,14 @@ not_above a b e = by_lt_z b a
     let w : true ≡ false = ap is_gt h ∙ e in absurd (cc))
     (λ h. h)
 
--- two tuples of which neither is above the other are one
+-- two tuples, neither of which is greater, are the same
 pub one_tuple : (a b : Row) → is_gt (by_columns a b) ≡ false → is_gt (by_columns b a) ≡ false → a ≡ b
 one_tuple a b g h =
     by_columns-ties a b (level (by_columns a b) g (sym (ap is_gt (by_columns-total.antisymm b a)) ∙ h))
 
 -- ---- ranks
 
--- by the tuples, and then by what stands behind them
+-- compared by the tuples, then by the starts
 pub rank_by : (cs : List ℕ) (r s : Row) (m n : ℤ)
     → by_columns (tuple cs r ++ Int m ∷ []) (tuple cs s ++ Int n ∷ [])
     ≡ ordering_then (by_columns (tuple cs r) (tuple cs s)) (int_cmp m n)
@@ -73,7 +73,7 @@ rank_by (c ∷ cs) r s m n =
     ∙ then_then (order (cell r c) (cell s c)) (by_columns (tuple cs r) (tuple cs s)) (int_cmp m n)
 
 module _ (d : TableDef) (cs : List ℕ) where
-  -- a row does not stand behind another
+  -- a row is not ranked after another
   abbrev pub Upto : Row → Row → Type 0
   Upto r s = is_gt (by_columns (rank d cs r) (rank d cs s)) ≡ false
 
@@ -89,14 +89,14 @@ module _ (d : TableDef) (cs : List ℕ) where
       (sym (ap (λ p. is_gt (ordering_then p (int_cmp (starts_at d r) (starts_at d s)))) o)
       ∙ sym (ap is_gt (rank_by cs r s (starts_at d r) (starts_at d s))) ∙ h)
 
-  -- what stands between two of one tuple has it
+  -- a row between two rows with one tuple has that tuple
   tuple_between : (x y z : Row) → Upto x y → Upto y z → tuple cs x ≡ tuple cs z → tuple cs x ≡ tuple cs y
   tuple_between x y z h i e = one_tuple (tuple cs x) (tuple cs y) (tuples_upto x y h)
       (subst (λ t. is_gt (by_columns (tuple cs y) t) ≡ false) (sym e) (tuples_upto y z i))
 
 -- ---- a row that clashes with a later one clashes with the next
 
--- a period that starts between the starts of two that share a point shares one with the first
+-- a period that starts between the starts of two that share a point shares one with the first of them
 shares_between : (b : Bool) (x y z : Period) → not b || rises y ≡ true → x.start ≤ℤ y.start → y.start ≤ℤ z.start
     → not b || share_a_point x z ≡ true → not b || share_a_point x y ≡ true
 shares_between false x y z r h i c = refl
@@ -136,7 +136,7 @@ module _ (d : TableDef) (k : Key) where
       (rank d k.columns z) h a.0 in
       and_true (apart x z) (list_all (apart x) zs) m (rest_apart x z zs i a.1 b.1 m)
 
-  -- neighbours decide
+  -- neighbours decide whether the key holds
   pub neighbours_decide : (rows : List Row) → Ascends by_columns (map (rank d k.columns) rows)
       → list_all (can_clash d k) rows ≡ true → all_neighbours apart rows ≡ key_holds d rows k
   neighbours_decide [] a c = refl
@@ -172,7 +172,7 @@ pairs_where t q h i (x ∷ xs) = by_bool (q x)
     ∙ pairs_where t q h i xs
     ∙ sym (ap (λ b. b && all_pairs t xs) (all_of (t x) xs (λ y. h x y e))))
 
--- those that a test keeps pass it
+-- the elements of a filtered list pass the test
 pub all_filtered : {A : Type 0} (q : A → Bool) (xs : List A) → list_all q (filter q xs) ≡ true
 all_filtered q xs = all_where q q xs ∙ all_of (λ x. not (q x) || q x) xs (λ x. either (q x))
   where
@@ -189,7 +189,7 @@ no_share true same r s e h = ap (λ c. not (same && c)) (h e) ∙ off same
     off true = refl
     off false = refl
 
--- the rows that can clash decide
+-- whether a key holds depends only on the rows that can clash
 pub rivals_decide : (d : TableDef) (k : Key) (rows : List Row)
     → key_holds d (filter (can_clash d k) rows) k ≡ key_holds d rows k
 rivals_decide d k rows = pairs_where (λ r s. not (clash d k r s)) (can_clash d k)
@@ -199,7 +199,7 @@ rivals_decide d k rows = pairs_where (λ r s. not (clash d k r s)) (can_clash d 
     (share_a_point (period_of d r) (period_of d s)) e (falling_second (period_of d r) (period_of d s)))
     rows
 
--- ---- what a sort ensures
+-- ---- the result of a sort
 
 map_twice : {A : Type 0} (p : Row → Row) (view : A → Row) (xs : List A)
     → map (λ x. p (view x)) xs ≡ map p (map view xs)
@@ -215,7 +215,7 @@ by_each p (x ∷ xs) s k d l h =
     let q : k < length (x ∷ xs) = omega (arith, m) in
     rw (get_or-map p (x ∷ xs) (k + 1) x d m, get_or-map p (x ∷ xs) k x d q) (s k x l m)
 
--- sorted by what is read of the rows that the elements stand for
+-- sorted by what is read of the rows that the elements represent
 pub sorted_by : {A : Type 0} (p : Row → Row) (view : A → Row) (xs : List A)
     → IsSortedBy (λ x y. is_lt (by_columns (p (view x)) (p (view y)))) xs → IsSorted by_columns (map p (map view xs))
 sorted_by p view xs s = subst (IsSorted by_columns) (map_twice p view xs) (by_each (λ x. p (view x)) xs s)

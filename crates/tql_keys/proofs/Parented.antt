@@ -1,4 +1,4 @@
--- A reference after a change of its parent table, by the rows that go.
+-- A reference after a change to its parent table is decided by the removed rows.
 use Rattle.std.proofs.Common.{◌≡◌, sym, ap, ◌∙◌, ℕ, Bool, true, false, List, [], ◌++◌, map, filter}
 use Rattle.std.specs.Prelude.{ℤ, Option, Some, All}
 use Rattle.std.specs.List.{list_all}
@@ -17,7 +17,7 @@ use Rattle.tql_keys.proofs.Freely.{found_all}
 use Rattle.tql_keys.proofs.NamedRows.{gone_by_ids}
 use Rattle.tql_keys.proofs.RefLaw.{parent_changed}
 
--- a test of the child rows that were found is one of those that the parent row may have met
+-- a test of the child rows that were found is a test of the child rows of the parent row
 pub children_told : (c p : TableDef) (f : Reference) (g : Row) (children : List Stamped)
     (named : ℕ → Option Stamped) (found : List Version)
     → SameBag (map row_found found)
@@ -29,7 +29,7 @@ children_told c p f g children named found bag names q =
     found_all c (is_child_of c p f g) q children named (λ r. false) [] found bag names (none_judged named)
     ∙ ap (λ (rs : List Stamped). list_all q (filter (is_child_of c p f g) (shown_rows c rs))) (all_stay children)
 
--- a reference that held is told by the rows that go
+-- a reference that held holds after the change exactly if the child rows of the removed rows are met
 pub parent_after : ReferenceTestIsRight → (c p : TableDef) (f : Reference) (m : ℤ) (gone : Stamped → Bool)
     (added : List Row) (rows base : List Stamped) (children : List Row) (named : ℕ → Option Stamped)
     (removed : List ℕ) (b : Bool) → SameBag rows base → AreNamed named base → IsJudged named gone removed

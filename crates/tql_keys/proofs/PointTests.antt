@@ -1,4 +1,4 @@
--- The tests of a copy say what those of the points' tables say.
+-- The tests of a copy give the same answer as those of the tables at all points of time.
 use Rattle.std.proofs.Common.{◌≡◌, ◌≤◌, ap, Bool, true, false, List, [], length, arith}
 use Rattle.std.specs.Prelude.{ℤ, Some, Result, Ok, Err}
 use Rattle.tql_spec.specs.Constraint.{keys_hold, references_hold}
@@ -19,14 +19,14 @@ use Rattle.tql_keys.specs.Checked.{TellsTests}
 use Rattle.tql_keys.specs.PointTests.{IsCopyAt, IsFirstOfTests, IsRefusedAsPoints}
 use Rattle.tql_keys.proofs.Faults.{tested, key_first, reference_first, none_first}
 
--- a fault of keys or of references
+-- a first fault is that of a key or a reference
 at_least : (a b : Bool) (f : spec.Refusal) → first (tested a b) ≡ Some f → 22 ≤ place f
 at_least true true f q = absurd (cc)
 at_least true false f q = let e : spec.ReferenceNotMet ≡ f = cc in omega (arith, ap place e)
 at_least false true f q = let e : spec.DuplicateKey ≡ f = cc in omega (arith, ap place e)
 at_least false false f q = let e : spec.DuplicateKey ≡ f = cc in omega (arith, ap place e)
 
--- where keys hold, one of references
+-- if the keys hold, a first fault is that of a reference
 not_keys : (a b : Bool) (f : spec.Refusal) → a ≡ true → first (tested a b) ≡ Some f → 23 ≤ place f
 not_keys true true f k q = absurd (cc)
 not_keys true false f k q = let e : spec.ReferenceNotMet ≡ f = cc in omega (arith, ap place e)

@@ -1,4 +1,4 @@
--- Tests of the keys, or of the references, of a table, as the code has them: one by one, and of all.
+-- Tests of the keys, or the references, of a table, each by its index and all together.
 use Rattle.std.proofs.Common.{◌≡◌, ◌<◌, sym, ap, ◌∙◌, ℕ, ◌+◌, zero, suc, Bool, true, List, [], ◌∷◌, map, length, drop}
 use Rattle.std.proofs.Common.{get_or, arith}
 use Rattle.std.specs.Prelude.{◌&&◌}
@@ -8,7 +8,7 @@ use Rattle.tql_keys.proofs.Bools.{all_map}
 use Rattle.tql_keys.proofs.Stepping.{one_left}
 
 module _ {A B : Type 0} (f : A → B) (P : B → Bool) (all : List B) (items : List A) (parts : map f items ≡ all) where
-  -- a test of all is one of each
+  -- if all pass, each one does
   pub part_in : (i : ℕ) (x : A) → i < length items → x ≡ get_or items i x → list_all P all ≡ true → P (f x) ≡ true
   part_in i x l e h = at items i l e (ap (list_all P) parts ∙ h)
     where
@@ -17,7 +17,7 @@ module _ {A B : Type 0} (f : A → B) (P : B → Bool) (all : List B) (items : L
       at (y ∷ xs) zero m q t = ap (λ z. P (f z)) q ∙ (both (P (f y)) (list_all P (map f xs)) t).0
       at (y ∷ xs) (suc j) m q t = at xs j (omega arith) q (both (P (f y)) (list_all P (map f xs)) t).1
 
-  -- those that are left decide
+  -- the result depends on the remaining ones
   pub parts_decide : (i : ℕ) (x : A) (b : Bool) → i < length items → x ≡ get_or items i x → b ≡ P (f x)
       → list_all (λ y. P (f y)) (drop i items) ≡ b && list_all (λ y. P (f y)) (drop (i + 1) items)
   parts_decide i x b l e q =

@@ -1,4 +1,4 @@
--- A reference after a change of its child table, and of its parent table.
+-- A reference after a change to its child table, and to its parent table.
 use Rattle.std.proofs.Common.{◌≡◌, refl, sym, ap, ◌∙◌, Bool, true, false, cond, List, [], ◌∷◌, ◌++◌, map, filter}
 use Rattle.std.specs.Prelude.{◌&&◌, ◌||◌, not}
 use Rattle.std.specs.List.{list_all, list_any}
@@ -17,7 +17,7 @@ use Rattle.tql_keys.proofs.Near.{met_near_all, touched_turned}
 
 -- ---- the child table
 
--- rows that come behind others that are met
+-- rows appended to rows that are met
 pub child_joined : (child parent : TableDef) (f : Reference) (parents kept new : List Row)
     → reference_holds child parent f parents kept ≡ true
     → reference_holds child parent f parents (kept ++ new) ≡ reference_holds child parent f parents new
@@ -25,7 +25,7 @@ child_joined child parent f parents kept new h =
     all_app (is_met child parent f parents) kept new
     ∙ ap (λ b. b && reference_holds child parent f parents new) h
 
--- some of the rows that are met
+-- a part of rows that are met
 pub child_kept : (child parent : TableDef) (f : Reference) (parents : List Row) (p : Stamped → Bool)
     (rows : List Stamped) → reference_holds child parent f parents (shown_rows child rows) ≡ true
     → reference_holds child parent f parents (shown_rows child (filter p rows)) ≡ true
@@ -36,7 +36,7 @@ child_kept child parent f parents p rows h =
 
 -- ---- the parent table
 
--- one test with another, or a third that is the same for all
+-- a disjunction with a test that is the same for all elements
 all_or : {A : Type 0} (t : A → Bool) (b : Bool) (xs : List A)
     → list_all (λ x. not (t x) || b) xs ≡ not (list_any t xs) || b
 all_or t b [] = refl
@@ -52,7 +52,7 @@ all_or t b (x ∷ xs) = ap (λ c. (not (t x) || b) && c) (all_or t b xs) ∙ joi
     joined false false true = refl
     joined false false false = refl
 
--- two tests that agree where a third passes, as it does of all
+-- two tests that agree if a third passes, which passes for all
 pub all_agree : {A : Type 0} (p q r : A → Bool) (xs : List A) → list_all p xs ≡ true
     → ((x : A) → p x ≡ true → q x ≡ r x) → list_all q xs ≡ list_all r xs
 all_agree p q r [] e h = refl
@@ -60,7 +60,7 @@ all_agree p q r (x ∷ xs) e h =
     let b = both (p x) (list_all p xs) e in
     ap (λ c. c && list_all q xs) (h x b.0) ∙ ap (λ c. r x && c) (all_agree p q r xs b.1 h)
 
--- the images of a sort, where none that goes is of it
+-- the mapped elements of a kind, if no removed one is of it
 left_out : {A B : Type 0} (s : A → B) (h : B → Bool) (b c : Bool) (x : A) (ys zs : List A) → h (s x) ≡ c
     → (b ≡ true → c ≡ false) → filter h (map s ys) ≡ filter h (map s zs)
     → filter h (s x ∷ map s ys) ≡ filter h (map s (cond (not b) (x ∷ zs) zs))
@@ -86,8 +86,8 @@ none_goes s h gone (x ∷ xs) e =
         neither true c w = absurd (cc)
     parted false y ys q = ((λ w. absurd (cc)), q)
 
--- a child row that was met, and of whose tuple no parent goes that it shares a point with where periods count, is met
--- by those that stay and others
+-- a child row that was met is still met by the unchanged parents and others, if it loses no parent: no removed row has
+-- its tuple and, by period, shares a point with it
 still_met : ReferenceTestIsRight → (child parent : TableDef) (f : Reference) (gone : Stamped → Bool)
     (old : List Stamped) (new : List Row) (c : Row)
     → list_any (λ g. is_child_of child parent f (shown parent g) c) (filter gone old) ≡ false
@@ -133,8 +133,8 @@ still_met law child parent f gone old new c n e = by_bool (has_null f.columns c)
         (sym (none_goes (shown parent) near gone old none_near))
         ∙ met_near_all law child parent of_child (shown_rows parent old) c f.by_period ∙ before z)
 
--- after a change of the parent's rows a reference that held holds where each child row is met whose tuple a row that
--- goes has, and with PERIOD a point of its period
+-- a reference that held holds after a change to the parent's rows exactly if the child rows that lose a parent are met;
+-- these have the tuple of a removed row and, with PERIOD, share a point with its period
 pub parent_changed : ReferenceTestIsRight → (child parent : TableDef) (f : Reference) (gone : Stamped → Bool)
     (old : List Stamped) (new children : List Row)
     → reference_holds child parent f (shown_rows parent old) children ≡ true

@@ -1,4 +1,4 @@
--- Keys and references see the bag of a table's rows alone.
+-- Keys and references depend only on the bag of a table's rows.
 use Rattle.std.proofs.Common.{◌≡◌, refl, sym, ap, ◌∙◌, ℕ, zero, suc, Bool, true, cond, List, [], ◌∷◌, ◌++◌, map, arith}
 use Rattle.std.proofs.Common.{false}
 use Rattle.std.specs.Prelude.{◌&&◌, ◌||◌, not, ltb, Option, Some, None, slice_set}
@@ -22,7 +22,7 @@ use Rattle.tql_keys.proofs.Bools.{all_same, same_bool}
 use Rattle.tql_keys.proofs.Tuples.{match_sym}
 use Rattle.tql_keys.proofs.Wheres.{all_bag}
 
--- whether some element passes sees the bag
+-- whether some element passes depends only on the bag
 pub any_bag : {A : Type 0} (p : A → Bool) {xs ys : List A} → SameBag xs ys → list_any p xs ≡ list_any p ys
 any_bag p {xs} {ys} h =
     any-total p xs ∙ ap (ltb 0) (h.totals (λ x. cond (p x) 1 0)) ∙ sym (any-total p ys)
@@ -32,7 +32,7 @@ any_bag p {xs} {ys} h =
 share_turned : (x y : Period) → share_a_point x y ≡ share_a_point y x
 share_turned x y = grind (arith, ints, clamps)
 
--- rows clash whichever comes first
+-- clashing is symmetric
 pub clash_turned : (d : TableDef) (k : Key) (r s : Row) → clash d k r s ≡ clash d k s r
 clash_turned d k r s =
     ap (λ b. b && (not k.by_period || share_a_point (period_of d r) (period_of d s)))
@@ -40,7 +40,7 @@ clash_turned d k r s =
     ∙ ap (λ b. match_on k.columns s k.columns r && (not k.by_period || b))
     (share_turned (period_of d r) (period_of d s))
 
--- whether a key holds sees the bag of the rows
+-- whether a key holds depends only on the bag of the rows
 pub key_by_bag : (d : TableDef) {xs ys : List Row} → SameBag xs ys → (k : Key) → key_holds d xs k ≡ key_holds d ys k
 key_by_bag d {xs} {ys} h k =
     same_bool (key_holds d xs k) (key_holds d ys k) (pairs_by_bag (clash d k) (clash_turned d k) xs ys h)
@@ -77,7 +77,7 @@ reference_by_bag c d f {ps} {qs} {rows} {others} h k =
 
 -- ---- copies
 
--- the same bags in two copies
+-- copies with the same bags
 abbrev AreAlike : Copy → Copy → Type 0
 AreAlike copy other = (u : ℕ) → SameBag (rows_in copy u) (rows_in other u)
 
@@ -89,7 +89,7 @@ alike (rs ∷ copy) zero h (suc u) = same-refl (rows_in copy u)
 alike (rs ∷ copy) (suc t) h zero = same-refl rs
 alike (rs ∷ copy) (suc t) h (suc u) = alike copy t h u
 
--- tests that agree on the same bags
+-- two tests that agree on the same bags
 abbrev Agree : (TableDef → List Row → Bool) → (TableDef → List Row → Bool) → Type 0
 Agree test other = (d : TableDef) (rows others : List Stamped) → SameBag rows others
     → test d (shown_rows d rows) ≡ other d (shown_rows d others)
@@ -114,7 +114,7 @@ each_alike test other h (d ∷ defs) (rs ∷ copy) (suc t) {rows} {others} k =
     ap (λ b. b && each_table test defs (slice_set copy t rows)) (h d rs rs (same-refl rs))
     ∙ ap (λ b. other d (shown_rows d rs) && b) (each_alike test other h defs copy t k)
 
--- keys of a copy see the bag of a table's rows
+-- the keys of a copy depend only on the bag of a table's rows
 pub keys_alike : (defs : List TableDef) (copy : Copy) (t : ℕ) {rows others : List Stamped} → SameBag rows others
     → keys_hold defs (slice_set copy t rows) ≡ keys_hold defs (slice_set copy t others)
 keys_alike defs copy t h = each_alike keys_hold_of keys_hold_of (λ d rows others k. keys_by_bag d k) defs copy t h
@@ -127,7 +127,7 @@ to_alike defs copy other h d rows others k f None =
 to_alike defs copy other h d rows others k f (Some t) =
     reference_by_bag d (table_at defs t) f (same-map (shown (table_at defs t)) (h t)) (same-map (shown d) k)
 
--- so do references
+-- so do its references
 pub references_alike : (defs : List TableDef) (copy : Copy) (t : ℕ) {rows others : List Stamped} → SameBag rows others
     → references_hold defs (slice_set copy t rows) ≡ references_hold defs (slice_set copy t others)
 references_alike defs copy t {rows} {others} h =
@@ -139,7 +139,7 @@ references_alike defs copy t {rows} {others} h =
     tested : Copy → TableDef → List Row → Bool
     tested c d us = list_all (λ (f : Reference). reference_to defs c d us f (place_of f.parent defs)) d.references
 
--- and the faults
+-- and its faults
 pub faults_alike : (defs : List TableDef) (copy : Copy) (t : ℕ) {rows others : List Stamped} → SameBag rows others
     → constraint_faults defs (slice_set copy t rows) ≡ constraint_faults defs (slice_set copy t others)
 faults_alike defs copy t h i =

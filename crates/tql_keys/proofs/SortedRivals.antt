@@ -19,7 +19,7 @@ use Rattle.tql_keys.proofs.Sameness.{key_by_bag}
 use Rattle.tql_keys.proofs.Sharing.{not_risen}
 use Rattle.tql_keys.proofs.Wheres.{all_bag}
 
--- a period is there where it rises
+-- a period is Some exactly if it is not empty
 pub rises_where_some : (x : Period) (o : Option code.Period) (b r : Bool) → option_map points_of o ≡ where_rising x
     → r ≡ is_some o → b ≡ true → r ≡ not b || rises x
 rises_where_some x o b r e f g = f ∙ there o e ∙ sym (ap (λ c. not c || rises x) g)
@@ -29,7 +29,7 @@ rises_where_some x o b r e f g = f ∙ there o e ∙ sym (ap (λ c. not c || ris
     there (Some y) h = by_bool (rises x) (λ i. sym i)
         (λ i. let n : where_rising x ≡ None = rw i refl in absurd (cc))
 
--- those kept of images
+-- filtering a mapped list
 pub map_where : {A B : Type 0} (s : A → B) (q : B → Bool) (xs : List A)
     → map s (filter (λ x. q (s x)) xs) ≡ filter q (map s xs)
 map_where s q [] = refl
@@ -40,7 +40,7 @@ map_where s q (x ∷ xs) = kept (q (s x)) x (filter (λ y. q (s y)) xs)
     kept true y ys = refl
     kept false y ys = refl
 
--- of all rows those that can clash, sorted, tell by their neighbours
+-- the sorted rows that can clash decide by their neighbours whether the key holds
 pub sorted_decide : (d : TableDef) (k : Key) (all rivals sorted : List Row)
     → IsSorted by_columns (map (rank d k.columns) sorted) → SameBag sorted rivals → rivals ≡ filter (can_clash d k) all
     → all_neighbours (λ r s. not (clash d k r s)) sorted ≡ key_holds d all k

@@ -1,4 +1,4 @@
--- New rows, one after another.
+-- Tests of the new rows, one position at a time.
 use Rattle.std.proofs.Common.{◌≡◌, ◌<◌, ◌≤◌, refl, sym, ap, ◌∙◌, ℕ, ◌+◌, suc, Bool, true, List, [], ◌∷◌, length, drop}
 use Rattle.std.proofs.Common.{get_or, add-one, Vec}
 use Rattle.std.specs.Prelude.{◌&&◌, ℤ}
@@ -12,28 +12,28 @@ use Rattle.tql_value.specs.declared.value.Value.{Value}
 use Rattle.tql_store.specs.Changes.{starting}
 use Rattle.tql_keys.specs.Asked.{new_rows}
 
--- a row of values that begins at a moment
+-- a row of values that starts at a moment
 abbrev pub new_row : {A : Type 0} → TableDef → ℤ → Vec Value A → Row
 new_row d m v = shown d (starting m (row_of v.items))
 
--- a test of new rows is one of the rows of values
+-- a test of the new rows is a test of the rows of values
 pub all_new : {A : Type 0} (P : Row → Bool) (d : TableDef) (m : ℤ) (rows : List (Vec Value A))
     → list_all (λ v. P (new_row d m v)) rows ≡ list_all P (new_rows d m (rows_of rows))
 all_new P d m [] = refl
 all_new P d m (v ∷ rows) = ap (λ b. P (new_row d m v) && b) (all_new P d m rows)
 
--- the elements that are left, and one before them
+-- the remaining elements, and one before them
 pub one_left : {X : Type 0} (P : X → Bool) (xs : List X) (i : ℕ) (x : X) → i < length xs → x ≡ get_or xs i x
     → list_all P (drop i xs) ≡ P x && list_all P (drop (i + 1) xs)
 one_left P xs i x l e =
     ap (list_all P) (drop-cons xs i x l) ∙ ap (λ y. P y && list_all P (drop (suc i) xs)) (sym e)
     ∙ ap (λ n. P x && list_all P (drop n xs)) (sym (add-one i))
 
--- none is left
+-- no element remains
 pub none_left : {X : Type 0} (P : X → Bool) (xs : List X) (i : ℕ) → length xs ≤ i → list_all P (drop i xs) ≡ true
 none_left P xs i l = ap (list_all P) (drop_all i xs l)
 
--- the new rows that are left, and one before them
+-- the remaining new rows, and one before them
 pub left_decides : {A : Type 0} (F : Row → Bool) (d : TableDef) (m : ℤ) (added : List (Vec Value A)) (i : ℕ)
     (x : Vec Value A) (row : Row) (b : Bool) → i < length added → x ≡ get_or added i x → row ≡ new_row d m x
     → b ≡ F row

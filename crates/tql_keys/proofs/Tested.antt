@@ -1,4 +1,4 @@
--- A reference of the table at a place, tested in a copy.
+-- A reference of the table at an index, tested in a copy.
 use Rattle.std.proofs.Common.{ℕ, Bool, List}
 use Rattle.tql_spec.specs.AtPoints.{table_rows}
 use Rattle.tql_spec.specs.Constraint.{reference_to}

@@ -1,4 +1,4 @@
--- What the tests of a copy tell, told as its first fault, and at every point.
+-- The results of the tests of a copy, as its first fault and at every point of time.
 use Rattle.std.proofs.Common.{◌≡◌, sym, ◌∙◌, Bool, true, false, List, length}
 use Rattle.std.specs.Prelude.{Result, Ok, Err}
 use Rattle.tql_spec.specs.AtPoints.{table_rows, parent_at, parent_rows, HoldsAtPoints}
@@ -60,13 +60,13 @@ told_first defs copy (Err CheckFailed) h = absurd h
 
 -- ---- at every point
 
--- where keys hold at every point, so do their tests
+-- if keys hold at every point, their tests pass
 keys_from : (defs : List TableDef) (copy : Copy) → KeysAtPoints defs copy → keys_hold defs copy ≡ true
 keys_from defs copy h = in_tables key_test defs copy (λ t l.
     in_all (key_holds (table_at defs t) (table_rows defs copy t)) (table_at defs t).keys
     (λ k m. (key_test_is_right (table_at defs t) k (table_rows defs copy t)).1 (h t l k m)))
 
--- and the other way
+-- the converse
 keys_to : (defs : List TableDef) (copy : Copy) → length copy ≡ length defs → keys_hold defs copy ≡ true
     → KeysAtPoints defs copy
 keys_to defs copy n h t l k m =
@@ -74,7 +74,7 @@ keys_to defs copy n h t l k m =
     (all_in (key_holds (table_at defs t) (table_rows defs copy t)) (table_at defs t).keys k
     (table_in key_test defs copy n h t l) m)
 
--- so do references
+-- the same for references
 references_from : (defs : List TableDef) (copy : Copy) → ReferencesAtPoints defs copy
     → references_hold defs copy ≡ true
 references_from defs copy h = in_tables (reference_test defs copy) defs copy (λ t l.
@@ -119,7 +119,7 @@ told_at_points defs copy (Err NullNotAllowed) n h = absurd h
 told_at_points defs copy (Err PeriodNotRising) n h = absurd h
 told_at_points defs copy (Err CheckFailed) n h = absurd h
 
--- where all hold at every point, their tests hold
+-- if all hold at every point, all tests pass
 pub tests_before : (defs : List TableDef) (copy : Copy) → HoldsAtPoints defs copy
     → (keys_hold defs copy ≡ true) × (references_hold defs copy ≡ true)
 tests_before defs copy h = let t : CopyHolds defs copy = (copy_tests_are_right defs copy).1 h in (t.keys, t.references)

@@ -1,4 +1,4 @@
--- After a change of a table its own references and those to it decide: each other one is tested as before.
+-- After a change to a table, only its own references and those to it can fail: each other one is tested as before.
 use Rattle.std.proofs.Common.{◌≡◌, ◌<◌, ◌≤◌, ◌≢◌, refl, sym, ap, subst, ◌∙◌, ℕ, ◌+◌, zero, suc, Bool, true, false, List}
 use Rattle.std.proofs.Common.{[], ◌∷◌, length, arith, inl, inr}
 use Rattle.std.specs.Prelude.{◌&&◌, not, nat_eq, Option, Some, None, if◌then◌else◌, slice_set}
@@ -24,7 +24,7 @@ use Rattle.tql_keys.proofs.RefLaw.{all_agree}
 use Rattle.tql_keys.proofs.WholeCopy.{as_long}
 use Rattle.tql_keys.proofs.WholeReferences.{rows_elsewhere, reference_elsewhere}
 
--- the table that is found by a name has it
+-- the table that is found by a name has that name
 found_name : (n : Name) (defs : List TableDef) (p : ℕ) → place_of n defs ≡ Some p → n ≡ (table_at defs p).name
 found_name n [] p e = absurd (cc)
 found_name n (d ∷ defs) p e = by_bool (same_text n d.name)
@@ -40,7 +40,7 @@ found_name n (d ∷ defs) p e = by_bool (same_text n d.name)
     later found (Some i) q h =
         let s : suc i ≡ p = cc in subst (λ k. n ≡ (table_at (d ∷ defs) k).name) s (found i q)
 
--- a reference that does not name the changed table
+-- a reference that does not name the changed table keeps its result
 reference_kept : (defs : List TableDef) (copy : Copy) (t : ℕ) (rows : List Stamped) (d : TableDef)
     (children : List Row) (f : Reference) → same_text (table_at defs t).name f.parent ≡ false
     → reference_to defs (slice_set copy t rows) d children f (place_of f.parent defs)
@@ -56,7 +56,7 @@ reference_kept defs copy t rows d children f n = by_place (place_of f.parent def
         ∙ ap (λ m. same_text m f.parent) (found_name f.parent defs p e ∙ ap (λ k. (table_at defs k).name) q) ∙ n in
         absurd (cc))
 
--- the references of another table that has none to it
+-- so do the references of another table that has none to it
 pub untouched : (defs : List TableDef) (copy : Copy) (t u : ℕ) (rows : List Stamped) → u ≢ t
     → refers_to (table_at defs t).name (table_at defs u) ≡ false
     → references_hold_of defs copy u ≡ true → references_hold_of defs (slice_set copy t rows) u ≡ true
@@ -88,7 +88,7 @@ untouched defs copy t u rows n e h =
         yes true k = refl
         yes false k = cc
 
--- ---- places
+-- ---- indexes of tables
 
 in_range : (a n u : ℕ) → a ≤ u → u < a + n → In u (range_with_len a n)
 in_range a zero u l k = absurd (omega (arith, l, k))
@@ -103,7 +103,7 @@ range_in a zero u m = absurd m
 range_in a (suc n) u (inl e) = omega (arith, e)
 range_in a (suc n) u (inr m) = let l : u < a + 1 + n = range_in (a + 1) n u m in omega (arith, l)
 
--- the references of a table, and those to it, decide after a change of it
+-- the references of a table, and those to it, decide after a change to it
 pub touching_decide : (defs : List TableDef) (copy : Copy) (t : ℕ) (rows : List Stamped) → t < length defs
     → length copy ≡ length defs → references_hold defs copy ≡ true
     → references_hold_of defs (slice_set copy t rows) t

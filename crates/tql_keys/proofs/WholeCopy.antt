@@ -1,4 +1,4 @@
--- A copy in which the rows of one table are others.
+-- A copy in which the rows of one table are replaced.
 use Rattle.std.proofs.Common.{◌≡◌, ◌<◌, refl, sym, ap, ◌∙◌, ℕ, zero, suc, Bool, true, List, [], ◌∷◌, length, arith}
 use Rattle.std.specs.Prelude.{◌&&◌, ℤ, slice_set}
 use Rattle.std.proofs.lemmas.List.{length-map}
@@ -14,7 +14,7 @@ use Rattle.tql_keys.specs.Asked.{keys_hold_of}
 use Rattle.tql_keys.specs.Checked.{copy_after}
 use Rattle.tql_keys.proofs.Bools.{and_yes}
 
--- a test that held of each table holds of each with other rows of one where it holds of these
+-- if a test held of each table, it holds after the replacement exactly if it holds of the new rows
 pub each_set : (test : TableDef → List Row → Bool) (defs : List TableDef) (copy : Copy) (t : ℕ) (rows : List Stamped)
     → t < length defs → length copy ≡ length defs → each_table test defs copy ≡ true
     → each_table test defs (slice_set copy t rows) ≡ test (table_at defs t) (shown_rows (table_at defs t) rows)
@@ -28,7 +28,7 @@ each_set test (d ∷ defs) (rs ∷ copy) (suc t) rows l n e =
     ap (λ c. c && each_table test defs (slice_set copy t rows)) b.0
     ∙ each_set test defs copy t rows (omega arith) (omega arith) b.1
 
--- it holds of each one
+-- a test of all tables holds of each one
 pub each_at : (test : TableDef → List Row → Bool) (defs : List TableDef) (copy : Copy) (t : ℕ) → t < length defs
     → length copy ≡ length defs → each_table test defs copy ≡ true
     → test (table_at defs t) (shown_rows (table_at defs t) (rows_in copy t)) ≡ true
@@ -41,7 +41,7 @@ each_at test (d ∷ defs) (rs ∷ copy) (suc t) l n e =
 
 -- ---- keys
 
--- the keys of a copy in which one table is changed are those of that table
+-- the keys of the new copy hold exactly if those of the changed table do
 pub keys_told : (defs : List TableDef) (d : TableDef) (copy : Copy) (m : ℤ) (t : ℕ) (gone : Stamped → Bool)
     (added : List Row) (told : Bool) → table_at defs t ≡ d → t < length defs → length copy ≡ length defs
     → keys_hold defs copy ≡ true
@@ -57,7 +57,7 @@ keys_told defs d copy m t gone added told at l n e h =
 pub as_many : (tables : List Table) → length (definitions_of tables) ≡ length tables
 as_many tables = length-map tables (λ (t : Table). t.definition)
 
--- a copy with other rows of one table has as many tables
+-- the new copy has as many tables
 pub as_long : (copy : Copy) (t : ℕ) (rows : List Stamped) → length (slice_set copy t rows) ≡ length copy
 as_long [] t rows = refl
 as_long (rs ∷ copy) zero rows = refl

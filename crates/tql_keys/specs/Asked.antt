@@ -1,4 +1,4 @@
--- What the rows of a store are asked for: those of a tuple, and the one that an id names.
+-- Lookups in the rows of a store: by a tuple, and by an id.
 use Rattle.std.specs.Prelude.{◌≡◌, ℕ, ℤ, Bool, not, ◌&&◌, List, map, filter, length, All, Option, Some, option_map}
 use Rattle.std.specs.List.{list_all}
 use Rattle.tql_spec.specs.Bag.{SameBag}
@@ -18,48 +18,48 @@ use Rattle.tql_keys.specs.Touched.{has_tuple, is_touched}
 
 -- ---- the rows of a table
 
--- the current ones: a bag
+-- the current rows, as a bag
 abbrev pub current_rows : StoreModel → ℕ → List Stamped
 current_rows h t = map (λ (v : Version). v.row) (filter is_current (live h t))
 
--- these are they, each as wide as its table stores rows
+-- `rows` is this bag, and each row has as many cells as its table stores
 pub record AreRowsOf (h : StoreModel) (table : Table) (rows : List Stamped) : Type 0 where
   pub same : SameBag rows (current_rows h table.id)
   pub wide : All (λ (r : Stamped). length r.cells ≡ stored_width table.definition) rows
 
--- the current one that an id names
+-- the current row that an id names
 abbrev pub row_named : StoreModel → ℕ → ℕ → Option Stamped
 row_named h t id = option_map (λ (v : Version). v.row) (current_named h t id)
 
--- the row that was found
+-- the row of a version that was found
 abbrev pub row_found : code.Version → Stamped
 row_found v = (version_shown v).row
 
--- the rows of a tuple
+-- the rows with a tuple
 abbrev pub rows_with : TableDef → List ℕ → List Datum → List Stamped → List Stamped
 rows_with d columns values rows = filter (λ r. has_tuple columns values (shown d r)) rows
 
--- of these, where periods count, those that share a point with a period
+-- the rows with a tuple; by period, only those that share a point with the period
 abbrev pub rows_in : TableDef → List ℕ → List Datum → Bool → Period → List Stamped → List Stamped
 rows_in d columns values by_period x rows =
     filter (λ r. has_tuple columns values (shown d r) && is_touched d by_period x (shown d r)) rows
 
--- ---- rows that go, stay and come
+-- ---- removed, surviving and added rows
 
--- the ids listed are those of the rows that go: what goes is told by the rows' values
+-- the listed ids are those of the removed rows; `gone` decides by a row's value whether it is removed
 abbrev pub IsJudged : (ℕ → Option Stamped) → (Stamped → Bool) → List ℕ → Type 0
 IsJudged named gone removed = (id : ℕ) (r : Stamped) → named id ≡ Some r → is_among id removed ≡ gone r
 
--- rows that begin at a moment, column by column
+-- the added rows, which start at a moment, as the table shows them
 abbrev pub new_rows : TableDef → ℤ → List Row → List Row
 new_rows d m added = shown_rows d (map (starting m) added)
 
--- the rows that stay
+-- the surviving rows
 abbrev pub staying : (Stamped → Bool) → List Stamped → List Stamped
 staying gone rows = filter (λ r. not (gone r)) rows
 
 -- ---- keys of a table
 
--- whether each key holds
+-- whether all keys of a table hold
 abbrev pub keys_hold_of : TableDef → List Row → Bool
 keys_hold_of d rows = list_all (key_holds d rows) d.keys

@@ -1,4 +1,4 @@
--- What a check says of a copy of the tables after a change of one of them.
+-- What `check` answers about a copy of the tables after a change to one of them.
 use Rattle.std.specs.Prelude.{◌≡◌, ℕ, ℤ, ◌<◌, Bool, true, false, ◌&&◌, nat_lt, IsTrue, List, length, slice_get}
 use Rattle.std.specs.Prelude.{slice_set, Option, Some, None, Result, Ok, Err, ⊤}
 use Rattle.std.specs.List.{list_all}
@@ -18,20 +18,20 @@ use Rattle.tql_value.specs.declared.refusal.Refusal.{Refusal}
 use Rattle.tql_value.specs.declared.refusal.Refusal.TheVariants.{DuplicateKey, ReferenceNotMet, OutOfMemory}
 use Rattle.tql_keys.specs.Asked.{AreRowsOf, IsJudged, row_named}
 
--- the tables are there in the store
+-- the tables are in the store
 abbrev pub AreThere : StoreModel → List Table → Type 0
 AreThere h tables = (t : ℕ) (p : Table) → slice_get tables t ≡ Some p → IsTrue (has_table h p.id)
 
--- the copy has the current rows of the tables, each as wide as its table stores rows
+-- the copy has the current rows of the tables, each with as many cells as its table stores
 pub record IsCopyOf (h : StoreModel) (tables : List Table) (copy : Copy) : Type 0 where
   pub as_many : length copy ≡ length tables
   pub rows : (t : ℕ) (p : Table) → slice_get tables t ≡ Some p → AreRowsOf h p (rows_in copy t)
 
--- the copy after a change of the table at a place
+-- the copy after a change to the table at an index
 abbrev pub copy_after : ℤ → ℕ → (Stamped → Bool) → List Row → Copy → Copy
 copy_after m t gone added copy = slice_set copy t (rows_after m gone added (rows_in copy t))
 
--- whether the reference of the table at a place is to a key of an earlier one, at that place
+-- whether the reference of the table at index `t` is to a key of an earlier table, at the given index
 abbrev pub has_parent_at : List TableDef → ℕ → Reference → Option ℕ → Bool
 has_parent_at defs t f None = false
 has_parent_at defs t f (Some p) = nat_lt p t && is_declared_key (table_at defs p) f.by_period f.parent_columns
@@ -39,24 +39,24 @@ has_parent_at defs t f (Some p) = nat_lt p t && is_declared_key (table_at defs p
 abbrev pub has_parent : List TableDef → ℕ → Reference → Bool
 has_parent defs t f = has_parent_at defs t f (place_of f.parent defs)
 
--- the ids listed are those of the rows of the table at a place that go
+-- the listed ids are those of the removed rows of the table at an index
 abbrev pub AreJudged : StoreModel → List Table → ℕ → (Stamped → Bool) → List ℕ → Type 0
 AreJudged h tables t gone removed =
     (p : Table) → slice_get tables t ≡ Some p → IsJudged (row_named h p.id) gone removed
 
--- whether the references of the table at a place hold in a copy
+-- whether the references of the table at an index hold in a copy
 abbrev pub references_hold_of : List TableDef → Copy → ℕ → Bool
 references_hold_of defs copy t =
     list_all (λ (f : Reference). reference_to defs copy (table_at defs t) (table_rows defs copy t) f
     (place_of f.parent defs)) (table_at defs t).references
 
--- a refusal is the first fault, and none tells that there is no fault; memory may have run out
+-- an error is the first fault, and Ok means that there is none; an allocation may be refused
 abbrev pub TellsFirst : {A : Type 0} → Option spec.Refusal → Result A Refusal → Type 0
 TellsFirst fault (Ok x) = fault ≡ None
 TellsFirst fault (Err OutOfMemory) = ⊤
 TellsFirst fault (Err e) = fault ≡ Some (refusal_of e)
 
--- the tests of keys and of references, told: a key that fails first; memory may have run out
+-- the tests of keys, then of references: a key that fails is reported first; an allocation may be refused
 abbrev pub TellsTests : {A : Type 0} → Bool → Bool → Result A Refusal → Type 0
 TellsTests keys references (Ok x) = (keys ≡ true) × (references ≡ true)
 TellsTests keys references (Err DuplicateKey) = keys ≡ false
@@ -64,20 +64,20 @@ TellsTests keys references (Err ReferenceNotMet) = (keys ≡ true) × (reference
 TellsTests keys references (Err OutOfMemory) = ⊤
 TellsTests keys references (Err e) = ⊥
 
--- ---- at every point
+-- ---- at every point of time
 
 -- each key of each table holds in a copy
 abbrev pub KeysAtPoints : List TableDef → Copy → Type 0
 KeysAtPoints defs copy = (t : ℕ) → t < length defs → (k : Key) → In k (table_at defs t).keys
     → KeyHolds (table_at defs t) k k.by_period (table_rows defs copy t)
 
--- each reference of each table does
+-- each reference of each table holds in a copy
 abbrev pub ReferencesAtPoints : List TableDef → Copy → Type 0
 ReferencesAtPoints defs copy = (t : ℕ) → t < length defs → (f : Reference) → In f (table_at defs t).references
     → ReferenceHolds (table_at defs t) (parent_at defs (place_of f.parent defs)) f
     (parent_rows defs copy (place_of f.parent defs)) (table_rows defs copy t)
 
--- all hold; or a key does not, and that is told; or keys do and a reference does not; memory may have run out
+-- Ok: all hold; E35: a key does not; E36: all keys hold, a reference does not; an allocation may be refused
 abbrev pub TellsAtPoints : {A : Type 0} → List TableDef → Copy → Result A Refusal → Type 0
 TellsAtPoints defs copy (Ok x) = HoldsAtPoints defs copy
 TellsAtPoints defs copy (Err DuplicateKey) = KeysAtPoints defs copy → ⊥

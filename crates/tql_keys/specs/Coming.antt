@@ -1,4 +1,4 @@
--- Rows that come, sorted.
+-- Added rows, sorted.
 use Rattle.std.specs.Prelude.{ℕ, List}
 use Rattle.std.specs.List.Sorted.{IsSortedBy}
 use Rattle.std.specs.Ordering.{is_lt}
@@ -7,7 +7,7 @@ use Rattle.tql_expr.specs.Shown.{shown_by}
 use Rattle.tql_expr.specs.declared.stored.StoredRow.{StoredRow}
 use Rattle.tql_keys.specs.Touched.{tuple}
 
--- the tuples in these columns rise
+-- the rows are sorted by their tuples in these columns
 abbrev pub TuplesRise : List ℕ → List StoredRow → Type 0
 TuplesRise columns rows =
     IsSortedBy (λ r s. is_lt (by_columns (tuple columns (shown_by r)) (tuple columns (shown_by s)))) rows

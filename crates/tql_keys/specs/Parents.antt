@@ -1,4 +1,4 @@
--- The parent rows of a child row, as they are gathered.
+-- The parent rows of a child row, as they are collected.
 use Rattle.std.specs.Prelude.{ℕ, ℤ, Bool, not, ◌&&◌, List}
 use Rattle.std.specs.List.{list_any}
 use Rattle.tql_spec.specs.Datum.{Datum, Row}
@@ -19,7 +19,7 @@ any_holds periods x = list_any (λ y. holds (points_of y) x) periods
 abbrev pub row_holds : TableDef → ℤ → Row → Bool
 row_holds d x r = holds (period_of d r) x
 
--- whether some row that was found passes a test and is none of those that go
+-- whether some found row that survives the change passes a test
 abbrev pub any_left : TableDef → List ℕ → (Row → Bool) → List Version → Bool
 any_left d removed test found =
     list_any (λ (f : Version). not (is_among f.id removed) && test (shown d (row_found f))) found

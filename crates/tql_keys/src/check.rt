@@ -1,4 +1,8 @@
-//! Keys and references of all tables after a change of one.
+//! Key and reference checks for all tables, after a change to one of them. All keys and references hold before it, so
+//! only rows near the change can break one. A key is tested on the added rows: with each other, and with the unchanged
+//! rows of the same tuple (`keys`). A reference from the table is tested on the added rows, and a reference to it on
+//! the child rows of the removed rows (`references`). Keys are tested first, then the table's own references, then
+//! those of the tables that refer to it. The constraints of other tables are not tested.
 ghost use Rattle.std.specs.Prelude.{◌≡◌, ◌≢◌, ◌<◌, Bool, true, [], length, List, IfOk, IsTrue, Some, slice_get};
 ghost use Rattle.std.specs.Prelude.{slice_set};
 ghost use Rattle.tql_spec.specs.AtPoints.{table_rows, HoldsAtPoints};
@@ -32,7 +36,7 @@ use tql_memory::Memory;
 use tql_store::store::{Delta, Store};
 use tql_value::refusal::Refusal;
 
-/// A key of a table lists columns that are not generated.
+/// Shows that the columns of a referenced key are not generated.
 pub fn read_key(parent: &TableDef, reference: &Reference)
     requires { IsTrue (is_declared_key parent.now (reference_of reference.now).by_period
         (reference_of reference.now).parent_columns) }
@@ -41,8 +45,8 @@ pub fn read_key(parent: &TableDef, reference: &Reference)
     let _ = parent.keys();
 }
 
-/// Whether a reference of one table to a key of another, which held, holds after a change of the table at a place.
-/// Where that is neither of the two, nothing is looked at.
+/// Whether a reference that held still holds after a change to the table at `place`. `child` and `parent` are the
+/// indexes of its two tables. If `place` is neither of them, no row is read.
 fn reference_between<I: IntervalIndex>(
     memory: Memory,
     catalog: &Catalog,
@@ -85,8 +89,8 @@ fn reference_between<I: IntervalIndex>(
     Ok(true)
 }
 
-/// Whether a reference of the table at one place, which held, holds after a change of the table at another, or the
-/// same.
+/// Whether a reference of the table at index `child`, which held, still holds after a change to the table at `place`.
+/// The two may be the same table.
 pub fn reference_after<I: IntervalIndex>(
     memory: Memory,
     catalog: &Catalog,
@@ -122,8 +126,8 @@ pub fn reference_after<I: IntervalIndex>(
     )
 }
 
-/// Whether the references of the table at one place, which held, hold after a change of the table at another, or the
-/// same.
+/// Whether the references of the table at index `child`, which held, still hold after a change to the table at `place`.
+/// The two may be the same table.
 fn references_of<I: IntervalIndex>(
     memory: Memory,
     catalog: &Catalog,
@@ -151,8 +155,8 @@ fn references_of<I: IntervalIndex>(
     Ok(true)
 }
 
-/// Whether the references of all tables, which held, hold after a change of the table at a place. Its own are tested,
-/// and those of the tables that refer to it.
+/// Whether the references of all tables, which held, still hold after a change to the table at `place`. Only those from
+/// this table, and from the tables that refer to it, are tested.
 fn references_after<I: IntervalIndex>(
     memory: Memory,
     catalog: &Catalog,
@@ -181,8 +185,8 @@ fn references_after<I: IntervalIndex>(
     Ok(true)
 }
 
-/// Tests first the keys, then the references of all tables after a change of the table at a place. Of the rows that
-/// stay only those are looked at that have a tuple of one that comes or goes.
+/// Tests the keys, then the references of all tables, after a change to the table at `place`. Of the unchanged rows it
+/// reads only those that have the tuple of an added or removed row.
 fn test<I: IntervalIndex>(
     memory: Memory,
     catalog: &Catalog,
@@ -217,13 +221,17 @@ fn test<I: IntervalIndex>(
     Ok(())
 }
 
-/// Tests keys and references after a change of the table at a place, whose new rows begin at the moment, in
-/// microseconds since 1970-01-01. Where those of all tables hold in what the store has, they hold after the change, or
-/// it is refused: as `DuplicateKey` (E35) where a key fails, else as `ReferenceNotMet` (E36) (ISO/IEC 9075-2:2011, 11.7
-/// and 11.8); memory aside. Where all tables have application periods and their keys and references go by these, it is
-/// refused exactly where the plain keys and references fail on the rows that hold at some point of time, with the first
-/// of the refusals of all points. Of the rows that stay only those with a tuple of one that comes or goes are looked
-/// at; those that come are sorted, and of these neighbours are compared. Nothing is changed.
+/// Tests the keys and references of all tables after a change to the table at `place`. The added rows start at
+/// `moment`, in microseconds since 1970-01-01. Of the unchanged rows it reads only those that have the tuple of an
+/// added or removed row. The added rows are sorted, and only neighbours among them are compared. Changes nothing.
+/// ISO/IEC 9075-2:2011, 11.7 and 11.8.
+///
+/// # Errors
+///
+/// If all keys and references hold in the store: `DuplicateKey` (E35) exactly if a key fails after the change, else
+/// `ReferenceNotMet` (E36) exactly if a reference does, memory aside. Clause `refusals`: suppose that all tables have
+/// application periods, and that all keys and references are by period. Then a change is refused exactly if a plain key
+/// or reference fails on the rows valid at some point of time. The refusal is the first of those of all points.
 pub fn check<I: IntervalIndex>(
     memory: Memory,
     catalog: &Catalog,

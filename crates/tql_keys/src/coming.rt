@@ -1,4 +1,4 @@
-//! The rows that come, sorted by their tuples in some columns, and those with one tuple among them.
+//! The added rows, sorted by their tuples in some columns, and a search for one tuple among them.
 ghost use Rattle.std.specs.Prelude.{◌≡◌, Bool, map, IfOk};
 ghost use Rattle.tql_spec.specs.Bag.{SameBag};
 ghost use Rattle.tql_spec.specs.Datum.{Row};
@@ -30,7 +30,7 @@ fn sort_by_tuples(columns: &[usize], rows: &mut Vec<StoredRow<'_>, Memory>)
     rows.sort_unstable_by(|a, b| compare_tuples(columns, a, b));
 }
 
-/// The rows that come, sorted by their tuples in these columns.
+/// Returns the added rows, sorted by their tuples in these columns.
 pub fn sorted_coming<'a>(
     memory: Memory,
     definition: &TableDef,
@@ -46,7 +46,7 @@ pub fn sorted_coming<'a>(
     Ok(rows)
 }
 
-/// The order of a row's tuple in these columns and another tuple.
+/// Compares the tuple of a row in these columns with another tuple.
 fn compare_with(columns: &[usize], row: &StoredRow<'_>, tuple: &[View<'_>]) -> Ordering
     ensures { result ≡ by_columns (tuple_in columns.now (shown_by row.now)) (map datum_of_view tuple.now) }
 {
@@ -63,8 +63,8 @@ fn compare_with(columns: &[usize], row: &StoredRow<'_>, tuple: &[View<'_>]) -> O
     }
 }
 
-/// Of rows that are sorted by their tuples in these columns some, among which are all that have a tuple. They are found
-/// by halving.
+/// Returns a part of `rows` that has all rows with the tuple. The rows must be sorted by their tuples in these columns;
+/// the part is found by binary search.
 pub(crate) fn with_tuple<'r, 'a>(
     columns: &[usize],
     tuple: &[View<'_>],

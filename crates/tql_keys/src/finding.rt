@@ -1,4 +1,4 @@
-//! The rows of a table with given values in some columns.
+//! Lookup of the current rows of a table by their values in some columns.
 ghost use Rattle.std.specs.Prelude.{◌≡◌, List, All, Some, map, option_map, IfOk, IsTrue};
 ghost use Rattle.tql_spec.specs.Bag.{SameBag};
 ghost use Rattle.tql_spec.specs.Definition.{Stamped};
@@ -19,11 +19,11 @@ use tql_store::store::Store;
 use tql_value::value::View;
 use tql_versions::version::Version;
 
-/// Columns of a table, none generated, in which its rows are sought.
+/// Columns of a table by which its rows are looked up. None of them is generated.
 pub struct SoughtColumns<'a> {
     pub table: &'a Table,
     pub columns: &'a [usize],
-    /// Their numbers among the columns that are stored.
+    /// The indexes of `columns` among the stored columns.
     stored: Vec<usize, Memory>,
     ghost right: { AreStoredAt table.now.definition columns.now stored.items },
 }
@@ -40,7 +40,7 @@ impl Drop for SoughtColumns<'_> {
 }
 
 impl<'a> SoughtColumns<'a> {
-    /// These columns of a table.
+    /// Prepares a lookup by these columns of a table.
     pub fn of(
         memory: Memory,
         table: &'a Table,
@@ -58,7 +58,7 @@ impl<'a> SoughtColumns<'a> {
         })
     }
 
-    /// The current rows with these values in the columns; NULL is no value's equal.
+    /// Returns the current rows with these values in the columns. NULL equals no value.
     pub fn find<'s, I: IntervalIndex>(
         &self,
         store: &'s Store<I>,
@@ -74,8 +74,8 @@ impl<'a> SoughtColumns<'a> {
         store.with_key(self.table.id, &self.stored, tuple)
     }
 
-    /// Of these, where periods count, those whose application period shares a point with a row's, which is none where
-    /// it does not rise.
+    /// Returns the current rows with these values in the columns. If `by_period`, only those whose application period
+    /// shares a point with `period`; None represents an empty period, which shares none.
     pub fn find_in<'s, I: IntervalIndex>(
         &self,
         memory: Memory,

@@ -1,5 +1,5 @@
-//! Whether the rows that come have what keys and references see of those that go: their values in some columns, and
-//! where it counts their application periods.
+//! Whether a change keeps what a key or a reference reads: the values in some columns and, by period, the application
+//! period. Such a change, for instance an UPDATE of other columns, cannot break it, so no rows need to be looked up.
 ghost use Rattle.std.specs.Prelude.{◌≡◌, IsTrue, option_map};
 ghost use Rattle.tql_spec.specs.Definition.{shown};
 ghost use Rattle.tql_expr.specs.Shown.{shown_by};
@@ -33,7 +33,7 @@ fn is_period_kept(definition: &TableDef, old: &StoredRow<'_>, new: &StoredRow<'_
     }
 }
 
-/// Whether two rows of a table have the same values in these columns, and where it counts the same period.
+/// Whether two rows of a table have the same values in these columns and, if `by_period`, the same application period.
 fn is_alike(
     definition: &TableDef,
     columns: &[usize],
@@ -47,7 +47,8 @@ fn is_alike(
         && (!by_period || is_period_kept(definition, old, new))
 }
 
-/// Whether a row that comes at a moment is like the current one that an id names.
+/// Whether an added row, which starts at `moment`, is alike the current row with this id in these columns and, if
+/// `by_period`, in its application period.
 fn is_kept<I: IntervalIndex>(
     store: &Store<I>,
     table: &Table,
@@ -70,8 +71,8 @@ fn is_kept<I: IntervalIndex>(
     is_alike(definition, columns, by_period, &old, &new)
 }
 
-/// Whether as many rows come as go, and each is like the one in whose place it comes: has the same values in these
-/// columns, and where it counts the same application period.
+/// Whether the change adds as many rows as it removes, and each added row is alike the one that it replaces. Alike
+/// means: the same values in these columns and, if `by_period`, the same application period.
 pub(crate) fn are_kept<I: IntervalIndex>(
     store: &Store<I>,
     table: &Table,

@@ -1,4 +1,5 @@
-//! The keys of a table after a change.
+//! The keys of a table after a change to its rows. A key that held can only be broken by an added row. So each added
+//! row is compared with the other added rows and with the unchanged rows of its tuple.
 ghost use Rattle.std.specs.Prelude.{◌≡◌, ◌&&◌, Bool, true, List, IfOk, IsTrue};
 ghost use Rattle.tql_spec.specs.Definition.{Stamped};
 ghost use Rattle.tql_spec.specs.Constraint.{key_holds, shown_rows};
@@ -26,7 +27,7 @@ use tql_index::index::IntervalIndex;
 use tql_memory::Memory;
 use tql_store::store::Store;
 
-/// Whether a new row clashes with none of its tuple that stays in the table: each that it clashes with goes.
+/// Whether a new row clashes with no unchanged row: each row of the store that it clashes with is removed.
 fn is_free<I: IntervalIndex>(
     memory: Memory,
     store: &Store<I>,
@@ -50,8 +51,7 @@ fn is_free<I: IntervalIndex>(
     Ok(found.iter().all(|other| change.removes(other.id)))
 }
 
-/// Whether a key that held holds after a change: of the rows that stay, those with the tuples of rows that come are
-/// looked at alone.
+/// Whether a key that held still holds after a change. It reads only unchanged rows with the tuple of an added row.
 fn holds_after<I: IntervalIndex>(
     memory: Memory,
     store: &Store<I>,
@@ -84,7 +84,7 @@ fn holds_after<I: IntervalIndex>(
     Ok(true)
 }
 
-/// Whether the rows that come are like those that go in what a key sees, and none that goes is named twice.
+/// Whether the added rows are alike the removed ones in what the key reads, and no row is removed twice.
 fn is_untouched<I: IntervalIndex>(
     store: &Store<I>,
     table: &Table,
@@ -100,8 +100,8 @@ fn is_untouched<I: IntervalIndex>(
     are_kept(store, table, &key.columns, key.by_period, change) && change.names_once()
 }
 
-/// Whether a key that held holds after a change. It is not tested where the rows that come have the tuples, and of a
-/// key WITHOUT OVERLAPS the periods, of those that go.
+/// Whether a key that held still holds after a change. It is not tested if each added row has the tuple of the row that
+/// it replaces, and in a key WITHOUT OVERLAPS also its period, and no row is removed twice.
 pub fn key_after<I: IntervalIndex>(
     memory: Memory,
     store: &Store<I>,
@@ -125,7 +125,7 @@ pub fn key_after<I: IntervalIndex>(
     holds_after(memory, store, table, key, change)
 }
 
-/// Whether the keys of a table, which held, hold after a change of its rows.
+/// Whether the keys of a table, which held, still hold after a change to its rows.
 pub(crate) fn keys_after<I: IntervalIndex>(
     memory: Memory,
     store: &Store<I>,

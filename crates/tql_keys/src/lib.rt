@@ -1,4 +1,4 @@
-//! Keys and references after a change of one table's rows.
+//! Key and reference checks after a change to the rows of one table.
 #![tactic(auto)]
 
 pub mod change;

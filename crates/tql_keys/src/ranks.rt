@@ -1,4 +1,4 @@
-//! Rows sorted by their ranks: by their tuples in some columns, and then by the first points of their periods.
+//! The rank of a row, by which rows are sorted: its tuple in some columns, then the start of its application period.
 ghost use Rattle.std.specs.Prelude.{◌≡◌, map};
 ghost use Rattle.std.specs.List.Sorted.{IsSorted};
 ghost use Rattle.tql_spec.specs.Bag.{SameBag};
@@ -15,7 +15,7 @@ use tql_expr::stored::StoredRow;
 use tql_memory::Memory;
 use tql_value::comparison::order;
 
-/// The order of two rows by their tuples in these columns.
+/// Compares two rows by their tuples in these columns.
 pub(crate) fn compare_tuples(columns: &[usize], a: &StoredRow<'_>, b: &StoredRow<'_>) -> Ordering
     ensures { result ≡ by_columns (tuple columns.now (shown_by a.now)) (tuple columns.now (shown_by b.now)) }
 {
@@ -28,7 +28,7 @@ pub(crate) fn compare_tuples(columns: &[usize], a: &StoredRow<'_>, b: &StoredRow
     Ordering::Equal
 }
 
-/// The first point of a row's period; 0 where its table has none.
+/// Returns the first point of a row's application period, or 0 if its table has none.
 fn starts_at(definition: &TableDef, row: &StoredRow<'_>) -> i64
     ensures { result ≡ first_point definition.now (shown_by row.now) }
 {
@@ -38,7 +38,7 @@ fn starts_at(definition: &TableDef, row: &StoredRow<'_>) -> i64
     }
 }
 
-/// The order of two rows by their ranks.
+/// Compares two rows by their ranks.
 pub fn compare_ranks(
     definition: &TableDef,
     columns: &[usize],

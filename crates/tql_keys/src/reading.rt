@@ -1,4 +1,4 @@
-//! What is read of one row, or of two: tuples, periods, whether they clash.
+//! What is read of one row or of two: the tuple, the application period, and whether two rows clash.
 ghost use Rattle.std.specs.Prelude.{◌≡◌, ◌&&◌, map, option_map, IfOk};
 ghost use Rattle.tql_spec.specs.Calendar.{high};
 ghost use Rattle.tql_spec.specs.Definition.{point_of, period_of, shown};
@@ -23,7 +23,7 @@ use tql_value::calendar::HIGH;
 use tql_value::comparison::{Comparison, compare};
 use tql_value::value::{Value, View};
 
-/// A current row as its table shows it, by its cells and the moment at which it began.
+/// Returns a current row as its table shows it, from its cells and the moment at which it started.
 pub fn current_row<'a>(definition: &TableDef, cells: &'a [Value], start: i64) -> StoredRow<'a>
     ensures { shown_by result ≡ shown definition.now (starting start (row_of cells.now)) }
 {
@@ -35,7 +35,7 @@ pub fn current_row<'a>(definition: &TableDef, cells: &'a [Value], start: i64) ->
     }
 }
 
-/// Current rows as their table shows them, by their cells and the moment at which they began.
+/// Returns current rows as their table shows them, from their cells and the moment at which they started.
 pub(crate) fn current_rows<'a>(
     memory: Memory,
     definition: &TableDef,
@@ -51,7 +51,7 @@ pub(crate) fn current_rows<'a>(
     Ok(current)
 }
 
-/// The values of a row in some columns.
+/// Returns the values of a row in some columns.
 pub fn tuple_of<'a>(
     memory: Memory,
     row: &'a StoredRow<'_>,
@@ -66,7 +66,7 @@ pub fn tuple_of<'a>(
     Ok(values)
 }
 
-/// Whether two rows have equal values in the same columns. A NULL equals nothing.
+/// Whether two rows have equal values in these columns. NULL equals nothing.
 pub(crate) fn match_in(columns: &[usize], r: &StoredRow<'_>, s: &StoredRow<'_>) -> bool
     ensures { result ≡ match_on columns.now (shown_by r.now) columns.now (shown_by s.now) }
 {
@@ -75,7 +75,7 @@ pub(crate) fn match_in(columns: &[usize], r: &StoredRow<'_>, s: &StoredRow<'_>) 
     })
 }
 
-/// Whether a row has these values in these columns, as many. A NULL equals nothing.
+/// Whether a row has these values in these columns, and there are as many of both. NULL equals nothing.
 pub(crate) fn has_tuple(columns: &[usize], tuple: &[View<'_>], row: &StoredRow<'_>) -> bool
     ensures { result ≡ tuple_in columns.now (map datum_of_view tuple.now) (shown_by row.now) }
 {
@@ -85,7 +85,8 @@ pub(crate) fn has_tuple(columns: &[usize], tuple: &[View<'_>], row: &StoredRow<'
         })
 }
 
-/// Whether a row has in these columns the values that another has in those, as many. A NULL equals nothing.
+/// Whether the values of `row` in `columns` are as many as those of `other` in `others`, and equal. NULL equals
+/// nothing.
 pub(crate) fn agrees(
     columns: &[usize],
     row: &StoredRow<'_>,
@@ -100,7 +101,7 @@ pub(crate) fn agrees(
         })
 }
 
-/// The point that a value is, in days or microseconds since 1970-01-01; 0 for what is none.
+/// Returns the point of time that a value is, in days or microseconds since 1970-01-01. 0 if it is not one.
 pub(crate) fn point(value: View<'_>) -> i64
     ensures { result ≡ point_of (datum_of_view value.entry) }
 {
@@ -111,7 +112,7 @@ pub(crate) fn point(value: View<'_>) -> i64
     }
 }
 
-/// The application period of a row; none where it does not rise, or the table has none.
+/// Returns the application period of a row. None if its start is not before its end, or if the table has none.
 pub fn period(definition: &TableDef, row: &StoredRow<'_>) -> Option<Period>
     ensures { option_map points_of result ≡ where_rising (period_of definition.now (shown_by row.now)) }
 {
@@ -121,7 +122,7 @@ pub fn period(definition: &TableDef, row: &StoredRow<'_>) -> Option<Period>
     Period::new(start, end)
 }
 
-/// Whether two periods share a point; where one is not there they share none.
+/// Whether both periods are there and share a point.
 fn share(x: Option<Period>, y: Option<Period>) -> bool
     ensures { result ≡ share_in (option_map points_of x) (option_map points_of y) }
 {
@@ -131,7 +132,7 @@ fn share(x: Option<Period>, y: Option<Period>) -> bool
     }
 }
 
-/// Whether the periods of two rows share a point, where periods count; the rows may be of two tables.
+/// Whether the periods of two rows, maybe of two tables, share a point. Always true unless `by_period`.
 pub(crate) fn touches(
     by_period: bool,
     definition: &TableDef,
@@ -147,7 +148,7 @@ pub(crate) fn touches(
     share(period(definition, r), period(other, s))
 }
 
-/// Whether two rows clash in a key.
+/// Whether two rows clash in a key: their key values are equal and, WITHOUT OVERLAPS, their periods share a point.
 pub fn clash(definition: &TableDef, key: &Key, r: &StoredRow<'_>, s: &StoredRow<'_>) -> bool
     ensures { result ≡ clash_in definition.now (key_of key.now) (shown_by r.now) (shown_by s.now) }
 {

@@ -1,4 +1,9 @@
-//! Whether a child row is met after a change of its parent table, and references after a change of either table.
+//! References after a change to the child or the parent table. A child row is met if it has NULL in one of its columns,
+//! or a parent row has its tuple. With PERIOD, the periods of the parent rows with its tuple must together cover its
+//! own. After a change to the child table only the added rows are tested. After a change to the parent table, each
+//! removed row leaves a stretch of time without a parent: the child rows of its tuple are tested, with PERIOD only
+//! those that share a point with its period. Removed rows are sorted by their ranks, so that a child row of several of
+//! them is tested once.
 ghost use Rattle.std.specs.Prelude.{◌≡◌, ◌<◌, ◌||◌, ◌&&◌, ℤ, Bool, true, not, map, drop, length, List, IfOk};
 ghost use Rattle.std.specs.Prelude.{IsTrue, OnOk};
 ghost use Rattle.std.specs.List.{list_all, list_any};
@@ -45,28 +50,28 @@ use tql_store::store::Store;
 use tql_value::value::{Value, View};
 use tql_versions::version::Version;
 
-/// Whether NULL stands in one of these columns of a row.
+/// Whether a row has NULL in one of these columns.
 fn has_null(columns: &[usize], row: &StoredRow<'_>) -> bool
     ensures { result ≡ null_in columns.now (shown_by row.now) }
 {
     columns.iter().any(|column| row.column(*column).is_null())
 }
 
-/// Whether some row that was found is none of those that go.
+/// Whether any found row survives the change.
 fn some_is_left(found: &[Version<'_>], change: &Change<'_>) -> bool
     ensures { (table : Def) → result ≡ any_left table change.now.removed.now (λ r. true) found.now }
 {
     found.iter().any(|row| !change.removes(row.id))
 }
 
-/// Whether some of these rows has the tuple.
+/// Whether any of these rows has the tuple.
 fn some_comes(columns: &[usize], tuple: &[View<'_>], coming: &[StoredRow<'_>]) -> bool
     ensures { result ≡ any_with columns.now (map datum_of_view tuple.now) (λ r. true) (map shown_by coming.now) }
 {
     coming.iter().any(|row| has_tuple(columns, tuple, row))
 }
 
-/// Adds the period of a row, where it holds a point.
+/// Adds the period of a row, unless it is empty.
 fn add_period(
     definition: &TableDef,
     row: &StoredRow<'_>,
@@ -81,7 +86,7 @@ fn add_period(
     Ok(())
 }
 
-/// Adds the period of a row that was found, where it is none of those that go.
+/// Adds the period of a found row, if that row survives the change.
 fn add_found(
     definition: &TableDef,
     row: Version<'_>,
@@ -103,7 +108,7 @@ fn add_found(
     )
 }
 
-/// Adds the periods of the rows that were found and are none of those that go.
+/// Adds the periods of the found rows that survive the change.
 fn add_left(
     definition: &TableDef,
     found: &[Version<'_>],
@@ -120,7 +125,7 @@ fn add_left(
     Ok(())
 }
 
-/// Adds the period of a row, where it has the tuple.
+/// Adds the period of a row, if it has the tuple.
 fn add_new(
     definition: &TableDef,
     columns: &[usize],
@@ -139,7 +144,7 @@ fn add_new(
     add_period(definition, row, periods)
 }
 
-/// Adds the periods of those of these rows which have the tuple.
+/// Adds the periods of those rows that have the tuple.
 fn add_coming(
     definition: &TableDef,
     columns: &[usize],
@@ -158,7 +163,7 @@ fn add_coming(
     Ok(())
 }
 
-/// Puts periods into the order of their starts.
+/// Sorts periods by their starts.
 fn sort(periods: &mut Vec<Period, Memory>)
     ensures rising { StartsRise periods.new.items }
     ensures same { (x : ℤ) → any_holds periods.new.items x ≡ any_holds periods.old.items x }
@@ -166,8 +171,8 @@ fn sort(periods: &mut Vec<Period, Memory>)
     periods.sort_unstable_by(|x, y| x.start.cmp(&y.start));
 }
 
-/// The periods of the rows of a tuple after a change, by rising starts: of those that were found and do not go, and of
-/// those of the others that have the tuple.
+/// Returns the periods of the rows with the tuple after a change, sorted by their starts: the found rows that survive
+/// it, and the rows of `coming` that have the tuple.
 fn periods_after(
     memory: Memory,
     definition: &TableDef,
@@ -190,7 +195,7 @@ fn periods_after(
     Ok(periods)
 }
 
-/// Whether periods cover that of a child row.
+/// Whether the periods cover that of a child row. An empty period is always covered.
 fn is_covered(child: &TableDef, row: &StoredRow<'_>, periods: &[Period]) -> bool
     requires { StartsRise periods.now }
     ensures { (parent : Def) (parents : List Row) → ((x : ℤ) → any_holds periods.now x ≡ held_at parent parents x)
@@ -203,8 +208,8 @@ fn is_covered(child: &TableDef, row: &StoredRow<'_>, periods: &[Period]) -> bool
     }
 }
 
-/// Whether a child row is met by these parents: those that were found and do not go, and those of the others that have
-/// the tuple.
+/// Whether a child row is met by the parents after a change: the found rows that survive it, and the rows of `coming`
+/// that have the tuple.
 fn meets(
     memory: Memory,
     child: &TableDef,
@@ -234,8 +239,8 @@ fn meets(
     }
 }
 
-/// Whether a child row is met by the rows of its parent table after a change of that. Of the parent table the rows with
-/// the child row's tuple are looked at alone, and of those that come, which are sorted, likewise.
+/// Whether a child row is met by the rows of its parent table after a change to that table. Only parent rows with the
+/// child row's tuple are read, unchanged or added ones. `coming` is the added rows, sorted by tuple.
 pub fn is_met<I: IntervalIndex>(
     memory: Memory,
     store: &Store<I>,
@@ -279,7 +284,7 @@ pub fn is_met<I: IntervalIndex>(
     )
 }
 
-/// Whether a child row is met by the rows of its parent table as they stand.
+/// Whether a child row is met by the current rows of its parent table.
 pub fn is_met_now<I: IntervalIndex>(
     memory: Memory,
     store: &Store<I>,
@@ -305,8 +310,8 @@ pub fn is_met_now<I: IntervalIndex>(
     is_met(memory, store, child, row, reference, parents, &nothing, &[])
 }
 
-/// Whether a reference that held holds after a change of its child table. Of the parent table the rows with the tuples
-/// of those that come are looked at alone.
+/// Whether a reference that held still holds after a change to its child table. Of the parent table it reads only the
+/// rows with the tuples of the added rows.
 fn child_holds_after<I: IntervalIndex>(
     memory: Memory,
     store: &Store<I>,
@@ -335,7 +340,7 @@ fn child_holds_after<I: IntervalIndex>(
     Ok(true)
 }
 
-/// Whether a child row has the tuple of a parent row, and with PERIOD shares a point with it.
+/// Whether a child row has the tuple of the parent row `of` and, with PERIOD, shares a point with it.
 fn is_child_of(
     child: &TableDef,
     parent: &TableDef,
@@ -350,7 +355,7 @@ fn is_child_of(
         && touches(reference.by_period, child, row, parent, of)
 }
 
-/// Whether a child row is one of the first of these parent rows.
+/// Whether a child row belongs to the first of these parent rows.
 fn is_child_of_first(
     child: &TableDef,
     parent: &TableDef,
@@ -367,8 +372,8 @@ fn is_child_of_first(
     }
 }
 
-/// Whether a child row is one of the first of these parent rows, or met by the rows of the parent table after a change
-/// of that.
+/// Whether a child row belongs to the first of `others`, and so is tested later, or is met by the rows of the parent
+/// table after the change.
 fn is_left_or_met<I: IntervalIndex>(
     memory: Memory,
     store: &Store<I>,
@@ -403,8 +408,8 @@ fn is_left_or_met<I: IntervalIndex>(
     )
 }
 
-/// Whether each child row of a parent row, but for those that are also of the first of others, is met by the rows of
-/// the parent table after a change of that.
+/// Whether each child row of a removed parent row is met by the rows of the parent table after the change. Child rows
+/// of the first row of `behind` are left out, since they are tested with that row.
 fn is_spared<I: IntervalIndex>(
     memory: Memory,
     store: &Store<I>,
@@ -450,8 +455,8 @@ fn is_spared<I: IntervalIndex>(
     Ok(true)
 }
 
-/// Whether each child row of the parent row at a place, but for those that are also of the next one, is met by the rows
-/// of the parent table after a change of that.
+/// Whether each child row of the removed parent row at `place` is met by the rows of the parent table after the change.
+/// Child rows of the next removed row are left out, since they are tested with that row.
 pub fn is_spared_at<I: IntervalIndex>(
     memory: Memory,
     store: &Store<I>,
@@ -490,8 +495,8 @@ pub fn is_spared_at<I: IntervalIndex>(
     }
 }
 
-/// Whether each child row of some parent rows is met by the rows of the parent table after a change of that. One that
-/// is of two neighbours is tested at the later of them alone.
+/// Whether each child row of the removed parent rows is met by the rows of the parent table after the change. A child
+/// row of two neighbours is tested only with the later of them.
 fn are_spared<I: IntervalIndex>(
     memory: Memory,
     store: &Store<I>,
@@ -530,7 +535,7 @@ fn are_spared<I: IntervalIndex>(
     Ok(true)
 }
 
-/// Adds the current row that an id names, if there is one.
+/// Adds the current row with this id, if there is one.
 fn add_named<'s, I: IntervalIndex>(
     store: &'s Store<I>,
     table: &Table,
@@ -548,7 +553,7 @@ fn add_named<'s, I: IntervalIndex>(
     Ok(())
 }
 
-/// The rows of a table that go.
+/// Returns the rows that a change removes from a table.
 pub fn rows_that_go<'s, I: IntervalIndex>(
     memory: Memory,
     store: &'s Store<I>,
@@ -567,8 +572,8 @@ pub fn rows_that_go<'s, I: IntervalIndex>(
     Ok(rows)
 }
 
-/// Sorts the rows of the parent table that go by their ranks, where periods count: those of a tuple that share points
-/// with a child row then stand one behind the other.
+/// Sorts the removed rows of the parent table by their ranks, if the reference is by period. The rows of one tuple that
+/// share points with a child row are adjacent then.
 #[tactic(auto, using(crate::proofs::InTurn::same_rows))]
 pub fn sort_going(parent: &TableDef, reference: &Reference, going: &mut Vec<StoredRow<'_>, Memory>)
     ensures { SameBag (map shown_by going.new.items) (map shown_by going.old.items) }
@@ -578,9 +583,9 @@ pub fn sort_going(parent: &TableDef, reference: &Reference, going: &mut Vec<Stor
     }
 }
 
-/// Whether a reference that held holds after a change of its parent table. Of the child table the rows with the tuples
-/// of those that go, and with PERIOD a point of theirs, are looked at alone. Those that go are sorted by their ranks: a
-/// child row that shares points with several of them, which are apart, is tested once.
+/// Whether a reference that held still holds after a change to its parent table. Of the child table it reads only the
+/// rows with the tuples of removed rows and, with PERIOD, a point of their periods. Removed rows are sorted by their
+/// ranks, so a child row that shares points with several of them, which do not overlap, is tested once.
 fn parent_holds_after<I: IntervalIndex>(
     memory: Memory,
     store: &Store<I>,
@@ -614,8 +619,8 @@ fn parent_holds_after<I: IntervalIndex>(
     )
 }
 
-/// Whether a reference that held holds after a change of its child table. It is not tested where the rows that come
-/// have the tuples, and of a PERIOD reference the periods, of those that go.
+/// Whether a reference that held still holds after a change to its child table. It is not tested if each added row has
+/// the tuple of the row that it replaces, and in a PERIOD reference its period.
 pub(crate) fn child_after<I: IntervalIndex>(
     memory: Memory,
     store: &Store<I>,
@@ -647,8 +652,8 @@ pub(crate) fn child_after<I: IntervalIndex>(
     child_holds_after(memory, store, &child.definition, reference, parent, change)
 }
 
-/// Whether a reference that held holds after a change of its parent table. It is not tested where the rows that come
-/// have the tuples, and of a PERIOD reference the periods, of those that go.
+/// Whether a reference that held still holds after a change to its parent table. It is not tested if each added row has
+/// the tuple of the row that it replaces, and in a PERIOD reference its period.
 pub(crate) fn parent_after<I: IntervalIndex>(
     memory: Memory,
     store: &Store<I>,

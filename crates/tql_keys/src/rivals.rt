@@ -1,5 +1,5 @@
-//! Whether rows that come clash with one another. Those that can are sorted by their ranks, and then neighbours alone
-//! are compared.
+//! Whether added rows clash with each other. They are sorted by their ranks. Then two rows clash only if two neighbours
+//! do, so only neighbours are compared. Rows that cannot clash are left out first.
 ghost use Rattle.std.specs.Prelude.{◌≡◌, not, map, filter, IfOk};
 ghost use Rattle.tql_spec.specs.Constraint.{clash as clash_in, key_holds};
 ghost use Rattle.tql_catalog.specs.Definitions.{key_of};
@@ -17,7 +17,7 @@ use tql_expr::stored::StoredRow;
 use tql_memory::Memory;
 use tql_value::value::Value;
 
-/// Whether a row can clash with another: WITHOUT OVERLAPS only where its period rises.
+/// Whether a row can clash with another. In a key WITHOUT OVERLAPS, one with an empty period cannot.
 pub fn can_clash(definition: &TableDef, key: &Key, row: &StoredRow<'_>) -> bool
     ensures { result ≡ can_clash_in definition.now (key_of key.now) (shown_by row.now) }
 {
@@ -27,7 +27,7 @@ pub fn can_clash(definition: &TableDef, key: &Key, row: &StoredRow<'_>) -> bool
     period(definition, row).is_some()
 }
 
-/// Keeps those of these rows that can clash.
+/// Keeps only the rows that can clash.
 fn keep_rivals(definition: &TableDef, key: &Key, rows: &mut Vec<StoredRow<'_>, Memory>)
     ensures { map shown_by rows.new.items
         ≡ filter (can_clash_in definition.now (key_of key.now)) (map shown_by rows.old.items) }
@@ -35,7 +35,7 @@ fn keep_rivals(definition: &TableDef, key: &Key, rows: &mut Vec<StoredRow<'_>, M
     rows.retain(|row| can_clash(definition, key, row));
 }
 
-/// Whether a row does not clash with the first of those behind it.
+/// Whether a row does not clash with the first row of `behind`.
 fn is_apart_from_first(
     definition: &TableDef,
     key: &Key,
@@ -66,7 +66,7 @@ fn are_neighbours_apart(definition: &TableDef, key: &Key, rows: &[StoredRow<'_>]
     true
 }
 
-/// Whether no two of these rows, which begin at a moment, clash in the key. It costs what sorting them costs.
+/// Whether no two of these rows, which start at `moment`, clash in the key. Sorting them dominates the cost.
 pub(crate) fn are_apart(
     memory: Memory,
     definition: &TableDef,

@@ -5,7 +5,7 @@ use Rattle.tql_value.specs.Views.{row_of}
 use Rattle.tql_expr.specs.Shown.{shown_by}
 use Rattle.tql_dml.proofs.assignment.assign.Given as goal
 
--- the assignments that are left, on the row so far, give what all give
+-- invariant: the assignments left, on the row so far, give what all give
 abbrev pub invariant-loop-set : goal.invariant-loop-set
 invariant-loop-set l =
     assigned (shown_by l.old) (row_of l.cells) (map (assignment_of l.terms) (drop l.set-index l.sets))

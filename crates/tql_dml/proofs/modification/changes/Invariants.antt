@@ -4,7 +4,7 @@ use Rattle.tql_dml.specs.Alters.{portion_in, conds_in}
 use Rattle.tql_dml.specs.Parts.{before, parts, parts_in}
 use Rattle.tql_dml.proofs.modification.changes.Given as goal
 
--- what was gathered so far, before what the versions that are left give, is what all give
+-- invariant: the effect so far, and that on the versions left, is the whole effect
 abbrev pub invariant-loop-version : goal.invariant-loop-version
 invariant-loop-version l =
     before (parts_in l.changed)

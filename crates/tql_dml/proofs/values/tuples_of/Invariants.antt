@@ -6,7 +6,7 @@ use Rattle.tql_value.specs.Views.{rows_of}
 use Rattle.tql_expr.specs.Evaluated.{behind}
 use Rattle.tql_dml.proofs.values.tuples_of.Given as goal
 
--- the rows so far, before those of the tuples that are left, are those of all
+-- invariant: the rows so far, and those of the tuples left, are those of all
 abbrev pub invariant-loop-tuple : goal.invariant-loop-tuple
 invariant-loop-tuple l =
     behind (rows_of l.rows.items)

@@ -17,7 +17,7 @@ use Rattle.tql_keys.proofs.Touching.{touching_decide}
 use Rattle.tql_keys.proofs.WholeCopy.{as_many}
 use Rattle.tql_keys.proofs.check.references_after.Goals as goal
 
--- within a list the default makes no difference
+-- within the list, the default makes no difference
 any_default : (xs : List ℕ) (i a b : ℕ) → i < length xs → get_or xs i a ≡ get_or xs i b
 any_default [] i a b l = absurd (omega arith)
 any_default (x ∷ xs) zero a b l = refl

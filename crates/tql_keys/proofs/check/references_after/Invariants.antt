@@ -8,7 +8,7 @@ use Rattle.tql_value.specs.Views.{rows_of}
 use Rattle.tql_keys.specs.Checked.{AreJudged, IsCopyOf, copy_after, references_hold_of}
 use Rattle.tql_keys.proofs.check.references_after.Given as goal
 
--- the tables that are left decide
+-- the result depends on the remaining tables
 abbrev pub invariant-loop-child : goal.invariant-loop-child
 invariant-loop-child g l =
     (copy : Copy) (gone : Stamped → Bool) → IsCopyOf l.store l.catalog copy

@@ -9,7 +9,7 @@ use Rattle.tql_keys.specs.Checked.{AreJudged, IsCopyOf, copy_after, references_h
 use Rattle.tql_keys.proofs.Tested.{reference_in}
 use Rattle.tql_keys.proofs.check.references_of.Given as goal
 
--- the references that are left decide
+-- the result depends on the remaining references
 abbrev pub invariant-loop-reference : goal.invariant-loop-reference
 invariant-loop-reference g l =
     (copy : Copy) (gone : Stamped → Bool) → IsCopyOf l.store l.catalog copy

@@ -1,4 +1,4 @@
--- Sorted by their tuples, and the same.
+-- Sorted by their tuples, and the same bag.
 use Rattle.std.proofs.Common.{rules}
 use Rattle.std.specs.Ordering.{is_lt}
 use Rattle.std.proofs.lemmas.List.Sorted.{ranks_by}

@@ -1,4 +1,4 @@
--- The rows with a tuple are between two places.
+-- The rows with a tuple are between two positions.
 use Rattle.std.proofs.Common.{◌∙◌, ◌-◌, ap, sym, rules, Bool, List, map, take, drop}
 use Rattle.std.specs.Prelude.{◌&&◌}
 use Rattle.std.specs.List.{list_any}

@@ -8,7 +8,7 @@ use Rattle.tql_keys.specs.Asked.{AreRowsOf, IsJudged, new_rows, row_named, stayi
 use Rattle.tql_keys.specs.Touched.{is_free}
 use Rattle.tql_keys.proofs.keys.holds_after.Given as goal
 
--- the new rows that are left decide
+-- the result depends on the remaining new rows
 abbrev pub invariant-loop-row : goal.invariant-loop-row
 invariant-loop-row g l =
     (rows : List Stamped) (gone : Stamped → Bool) → AreRowsOf l.store l.table rows

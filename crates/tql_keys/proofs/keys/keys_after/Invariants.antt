@@ -8,7 +8,7 @@ use Rattle.tql_value.specs.Views.{rows_of}
 use Rattle.tql_keys.specs.Asked.{AreRowsOf, IsJudged, keys_hold_of, row_named}
 use Rattle.tql_keys.proofs.keys.keys_after.Given as goal
 
--- the keys that are left decide
+-- the result depends on the remaining keys
 abbrev pub invariant-loop-key : goal.invariant-loop-key
 invariant-loop-key g l =
     (rows : List Stamped) (gone : Stamped → Bool) → AreRowsOf l.store l.table rows

@@ -4,7 +4,7 @@ use Rattle.tql_expr.specs.Shown.{shown_by}
 use Rattle.tql_keys.specs.Touched.{tuple}
 use Rattle.tql_keys.proofs.ranks.compare_tuples.Given as goal
 
--- the columns that are left decide
+-- the result depends on the remaining columns
 abbrev pub invariant-loop-column : goal.invariant-loop-column
 invariant-loop-column l =
     let left = drop l.column-index l.columns in

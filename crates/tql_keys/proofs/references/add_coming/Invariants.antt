@@ -5,7 +5,7 @@ use Rattle.tql_value.specs.Views.{datum_of_view}
 use Rattle.tql_keys.specs.Parents.{any_holds, any_with, row_holds}
 use Rattle.tql_keys.proofs.references.add_coming.Given as goal
 
--- what was gathered, or is left, is what was there, or comes
+-- the periods collected so far, with those of the remaining rows, hold what is to be collected
 abbrev pub invariant-loop-row : goal.invariant-loop-row
 invariant-loop-row l = (x : ℤ)
     → any_holds l.periods.items x

@@ -3,7 +3,7 @@ use Rattle.std.specs.Prelude.{◌||◌, ℤ}
 use Rattle.tql_keys.specs.Parents.{any_holds, row_holds, any_left}
 use Rattle.tql_keys.proofs.references.add_left.Given as goal
 
--- what was gathered, or is left, is what was there, or was found
+-- the periods collected so far, with those of the remaining found rows, hold what is to be collected
 abbrev pub invariant-loop-row : goal.invariant-loop-row
 invariant-loop-row l = (x : ℤ)
     → any_holds l.periods.items x

@@ -9,7 +9,7 @@ use Rattle.tql_keys.specs.Asked.{AreRowsOf, IsJudged, row_named}
 use Rattle.tql_keys.specs.Touched.{are_spared}
 use Rattle.tql_keys.proofs.references.are_spared.Given as goal
 
--- the rows that are left decide
+-- the result depends on the remaining removed rows
 abbrev pub invariant-loop-place : goal.invariant-loop-place
 invariant-loop-place g l =
     (rows others : List Stamped) (gone : Stamped → Bool) → AreRowsOf l.store l.parents.table.now rows

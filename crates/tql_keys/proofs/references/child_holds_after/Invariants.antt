@@ -7,7 +7,7 @@ use Rattle.tql_value.specs.Views.{rows_of}
 use Rattle.tql_keys.specs.Asked.{AreRowsOf, new_rows}
 use Rattle.tql_keys.proofs.references.child_holds_after.Given as goal
 
--- the new rows that are left decide
+-- the result depends on the remaining new rows
 abbrev pub invariant-loop-row : goal.invariant-loop-row
 invariant-loop-row g l =
     (rows : List Stamped) → AreRowsOf l.store l.parent rows

@@ -11,7 +11,7 @@ use Rattle.tql_keys.specs.Asked.{AreRowsOf, IsJudged, row_found, row_named}
 use Rattle.tql_keys.specs.Touched.{is_child_of_first}
 use Rattle.tql_keys.proofs.references.is_spared.Given as goal
 
--- the child rows that are left decide
+-- the result depends on the remaining child rows
 abbrev pub invariant-loop-other : goal.invariant-loop-other
 invariant-loop-other g l =
     (rows : List Stamped) (gone : Stamped → Bool) → AreRowsOf l.store l.parents.table.now rows

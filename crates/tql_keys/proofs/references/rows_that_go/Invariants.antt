@@ -8,7 +8,7 @@ use Rattle.tql_keys.specs.Asked.{row_named}
 use Rattle.tql_keys.specs.Named.{of_named}
 use Rattle.tql_keys.proofs.references.rows_that_go.Given as goal
 
--- a test of those that were added, and of those that the ids that are left name, is one of all
+-- a test of the rows added so far, and of those named by the remaining ids, is a test of all
 abbrev pub invariant-loop-id : goal.invariant-loop-id
 invariant-loop-id g l =
     (test : Row → Bool) → list_all test (map shown_by l.rows.items)

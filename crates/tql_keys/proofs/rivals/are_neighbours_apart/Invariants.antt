@@ -6,7 +6,7 @@ use Rattle.tql_expr.specs.Shown.{shown_by}
 use Rattle.tql_keys.specs.Ranks.{all_neighbours}
 use Rattle.tql_keys.proofs.rivals.are_neighbours_apart.Given as goal
 
--- the rows that are left decide
+-- the result depends on the remaining rows
 abbrev pub invariant-loop-left : goal.invariant-loop-left
 invariant-loop-left l =
     all_neighbours (λ r s. not (clash l.definition (key_of l.key) r s)) (map shown_by l.left)
