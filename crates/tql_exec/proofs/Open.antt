@@ -1,4 +1,4 @@
--- The rows of the versions that are open, where a table is read as it stands.
+-- The rows of open versions, for scans that read the current rows.
 use Rattle.std.proofs.Common.{◌≡◌, ℕ, ◌+◌, ◌<◌, Bool, true, false, cond, List, [], ◌∷◌, ◌++◌, map, drop, length}
 use Rattle.std.proofs.Common.{append_assoc, refl, sym, ap, subst, ◌∙◌}
 use Rattle.std.specs.Prelude.{Option, Some, None, slice_index_or}
@@ -24,9 +24,9 @@ use Rattle.tql_store.specs.Views.{AreRowsNow}
 use Rattle.tql_plan.specs.Nodes.{Scan}
 use Rattle.tql_exec.specs.Found.{bags_in, completed, IsReadable}
 
--- ---- a scan that asks for the rows now
+-- ---- a scan of the current rows
 
--- the open ones of the versions that stand as current ones give what the scan gives
+-- the open ones among the current versions are the rows of the scan
 pub rows_now : (h : StoreModel) (s : Scan) (vs : List Version) → IsReadable h s → s.when ≡ history.Now
     → AreRowsNow h s.table vs → (copies : Copies) (working : Working) → Represents h copies working
     → SameBag (map (completed s.system) (open_ones vs)) (bags_in h copies working s)
@@ -35,13 +35,13 @@ rows_now h s vs readable now rows copies working r =
     (subst (λ (w : When). SameBag (open_ones vs) (found w (seen_by h.working copies working s.table))) (sym now)
     (rows.copies (subst (λ (w : When). is_before h.horizon w ≡ false) now readable.within) copies working r))
 
--- the rows of those that are open
+-- the rows of the open versions
 abbrev pub rows_of : (Version → Row) → List Kept → List Row
 rows_of shown ks = map shown (open_ones (versions_of ks))
 
--- ---- one after the other
+-- ---- loop over versions
 
--- rows behind others that may be missing
+-- rows before others that may be out of range
 abbrev behind_rows : List Row → Option (List Row) → Option (List Row)
 behind_rows rs None = None
 behind_rows rs (Some ws) = Some (ws ++ rs)
@@ -57,7 +57,7 @@ module _ (shown : Version → Row) (v : Version) (vs : List Version) where
   rows_more false old = ap (λ rs. rs ++ map shown vs) (append-nil old)
 
   module _ (conds : List Cond) where
-    -- the row of one that is open is kept by its test, and no other is
+    -- an open version adds its row if that passes; any other adds nothing
     passing_more : (b : Bool) (old new : List Row) → behind old (keep conds (map shown (cond b (v ∷ []) []))) ≡ Some new
         → behind new (keep conds (map shown vs)) ≡ behind old (keep conds (map shown (cond b (v ∷ vs) vs)))
     passing_more true old new e = by_test (passes [] (shown v) conds) (keep conds (map shown vs)) e
@@ -74,7 +74,7 @@ module _ (shown : Version → Row) (v : Version) (vs : List Version) where
     passing_more false old new e = ap (behind_all (keep conds (map shown vs))) (sym e)
         ∙ ap (λ ws. behind ws (keep conds (map shown vs))) (append-nil old)
 
-    -- and where that is out of range, so is all
+    -- if the conjuncts are out of range on that row, so is the whole
     passing_none : (b : Bool) (old : List Row) → behind old (keep conds (map shown (cond b (v ∷ []) []))) ≡ None
         → behind old (keep conds (map shown (cond b (v ∷ vs) vs))) ≡ None
     passing_none true old e = by_test (passes [] (shown v) conds) (keep conds (map shown vs)) e
@@ -87,7 +87,7 @@ module _ (shown : Version → Row) (v : Version) (vs : List Version) where
     passing_none false old e = absurd (cc)
 
 module _ (shown : Version → Row) (ks : List Kept) (i : ℕ) (x : Kept) where
-  -- what is left, from the next version on
+  -- the open versions left, from the next one on
   left_at : i < length ks → x ≡ slice_index_or ks i x → versions_of (drop i ks)
       ≡ version_of x ∷ versions_of (drop (i + 1) ks)
   left_at l is = ap versions_of (drop_more ks i x l ∙ ap {B = List Kept} (λ y. y ∷ drop (i + 1) ks) (sym is))
@@ -101,7 +101,7 @@ module _ (shown : Version → Row) (ks : List Kept) (i : ℕ) (x : Kept) where
       ∙ ap (λ vs. old ++ map shown (open_ones vs)) (sym (left_at l is)) ∙ h
 
   module _ (conds : List Cond) (old : List Row) (all : Option (List Row)) where
-    -- one more that passes, or does not
+    -- one more version, whose row passes or does not
     pub one_more_passing : (new : List Row) → i < length ks → x ≡ slice_index_or ks i x
         → behind old (keep conds (rows_of shown (x ∷ []))) ≡ Some new
         → behind old (keep conds (rows_of shown (drop i ks))) ≡ all
@@ -111,7 +111,7 @@ module _ (shown : Version → Row) (ks : List Kept) (i : ℕ) (x : Kept) where
         (is_answer Now (version_of x)) old new e
         ∙ ap (λ vs. behind old (keep conds (map shown (open_ones vs)))) (sym (left_at l is)) ∙ h
 
-    -- one whose conjuncts are out of range
+    -- a version whose conjuncts are out of range
     pub open_out_of_range : i < length ks → x ≡ slice_index_or ks i x
         → behind old (keep conds (rows_of shown (drop i ks))) ≡ all
         → behind old (keep conds (rows_of shown (x ∷ []))) ≡ None → all ≡ None

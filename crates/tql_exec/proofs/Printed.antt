@@ -1,4 +1,4 @@
--- Rows in the order in which they are printed, with and without their repeats.
+-- Rows in the order in which they are printed, with and without duplicates.
 use Rattle.std.proofs.Common.{◌≡◌, ◌<◌, ◌+◌, suc, Bool, true, false, not, cond, List, [], ◌∷◌, map, filter, length}
 use Rattle.std.proofs.Common.{get_or, refl, sym, ap, ◌∙◌, subst, arith}
 use Rattle.std.specs.Prelude.{if◌then◌else◌}
@@ -19,9 +19,9 @@ use Rattle.tql_spec.proofs.Members.{by_bool, same_row-self, same_row-is}
 use Rattle.tql_spec.proofs.Orders.{by_columns-total, by_columns-ties}
 use Rattle.tql_spec.proofs.OrderBags.{row_order_total, row_order_ties}
 
--- ---- rows that tie are one
+-- ---- rows that tie are equal
 
--- whether rows are one is whether they tie
+-- rows are equal if and only if they tie
 one_by : (R : Row → Row → Ordering) → IsTotalOrder R → ((a b : Row) → R a b ≡ Equal → a ≡ b) → (a b : Row)
     → is_eq (R a b) ≡ same_row a b
 one_by R o ties a b = by_bool (same_row a b)
@@ -39,7 +39,7 @@ not_above Less e = refl
 not_above Equal e = refl
 not_above Greater e = e
 
--- an element that is not above the first stays before it
+-- an element that is not greater than the first is placed before it
 stays : (R : Row → Row → Ordering) (x y : Row) (ys : List Row) → is_gt (R x y) ≡ false
     → placed R x (y ∷ ys) ≡ x ∷ y ∷ ys
 stays R x y ys e = ap (λ b. if b then y ∷ placed R x ys else x ∷ y ∷ ys) e
@@ -59,7 +59,7 @@ sorted_stays keys (x ∷ y ∷ rest) s =
     ap (placed (row_order keys) x) later
     ∙ stays (row_order keys) x y rest (not_above (row_order keys x y) (ap is_lt (sym back) ∙ first))
 
--- ---- rows without their repeats
+-- ---- rows without duplicates
 
 twice_filtered : {A : Type 0} (p : A → Bool) (xs : List A) → filter p (filter p xs) ≡ filter p xs
 twice_filtered p [] = refl
@@ -70,7 +70,7 @@ twice_filtered p (x ∷ xs) = by_bool (p x)
     (λ e. ap (λ b. filter p (cond b (x ∷ filter p xs) (filter p xs))) e ∙ twice_filtered p xs
     ∙ sym (ap (λ b. cond b (x ∷ filter p xs) (filter p xs)) e))
 
--- a row beside itself is one
+-- adjacent equal rows count as one
 beside : (k : Row) (rows : List Row) → distinct_rows (k ∷ k ∷ rows) ≡ distinct_rows (k ∷ rows)
 beside k rows =
     let less : List Row = filter (λ s. not (same_row k s)) (distinct_rows rows) in
@@ -78,7 +78,7 @@ beside k rows =
     (same_row-self k)
     ∙ ap (λ zs. k ∷ zs) (twice_filtered (λ s. not (same_row k s)) (distinct_rows rows))
 
--- what stays of rows that are one and side by side
+-- the rows left after adjacent equal rows are merged
 still_distinct : (k : Row) (rows : List Row) → distinct_rows (dedup_from same_row k rows) ≡ distinct_rows (k ∷ rows)
 still_distinct k [] = refl
 still_distinct k (x ∷ rows) = by_bool (same_row x k)
@@ -87,7 +87,7 @@ still_distinct k (x ∷ rows) = by_bool (same_row x k)
     (λ e. ap (λ b. distinct_rows (cond b (dedup_from same_row k rows) (k ∷ dedup_from same_row x rows))) e
     ∙ ap (λ zs. k ∷ filter (λ s. not (same_row k s)) zs) (still_distinct x rows))
 
--- those that are strictly sorted are unlike each other
+-- strictly sorted rows are pairwise different
 none_like : (R : Row → Row → Ordering) → IsTotalOrder R → ((a b : Row) → R a b ≡ Equal → a ≡ b)
     → (x : Row) (rows : List Row)
     → AllByRecursion (λ y. R x y ≡ Less) rows → filter (λ s. not (same_row x s)) rows ≡ rows
@@ -115,7 +115,7 @@ strict_in_order keys (x ∷ y ∷ rows) h =
     ap (placed (row_order keys) x) (strict_in_order keys (y ∷ rows) h.1)
     ∙ stays (row_order keys) x y rows (ap is_gt h.0.0)
 
--- ---- what is printed
+-- ---- the printed rows
 
 pub rows_printed : OrderIsOne → (keys : List OrderKey) (rows bag : List Row) → IsSorted (row_order keys) rows
     → SameBag rows bag → rows ≡ in_order keys bag
@@ -137,9 +137,9 @@ distinct_printed one distinct keys rows bag s b =
     whole [] = refl
     whole (x ∷ rows) = still_distinct x rows
 
--- ---- of the elements that stand for rows
+-- ---- lists whose elements represent rows
 
--- sorted by the rows that they stand for
+-- sorted by the rows that the elements represent
 pub sorted_rows : {A : Type 0} (R : Row → Row → Ordering) (view : A → Row) (xs : List A)
     → IsSortedBy (λ x y. is_lt (R (view x) (view y))) xs → IsSorted R (map view xs)
 sorted_rows R view [] s k d l h = absurd (omega (arith, h))
@@ -149,7 +149,7 @@ sorted_rows {A} R view (x ∷ xs) s k d l h =
     let q : k < length (x ∷ xs) = omega (arith, p) in
     rw (get_or-map view (x ∷ xs) (k + 1) x d p, get_or-map view (x ∷ xs) k x d q) (s k x l p)
 
--- those that stay
+-- the elements that dedup keeps
 pub dedup-map : {A : Type 0} (view : A → Row) (E : Row → Row → Bool) (xs : List A)
     → map view (dedup (λ x y. E (view x) (view y)) xs) ≡ dedup E (map view xs)
 dedup-map {A} view E [] = refl
@@ -168,6 +168,6 @@ dedup-map {A} view E (x ∷ xs) = from x xs
         ∙ ap (λ zs. view k ∷ zs) (from x xs)
         ∙ sym (ap (λ b. cond b (dedup_from E (view k) (map view xs)) (view k ∷ dedup_from E (view x) (map view xs))) e))
 
--- rows tie where they are one
+-- rows tie if and only if they are equal
 pub ties_where_one : (a b : Row) → is_eq (by_columns a b) ≡ same_row a b
 ties_where_one a b = one_by by_columns by_columns-total by_columns-ties a b

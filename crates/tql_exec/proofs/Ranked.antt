@@ -1,4 +1,4 @@
--- Values of which ranks tell the order.
+-- Ranks agree with the order of their values.
 use Rattle.std.proofs.Common.{◌≡◌, ℕ, zero, suc, ◌+◌, ◌*◌, ◌^◌, ◌<◌, Bool, true, false, List, [], ◌∷◌, drop}
 use Rattle.std.proofs.Common.{get_or, refl, sym, ap, ◌∙◌, subst, arith}
 use Rattle.std.specs.Prelude.{ℤ, ◌<ℤ◌, All}
@@ -18,13 +18,13 @@ use Rattle.tql_spec.specs.Definition.{cell}
 use Rattle.tql_spec.specs.Query.{OrderKey, directed, by_keys, by_columns, row_order}
 use Rattle.tql_exec.specs.Rank.{start_of, IsNumber, IsRest, IsRank, by_rank, by_rest, first_of}
 
--- an order that another never contradicts may be asked after it
+-- comparing by `o` before `p` is comparing by `p`, if `o` never contradicts `p`
 then_told : (o p : Ordering) → (o ≡ Less → p ≡ Less) → (o ≡ Greater → p ≡ Greater) → ordering_then o p ≡ p
 then_told Less p l g = sym (l refl)
 then_told Equal p l g = refl
 then_told Greater p l g = sym (g refl)
 
--- so may itself, with nothing behind it
+-- comparing twice by the same order
 then_itself : (o : Ordering) → ordering_then (ordering_then o Equal) o ≡ o
 then_itself Less = refl
 then_itself Equal = refl
@@ -55,7 +55,7 @@ unfolding start_of
 start_none zero = refl
 start_none (suc n) = refl
 
--- the byte at a place, and what stands behind it
+-- the next byte, and the number of the bytes after it
 start_next : (n place : ℕ) (t : List ℕ)
     → start_of (suc n) (drop place t) ≡ get_or t place 0 * 256 ^ n + start_of n (drop (suc place) t)
 unfolding start_of
@@ -75,7 +75,7 @@ start_more n place number t =
 nat_less : (m n : ℕ) → nat_cmp m n ≡ Less → m < n
 nat_less m n e = by_ranked _ _ _ (nat_cmp m n) (ranked m n (nat_cmp m n) refl) (λ _ h. h) (λ o h. cc) (λ o h. cc)
 
--- where the beginnings of two texts rise, the texts do
+-- if the prefix of one text is less, so is the text
 start_rises : (n : ℕ) (s t : List ℕ) → All (λ b. b < 256) s → All (λ b. b < 256) t
     → start_of n s < start_of n t → slice_cmp nat_cmp s t ≡ Less
 unfolding start_of
@@ -95,7 +95,7 @@ start_rises (suc n) (x ∷ xs) (y ∷ ys) a b h =
     (λ o g. absurd (let f : y * 256 ^ n + start_of n ys < 256 ^ n * x = mul-add-lt y (256 ^ n) (start_of n ys) x g below
     in omega (arith, f, k)))
 
--- and where these are one, and what follows rises
+-- if the prefixes are equal, and the rest of one is less, so is the text
 next_rises : (n m : ℕ) (s t : List ℕ) → All (λ b. b < 256) s → All (λ b. b < 256) t → start_of n s ≡ start_of n t
     → start_of m (drop n s) < start_of m (drop n t) → slice_cmp nat_cmp s t ≡ Less
 unfolding start_of
@@ -119,7 +119,7 @@ next_rises (suc n) m (x ∷ xs) (y ∷ ys) a b e h =
 
 -- ---- values
 
--- texts rise where their numbers do, or tie and the rest does
+-- a text is less if its number is less, or the numbers are equal and its rest is less
 text_rises : (s t : List ℕ) (z w : ℤ) (m n : ℕ) → IsNumber (Text s) z → IsNumber (Text t) w → IsRest (Text s) m
     → IsRest (Text t) n → ordering_then (int_cmp z w) (nat_cmp m n) ≡ Less → slice_cmp nat_cmp s t ≡ Less
 text_rises s t z w m n p q u v e =
@@ -130,7 +130,7 @@ text_rises s t z w m n p q u v e =
     omega (arith, nat_less m n k, u, v)))
     (λ o g. let k : Greater ≡ Less = sym (ap (λ r. ordering_then r (nat_cmp m n)) o) ∙ e in cc)
 
--- what is turned round on both sides
+-- the comparison with both sides swapped
 back_then : (x y : ℤ) (m n : ℕ) → ordering_then (int_cmp x y) (nat_cmp m n) ≡ Greater
     → ordering_then (int_cmp y x) (nat_cmp n m) ≡ Less
 back_then x y m n e =
@@ -152,7 +152,7 @@ told_by (Day a) (Day b) z w m n p q u v = rw (p, q, u, v) (then_itself (int_cmp 
 told_by (Moment a) (Moment b) z w m n p q u v = rw (p, q, u, v) (then_itself (int_cmp a b))
 told_by a b z w m n p q u v = refl
 
--- where ranks differ, the values are ordered as they are
+-- if ranks differ, the values are ordered in the same way
 pub rank_told : (a b : Datum) (r s : Rank) → IsRank a r → IsRank b s
     → ordering_then (ordering_then (by_rank r s) (by_rest r s)) (order a b) ≡ order a b
 rank_told a b r s p q =
@@ -172,11 +172,12 @@ directed_then true Less p = refl
 directed_then true Equal p = refl
 directed_then true Greater p = refl
 
--- what may be asked before the first of two orders may be asked before both
+-- an order that may be used before the first of two orders may be used before both
 told_first : (o p q : Ordering) → ordering_then o p ≡ p → ordering_then o (ordering_then p q) ≡ ordering_then p q
 told_first o p q e = then_joins o p q ∙ ap (λ r. ordering_then r q) e
 
--- an order that goes before EQUAL or before LESS, as NULL stands to any value, may be asked before LESS
+-- an order that may be used before EQUAL or before LESS, which are the orders of NULL to a value, may be used before
+-- LESS
 before_rows : (o : Ordering) (b : Datum) → ordering_then o (order Null b) ≡ order Null b → ordering_then o Less ≡ Less
 before_rows Less b e = refl
 before_rows Equal b e = refl
@@ -196,7 +197,7 @@ behind_rows Less (Text t) e = cc
 behind_rows Less (Day d) e = cc
 behind_rows Less (Moment m) e = cc
 
--- what never contradicts the order of two rows in the column by which they are printed first may be asked before theirs
+-- an order that never contradicts that of two rows in the first sort column may be used before the order of the rows
 pub row_told : (keys : List OrderKey) (a b : Row) (o : Ordering)
     → ordering_then o (order (cell a (first_of keys).column) (cell b (first_of keys).column))
     ≡ order (cell a (first_of keys).column) (cell b (first_of keys).column)

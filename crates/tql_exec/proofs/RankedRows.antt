@@ -1,4 +1,4 @@
--- Rows that are sorted by the ranks of values, and then by what is printed first.
+-- Sorting rows by the ranks of their values first.
 use Rattle.std.proofs.Common.{◌≡◌, ◌+◌, Bool, true, false, List, [], ◌∷◌, ◌++◌, map, get_or, sym, ap}
 use Rattle.std.proofs.Common.{subst, ◌∙◌, arith}
 use Rattle.std.specs.Prelude.{All}
@@ -33,14 +33,14 @@ turned_total false R o = o
 turned_total true R o =
     total_along (λ a b. R b a) (λ a b. ordering_reverse (R a b)) (λ a b. sym (o.antisymm b a)) (back_total o)
 
--- it is total, whatever the ranks
+-- the order is total, whatever the ranks
 pub ranked_total : (falls : Bool) (keys : List OrderKey) → IsTotalOrder (ranked_order falls keys)
 ranked_total falls keys =
     then_total (on_total (λ (x : Ranked). x.rank) (turned_total falls by_rank rank_total))
     (then_total (on_total (λ (x : Ranked). x.rank) (turned_total falls by_rest rest_total))
     (on_total row_in (row_order_total keys)))
 
--- where the ranks are those of the values in the first column, it is the order of the rows
+-- with the ranks of the first sort column, it is the order of the rows
 ranked_rows : (keys : List OrderKey) (a b : Ranked) → HasRank (first_of keys).column a
     → HasRank (first_of keys).column b → ranked_order (first_of keys).falls keys a b
     ≡ row_order keys (row_in a) (row_in b)
@@ -53,7 +53,7 @@ ranked_rows keys a b p q =
     ∙ row_told keys (row_in a) (row_in b) (ordering_then one two)
     (rank_told (cell (row_in a) first.column) (cell (row_in b) first.column) a.rank b.rank p q)
 
--- rows that are sorted so, with their ranks, are sorted
+-- rows sorted by it are in the printed order
 pub ranked_sorted : (keys : List OrderKey) (first : OrderKey) → first ≡ first_of keys → (xs : List Ranked)
     → All (HasRank first.column) xs → IsSortedBy (λ x y. is_lt (ranked_order first.falls keys x y)) xs
     → IsSorted (row_order keys) (map row_in xs)
@@ -65,7 +65,7 @@ ranked_sorted keys first e xs all sorted =
     ap is_lt (sym (ranked_rows keys y x (ranks (k + 1) d h) (ranks k d (omega (arith, h)))))
     ∙ ap (λ f. is_lt (ranked_order f.falls keys y x)) (sym e) ∙ sorted k d l h)
 
--- a row goes from the end of one list to the end of another
+-- moving a row from the end of one list to the end of another
 pub moved_over : (done left : List Row) (r : Row) → SameBag ((done ++ r ∷ []) ++ left) (done ++ (left ++ r ∷ []))
 moved_over done left r = record {
   totals = λ w. omega (

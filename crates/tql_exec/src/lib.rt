@@ -1,4 +1,4 @@
-//! Plans run over the store.
+//! Runs query plans over a snapshot of the store.
 #![tactic(auto)]
 
 mod finding;

@@ -1,4 +1,5 @@
-//! Numbers at hand that stand for values: most values are told apart by theirs, without a look at the values.
+//! Sort keys of fixed size (prefix keys). Most comparisons of two values are decided by their ranks alone, without
+//! reading the values.
 ghost use Rattle.std.specs.Prelude.{◌≡◌, ◌<◌, drop, slice_index, All};
 ghost use Rattle.tql_spec.specs.Datum.{Text};
 ghost use Rattle.tql_value.specs.Views.{datum_of_view};
@@ -7,12 +8,12 @@ ghost use Rattle.tql_exec.specs.Rank.{IsRank, by_rank, by_rest, start_of};
 use std::cmp::Ordering;
 use tql_value::value::View;
 
-/// So many bytes of a text stand in a number of its rank.
+/// The number of bytes of a text that fit in one number of its rank.
 const START: usize = 8;
 
-/// What is at hand of a value where values are sorted: the place of its kind, NULL first, and a number in which values
-/// of a kind rise as they do in their order; of a text, which this number tells by its first eight bytes, its next
-/// eight too. Values of one rank may still differ: two texts that begin alike.
+/// The fixed-size sort key of a value. `kind` orders the kinds, NULL first. `number` is in the order of the values of
+/// one kind; for a text it is the first eight bytes, and `rest` the next eight. Different values may have the same
+/// rank, such as two texts that begin with the same 16 bytes.
 #[derive(Clone, Copy)]
 pub(crate) struct Rank {
     kind: u8,
@@ -20,7 +21,7 @@ pub(crate) struct Rank {
     rest: u64,
 }
 
-/// The byte of a text at a place, 0 behind its last.
+/// Returns the byte of a text at an index, or 0 past its end.
 fn byte_at(text: &[u8], place: usize) -> u8
     ensures { result ≡ slice_index text.now place }
 {
@@ -30,7 +31,7 @@ fn byte_at(text: &[u8], place: usize) -> u8
     }
 }
 
-/// The first bytes of a text as one number, the first of them weighing most; 0 stands for each that it lacks.
+/// Returns the first eight bytes of a text as one big-endian number. A missing byte counts as 0.
 fn start(text: &[u8]) -> u64
     ensures number { result ≡ start_of 8 text.now }
     ensures bytes { All (λ b. b < 256) text.now }
@@ -42,7 +43,7 @@ fn start(text: &[u8]) -> u64
     number
 }
 
-/// The bytes of a text behind those that `start` reads.
+/// Returns the bytes of a text after those that `start` reads.
 fn behind(text: &[u8]) -> &[u8]
     ensures { result.now ≡ drop 8 text.now }
 {
@@ -50,7 +51,7 @@ fn behind(text: &[u8]) -> &[u8]
 }
 
 impl Rank {
-    /// The rank of a text.
+    /// Returns the rank of a text.
     fn of_text(text: &[u8]) -> Rank
         ensures { IsRank (Text text.now) result }
     {
@@ -61,7 +62,7 @@ impl Rank {
         }
     }
 
-    /// The rank of a value.
+    /// Returns the rank of a value.
     pub(crate) fn of(view: View<'_>) -> Rank
         ensures { IsRank (datum_of_view view.entry) result }
     {
@@ -90,7 +91,7 @@ impl Rank {
         }
     }
 
-    /// The order of two ranks by their kinds, and then by their numbers.
+    /// Compares two ranks by kind, and then by number.
     pub(crate) fn order(self, other: Rank) -> Ordering
         ensures { result ≡ by_rank self other }
     {
@@ -100,7 +101,7 @@ impl Rank {
         }
     }
 
-    /// The order of two ranks that have one kind and number.
+    /// Compares the rest of two ranks, whose kind and number are equal.
     pub(crate) fn order_rest(self, other: Rank) -> Ordering
         ensures { result ≡ by_rest self other }
     {

@@ -1,4 +1,6 @@
-//! The order in which rows are printed, and rows without their repeats.
+//! ORDER BY and DISTINCT. Each row is paired with the rank of its first sort value, a key of fixed size, and the pairs
+//! are sorted. Two rows are compared by their ranks first, and their values are read only if the ranks are equal. Equal
+//! rows are next to each other afterwards, so DISTINCT keeps the first of each run.
 ghost use Rattle.std.specs.Prelude.{◌≡◌, ◌++◌, [], map, All, IfOk, List};
 ghost use Rattle.std.specs.Ordering.{is_lt, ordering_then};
 ghost use Rattle.std.specs.List.{dedup};
@@ -22,14 +24,14 @@ use tql_spec::order_is_one;
 use tql_value::comparison::order;
 use tql_value::value::Value;
 
-/// The order, turned round where it falls.
+/// Returns the order, reversed if the key is descending.
 fn turned(falls: bool, rising: Ordering) -> Ordering
     ensures { result ≡ directed falls rising }
 {
     if falls { rising.reverse() } else { rising }
 }
 
-/// The order of two rows by one key.
+/// Compares two rows by one sort key.
 fn compare_by(key: OrderKey, a: &[Value], b: &[Value]) -> Ordering
     ensures { result ≡ directed key.falls
         (value_order (cell (row_of a.now) key.column) (cell (row_of b.now) key.column)) }
@@ -38,7 +40,7 @@ fn compare_by(key: OrderKey, a: &[Value], b: &[Value]) -> Ordering
     turned(key.falls, rising)
 }
 
-/// The order of two rows by the keys, the first of them first.
+/// Compares two rows by the sort keys in order.
 fn compare_by_keys(keys: &[OrderKey], a: &[Value], b: &[Value]) -> Ordering
     ensures { result ≡ by_keys (map order_of keys.now) (row_of a.now) (row_of b.now) }
 {
@@ -51,7 +53,7 @@ fn compare_by_keys(keys: &[OrderKey], a: &[Value], b: &[Value]) -> Ordering
     Ordering::Equal
 }
 
-/// The order of two rows, column by column from the left.
+/// Compares two rows by all columns from the left. If one is a prefix of the other, the shorter one is less.
 fn compare_by_columns(a: &[Value], b: &[Value]) -> Ordering
     ensures { result ≡ by_columns (row_of a.now) (row_of b.now) }
 {
@@ -72,7 +74,7 @@ fn compare_by_columns(a: &[Value], b: &[Value]) -> Ordering
     }
 }
 
-/// The order in which two rows are printed.
+/// Compares two rows in the order in which they are printed.
 fn compare_rows(keys: &[OrderKey], a: &[Value], b: &[Value]) -> Ordering
     ensures { result ≡ row_order (map order_of keys.now) (row_of a.now) (row_of b.now) }
 {
@@ -82,14 +84,14 @@ fn compare_rows(keys: &[OrderKey], a: &[Value], b: &[Value]) -> Ordering
     }
 }
 
-/// A row, and at hand the rank of its value in the column by which rows are printed first.
+/// A row with the rank of its value in the first sort column.
 #[derive(Drop)]
 struct Ranked {
     rank: Rank,
     row: Vec<Value, Memory>,
 }
 
-/// The key by which rows are printed first: the first column where there is none.
+/// Returns the first sort key, which is the first column, ascending, if there is no ORDER BY.
 fn first_key(keys: &[OrderKey]) -> OrderKey
     ensures { order_of result ≡ first_of (map order_of keys.now) }
 {
@@ -102,7 +104,7 @@ fn first_key(keys: &[OrderKey]) -> OrderKey
     }
 }
 
-/// The order in which two rows are printed whose ranks tie by kind and number.
+/// Compares two rows in the order in which they are printed. Their ranks have the same kind and number.
 #[inline(never)]
 fn compare_tied(keys: &[OrderKey], falls: bool, a: &Ranked, b: &Ranked) -> Ordering
     ensures { result ≡ ordering_then (directed falls (by_rest a.now.rank b.now.rank))
@@ -114,7 +116,7 @@ fn compare_tied(keys: &[OrderKey], falls: bool, a: &Ranked, b: &Ranked) -> Order
     }
 }
 
-/// The order in which two rows are printed, by their ranks where these differ.
+/// Compares two rows in the order in which they are printed, by their ranks if these differ.
 #[inline(always)]
 fn compare_ranked(keys: &[OrderKey], falls: bool, a: &Ranked, b: &Ranked) -> Ordering
     ensures { result ≡ ranked_order falls (map order_of keys.now) a.now b.now }
@@ -125,7 +127,8 @@ fn compare_ranked(keys: &[OrderKey], falls: bool, a: &Ranked, b: &Ranked) -> Ord
     }
 }
 
-/// The rows, taken out of their list, each with the rank of its value in a column. The only error is a refused growth.
+/// Moves the rows out of their list and pairs each with the rank of its value in a column. The only error is a refused
+/// allocation.
 fn ranked_rows(
     memory: Memory,
     column: usize,
@@ -143,7 +146,7 @@ fn ranked_rows(
     Ok(ranked)
 }
 
-/// Puts rows with their ranks behind the rows of a list. The only error is a refused growth.
+/// Appends the rows, without their ranks, to a list. The only error is a refused allocation.
 fn put_back(
     ranked: Vec<Ranked, Memory>,
     rows: &mut Vec<Vec<Value, Memory>, Memory>,
@@ -156,7 +159,7 @@ fn put_back(
     Ok(())
 }
 
-/// Sorts rows with their ranks. Whether these fall is asked once, and not where two of them are compared.
+/// Sorts rows with their ranks. The direction is tested once, outside of the comparison.
 fn sort_ranked(keys: &[OrderKey], falls: bool, ranked: &mut Vec<Ranked, Memory>)
     ensures sorted { IsSortedBy (λ x y. is_lt (ranked_order falls (map order_of keys.now) x y)) ranked.new.items }
     ensures same { IsPermutation ranked.old.items ranked.new.items }
@@ -168,8 +171,8 @@ fn sort_ranked(keys: &[OrderKey], falls: bool, ranked: &mut Vec<Ranked, Memory>)
     }
 }
 
-/// Puts rows into the order in which they are printed: by the keys, and then by all columns from the left, NULL first.
-/// The only error is a refused growth.
+/// Sorts rows in the order in which they are printed: by the keys, and then by all columns from the left, NULL first.
+/// The only error is a refused allocation.
 fn sort_rows(
     memory: Memory,
     rows: &mut Vec<Vec<Value, Memory>, Memory>,
@@ -188,16 +191,16 @@ fn sort_rows(
     Ok(())
 }
 
-/// Of rows that are equal and stand side by side the first stays.
+/// Keeps the first of adjacent equal rows.
 fn drop_repeats(rows: &mut Vec<Vec<Value, Memory>, Memory>)
     ensures { rows_of rows.new.items ≡ dedup same_row (rows_of rows.old.items) }
 {
     rows.dedup_by(|a, b| compare_by_columns(a, b).is_eq());
 }
 
-/// Puts rows into the order in which they are printed: by the keys, and then by all columns from the left, NULL first;
-/// under DISTINCT each of them once, NULL like NULL (ISO/IEC 9075-2:2011, 7.12, 14.3; the order beyond the keys is this
-/// project's choice). The only error is a refused growth.
+/// Sorts rows in the order in which they are printed: by the keys, and then by all columns from the left, NULL first.
+/// Under DISTINCT equal rows are kept once, and NULL counts as equal to NULL (ISO/IEC 9075-2:2011, 7.12, 14.3; the
+/// order beyond the keys is this project's choice). The only error is a refused allocation.
 pub fn arrange(
     memory: Memory,
     rows: &mut Vec<Vec<Value, Memory>, Memory>,

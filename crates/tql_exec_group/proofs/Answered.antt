@@ -1,4 +1,4 @@
--- What was shown of rows in one order, as a bag.
+-- The result for sorted rows, as a bag.
 use Rattle.std.specs.Prelude.{◌≡◌, ◌==◌, refl, ℕ, false, length, List, [], ◌∷◌, map, Option, Some, None, Result, Ok}
 use Rattle.std.specs.Prelude.{Err}
 use Rattle.std.proofs.Common.{subst}
@@ -26,13 +26,13 @@ bag_of : (given wanted : Option (List Row)) (rows : List Row) → SameRows given
     → IsBag wanted rows
 bag_of given wanted rows s e = given_bag wanted rows (subst (λ g. SameRows g wanted) e s)
 
--- rows that are given of the same bag
+-- a result for one bag is a result for the same bag
 pub gives_bag : {A : Type 0} (f : A → List Row) (given wanted : Option (List Row)) (result : Result A Refusal)
     → SameRows given wanted → Evaluated f given result → GivesBag f wanted result
 gives_bag f given wanted (Ok x) s e = bag_of given wanted (f x) s e
 gives_bag f given wanted (Err e) s h = fails_with given wanted e (same_given given wanted s) h
 
--- the groups by some columns
+-- the groups by at least one column
 pub scopes_by : (columns : List ℕ) (rows : List Row) → (columns ≡ [] → ⊥)
     → map of_group (groups_by columns rows) ≡ scopes (Some columns) rows
 scopes_by [] rows some = absurd (some refl)

@@ -1,4 +1,4 @@
--- The best of values, taken from the left, and their sum.
+-- The least or greatest value, and the sum, computed from the left.
 use Rattle.std.specs.Prelude.{◌≡◌, refl, ℕ, Bool, true, false, List, [], ◌∷◌, if◌then◌else◌, ℤ, pos, ◌+ℤ◌, Option}
 use Rattle.std.specs.Prelude.{Some, None, ◌+◌, ◌^◌, ◌<◌, neg_ℤ, ◌≤ℤ◌, ◌<ℤ◌, length}
 use Rattle.std.proofs.Common.{sym, ap, ◌∙◌, arith}
@@ -16,7 +16,7 @@ use Rattle.tql_spec.specs.Expression.{Expr, Function, Aggregate, eval, best, pre
 use Rattle.tql_spec.proofs.Orders.{order-total}
 use Rattle.tql_exec_group.specs.Folds.{is_better, the_better, sum_behind, so_far, added, IsWithin, of_present}
 
--- ---- the best
+-- ---- the least or greatest value
 
 above_back : (o : Ordering) → is_gt o ≡ is_lt (ordering_reverse o)
 above_back Less = refl
@@ -34,11 +34,11 @@ ranks true = let o = ranks_by order-total (λ (d : Datum). d) in record {
 }
 
 module _ (lt : Datum → Datum → Bool) (o : IsStrictWeakOrder lt) where
-  -- the better of two
+  -- the better of two values
   abbrev of_two : Datum → Datum → Datum
   of_two a b = if lt b a then b else a
 
-  -- what beats a value beats what it beats
+  -- being better is transitive
   beats : (m b a : Datum) (r : Bool) → lt m b ≡ true → lt b a ≡ true → lt m a ≡ r → r ≡ true
   beats m b a true h k e = refl
   beats m b a false h k e = let no = o.chain m a b e (o.one_way b a k) in cc
@@ -89,7 +89,7 @@ one_summed (Some m) (Day t) vs = refl
 one_summed None (Moment t) vs = ap exact (+ℤ_idl (total (present vs)))
 one_summed (Some m) (Moment t) vs = refl
 
--- a number of 64 bits is added
+-- adding a number of 64 bits
 pub next_within : (n : ℕ) (s : Option ℤ) (m r : ℤ) → IsWithin n s → neg_ℤ (pos (2 ^ 63)) ≤ℤ m → m <ℤ pos (2 ^ 63)
     → r ≡ so_far s +ℤ m → IsWithin (n + 1) (Some r)
 next_within n s m r h low high e = record {
@@ -102,7 +102,7 @@ next_within n s m r h low high e = record {
 fits_small : (n : ℕ) → n < 2 ^ 63 → fits (pos n) ≡ true
 fits_small n h = grind (arith, nat_tests)
 
--- an aggregate over rows that 64 bits can count
+-- an aggregate over a number of rows that fits in 64 bits
 pub over_few : (f : Function) (e : Expr) (rows : List Row) (row : Row) (o : Option Datum) → length rows < 2 ^ 63
     → o ≡ of_present (aggregate f) e rows → o ≡ eval rows row (Aggregate f e)
 over_few f e rows row o few is = is ∙ sym (simp (fits_small (length rows) few))

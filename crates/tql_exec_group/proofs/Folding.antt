@@ -1,4 +1,4 @@
--- Values taken one after another: what is met so far, and what is left.
+-- Folding over values: those so far, and those left.
 use Rattle.std.specs.Prelude.{◌≡◌, refl, ℕ, ◌+◌, ◌<◌, List, [], ◌∷◌, length, slice_index_or, Option, Some}
 use Rattle.std.specs.Prelude.{None}
 use Rattle.std.proofs.Common.{sym, ap, ◌∙◌, drop}
@@ -21,7 +21,7 @@ by_each : {A B : Type 0} (o : Option A) (h k : A → Option B) → ((x : A) → 
 by_each None h k e = refl
 by_each (Some x) h k e = e x
 
--- what is left at an index
+-- the items left at an index
 left_at : {X A : Type 0} (f : X → Option A) (xs : List X) (i : ℕ) (d x : X) → i < length xs
     → x ≡ slice_index_or xs i d
     → map_all f (drop i xs) ≡ with_front (f x) (map_all f (drop (i + 1) xs))
@@ -29,7 +29,7 @@ left_at f xs i d x l is = ap (map_all f) (drop_more xs i d l)
     ∙ ap (λ y. with_front (f y) (map_all f (drop (i + 1) xs))) (sym is)
 
 module _ {X A B : Type 0} (f : X → Option A) where
-  -- one more has its value
+  -- one more item, which has a value
   pub one_more : (h h' : List A → Option B) (xs : List X) (i : ℕ) (d x : X) (v : A) (all : Option B) → i < length xs
       → x ≡ slice_index_or xs i d
       → f x ≡ Some v → ((vs : List A) → h' vs ≡ h (v ∷ vs))
@@ -39,7 +39,7 @@ module _ {X A B : Type 0} (f : X → Option A) where
       by_each rest h' (λ vs. h (v ∷ vs)) next ∙ sym (front_first v rest h) ∙ (λ j. with_front (sym value j) rest >>= h)
       ∙ sym (ap (λ o. o >>= h) (left_at f xs i d x l is)) ∙ so_far
 
-  -- one has no value
+  -- an item that has no value
   pub one_lacks : (h : List A → Option B) (xs : List X) (i : ℕ) (d x : X) (all : Option B) → i < length xs
       → x ≡ slice_index_or xs i d
       → f x ≡ None → map_all f (drop i xs) >>= h ≡ all → all ≡ None

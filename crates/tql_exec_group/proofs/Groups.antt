@@ -52,11 +52,11 @@ map_in : {X Y : Type 0} (f g : X → Y) (xs : List X) → ((x : X) → In x xs �
 map_in f g [] h = refl
 map_in f g (x ∷ xs) h = let e = h x (inl refl) in let r = map_in f g xs (λ y m. h y (inr m)) in cc
 
--- rows that are not one
+-- different rows
 apart : (a b : Row) → (a ≡ b → ⊥) → same_row a b ≡ false
 apart a b n = by_bool (same_row a b) (λ e. absurd (n (same_row-is a b e))) (λ e. e)
 
--- ---- a first run
+-- ---- the first run
 
 module _ (key : Row → Row) (t : Row) (others : List Row) (far : (r : Row) → In r others → t ≡ key r → ⊥) where
   far_key : (s : Row) → In s (map key others) → t ≡ s → ⊥
@@ -70,12 +70,12 @@ module _ (key : Row → Row) (t : Row) (others : List Row) (far : (r : Row) → 
   abbrev differs : Row → Bool
   differs s = not (same_row t s)
 
-  -- no tuple of the others is that of the run
+  -- no other row has the tuple of the run
   others_differ : filter differs (distinct_rows (map key others)) ≡ distinct_rows (map key others)
   others_differ = filter_all_kept differs (distinct_rows (map key others))
       (λ s m. ap not (apart t s (far_key s (in_distinct s (map key others) m))))
 
-  -- the tuple of the run comes once
+  -- the tuple of the run appears once among the distinct tuples
   rest_distinct : (run : List Row) → ((r : Row) → In r run → key r ≡ t)
       → filter differs (distinct_rows (map key (run ++ others))) ≡ distinct_rows (map key others)
   rest_distinct [] h = others_differ
@@ -126,7 +126,7 @@ above_rest x y ys g a s (inl e) = subst (λ z. is_gt (by_columns x z) ≡ false)
 above_rest x y (z ∷ zs) g a s (inr m) = above_rest x z zs (upto by_columns-total x y z g a.0) a.1 s m
 above_rest x y [] g a s (inr m) = absurd m
 
--- two tuples of which neither is above the other are one
+-- two tuples are equal if neither is greater
 neither : (x y : Row) → is_gt (by_columns x y) ≡ false → is_gt (by_columns y x) ≡ false → x ≡ y
 neither x y g h = elim (by_columns x y) as (λ r. by_columns x y ≡ r → x ≡ y) [
   | Less ↦ λ e. let k : by_columns y x ≡ Greater = by_columns-total.antisymm y x
@@ -135,7 +135,7 @@ neither x y g h = elim (by_columns x y) as (λ r. by_columns x y ≡ r → x ≡
   | Greater ↦ λ e. absurd (let f : is_gt Greater ≡ false = subst (λ r. is_gt r ≡ false) e g in cc)
 ] refl
 
--- behind a tuple that is above another nothing equals the other
+-- after a greater tuple, none equals the earlier one
 never_again : (t u : Row) (us : List Row) → Ascends by_columns (t ∷ u ∷ us) → (u ≡ t → ⊥) → (s : Row) → In s (u ∷ us)
     → t ≡ s → ⊥
 never_again t u us a n s m e =
@@ -150,7 +150,7 @@ module _ (columns : List ℕ) where
   abbrev key : Row → Row
   key = cells_at columns
 
-  -- the first row that does not agree is above all that do, and so are those behind it
+  -- the first row that does not agree is greater than all that do, and so are the rows after it
   behind_run : (run : List Row) (r o : Row) (os : List Row) → ((q : Row) → In q (r ∷ run) → key q ≡ key r)
       → Ascends by_columns (map key ((r ∷ run) ++ o ∷ os))
       → Ascends by_columns (key r ∷ key o ∷ map key os)
@@ -175,7 +175,7 @@ module _ (columns : List ℕ) where
       → groups_by columns ((r ∷ run) ++ others) ≡ (r ∷ run) ∷ groups_by columns others
   run_is_group r run others h a n = run_first key (key r) others (far_behind r run others h a n) r run h
 
-  -- the rows behind the first ones are sorted
+  -- the rows after the first n are sorted
   pub drop_ascends : (n : ℕ) (rows : List Row) → Ascends by_columns (map key rows)
       → Ascends by_columns (map key (drop n rows))
   drop_ascends zero rows a = a
@@ -183,7 +183,7 @@ module _ (columns : List ℕ) where
   drop_ascends (suc n) (r ∷ []) a = drop_ascends n [] tt
   drop_ascends (suc n) (r ∷ s ∷ rows) a = drop_ascends n (s ∷ rows) a.1
 
-  -- the rows at the places of a list
+  -- the rows in a prefix
   in_take : (n : ℕ) (rows : List Row) (q : Row) → In q (take n rows)
       → (k : ℕ) × (k < n) × (key q ≡ slice_index_or (map key rows) k [])
   in_take zero rows q m = absurd m
@@ -200,7 +200,7 @@ module _ (columns : List ℕ) where
   at_drop (suc n) (r ∷ rows) o os e = let i = at_drop n rows o os e in let l : n < length (map key rows) =
       i.0 in (omega arith, i.1)
 
-  -- the rows of a run, and those behind it
+  -- the rows of a run, and those after it
   pub first_group : (rows : List Row) (n : ℕ) → 0 < length rows → IsRun (map key rows) n
       → Ascends by_columns (map key rows)
       → groups_by columns rows ≡ take n rows ∷ groups_by columns (drop n rows)

@@ -1,4 +1,4 @@
--- The runs of sorted rows with a key at hand are groups.
+-- The runs of sorted rows with a sort key are groups.
 use Rattle.std.specs.Prelude.{◌≡◌, ℕ, ◌+◌, ◌-◌, ◌<◌, ◌≤◌, List, [], ◌∷◌, All, map, length, slice_index_or}
 use Rattle.std.proofs.Common.{sym, ap, subst, ◌∙◌, take, drop, arith, below_more}
 use Rattle.std.proofs.lemmas.List.{drop-drop, drop-map, get_or-map, length-map, length-take, length-take-le}
@@ -13,7 +13,7 @@ use Rattle.tql_exec_join.proofs.Keys.{tuples_of_keyed}
 use Rattle.tql_exec_group.specs.Runs.{IsRun}
 use Rattle.tql_exec_group.proofs.Groups.{drop_ascends, first_group}
 
--- one more row whose tuple is that of the first
+-- one more row with the tuple of the first
 pub one_more_agrees : {X : Type 0} (key : X → Row) (xs : List X) (i : ℕ) (first x : X) → i < length xs
     → first ≡ slice_index_or xs 0 first → x ≡ slice_index_or xs i x → key first ≡ key x
     → ((k : ℕ) → k < i → slice_index_or (map key xs) k [] ≡ slice_index_or (map key xs) 0 [])
@@ -28,14 +28,14 @@ module _ (first : ℕ) (others : List ℕ) where
   columns = first ∷ others
 
   module _ (ks : List WithKey) (start n : ℕ) (more : start < length ks) where
-    -- the rows that are left
+    -- the rows left
     abbrev left : List WithKey
     left = take (length ks - start) (drop start ks)
 
     all_left : left ≡ drop start ks
     all_left = take_all (length ks - start) (drop start ks) (omega (arith, length-drop start ks))
 
-    -- the first run of what is left, and what is left behind it
+    -- the first run of the rows left, and the rows after it
     pub next_group : All (HasKey first) ks → AreSorted columns (rows_in ks) → IsRun (map (key_and_cells others) left) n
         → groups_by columns (rows_in (drop start ks))
         ≡ rows_in (take n left) ∷ groups_by columns (rows_in (drop (start + length (take n left)) ks))

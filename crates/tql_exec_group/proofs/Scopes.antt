@@ -1,4 +1,4 @@
--- What is shown of scopes, one after another.
+-- Evaluating scopes one after another.
 use Rattle.std.specs.Prelude.{◌≡◌, refl, Bool, true, false, List, [], ◌∷◌}
 use Rattle.std.specs.Prelude.{Option, Some, None}
 use Rattle.std.proofs.Common.{sym, ap, append_assoc, ◌∙◌}
@@ -9,14 +9,14 @@ use Rattle.tql_spec.specs.Query.{Scope}
 use Rattle.tql_spec.specs.QueryLaws.{shown}
 use Rattle.tql_expr.specs.Evaluated.{behind}
 
--- the value of what is kept comes before those of the rest
+-- the value of a kept scope, followed by those of the rest
 kept_first : (v : Option Row) (rest : Option (List Row))
     → with_front v rest ≡ with_front v (Some []) >>= λ xs. behind xs rest
 kept_first None rest = refl
 kept_first (Some x) None = refl
 kept_first (Some x) (Some xs) = refl
 
--- where the rest has none, there is none
+-- if the rest is out of range, so is the whole
 none_behind : (o : Option (List Row)) → None ≡ o >>= λ xs. behind xs None
 none_behind None = refl
 none_behind (Some xs) = refl
@@ -42,7 +42,7 @@ twice_behind done (Some xs) None = refl
 twice_behind done (Some xs) (Some ys) = ap {B = Option (List Row)} (λ zs. Some zs) (sym (append_assoc done xs ys))
 
 module _ (having : List Cond) (items : List Expr) where
-  -- what is shown of a scope comes before what is shown of the others
+  -- the result for the first scope, followed by those for the others
   row_first : (s : Scope) (ss : List Scope)
       → shown having items (s ∷ ss) ≡ shown having items (s ∷ []) >>= λ xs. behind xs (shown having items ss)
   row_first s ss = by_test (λ s. map_all (eval s.group s.row) items) s (passes s.group s.row having)
@@ -63,7 +63,7 @@ module _ (having : List Cond) (items : List Expr) where
   one_more_shown s ss left done made all is e h = ap (λ o. o >>= λ xs. behind xs (shown having items ss)) (sym e)
       ∙ sym (first_shown s ss left done is) ∙ h
 
-  -- one that is out of range
+  -- a scope that is out of range
   pub one_not_shown : (s : Scope) (ss left : List Scope) (done : List Row) (all : Option (List Row)) → left ≡ s ∷ ss
       → behind done (shown having items left) ≡ all → behind done (shown having items (s ∷ [])) ≡ None → all ≡ None
   one_not_shown s ss left done all is h none = sym h ∙ first_shown s ss left done is

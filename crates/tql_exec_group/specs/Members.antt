@@ -5,7 +5,7 @@ use Rattle.tql_exec_join.specs.Keyed.{rows_in}
 use Rattle.tql_exec_group.specs.declared.group.Group.{Group}
 use Rattle.tql_exec_group.specs.declared.group.Group.TheVariants.{Rows, Run}
 
--- as they are, or those that have a column at hand
+-- plain rows, or rows without their sort keys
 abbrev pub members : Group → List Row
 members (Rows rows) = rows.now
 members (Run rows) = rows_in rows.now

@@ -2,7 +2,7 @@
 use Rattle.std.specs.Prelude.{◌≡◌, ◌≢◌, ℕ, ◌<◌, ◌≤◌, List, [], length, slice_index_or}
 use Rattle.tql_spec.specs.Datum.{Row}
 
--- so many of the first tuples, and no more, are the first one
+-- exactly the first n tuples, at least one if there are any, equal the first one
 pub record IsRun (tuples : List Row) (n : ℕ) : Type 0 where
   pub within : n ≤ length tuples
   pub some : 0 < length tuples → 0 < n

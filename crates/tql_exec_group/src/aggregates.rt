@@ -16,7 +16,7 @@ use tql_value::arithmetic::Range;
 use tql_value::comparison::order;
 use tql_value::value::View;
 
-/// The value of an expression on a row that is in no group.
+/// Returns the value of an expression on a single row, outside of any group.
 fn value_alone<'a>(terms: &'a Terms, x: ExprId, row: &'a Joined<'_>) -> Result<View<'a>, Range>
     requires { HasExpr terms.now x }
     ensures { outcome result ≡ bound.eval [] row.now (expr terms.now x) }
@@ -24,7 +24,7 @@ fn value_alone<'a>(terms: &'a Terms, x: ExprId, row: &'a Joined<'_>) -> Result<V
     terms.eval(x, row)
 }
 
-/// How many rows give a value that is not NULL.
+/// Returns the number of rows on which the expression is not NULL.
 fn count<'a>(terms: &'a Terms, x: ExprId, rows: &'a Group<'_>) -> Result<View<'a>, Range>
     requires there { HasExpr terms.now x }
     requires countable { length (members rows.now) < 2 ^ 63 }
@@ -39,7 +39,7 @@ fn count<'a>(terms: &'a Terms, x: ExprId, rows: &'a Group<'_>) -> Result<View<'a
     Ok(View::Int(found as i64))
 }
 
-/// The sum with one more value; none where there were no values but NULL.
+/// Returns the running sum with one more value. None as long as all values were NULL.
 fn with_value(sum: Option<i128>, value: View<'_>) -> Option<i128>
     requires { IsWithin (2 ^ 63) sum }
     ensures is { result ≡ added sum (datum_of_view value.entry) }
@@ -53,7 +53,7 @@ fn with_value(sum: Option<i128>, value: View<'_>) -> Option<i128>
     }
 }
 
-/// The exact sum, `Range` where it leaves 64 bits; NULL where there are no values.
+/// Returns the exact sum: `Range` if the total overflows 64 bits, NULL if all values are NULL.
 fn sum<'a>(terms: &'a Terms, x: ExprId, rows: &'a Group<'_>) -> Result<View<'a>, Range>
     requires there { HasExpr terms.now x }
     requires countable { length (members rows.now) < 2 ^ 63 }
@@ -69,7 +69,7 @@ fn sum<'a>(terms: &'a Terms, x: ExprId, rows: &'a Group<'_>) -> Result<View<'a>,
     }
 }
 
-/// A number that fits as a value.
+/// Returns the number as a value, or `Range` if it overflows 64 bits.
 fn exact<'a>(number: i128) -> Result<View<'a>, Range>
     ensures { outcome result ≡ pure.exact number }
 {
@@ -79,7 +79,7 @@ fn exact<'a>(number: i128) -> Result<View<'a>, Range>
     }
 }
 
-/// The better of two values, any value before NULL, and of equal ones the first.
+/// Returns the greater or the lesser of two values. NULL loses to any value, and of equal values the first is returned.
 fn better<'a>(greatest: bool, a: View<'a>, b: View<'a>) -> View<'a>
     ensures { datum_of_view result ≡ the_better greatest (datum_of_view a.entry) (datum_of_view b.entry) }
 {
@@ -98,7 +98,7 @@ fn better<'a>(greatest: bool, a: View<'a>, b: View<'a>) -> View<'a>
     }
 }
 
-/// The least value or the greatest one; NULL where there is none.
+/// Returns the least or the greatest value. NULL if all values are NULL.
 fn best<'a>(
     terms: &'a Terms,
     x: ExprId,
@@ -116,7 +116,7 @@ fn best<'a>(
     Ok(found)
 }
 
-/// What a function gives of the values of an expression on these rows.
+/// Returns the result of a function over the values of an expression on these rows.
 fn over_values<'a>(
     terms: &'a Terms,
     function: Function,
@@ -136,9 +136,9 @@ fn over_values<'a>(
     }
 }
 
-/// What an aggregate of the terms gives over these rows: COUNT(*) counts them, the others take the values of their
-/// operand that are not NULL (ISO/IEC 9075-2:2011, 10.9). `Range` where a sum, the count of the rows or a number
-/// inside an operand leaves 64 bits. It takes no memory.
+/// Returns the result of an aggregate over these rows. COUNT(*) counts them; the others use the values of their operand
+/// that are not NULL (ISO/IEC 9075-2:2011, 10.9). `Range` if a sum, the count of the rows or a number inside an operand
+/// overflows 64 bits. Makes no allocation.
 pub fn over_rows<'a>(
     terms: &'a Terms,
     which: Aggregate,

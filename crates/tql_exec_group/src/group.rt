@@ -11,16 +11,16 @@ use tql_expr::terms::{Aggregate, Terms};
 use tql_value::arithmetic::Range;
 use tql_value::value::View;
 
-/// The rows of a group, side by side in one slice. Its columns are those of the first row; a group of no rows has none.
+/// The rows of a group, in one slice. Its columns are those of the first row; a group of no rows has none.
 #[derive(Clone, Copy)]
 pub enum Group<'a> {
-    /// Rows as they are.
+    /// Plain rows.
     Rows(&'a [Joined<'a>]),
-    /// Rows that have a column at hand.
+    /// Rows with a sort key.
     Run(&'a [Keyed<'a, 'a>]),
 }
 
-/// One of these rows.
+/// Returns the row at an index.
 fn row_of<'a>(rows: &'a [Joined<'a>], place: usize) -> &'a Joined<'a>
     requires { place < length rows.now }
     ensures { result.now ≡ slice_index_or rows.now place [] }
@@ -28,7 +28,7 @@ fn row_of<'a>(rows: &'a [Joined<'a>], place: usize) -> &'a Joined<'a>
     &rows[place]
 }
 
-/// One of these rows, which have a column at hand.
+/// Returns the row at an index, without its sort key.
 fn row_of_run<'a>(rows: &'a [Keyed<'a, 'a>], place: usize) -> &'a Joined<'a>
     requires { place < length rows.now }
     ensures { result.now ≡ slice_index_or (rows_in rows.now) place [] }
@@ -37,7 +37,7 @@ fn row_of_run<'a>(rows: &'a [Keyed<'a, 'a>], place: usize) -> &'a Joined<'a>
 }
 
 impl<'a> Group<'a> {
-    /// How many rows it has.
+    /// Returns the number of rows.
     pub(crate) fn len(&self) -> usize
         ensures { result ≡ length (members self.now) }
     {
@@ -47,7 +47,7 @@ impl<'a> Group<'a> {
         }
     }
 
-    /// One of its rows.
+    /// Returns the row at an index.
     pub(crate) fn row(&self, place: usize) -> &'a Joined<'a>
         requires { place < length (members self.now) }
         ensures { result.now ≡ slice_index_or (members self.now) place [] }

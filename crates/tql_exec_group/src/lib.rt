@@ -1,4 +1,4 @@
-//! Groups of joined rows: their aggregates, what passes HAVING, and the values of the select list.
+//! GROUP BY, HAVING, aggregates and the values of the select list.
 #![tactic(auto)]
 
 mod aggregates;

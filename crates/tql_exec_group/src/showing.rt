@@ -1,4 +1,6 @@
-//! What a query shows of its rows, or of their groups.
+//! Grouping by sorting. Rows are sorted by the grouping columns, without being moved: only references to them are
+//! sorted, each with its first grouping value. Every run of equal rows is then a group. HAVING and the select list are
+//! evaluated once for each group, or once for each row of a query without groups.
 ghost use Rattle.std.specs.Prelude.{◌≡◌, ◌∷◌, [], All, map, option_map};
 ghost use Rattle.tql_spec.specs.Query.{alone, groups_by, of_group, scopes};
 ghost use Rattle.tql_spec.specs.QueryLaws.{NamesGroups, shown};
@@ -20,7 +22,7 @@ use tql_memory::Memory;
 use tql_value::refusal::Refusal;
 use tql_value::value::Value;
 
-/// Adds the values of the items on a row or on a group where it passes the conjuncts.
+/// Adds the values of the items on a row or a group if it passes the conjuncts.
 fn add_scope<C: Columns>(
     memory: Memory,
     terms: &Terms,
@@ -42,7 +44,7 @@ fn add_scope<C: Columns>(
     Ok(())
 }
 
-/// The values for each row by itself.
+/// Returns the values of the items for each row by itself.
 fn show_rows(
     memory: Memory,
     terms: &Terms,
@@ -62,7 +64,7 @@ fn show_rows(
     Ok(made)
 }
 
-/// The values for all rows as one group.
+/// Returns the values of the items for all rows as one group.
 fn show_all(
     memory: Memory,
     terms: &Terms,
@@ -80,7 +82,7 @@ fn show_all(
     Ok(made)
 }
 
-/// The values for each run of rows that have one tuple in these columns.
+/// Returns the values of the items for each run of rows with the same values in the grouping columns.
 fn show_runs(
     memory: Memory,
     terms: &Terms,
@@ -108,10 +110,11 @@ fn show_runs(
     Ok(made)
 }
 
-/// The values of the items for each row that passes the conjuncts of HAVING; in a grouped query for each group: of
-/// the rows that have one tuple in the grouping columns, NULL like NULL, or of all rows where no column is named
-/// (ISO/IEC 9075-2:2011, 7.9, 7.10, 7.12). What is sorted by the grouping columns are references to the rows, each with
-/// its first key at hand. Refused where an evaluation that is reached leaves 64 bits, or for memory.
+/// Returns the values of the items for each row that passes the conjuncts of HAVING. A grouped query has them for each
+/// group instead (ISO/IEC 9075-2:2011, 7.9, 7.10, 7.12). A group has the rows that agree in the grouping columns, where
+/// NULL counts as equal to NULL. Without a grouping column it has all rows. Only references to the rows are sorted,
+/// each with its first grouping value. Refused if an evaluation that is reached overflows 64 bits, or if an allocation
+/// is refused.
 pub fn show(
     memory: Memory,
     terms: &Terms,

@@ -9,3 +9,4 @@ pub mod Named
 pub mod StoredColumns
 pub mod Steps
 pub mod DemandedPeriods
+pub mod Decisive

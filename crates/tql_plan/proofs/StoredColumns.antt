@@ -1,4 +1,4 @@
--- The columns of a scan that are stored.
+-- The stored columns of a scan.
 use Rattle.std.proofs.Common.{◌≡◌, refl, sym, subst, ◌∙◌, ℕ, ◌+◌, ◌-◌, Bool, true, false, cond, length, arith}
 use Rattle.std.specs.Prelude.{ℤ, nat_lt, not, insert, Option, Some, None}
 use Rattle.std.proofs.lemmas.Bool.{and_parts}
@@ -12,7 +12,7 @@ use Rattle.tql_catalog.specs.Rows.{has_system}
 use Rattle.tql_catalog.proofs.StoredNumbers.{fewer, stored_so}
 use Rattle.tql_plan.specs.Keyed.{is_stored_in, IsStoredIn}
 
--- as many cells as are not generated, with those that are
+-- the number of cells, with the generated ones
 long_so : (s : Option System) (cells : Row) (start end : ℤ)
     → length (with_generated s cells start end) ≡ length cells + length (generated_columns s)
 long_so None cells start end = omega arith
@@ -31,7 +31,7 @@ not_so : (b : Bool) → not b ≡ true → b ≡ false
 not_so true h = absurd (cc)
 not_so false h = refl
 
--- a column beside them has so many fewer before it
+-- the number of a stored column: the generated columns before it are not counted
 stored_beside : (start end width i : ℕ) (a b : Bool) → nat_lt start i ≡ a → nat_lt end i ≡ b
     → is_stored_in (generated (Some (start, end))) width i ≡ true
     → IsStoredIn (generated (Some (start, end))) width i (i - fewer a b)

@@ -1,4 +1,4 @@
-//! In how many places a plan can find rows otherwise than by reading and comparing all.
+//! How many places of a plan can avoid reading and comparing all rows.
 ghost use Rattle.std.specs.Prelude.{◌≡◌, if◌then◌else◌, option_map};
 ghost use Rattle.tql_plan.specs.Maps.{chains_keys, chains_maps, intervals_of, keys_of, maps_of, products_keys};
 ghost use Rattle.tql_plan.specs.Maps.{products_maps, steps_keys, steps_maps, with_map};
@@ -9,18 +9,19 @@ use crate::plan::{ChainPlan, Plan, Product, Step};
 use tql_expr::equality::Equality;
 use tql_store_index::basis::Sought;
 
-/// In how many places of a plan rows can be found otherwise than by reading and comparing all.
+/// The number of places of a plan that can avoid reading and comparing all rows.
 #[derive(Clone, Copy, PartialEq, Eq, Debug)]
 pub struct Counts {
     /// Joins and products that name an equality.
     pub maps: usize,
-    /// Joins and products that name a key or a reference, and the first scan where its rows are found by one.
+    /// Joins and products that name a key or a reference, and the first scan if its access path is one.
     pub keys: usize,
-    /// Scans whose rows are found by their application period alone, which holds a point or shares one with a period.
+    /// The first scan, if its access path is the application period alone, which contains a point or overlaps with a
+    /// period.
     pub intervals: usize,
 }
 
-/// One more where an equality is named.
+/// Returns `count`, plus one if there is an equality.
 fn with_equality(count: usize, equality: Option<Equality>) -> usize
     ensures { result ≡ with_map count equality }
 {
@@ -30,7 +31,7 @@ fn with_equality(count: usize, equality: Option<Equality>) -> usize
     }
 }
 
-/// So many, and those of steps.
+/// Returns `count` plus the number of steps that name an equality.
 fn with_steps(count: usize, steps: &[Step<'_>]) -> usize
     ensures { result ≡ steps_maps count steps.now }
 {
@@ -41,7 +42,7 @@ fn with_steps(count: usize, steps: &[Step<'_>]) -> usize
     maps
 }
 
-/// The joins of chains that name an equality.
+/// Returns the number of joins in these chains that name an equality.
 fn chain_maps(chains: &[ChainPlan<'_>]) -> usize
     ensures { result ≡ chains_maps 0 chains.now }
 {
@@ -52,7 +53,7 @@ fn chain_maps(chains: &[ChainPlan<'_>]) -> usize
     maps
 }
 
-/// One more where a key is named.
+/// Returns `count`, plus one if there is a key.
 fn with_key(count: usize, key: Option<&[usize]>) -> usize
     ensures { result ≡ with_map count key.entry }
 {
@@ -62,7 +63,7 @@ fn with_key(count: usize, key: Option<&[usize]>) -> usize
     }
 }
 
-/// So many, and those of steps.
+/// Returns `count` plus the number of steps that name a key.
 fn with_steps_keys(count: usize, steps: &[Step<'_>]) -> usize
     ensures { result ≡ steps_keys count steps.now }
 {
@@ -73,7 +74,7 @@ fn with_steps_keys(count: usize, steps: &[Step<'_>]) -> usize
     keys
 }
 
-/// So many, and the joins of chains that name a key.
+/// Returns `count` plus the number of joins in these chains that name a key.
 fn with_chains_keys(count: usize, chains: &[ChainPlan<'_>]) -> usize
     ensures { result ≡ chains_keys count chains.now }
 {
@@ -84,7 +85,7 @@ fn with_chains_keys(count: usize, chains: &[ChainPlan<'_>]) -> usize
     keys
 }
 
-/// So many, and the products that name an equality.
+/// Returns `count` plus the number of products that name an equality.
 fn with_products(count: usize, products: &[Product<'_>]) -> usize
     ensures { result ≡ products_maps count products.now }
 {
@@ -95,7 +96,7 @@ fn with_products(count: usize, products: &[Product<'_>]) -> usize
     maps
 }
 
-/// So many, and the products that name a key.
+/// Returns `count` plus the number of products that name a key.
 fn with_products_keys(count: usize, products: &[Product<'_>]) -> usize
     ensures { result ≡ products_keys count products.now }
 {
@@ -106,7 +107,7 @@ fn with_products_keys(count: usize, products: &[Product<'_>]) -> usize
     keys
 }
 
-/// One where rows are found by their values, within a period or not.
+/// Returns 1 if the access path is by values, with a period or without. Otherwise returns 0.
 fn key_count(sought: Option<Sought<'_>>) -> usize
     ensures { result ≡ (if is_by_key (option_map sought_of sought.entry) then 1 else 0) }
 {
@@ -116,7 +117,7 @@ fn key_count(sought: Option<Sought<'_>>) -> usize
     }
 }
 
-/// One where rows are found by their application period alone.
+/// Returns 1 if the access path is by the application period alone. Otherwise returns 0.
 fn interval_count(sought: Option<Sought<'_>>) -> usize
     ensures { result ≡ (if is_by_period (option_map sought_of sought.entry) then 1 else 0) }
 {
@@ -127,7 +128,7 @@ fn interval_count(sought: Option<Sought<'_>>) -> usize
 }
 
 impl<'a> Plan<'a> {
-    /// In how many places this plan can find rows otherwise than by reading and comparing all.
+    /// Returns the number of places of this plan that can avoid reading and comparing all rows.
     pub fn counts(&self) -> Counts
         ensures maps { result.maps ≡ maps_of self.now }
         ensures keys { result.keys ≡ keys_of self.now }

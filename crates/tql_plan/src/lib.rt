@@ -1,4 +1,5 @@
-//! How a query is answered: which versions are read, and how they are joined. A plan says nothing of the store.
+//! Query planning: which versions are read, by which access path, and how they are joined. A plan does not depend on
+//! the contents of the store.
 #![tactic(auto)]
 
 mod accesses;

@@ -1,4 +1,5 @@
-//! The numbers that the columns of a scan have among those that its table stores.
+//! The stored columns of a scan. ROW START and ROW END are generated, so the columns after them have lower numbers in
+//! storage.
 ghost use Rattle.std.specs.Prelude.{◌≡◌, IsTrue, is_some};
 ghost use Rattle.std.specs.Option.{ForSome};
 ghost use Rattle.tql_expr.specs.Generated.{generated};
@@ -6,7 +7,8 @@ ghost use Rattle.tql_plan.specs.Keyed.{is_stored_in, IsStoredIn};
 
 use crate::plan::Scan;
 
-/// Whether the generated columns, where there are any, are two of so many, and this column is none of them.
+/// Whether a column is stored: not one of the generated columns. False if these are not two different columns below
+/// `width`.
 fn is_stored(system: Option<(usize, usize)>, width: usize, column: usize) -> bool
     ensures { result ≡ is_stored_in (generated system) width column }
 {
@@ -18,7 +20,8 @@ fn is_stored(system: Option<(usize, usize)>, width: usize, column: usize) -> boo
     }
 }
 
-/// The number that such a column has among those that are stored, from 0: so many fewer stand before it.
+/// Returns the number of a stored column among the stored columns, from 0: the generated columns before it are not
+/// counted.
 fn number_in(system: Option<(usize, usize)>, width: usize, column: usize) -> usize
     requires { IsTrue (is_stored_in (generated system) width column) }
     ensures { IsStoredIn (generated system) width column result }
@@ -35,8 +38,8 @@ fn number_in(system: Option<(usize, usize)>, width: usize, column: usize) -> usi
 }
 
 impl Scan {
-    /// The number that a column has among those that are stored, from 0; none for ROW START and ROW END, and for no
-    /// column where these are not two of the scan's columns.
+    /// Returns the number of a column among the stored columns, from 0. None for ROW START and ROW END. None for every
+    /// column if these are not two different columns of the scan.
     pub fn stored_number(&self, column: usize) -> Option<usize>
         ensures stored { ForSome result (IsStoredIn (generated self.now.system) self.now.width column) }
         ensures there { is_some result ≡ is_stored_in (generated self.now.system) self.now.width column }

@@ -1,10 +1,10 @@
-//! How many columns chains have.
+//! The number of columns of chains.
 ghost use Rattle.std.specs.Prelude.{◌≡◌};
 ghost use Rattle.tql_plan.specs.Planned.{chains_width, joins_width};
 
 use tql_bound::query::Chain;
 
-/// How many columns a chain has: as many as can be numbered.
+/// Returns the number of columns of a chain, at most `usize::MAX`.
 pub(crate) fn chain_width(chain: &Chain) -> usize
     ensures { result ≡ joins_width chain.now.first.width chain.now.joins.items }
 {
@@ -15,7 +15,7 @@ pub(crate) fn chain_width(chain: &Chain) -> usize
     width
 }
 
-/// How many columns chains have side by side.
+/// Returns the number of columns of all these chains together.
 pub(crate) fn width_of(chains: &[Chain]) -> usize
     ensures { result ≡ chains_width 0 chains.now }
 {

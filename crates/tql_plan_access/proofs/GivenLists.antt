@@ -1,17 +1,24 @@
 -- The first list of columns that conjuncts give values.
 use Rattle.std.proofs.Common.{◌≡◌, ap, refl, sym, subst, ◌∙◌, ℕ, ◌+◌, ◌<◌, Bool, true, false, cond, List, []}
-use Rattle.std.proofs.Common.{◌∷◌, ◌++◌, map, drop, length, get_or}
-use Rattle.std.specs.Prelude.{◌||◌, Some, is_some}
-use Rattle.std.specs.List.{list_all, list_any}
+use Rattle.std.proofs.Common.{◌∷◌, ◌++◌, map, drop, length, get_or, arith}
+use Rattle.std.specs.Prelude.{◌&&◌, ◌||◌, not, nat_lt, Option, Some, None, is_some, option_map, slice_index_or}
+use Rattle.std.specs.Option.{option_or}
+use Rattle.std.specs.List.{find, list_all, list_any}
 use Rattle.std.proofs.lemmas.List.{drop_more}
+use Rattle.std.proofs.lemmas.List.Folds.{find-append}
+use Rattle.std.proofs.lemmas.List.FromFn.{get_or-map-range_with_len}
 use Rattle.std.proofs.lemmas.Bool.{and_from, and_parts}
+use Rattle.std.proofs.lemmas.Bool.Decides.{nat_tests}
+use Rattle.tql_spec.specs.Words.{with_front}
+use Rattle.tql_spec.specs.Datum.{Datum}
 use Rattle.tql_spec.specs.Definition.{Key, Reference, TableDef}
+use Rattle.tql_spec.specs.Binding.{is_generated}
 use Rattle.tql_spec.specs.Expression.{Cond}
 use Rattle.tql_catalog.specs.Defined.{IsDefinition}
-use Rattle.tql_catalog.specs.Rows.{are_assignable}
+use Rattle.tql_catalog.specs.Rows.{are_assignable, numbers_repeat}
 use Rattle.tql_catalog.specs.Sought.{reference_columns, sought_columns}
-use Rattle.tql_plan_laws.specs.Equalities.{or_else}
-use Rattle.tql_plan_access.specs.Access.{are_given, first_given}
+use Rattle.tql_plan_laws.specs.Constants.{tuple_in, value_in}
+use Rattle.tql_plan_access.specs.Access.{are_given, are_marked, first_given, given_marks}
 
 -- ---- what all lists are
 
@@ -36,67 +43,119 @@ all_assignable d right =
     all_before (are_assignable d) (λ (k : Key). k.columns) d.keys (reference_columns d) right.keys
     (all_listed (are_assignable d) (λ (f : Reference). f.columns) d.references right.references)
 
-module _ (conds : List Cond) where
-  -- ---- the first that is given values
+-- what is made of a value is there where the value is
+pub is_there : {A B : Type 0} (f : A → B) (o : Option A) → is_some o ≡ is_some (option_map f o)
+is_there f None = refl
+is_there f (Some x) = refl
 
-  -- where the list at a place is given them, it is the first from there on
+-- ---- the first that passes a test
+
+module _ (test : List ℕ → Bool) where
+  -- where the list at a place does, it is the first from there on
   pub first_here : {A B : Type 0} (f : B → A) (columns : A → List ℕ) (xs : List B) (i : ℕ) (x : B)
-      → i < length xs → x ≡ get_or xs i x → are_given conds (columns (f x)) ≡ true
-      → first_given conds (map columns (map f (drop i xs))) ≡ Some (columns (f x))
+      → i < length xs → x ≡ get_or xs i x → test (columns (f x)) ≡ true
+      → find test (map columns (map f (drop i xs))) ≡ Some (columns (f x))
   first_here f columns xs i x l e h =
-      let rest = first_given conds (map columns (map f (drop (i + 1) xs))) in
-      ap (λ ys. first_given conds (map columns (map f ys))) (drop_more xs i x l)
-      ∙ ap (λ y. cond (are_given conds (columns (f y))) (Some (columns (f y))) rest) (sym e)
+      let rest = find test (map columns (map f (drop (i + 1) xs))) in
+      ap (λ ys. find test (map columns (map f ys))) (drop_more xs i x l)
+      ∙ ap (λ y. cond (test (columns (f y))) (Some (columns (f y))) rest) (sym e)
       ∙ ap (λ b. cond b (Some (columns (f x))) rest) h
 
-  -- the first of two lists of them
-  pub first_of_both : (xs ys : List (List ℕ))
-      → first_given conds (xs ++ ys) ≡ or_else (first_given conds xs) (first_given conds ys)
-  first_of_both [] ys = refl
-  first_of_both (x ∷ xs) ys = first (are_given conds x) (first_of_both xs ys)
-    where
-      first : (b : Bool) → first_given conds (xs ++ ys)
-          ≡ or_else (first_given conds xs) (first_given conds ys)
-          → cond b (Some x) (first_given conds (xs ++ ys))
-          ≡ or_else (cond b (Some x) (first_given conds xs)) (first_given conds ys)
-      first true h = refl
-      first false h = h
+  -- of two lists of them
+  pub first_of_both : (xs ys : List (List ℕ)) → find test (xs ++ ys) ≡ option_or (find test xs) (find test ys)
+  first_of_both xs ys = find-append test xs ys
 
-  -- there is one where some list is given values
-  pub any_given : (xs : List (List ℕ)) → is_some (first_given conds xs) ≡ list_any (are_given conds) xs
+  -- there is one where some list does
+  pub any_given : (xs : List (List ℕ)) → is_some (find test xs) ≡ list_any test xs
   any_given [] = refl
-  any_given (x ∷ xs) = either (are_given conds x) (any_given xs)
+  any_given (x ∷ xs) = either (test x) (any_given xs)
     where
-      either : (b : Bool) → is_some (first_given conds xs) ≡ list_any (are_given conds) xs
-          → is_some (cond b (Some x) (first_given conds xs)) ≡ (b || list_any (are_given conds) xs)
+      either : (b : Bool) → is_some (find test xs) ≡ list_any test xs
+          → is_some (cond b (Some x) (find test xs)) ≡ (b || list_any test xs)
       either true h = refl
       either false h = h
 
-  -- it is given values, and passes a test that all lists pass
+  -- it passes, and so it does another test that all lists pass
   first_is : (p : List ℕ → Bool) (xs : List (List ℕ)) (columns : List ℕ) → list_all p xs ≡ true
-      → first_given conds xs ≡ Some columns → (p columns ≡ true) × (are_given conds columns ≡ true)
+      → find test xs ≡ Some columns → (p columns ≡ true) × (test columns ≡ true)
   first_is p [] columns h e = absurd (cc)
   first_is p (x ∷ xs) columns h e =
       let parts = and_parts (p x) (list_all p xs) h in
-      either (are_given conds x) refl parts.0 (first_is p xs columns parts.1) e
+      either (test x) refl parts.0 (first_is p xs columns parts.1) e
     where
-      either : (b : Bool) → are_given conds x ≡ b → p x ≡ true
-          → (first_given conds xs ≡ Some columns → (p columns ≡ true) × (are_given conds columns ≡ true))
-          → cond b (Some x) (first_given conds xs) ≡ Some columns
-          → (p columns ≡ true) × (are_given conds columns ≡ true)
+      either : (b : Bool) → test x ≡ b → p x ≡ true
+          → (find test xs ≡ Some columns → (p columns ≡ true) × (test columns ≡ true))
+          → cond b (Some x) (find test xs) ≡ Some columns
+          → (p columns ≡ true) × (test columns ≡ true)
       either true g here later e =
           let told : Some x ≡ Some columns = e in
           let same : x ≡ columns = cc in
-          (subst (λ is. p is ≡ true) same here, subst (λ is. are_given conds is ≡ true) same g)
+          (subst (λ is. p is ≡ true) same here, subst (λ is. test is ≡ true) same g)
       either false g here later e = later e
+
+  -- another test of lists of which each passes a third finds the same, where it answers the same for these
+  pub found_same : (other p : List ℕ → Bool) (xs : List (List ℕ))
+      → ((is : List ℕ) → p is ≡ true → test is ≡ other is) → list_all p xs ≡ true → find test xs ≡ find other xs
+  found_same other p [] same h = refl
+  found_same other p (x ∷ xs) same h =
+      let parts = and_parts (p x) (list_all p xs) h in
+      (λ i. cond (same x parts.0 i) (Some x) (found_same other p xs same parts.1 i))
+
+module _ (conds : List Cond) where
+  -- ---- columns that are marked
+
+  marked_one : (n i : ℕ) → nat_lt i n ≡ true
+      → slice_index_or (given_marks conds n) i false ≡ is_some (value_in i conds)
+  marked_one n i h =
+      let l : i < n = grind (arith, nat_tests) in
+      get_or-map-range_with_len (λ k. is_some (value_in k conds)) 0 n i i false l (omega arith)
+
+  with_given : (o : Option Datum) (os : Option (List Datum)) → is_some (with_front o os) ≡ is_some o && is_some os
+  with_given None os = refl
+  with_given (Some v) None = refl
+  with_given (Some v) (Some vs) = refl
+
+  -- columns of the table are marked where they are given values
+  marked_given : (n : ℕ) (columns : List ℕ) → list_all (λ i. nat_lt i n) columns ≡ true
+      → are_marked (given_marks conds n) columns ≡ are_given conds columns
+  marked_given n [] h = refl
+  marked_given n (i ∷ is) h =
+      let parts = and_parts (nat_lt i n) (list_all (λ k. nat_lt k n) is) h in
+      (λ k. marked_one n i parts.0 k && marked_given n is parts.1 k)
+      ∙ sym (with_given (value_in i conds) (tuple_in conds is))
+
+  -- columns of the table are among as many as it has
+  within : (d : TableDef) (columns : List ℕ) → list_all (λ i. nat_lt i (length d.columns) && not (is_generated d i))
+      columns ≡ true → list_all (λ i. nat_lt i (length d.columns)) columns ≡ true
+  within d [] h = refl
+  within d (i ∷ is) h =
+      let parts = and_parts (nat_lt i (length d.columns) && not (is_generated d i))
+      (list_all (λ k. nat_lt k (length d.columns) && not (is_generated d k)) is) h in
+      and_from (nat_lt i (length d.columns)) (list_all (λ k. nat_lt k (length d.columns)) is)
+      (and_parts (nat_lt i (length d.columns)) (not (is_generated d i)) parts.0).0 (within d is parts.1)
+
+  -- so the first list of a table's of which all are marked is the first that is given values
+  pub marked_first : (d : TableDef) → IsDefinition d
+      → find (are_marked (given_marks conds (length d.columns))) (sought_columns d)
+      ≡ first_given conds (sought_columns d)
+  marked_first d right =
+      found_same (are_marked (given_marks conds (length d.columns))) (are_given conds) (are_assignable d)
+      (sought_columns d)
+      (λ is h. marked_given (length d.columns) is
+      (within d is
+      (and_parts (list_all (λ i. nat_lt i (length d.columns) && not (is_generated d i)) is) (not (numbers_repeat is))
+      h).0))
+      (all_assignable d right)
+
+  -- ---- the first that is given values
 
   -- of a table's lists the first is of such columns, and is given values
   pub assignable_first : (d : TableDef) → IsDefinition d → (columns : List ℕ)
       → first_given conds (sought_columns d) ≡ Some columns → are_assignable d columns ≡ true
   assignable_first d right columns e =
-      (first_is (are_assignable d) (sought_columns d) columns (all_assignable d right) e).0
+      (first_is (are_given conds) (are_assignable d) (sought_columns d) columns (all_assignable d right) e).0
 
   pub given_first : (d : TableDef) → IsDefinition d → (columns : List ℕ)
       → first_given conds (sought_columns d) ≡ Some columns → are_given conds columns ≡ true
   given_first d right columns e =
-      (first_is (are_assignable d) (sought_columns d) columns (all_assignable d right) e).1
+      (first_is (are_given conds) (are_assignable d) (sought_columns d) columns (all_assignable d right) e).1

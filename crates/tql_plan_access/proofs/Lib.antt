@@ -3,6 +3,7 @@ pub mod ByKey
 pub mod Chosen
 pub mod GivenLists
 pub mod Looked
+pub mod SafePart
 pub mod Serving
 pub mod Untouched
 pub mod ByPeriod

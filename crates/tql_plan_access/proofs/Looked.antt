@@ -1,77 +1,62 @@
--- It is enough to look at the rows that are sought: no other passes the conjuncts.
-use Rattle.std.proofs.Common.{◌≡◌, ℕ, Bool, true, false, IsTrue, List, [], ◌∷◌, map, filter, refl, sym, ap, ◌∙◌}
+-- It is enough to look at the rows that meet the safe part: each other fails the conjuncts.
+use Rattle.std.proofs.Common.{◌≡◌, ℕ, Bool, true, false, List, [], ◌∷◌, map, filter, refl, sym, ap, ◌∙◌}
 use Rattle.std.proofs.Common.{cond}
 use Rattle.std.specs.Prelude.{All, Option, Some, None}
 use Rattle.std.proofs.lemmas.List.Elements.{All-head, All-tail}
+use Rattle.tql_spec.specs.Words.{kept_if}
 use Rattle.tql_spec.specs.Datum.{Row}
-use Rattle.tql_spec.specs.Definition.{System, Version, with_generated}
-use Rattle.tql_spec.specs.Expression.{Cond}
+use Rattle.tql_spec.specs.Definition.{System, Version}
+use Rattle.tql_spec.specs.Expression.{Cond, passes}
 use Rattle.tql_spec.specs.Query.{keep}
-use Rattle.tql_plan_laws.specs.Conjuncts.{SafeConjunctsFilter, meets}
+use Rattle.tql_spec.proofs.Members.{by_bool}
+use Rattle.tql_plan_laws.specs.Conjuncts.{meets}
 use Rattle.tql_store_index.specs.Basis.{Sought, is_looked_at}
-use Rattle.tql_plan_access.specs.Access.{IsRow, Serves}
+use Rattle.tql_plan_access.specs.Access.{IsRow, LookingIsEnough, SafePartDecides, Serves, completed, safe_part}
 
--- a version as a row, with its moments in the generated columns
-abbrev pub completed : Option System → Version → Row
-completed system v = with_generated system v.row.cells v.row.start v.end
-
--- whether it is looked at
+-- whether a version is looked at
 abbrev pub is_seen : Option Sought → Version → Bool
 is_seen o v = is_looked_at o v.row.cells
 
--- where none is sought each is looked at
-all_seen : (vs : List Version) → filter (is_seen None) vs ≡ vs
-all_seen [] = refl
-all_seen (v ∷ vs) = ap {B = List Version} (λ ws. v ∷ ws) (all_seen vs)
+-- a row that fails gives nothing
+dropped : (x : Row) (rest : Option (List Row)) → kept_if x (Some false) rest ≡ rest
+dropped x None = refl
+dropped x (Some xs) = refl
 
-module _ (system : Option System) (period : Option (ℕ × ℕ)) (width : ℕ) (conds : List Cond) (o : Option Sought)
-    (serves : Serves system period width conds o) where
-  -- of one version more: it is looked at, or it does not meet the conjuncts
-  one_more : (v : Version) (vs : List Version) (seen met : Bool) → (IsTrue met → IsTrue seen)
-      → filter (meets conds) (map (completed system) (filter (is_seen o) vs))
-      ≡ filter (meets conds) (map (completed system) vs)
-      → is_seen o v ≡ seen → meets conds (completed system v) ≡ met
-      → filter (meets conds) (map (completed system) (cond seen (v ∷ filter (is_seen o) vs) (filter (is_seen o) vs)))
-      ≡ cond met (completed system v ∷ filter (meets conds) (map (completed system) vs))
-      (filter (meets conds) (map (completed system) vs))
-  one_more v vs true met h same s m =
-      (λ i. cond (m i) (completed system v ∷ same i) (same i))
-  one_more v vs false true h same s m = absurd (let bad = h refl in cc)
-  one_more v vs false false h same s m = same
+module _ (law : SafePartDecides) (system : Option System) (period : Option (ℕ × ℕ)) (width : ℕ) (conds : List Cond)
+    (o : Option Sought) (serves : Serves system period width conds o) where
+  -- a row that is not looked at fails
+  fails : (v : Version) → IsRow period width (completed system v) → is_seen o v ≡ false
+      → passes [] (completed system v) conds ≡ Some false
+  fails v row unseen =
+      by_bool (meets (safe_part conds) (completed system v))
+      (λ m. absurd (let k : true ≡ false = sym (serves.all v.row.cells v.row.start v.end row m) ∙ unseen in cc))
+      (λ m. law conds (completed system v) m)
 
-  met_seen : (vs : List Version) → All (λ v. IsRow period width (completed system v)) vs
-      → filter (meets conds) (map (completed system) (filter (is_seen o) vs))
-      ≡ filter (meets conds) (map (completed system) vs)
-  met_seen [] h = refl
-  met_seen (v ∷ vs) h =
-      one_more v vs (is_seen o v) (meets conds (completed system v))
-      (serves.all v.row.cells v.row.start v.end (All-head (λ v. IsRow period width (completed system v)) v vs h))
-      (met_seen vs (All-tail (λ v. IsRow period width (completed system v)) v vs h)) refl refl
+  -- of one version more: it is looked at, or it fails
+  one_more : (v : Version) (vs : List Version) (seen : Bool)
+      → (seen ≡ false → passes [] (completed system v) conds ≡ Some false)
+      → keep conds (map (completed system) (filter (is_seen o) vs)) ≡ keep conds (map (completed system) vs)
+      → keep conds (map (completed system) (cond seen (v ∷ filter (is_seen o) vs) (filter (is_seen o) vs)))
+      ≡ keep conds (map (completed system) (v ∷ vs))
+  one_more v vs true f same =
+      ap (kept_if (completed system v) (passes [] (completed system v) conds)) same
+  one_more v vs false f same =
+      same
+      ∙ sym (ap (λ b. kept_if (completed system v) b (keep conds (map (completed system) vs))) (f refl)
+      ∙ dropped (completed system v) (keep conds (map (completed system) vs)))
 
-by_sought : SafeConjunctsFilter → (system : Option System) (period : Option (ℕ × ℕ)) (width : ℕ) (conds : List Cond)
-    (o : Option Sought) → Serves system period width conds o → (vs : List Version)
-    → All (λ v. IsRow period width (completed system v)) vs
-    → keep conds (map (completed system) (filter (is_seen o) vs)) ≡ keep conds (map (completed system) vs)
-by_sought law system period width conds None serves vs h =
-    ap (λ ws. keep conds (map (completed system) ws)) (all_seen vs)
-by_sought law system period width conds (Some s) serves vs h =
-    law conds (map (completed system) (filter (is_seen (Some s)) vs)) (serves.safe s refl)
-    ∙ ap {B = Option (List Row)} (λ rows. Some rows) (met_seen system period width conds (Some s) serves vs h)
-    ∙ sym (law conds (map (completed system) vs) (serves.safe s refl))
+  seen_same : (vs : List Version) → All (λ v. IsRow period width (completed system v)) vs
+      → keep conds (map (completed system) (filter (is_seen o) vs)) ≡ keep conds (map (completed system) vs)
+  seen_same [] h = refl
+  seen_same (v ∷ vs) h =
+      one_more v vs (is_seen o v)
+      (fails v (All-head (λ v. IsRow period width (completed system v)) v vs h))
+      (seen_same vs (All-tail (λ v. IsRow period width (completed system v)) v vs h))
 
--- of versions that are rows of their table the same pass the conjuncts, whether those that are sought are asked or all
-pub looking_is_enough : SafeConjunctsFilter → (system : Option System) (period : Option (ℕ × ℕ)) (width : ℕ)
-    (conds : List Cond)
-    (o : Option Sought) → Serves system period width conds o → (vs : List Version)
-    → All (λ v. IsRow period width (completed system v)) vs
-    → keep conds (map (completed system) (filter (λ v. is_looked_at o v.row.cells) vs))
-    ≡ keep conds (map (completed system) vs)
-looking_is_enough = by_sought
+pub enough : SafePartDecides → LookingIsEnough
+enough law system period width conds o serves vs h = seen_same law system period width conds o serves vs h
 
 -- where all rows are looked at, nothing is asked of the conjuncts
 pub whole_serves : (system : Option System) (period : Option (ℕ × ℕ)) (width : ℕ) (conds : List Cond)
     → Serves system period width conds None
-whole_serves system period width conds = record {
-  safe = λ s e. absurd (cc);
-  all = λ cells start end w m. refl;
-}
+whole_serves system period width conds = record { all = λ cells start end w m. refl }

@@ -1,25 +1,25 @@
 -- What is sought serves: no other row passes the conjuncts, or is touched by a change.
-use Rattle.std.proofs.Common.{◌≡◌, ◌∙◌, refl, sym, ap, ℕ, ◌^◌, ◌-◌, Bool, true, false, List, map, length, cond, arith}
-use Rattle.std.specs.Prelude.{IfOk, Result, Ok, Err, ℤ, pos, ◌+ℤ◌, int_le, int_lt, ◌&&◌, ◌||◌, not, if◌then◌else◌}
+use Rattle.std.proofs.Common.{◌≡◌, ◌∙◌, refl, sym, subst, ap, ℕ, ◌^◌, ◌-◌, Bool, true, false, List, map, length}
+use Rattle.std.proofs.Common.{cond, arith}
+use Rattle.std.specs.Prelude.{IfOk, Result, Ok, Err, ℤ, pos, ◌+ℤ◌, int_le, int_lt, ◌&&◌, if◌then◌else◌}
 use Rattle.std.specs.Prelude.{Option, Some, None}
 use Rattle.std.specs.Int.{int_max, int_min}
-use Rattle.std.specs.List.{list_all}
 use Rattle.std.proofs.lemmas.Bool.{and_from}
 use Rattle.std.proofs.lemmas.Int.{ints, clamps}
 use Rattle.tql_spec.proofs.Members.{both}
 use Rattle.tql_spec.specs.Datum.{Datum, Row}
 use Rattle.tql_spec.specs.Definition.{TableDef, period_between, with_generated}
-use Rattle.tql_spec.specs.Expression.{Cond, is_safe}
+use Rattle.tql_spec.specs.Expression.{Cond}
 use Rattle.tql_spec.specs.Period.{Period, share_a_point}
 use Rattle.tql_catalog.specs.Defined.{IsDefinition}
 use Rattle.tql_catalog.specs.Sought.{sought_columns}
-use Rattle.tql_plan_laws.specs.Conjuncts.{AreSafe, meets}
+use Rattle.tql_plan_laws.specs.Conjuncts.{meets}
 use Rattle.tql_plan_laws.specs.Constants.{PointsAreMet, StretchesAreMet, ValuesAreMet}
 use Rattle.tql_store_index.specs.Basis.{Sought, With, WithIn, Holding, Sharing, is_looked_at, is_sought}
 use Rattle.tql_store_index.specs.Tuple.{is_at}
 use Rattle.tql_plan_access.specs.Access.{IsRow, ServesChange, ServesTable, first_given, is_within}
-use Rattle.tql_plan_access.specs.Access.{narrowed, period_columns, value_or_null, with_in}
-use Rattle.tql_plan_access.specs.Said.{IsPortionBy, IsSaidBy, IsSoughtBy, IsSoughtForChange}
+use Rattle.tql_plan_access.specs.Access.{narrowed, period_columns, period_given, safe_part, value_or_null, with_in}
+use Rattle.tql_plan_access.specs.Said.{IsPortionBy, IsSaidBy, IsSoughtBy, IsSoughtFor, IsSoughtForChange}
 use Rattle.tql_plan_access.proofs.ByKey.{given_found}
 use Rattle.tql_plan_access.proofs.ByPeriod.{portion_found, said_found}
 use Rattle.tql_plan_access.proofs.GivenLists.{given_first}
@@ -29,6 +29,12 @@ pub ok_then : {A E : Type 0} {P Q : A → Type 0} (result : Result A E) → ((x 
     → IfOk result Q
 ok_then (Ok x) f h = f x h
 ok_then (Err e) f h = h
+
+-- and from two facts
+pub ok_both : {A E : Type 0} {P Q R : A → Type 0} (result : Result A E) → ((x : A) → P x → Q x → R x) → IfOk result P
+    → IfOk result Q → IfOk result R
+ok_both (Ok x) f h k = f x h k
+ok_both (Err e) f h k = h
 
 -- ---- a key and a period
 
@@ -95,52 +101,62 @@ module _ (d : TableDef) (conds : List Cond) where
       (seen s.said s.by)
 
   module _ (values : ValuesAreMet) (points : PointsAreMet) (stretches : StretchesAreMet) where
-    -- for conjuncts of which none is out of range
-    pub serves_safe : AreSafe conds → IsDefinition d → (is_current : Bool) (o : Option Sought)
-        → IsSoughtBy d conds (first_given conds (sought_columns d))
-        (IsSaidBy d conds (if is_current then d.application else None)) o → ServesTable d conds o
-    serves_safe safe right is_current o s = record {
-      safe = λ t e. safe;
-      all = λ cells start end r m.
-          sought_found values right (first_given conds (sought_columns d)) refl
-          (IsSaidBy d conds (if is_current then d.application else None)) o s cells start end r.wide m
-          (λ said by. seen is_current said by cells start end r m);
-    }
+    -- rows that meet the conjuncts are looked at
+    met_found : IsDefinition d → (is_current : Bool) (o : Option Sought)
+        → IsSoughtBy d conds (first_given conds (sought_columns d)) (IsSaidBy d conds (period_given d is_current)) o
+        → (cells : Row) (start end : ℤ)
+        → IsRow (period_columns d) (length d.columns) (with_generated d.system cells start end)
+        → meets conds (with_generated d.system cells start end) ≡ true → is_looked_at o cells ≡ true
+    met_found right is_current o s cells start end r m =
+        sought_found values right (first_given conds (sought_columns d)) refl
+        (IsSaidBy d conds (period_given d is_current)) o s cells start end r.wide m (seen is_current)
       where
         seen : (b : Bool) (said : Option Sought) → IsSaidBy d conds (if b then d.application else None) said
-            → (cells : Row) (start end : ℤ)
-            → IsRow (period_columns d) (length d.columns) (with_generated d.system cells start end)
-            → meets conds (with_generated d.system cells start end) ≡ true → is_looked_at said cells ≡ true
-        seen true said by cells start end r m =
+            → is_looked_at said cells ≡ true
+        seen true said by =
             said_found d right points stretches conds d.application refl said by cells start end r m
-        seen false said by cells start end r m = ap (λ q. is_looked_at q cells) by
+        seen false said by = ap (λ q. is_looked_at q cells) by
 
-    -- ---- changes
-
-    -- a change of no portion touches rows that meet WHERE
-    pub serves_plain : (o : Option Sought) → ServesTable d conds o → ServesChange d None conds o
-    serves_plain None serves cells start end r m = refl
-    serves_plain (Some s) serves cells start end r m =
-        serves.all cells start end r
-        (ap (λ b. not b || meets conds (with_generated d.system cells start end)) (sym (serves.safe s refl)) ∙ m)
-
-    -- one of a portion those of them that share a point with it
-    portion_serves : IsDefinition d → (portion : Period) (safe : Bool) → list_all is_safe conds ≡ safe
-        → (o : Option Sought)
-        → IsSoughtBy d conds (cond safe (first_given conds (sought_columns d)) None)
-        (IsPortionBy d portion d.application) o
-        → ServesChange d (Some portion) conds o
-    portion_serves right portion true e o s cells start end r m =
+    -- and so are those of a portion that do
+    portion_met : IsDefinition d → (portion : Period) (o : Option Sought)
+        → IsSoughtBy d conds (first_given conds (sought_columns d)) (IsPortionBy d portion d.application) o
+        → (cells : Row) (start end : ℤ)
+        → IsRow (period_columns d) (length d.columns) (with_generated d.system cells start end)
+        → is_within d (Some portion) (with_generated d.system cells start end) && meets conds
+        (with_generated d.system cells start end) ≡ true
+        → is_looked_at o cells ≡ true
+    portion_met right portion o s cells start end r m =
         let row = with_generated d.system cells start end in
-        let parts = both (is_within d (Some portion) row) (not (list_all is_safe conds) || meets conds row) m in
+        let parts = both (is_within d (Some portion) row) (meets conds row) m in
         sought_found values right (first_given conds (sought_columns d)) refl (IsPortionBy d portion d.application) o s
-        cells start end r.wide (ap (λ b. not b || meets conds row) (sym e) ∙ parts.1)
+        cells start end r.wide parts.1
         (λ said by. portion_found d right portion d.application refl said by cells start end r.wide parts.0)
-    portion_serves right portion false e o s cells start end r m =
-        let row = with_generated d.system cells start end in
-        portion_found d right portion d.application refl o s cells start end r.wide
-        (both (is_within d (Some portion) row) (not (list_all is_safe conds) || meets conds row) m).0
 
-    pub serves_portion : IsDefinition d → (portion : Period) (o : Option Sought)
-        → IsSoughtForChange d (Some portion) conds o → ServesChange d (Some portion) conds o
-    serves_portion right portion o s = portion_serves right portion (list_all is_safe conds) refl o s
+-- ---- for the safe part
+
+-- what is sought by conjuncts that are the safe part of others is sought for those
+pub sought_for : (d : TableDef) (conds : List Cond) (is_current : Bool) (part : List Cond)
+    → part ≡ safe_part conds → (said : Option Sought) → IsSaidBy d part (period_given d is_current) said
+    → (o : Option Sought) → IsSoughtBy d part (first_given part (sought_columns d)) (λ q. q ≡ said) o
+    → IsSoughtFor d conds is_current o
+sought_for d conds is_current part e said by o s =
+    subst (λ cs. IsSoughtBy d cs (first_given cs (sought_columns d)) (IsSaidBy d cs (period_given d is_current)) o) e
+    (by_weaker d part (first_given part (sought_columns d)) (λ q. q ≡ said)
+    (IsSaidBy d part (period_given d is_current))
+    (λ q k. subst (IsSaidBy d part (period_given d is_current)) (sym k) by) o s)
+
+module _ (values : ValuesAreMet) (points : PointsAreMet) (stretches : StretchesAreMet) (d : TableDef)
+    (right : IsDefinition d) (conds : List Cond) where
+  pub serves_table : (is_current : Bool) (o : Option Sought) → IsSoughtFor d conds is_current o
+      → ServesTable d conds o
+  serves_table is_current o s =
+      record { all = met_found d (safe_part conds) values points stretches right is_current o s }
+
+  pub serves_portion : (portion : Period) (o : Option Sought) → IsSoughtForChange d (Some portion) conds o
+      → ServesChange d (Some portion) conds o
+  serves_portion portion o s = portion_met d (safe_part conds) values points stretches right portion o s
+
+-- a change of no portion touches rows that meet WHERE
+pub serves_plain : (d : TableDef) (conds : List Cond) (o : Option Sought) → ServesTable d conds o
+    → ServesChange d None conds o
+serves_plain d conds o serves cells start end r m = serves.all cells start end r m

@@ -2,8 +2,8 @@
 -- all: the same new rows in the place of as many, and the same fault.
 use Rattle.std.proofs.Common.{◌≡◌, refl, ap, sym, subst, ◌∙◌, suc, Bool, true, false, cond, List, [], ◌∷◌, ◌++◌}
 use Rattle.std.proofs.Common.{filter, flat_map}
-use Rattle.std.specs.Prelude.{ℤ, not, ◌&&◌, ◌||◌, Option, Some, None, if◌then◌else◌}
-use Rattle.std.specs.List.{AllByRecursion, list_all}
+use Rattle.std.specs.Prelude.{ℤ, not, ◌&&◌, Option, Some, None, if◌then◌else◌}
+use Rattle.std.specs.List.{AllByRecursion}
 use Rattle.std.proofs.lemmas.List.Filters.{sum_by-filter_both}
 use Rattle.std.proofs.lemmas.List.Sums.{sum_by-append}
 use Rattle.tql_spec.specs.Bag.{SameBag}
@@ -11,15 +11,15 @@ use Rattle.tql_spec.specs.Calendar.{high}
 use Rattle.tql_spec.specs.Change.{Fate, Untouched, Replaced, Work, fate, fate_where, is_touched, new_rows, outcome_of}
 use Rattle.tql_spec.specs.Change.{replacement, row_faults, touched_count}
 use Rattle.tql_spec.specs.Definition.{Stamped, TableDef, period_of, shown}
-use Rattle.tql_spec.specs.Expression.{Cond, is_safe, passes, SafeConditionsAreJudged}
+use Rattle.tql_spec.specs.Expression.{Cond, passes, SafeConditionsAreJudged}
 use Rattle.tql_spec.specs.Period.{Period, share_a_point}
 use Rattle.tql_spec.specs.Words.{◌>>=◌, map_all, with_front}
 use Rattle.tql_spec.proofs.Bags.{same-refl, same-trans, same-append}
 use Rattle.tql_spec.proofs.Members.{by_bool}
 use Rattle.tql_plan_laws.specs.Conjuncts.{meets}
-use Rattle.tql_plan_laws.proofs.Conjuncts.{passes_is}
 use Rattle.tql_store_index.specs.Basis.{Sought, is_looked_at}
-use Rattle.tql_plan_access.specs.Access.{IsShown, ServesChange, may_touch}
+use Rattle.tql_plan_access.specs.Access.{IsShown, ServesChange, may_touch, safe_part}
+use Rattle.tql_plan_access.proofs.SafePart.{decides}
 
 -- ---- the rows that are not looked at
 
@@ -72,29 +72,18 @@ module _ (law : SafeConditionsAreJudged) (d : TableDef) (portion : Option Period
       (λ e. absurd (let k : true ≡ false = sym (serves r.cells r.start high p.row e) ∙ p.unseen in cc))
       (λ e. e)
 
-  -- on one within the portion WHERE can be evaluated, and is not met
-  not_passed : (r : Stamped) → not (list_all is_safe conds) || meets conds (shown d r) ≡ false
-      → passes [] (shown d r) conds ≡ Some false
-  not_passed r e =
-      let parts = neither (list_all is_safe conds) (meets conds (shown d r)) e in
-      passes_is law conds (shown d r) parts.0 ∙ ap {B = Option Bool} (λ b. Some b) parts.1
-    where
-      neither : (a b : Bool) → not a || b ≡ false → (a ≡ true) × (b ≡ false)
-      neither true b h = (refl, h)
-      neither false b h = absurd (cc)
-
   -- so it is not touched
   pub untouched : (r : Stamped) → IsPassedOver d o r → is_touched d portion conds (shown d r) ≡ Some false
   untouched r p = by_portion portion (unmet r p)
     where
       by_portion : (q : Option Period) → may_touch d q conds (shown d r) ≡ false
           → is_touched d q conds (shown d r) ≡ Some false
-      by_portion None h = not_passed r h
+      by_portion None h = decides law conds (shown d r) h
       by_portion (Some x) h = either (share_a_point (period_of d (shown d r)) x) h
         where
-          either : (b : Bool) → b && (not (list_all is_safe conds) || meets conds (shown d r)) ≡ false
+          either : (b : Bool) → b && meets (safe_part conds) (shown d r) ≡ false
               → (if b then passes [] (shown d r) conds else Some false) ≡ Some false
-          either true e = not_passed r e
+          either true e = decides law conds (shown d r) e
           either false e = refl
 
   module _ (m : ℤ) (work : Work) where

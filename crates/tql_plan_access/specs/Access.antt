@@ -1,20 +1,31 @@
--- Which rows of a table are looked at, and that no other passes the conjuncts that are asked of each, or is touched
--- by a change.
+-- Which rows of a table are looked at, and that each other fails a conjunct that is asked of it before any that can be
+-- out of range.
 use Rattle.std.specs.Prelude.{◌≡◌, ℕ, ◌^◌, ◌-◌, ℤ, pos, ◌+ℤ◌, int_lt, Bool, true, false, ◌&&◌, ◌||◌, not, IsTrue}
-use Rattle.std.specs.Prelude.{List, [], ◌∷◌, length, Option, Some, None, is_some, unwrap_or, option_map, if◌then◌else◌}
-use Rattle.std.specs.List.{list_all, list_any}
+use Rattle.std.specs.Prelude.{List, [], length, Option, Some, None, is_some, unwrap_or, option_map, if◌then◌else◌}
+use Rattle.std.specs.Prelude.{All, filter, map, slice_index_or}
+use Rattle.std.specs.List.{find, list_all, list_any, range_with_len, take_while}
 use Rattle.tql_spec.specs.Datum.{Datum, Null, Row}
-use Rattle.tql_spec.specs.Definition.{Application, Stamped, System, TableDef, period_between, period_of, shown}
-use Rattle.tql_spec.specs.Definition.{with_generated}
-use Rattle.tql_spec.specs.Expression.{Cond, is_safe}
+use Rattle.tql_spec.specs.Definition.{Application, Stamped, System, TableDef, Version, period_between, period_of}
+use Rattle.tql_spec.specs.Definition.{shown, with_generated}
+use Rattle.tql_spec.specs.Expression.{Cond, is_safe, passes}
 use Rattle.tql_spec.specs.Period.{Period, rises, share_a_point}
+use Rattle.tql_spec.specs.Query.{keep}
 use Rattle.tql_catalog.specs.Sought.{sought_columns}
-use Rattle.tql_plan_laws.specs.Conjuncts.{AreSafe, meets}
+use Rattle.tql_plan_laws.specs.Conjuncts.{meets}
 use Rattle.tql_plan_laws.specs.Constants.{ArePoints, point_in, stretch_in, value_in, tuple_in}
 use Rattle.tql_period.specs.Points.{points_of}
 use Rattle.tql_store_index.specs.Basis.{Sought, With, WithIn, Holding, Sharing, is_looked_at}
 use Rattle.tql_plan_access.specs.declared.access.Manner.{Manner}
 use Rattle.tql_plan_access.specs.declared.access.Manner.TheVariants as manner
+
+-- the conjuncts before the first that can be out of range: on a row that one of them fails, none after it is evaluated
+abbrev pub safe_part : List Cond → List Cond
+safe_part conds = take_while is_safe conds
+
+-- the law: a row that does not meet the safe part fails the conjuncts, and is not refused
+abbrev pub SafePartDecides : Type 0
+SafePartDecides =
+    (conds : List Cond) (row : Row) → meets (safe_part conds) row ≡ false → passes [] row conds ≡ Some false
 
 -- what is sought in this manner; none where all rows are looked at
 abbrev pub sought_by : Manner → List ℕ → List Datum → Option Sought
@@ -57,17 +68,30 @@ period_columns d = option_map (λ a. (a.start, a.end)) d.application
 abbrev pub IsShown : TableDef → Stamped → Type 0
 IsShown d r = IsRow (period_columns d) (length d.columns) (shown d r)
 
--- each row of a table of such rows, its generated cells with it, that meets the conjuncts is looked at, whichever
--- moments these are; and where not all rows are, no conjunct can be out of range
+-- each row of a table of such rows, its generated cells with it, that meets the safe part of the conjuncts is looked
+-- at, whichever moments these are
 pub record Serves (system : Option System) (period : Option (ℕ × ℕ)) (width : ℕ) (conds : List Cond)
     (o : Option Sought) : Type 0 where
-  pub safe : (s : Sought) → o ≡ Some s → AreSafe conds
   pub all : (cells : Row) (start end : ℤ) → IsRow period width (with_generated system cells start end)
-      → IsTrue (meets conds (with_generated system cells start end)) → IsTrue (is_looked_at o cells)
+      → IsTrue (meets (safe_part conds) (with_generated system cells start end)) → IsTrue (is_looked_at o cells)
 
 -- that of the rows of a table
 abbrev pub ServesTable : TableDef → List Cond → Option Sought → Type 0
 ServesTable d conds o = Serves d.system (period_columns d) (length d.columns) conds o
+
+-- a version as a row, with its moments in the generated columns
+abbrev pub completed : Option System → Version → Row
+completed system v = with_generated system v.row.cells v.row.start v.end
+
+-- the law: of versions that are rows of their table, those that are looked at give what all give: the same pass the
+-- conjuncts, or a conjunct is out of range
+abbrev pub LookingIsEnough : Type 0
+LookingIsEnough =
+    (system : Option System) (period : Option (ℕ × ℕ)) (width : ℕ) (conds : List Cond) (o : Option Sought)
+    → Serves system period width conds o → (vs : List Version)
+    → All (λ v. IsRow period width (completed system v)) vs
+    → keep conds (map (completed system) (filter (λ v. is_looked_at o v.row.cells) vs))
+    ≡ keep conds (map (completed system) vs)
 
 -- ---- a change
 
@@ -76,10 +100,9 @@ abbrev pub is_within : TableDef → Option Period → Row → Bool
 is_within d None row = true
 is_within d (Some portion) row = share_a_point (period_of d row) portion
 
--- whether a change may touch a row, or be refused for it: it is within the portion, and meets WHERE or WHERE may be out
--- of range
+-- whether a change may touch a row, or be refused for it: it is within the portion, and meets the safe part of WHERE
 abbrev pub may_touch : TableDef → Option Period → List Cond → Row → Bool
-may_touch d portion conds row = is_within d portion row && (not (list_all is_safe conds) || meets conds row)
+may_touch d portion conds row = is_within d portion row && meets (safe_part conds) row
 
 -- each such row of a table is looked at, whichever moments stand in its generated columns
 abbrev pub ServesChange : TableDef → Option Period → List Cond → Option Sought → Type 0
@@ -100,24 +123,30 @@ value_or_null conds column = unwrap_or (value_in column conds) Null
 
 -- the first list of columns each of which they give a value
 abbrev pub first_given : List Cond → List (List ℕ) → Option (List ℕ)
-first_given conds [] = None
-first_given conds (is ∷ lists) = if are_given conds is then Some is else first_given conds lists
+first_given conds lists = find (are_given conds) lists
 
--- of the keys of a table, and then of its references, each in the order of their declaration; none where a conjunct can
--- be out of range
+-- of each of so many columns whether they give it a value
+abbrev pub given_marks : List Cond → ℕ → List Bool
+given_marks conds width = map (λ i. is_some (value_in i conds)) (range_with_len 0 width)
+
+-- whether all of these columns are marked
+abbrev pub are_marked : List Bool → List ℕ → Bool
+are_marked marks columns = list_all (λ i. slice_index_or marks i false) columns
+
+-- of the keys of a table, and then of its references, each in the order of their declaration, by the values that the
+-- safe part gives
 abbrev pub key_given : TableDef → List Cond → Option (List ℕ)
-key_given d conds = if list_all is_safe conds then first_given conds (sought_columns d) else None
+key_given d conds = first_given (safe_part conds) (sought_columns d)
 
--- whether no conjunct can be out of range, and they give a value to each column of some key or of some reference
+-- whether the safe part gives a value to each column of some key or of some reference
 abbrev pub names_key : TableDef → List Cond → Bool
-names_key d conds = list_all is_safe conds && list_any (are_given conds) (sought_columns d)
+names_key d conds = list_any (are_given (safe_part conds)) (sought_columns d)
 
 -- ---- a period
 
--- the application period of a table by which rows are found, where they are current ones and no conjunct can be out of
--- range
-abbrev pub period_given : TableDef → List Cond → Bool → Option Application
-period_given d conds is_current = if list_all is_safe conds && is_current then d.application else None
+-- the application period of a table by which rows are found, where they are current ones
+abbrev pub period_given : TableDef → Bool → Option Application
+period_given d is_current = if is_current then d.application else None
 
 -- what is sought of the period between two stored columns, where conjuncts say something of it; a point before a period
 abbrev pub sought_between : ℕ × ℕ → Option ℤ → Option Period → Option Sought
@@ -130,9 +159,9 @@ abbrev pub say_of : List Cond → Option Application → Bool
 say_of conds None = false
 say_of conds (Some a) = is_some (point_in a.start a.end conds) || is_some (stretch_in a.start a.end conds)
 
--- whether no conjunct can be out of range, they name no key, and they say so of the table's application period
+-- whether the safe part names no key, and says so of the table's application period
 abbrev pub names_period : TableDef → List Cond → Bool
-names_period d conds = list_all is_safe conds && (not (names_key d conds) && say_of conds d.application)
+names_period d conds = not (names_key d conds) && say_of (safe_part conds) d.application
 
 -- ---- a key and a period
 

@@ -7,7 +7,7 @@ use Rattle.tql_spec.specs.Period.{Period}
 use Rattle.tql_catalog.specs.Rows.{AreStoredAt, IsStoredAt}
 use Rattle.tql_plan_laws.specs.Constants.{point_in, stretch_in}
 use Rattle.tql_store_index.specs.Basis.{Sought}
-use Rattle.tql_plan_access.specs.Access.{key_given, narrowed, period_given, sought_between, value_or_null}
+use Rattle.tql_plan_access.specs.Access.{key_given, narrowed, period_given, safe_part, sought_between, value_or_null}
 
 -- ---- a period
 
@@ -47,16 +47,15 @@ abbrev pub IsSoughtBy : TableDef → List Cond → Option (List ℕ) → (Option
 IsSoughtBy d conds (Some columns) IsSaid o = IsGivenOf d conds columns IsSaid o
 IsSoughtBy d conds None IsSaid o = IsSaid o
 
--- so they are by the first key of which conjuncts give each column a value, else by the first such reference; of
--- current rows by what conjuncts say of the table's application period, within these or alone; all are looked at where
--- a conjunct can be out of range
+-- so they are by the first key to each of whose columns the safe part of the conjuncts gives a value, else by the first
+-- such reference; of current rows by what it says of the table's application period, within these or alone
 abbrev pub IsSoughtFor : TableDef → List Cond → Bool → Option Sought → Type 0
 IsSoughtFor d conds is_current o =
-    IsSoughtBy d conds (key_given d conds) (IsSaidBy d conds (period_given d conds is_current)) o
+    IsSoughtBy d (safe_part conds) (key_given d conds)
+    (IsSaidBy d (safe_part conds) (period_given d is_current)) o
 
--- so a change seeks the current rows; of a portion by that, in the place of what conjuncts say, also where one of them
--- can be out of range
+-- so a change seeks the current rows; of a portion by that, in the place of what the safe part says
 abbrev pub IsSoughtForChange : TableDef → Option Period → List Cond → Option Sought → Type 0
 IsSoughtForChange d None conds o = IsSoughtFor d conds true o
 IsSoughtForChange d (Some portion) conds o =
-    IsSoughtBy d conds (key_given d conds) (IsPortionBy d portion d.application) o
+    IsSoughtBy d (safe_part conds) (key_given d conds) (IsPortionBy d portion d.application) o

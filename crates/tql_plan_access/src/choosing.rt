@@ -4,11 +4,12 @@ ghost use Rattle.tql_catalog.specs.Defined.{IsDefinition};
 ghost use Rattle.tql_catalog.specs.Sought.{sought_columns};
 ghost use Rattle.tql_expr.specs.Meaning.{cond, HasCond};
 ghost use Rattle.tql_period.specs.Points.{points_of};
-ghost use Rattle.tql_plan_access.specs.Access.{first_given, key_given, ServesChange, ServesTable, sought_in};
+ghost use Rattle.tql_plan_access.specs.Access.{first_given, key_given, safe_part, ServesChange, ServesTable, sought_in};
 ghost use Rattle.tql_plan_access.specs.Said.{IsPortionBy, IsSoughtBy, IsSoughtFor, IsSoughtForChange};
 
 use crate::access::{Access, Manner};
-use crate::given::{are_safe, given_columns};
+use crate::given::given_columns;
+use crate::safe::safe_conjuncts;
 use crate::said::{current_manner, portion_manner};
 use std::alloc::AllocError;
 use tql_catalog::table_def::TableDef;
@@ -30,19 +31,19 @@ fn keyed<'a>(
     ensures sought { IfOk result (λ a. IsSoughtBy definition.now (map (cond terms.now) conjuncts.now)
         (first_given (map (cond terms.now) conjuncts.now) (sought_columns definition.now))
         (λ o. o ≡ sought_in said) a) }
-    ensures right { IsDefinition definition.now }
+    ensures right { IfOk result (λ a. IsDefinition definition.now) }
 {
-    match given_columns(definition, terms, conjuncts) {
+    match given_columns(memory, definition, terms, conjuncts)? {
         Some(columns) => Access::by_key(memory, definition, terms, conjuncts, columns, said),
         None => Ok(Access::by_period(memory, said)),
     }
 }
 
-/// Which rows of a table have to be looked at where these conjuncts are asked of each row: no other row passes them.
-/// Where none can be out of range: where they give a value to each column of a key, or else of a reference, those with
-/// these values, of the first such; of current rows, where they say that the application period contains a point, or
-/// else overlaps with a period, that is written out, those whose period does, among these or alone. Else all. The only
-/// error is a refused growth.
+/// Which rows of a table have to be looked at where these conjuncts are evaluated on each: each other row fails one of
+/// those before the first that can be out of range. Where those give a value to each column of a key, or else of a
+/// reference, the rows with these values, of the first such; of current rows, where they say that the application
+/// period contains a point, or else overlaps with a period, that is written out, those whose period does, among these
+/// or alone. Else all. The only error is a refused growth.
 pub fn access<'a>(
     memory: Memory,
     definition: &TableDef,
@@ -56,15 +57,12 @@ pub fn access<'a>(
         is_current a) }
 {
     constants_are_met();
-    if !are_safe(terms, conjuncts) {
-        return Ok(Access::whole(memory));
-    }
-    let said = current_manner(definition, terms, conjuncts, is_current);
-    keyed(memory, definition, terms, conjuncts, said)
+    let decisive = safe_conjuncts(terms, conjuncts);
+    let said = current_manner(definition, terms, decisive, is_current);
+    keyed(memory, definition, terms, decisive, said)
 }
 
-/// The current rows of a table that share a point with a portion; where no conjunct can be out of range, of them those
-/// of a key or of a reference.
+/// The current rows of a table that share a point with a portion, of them those of a key or of a reference.
 fn portion_access<'a>(
     memory: Memory,
     definition: &TableDef,
@@ -73,23 +71,25 @@ fn portion_access<'a>(
     portion: Period,
 ) -> Result<Access<'a>, AllocError>
     requires { All (HasCond terms.now) conjuncts.now }
-    ensures sought { IfOk result (λ a. IsSoughtBy definition.now (map (cond terms.now) conjuncts.now)
+    ensures sought { IfOk result (λ a. IsSoughtBy definition.now (safe_part (map (cond terms.now) conjuncts.now))
         (key_given definition.now (map (cond terms.now) conjuncts.now))
         (IsPortionBy definition.now (points_of portion) definition.now.application) a) }
     ensures right { IsDefinition definition.now }
 {
     let said = portion_manner(definition, portion);
-    if are_safe(terms, conjuncts) {
-        keyed(memory, definition, terms, conjuncts, said)
-    } else {
-        Ok(Access::by_period(memory, said))
-    }
+    keyed(
+        memory,
+        definition,
+        terms,
+        safe_conjuncts(terms, conjuncts),
+        said,
+    )
 }
 
 /// Which current rows of a table have to be looked at for a change of the rows that pass these conjuncts, or of their
 /// portion: no other row is touched, or has it refused. Of a portion those whose application period shares a point with
-/// it, among those of a key or a reference where no conjunct can be out of range, which are found as by `access`; else
-/// those of `access`. The only error is a refused growth.
+/// it, among those of a key or a reference, which are found as by [`access`]; else those of [`access`]. The only error
+/// is a refused growth.
 pub fn change_access<'a>(
     memory: Memory,
     definition: &TableDef,

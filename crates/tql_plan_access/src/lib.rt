@@ -5,4 +5,5 @@
 pub mod access;
 pub mod choosing;
 mod given;
+pub mod safe;
 mod said;

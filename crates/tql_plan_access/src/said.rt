@@ -1,10 +1,10 @@
 //! What conjuncts, or a portion, say of a table's application period.
-ghost use Rattle.std.specs.Prelude.{◌≡◌, All, map, if◌then◌else◌, None};
+ghost use Rattle.std.specs.Prelude.{◌≡◌, All, map};
 ghost use Rattle.tql_catalog.specs.Defined.{IsDefinition};
 ghost use Rattle.tql_expr.specs.Meaning.{cond, HasCond};
 ghost use Rattle.tql_period.specs.Points.{points_of};
 ghost use Rattle.tql_plan_laws.specs.Constants.{point_in, stretch_in};
-ghost use Rattle.tql_plan_access.specs.Access.{sought_between, sought_in};
+ghost use Rattle.tql_plan_access.specs.Access.{period_given, sought_between, sought_in};
 ghost use Rattle.tql_plan_access.specs.Said.{IsPortionBy, IsSaidBy};
 
 use crate::access::Manner;
@@ -58,7 +58,7 @@ pub(crate) fn current_manner(
 ) -> Manner
     requires { All (HasCond terms.now) conjuncts.now }
     ensures { IsSaidBy definition.now (map (cond terms.now) conjuncts.now)
-        (if is_current then definition.now.application else None) (sought_in result) }
+        (period_given definition.now is_current) (sought_in result) }
 {
     if is_current {
         said_manner(definition, terms, conjuncts)

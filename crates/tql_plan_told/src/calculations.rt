@@ -1,7 +1,7 @@
 //! The first calculation of ON and WHERE: what keeps rows from being sought, since it may be out of range.
 use crate::references::join_condition;
-use crate::words::Words;
 use std::alloc::AllocError;
+use tql_detail::shown::{Words, push_behind};
 use tql_memory::Memory;
 use tql_syntax_tree::condition::{Cond, Conj, Marked, Operand, Test};
 use tql_syntax_tree::expression::{Expr, Named, Primary, Sign, Signed, Term};
@@ -11,24 +11,24 @@ use tql_syntax_tree::statement::{ChainTree, SelectTree};
 fn say_column(memory: Memory, named: Named<'_>, words: &mut Words) -> Result<(), AllocError> {
     if let Some(qualifier) = named.qualifier {
         let qualifier = qualifier.meant(memory)?;
-        words.show("", qualifier.as_str())?;
-        words.say(".")?;
+        push_behind(words, "", qualifier.as_str())?;
+        words.push_str(".")?;
     }
     let name = named.name.meant(memory)?;
-    words.show("", name.as_str())
+    push_behind(words, "", name.as_str())
 }
 
 /// Says an operand in which nothing is calculated.
 #[cycle(operands)]
 fn say_primary(memory: Memory, primary: &Primary<'_>, words: &mut Words) -> Result<(), AllocError> {
     match primary {
-        Primary::Number(digits) => words.show("", digits),
-        Primary::Text(text) => words.show("", text),
-        Primary::Date(text) => words.show("DATE ", text),
-        Primary::Timestamp(text) => words.show("TIMESTAMP ", text),
+        Primary::Number(digits) => push_behind(words, "", digits),
+        Primary::Text(text) => push_behind(words, "", text),
+        Primary::Date(text) => push_behind(words, "DATE ", text),
+        Primary::Timestamp(text) => push_behind(words, "TIMESTAMP ", text),
         Primary::Column(named) => say_column(memory, *named, words),
         Primary::Enclosed(inner) => say_expr(memory, inner, words),
-        Primary::CountStar | Primary::Over(_, _) => words.say(".."),
+        Primary::CountStar | Primary::Over(_, _) => words.push_str(".."),
     }
 }
 
@@ -36,7 +36,7 @@ fn say_primary(memory: Memory, primary: &Primary<'_>, words: &mut Words) -> Resu
 #[cycle(operands)]
 fn say_signed(memory: Memory, signed: &Signed<'_>, words: &mut Words) -> Result<(), AllocError> {
     match signed.sign {
-        Sign::Minus => words.say("-")?,
+        Sign::Minus => words.push_str("-")?,
         Sign::None | Sign::Plus => {}
     }
     say_primary(memory, &signed.primary, words)
@@ -58,15 +58,18 @@ fn negates(signed: &Signed<'_>) -> bool {
     matches!(signed.sign, Sign::Minus) && !is_number(&signed.primary)
 }
 
-/// Tells the first calculation of a primary with its sign.
+/// Tells the first calculation of a primary with its sign, where none is told yet.
 #[cycle(calculations)]
 fn tell_signed(memory: Memory, signed: &Signed<'_>, words: &mut Words) -> Result<(), AllocError> {
+    if !words.as_str().is_empty() {
+        return Ok(());
+    }
     match &signed.primary {
         Primary::Enclosed(inner) => tell_expr(memory, inner, words)?,
         Primary::Over(_, inner) => tell_expr(memory, inner, words)?,
         _ => {}
     }
-    if !words.are_there() && negates(signed) {
+    if words.as_str().is_empty() && negates(signed) {
         say_signed(memory, signed, words)?;
     }
     Ok(())
@@ -77,12 +80,10 @@ fn tell_signed(memory: Memory, signed: &Signed<'_>, words: &mut Words) -> Result
 fn tell_term(memory: Memory, term: &Term<'_>, words: &mut Words) -> Result<(), AllocError> {
     tell_signed(memory, &term.first, words)?;
     for signed in &term.more {
-        if !words.are_there() {
-            tell_signed(memory, signed, words)?;
-        }
-        if !words.are_there() {
+        tell_signed(memory, signed, words)?;
+        if words.as_str().is_empty() {
             say_signed(memory, &term.first, words)?;
-            words.say(" * ")?;
+            words.push_str(" * ")?;
             say_signed(memory, signed, words)?;
         }
     }
@@ -99,33 +100,22 @@ fn sign_of(is_minus: bool) -> &'static str {
 fn tell_expr(memory: Memory, expr: &Expr<'_>, words: &mut Words) -> Result<(), AllocError> {
     tell_term(memory, &expr.first, words)?;
     for added in &expr.more {
-        if !words.are_there() {
-            tell_term(memory, &added.term, words)?;
-        }
-        if !words.are_there() {
+        tell_term(memory, &added.term, words)?;
+        if words.as_str().is_empty() {
             say_signed(memory, &expr.first.first, words)?;
-            words.say(sign_of(added.is_minus))?;
+            words.push_str(sign_of(added.is_minus))?;
             say_signed(memory, &added.term.first, words)?;
         }
     }
     Ok(())
 }
 
-/// Tells the first calculation of an expression, where none is told yet.
-fn tell_next(memory: Memory, expr: &Expr<'_>, words: &mut Words) -> Result<(), AllocError> {
-    if words.are_there() {
-        Ok(())
-    } else {
-        tell_expr(memory, expr, words)
-    }
-}
-
 /// Tells the first calculation of a period that is marked.
 fn tell_marked(memory: Memory, marked: &Marked<'_>, words: &mut Words) -> Result<(), AllocError> {
     match marked {
         Marked::FromEnds(start, end) => {
-            tell_next(memory, start, words)?;
-            tell_next(memory, end, words)
+            tell_expr(memory, start, words)?;
+            tell_expr(memory, end, words)
         }
         Marked::SystemTime(_) => Ok(()),
     }
@@ -150,7 +140,7 @@ fn tell_members(
     words: &mut Words,
 ) -> Result<(), AllocError> {
     for member in members {
-        tell_next(memory, member, words)?;
+        tell_expr(memory, member, words)?;
     }
     Ok(())
 }
@@ -161,18 +151,18 @@ fn tell_test(memory: Memory, test: &Test<'_>, words: &mut Words) -> Result<(), A
     match test {
         Test::Grouped(condition) => tell_condition(memory, condition, words),
         Test::Compared(_, left, right) => {
-            tell_next(memory, left, words)?;
-            tell_next(memory, right, words)
+            tell_expr(memory, left, words)?;
+            tell_expr(memory, right, words)
         }
-        Test::Null(_, value) => tell_next(memory, value, words),
+        Test::Null(_, value) => tell_expr(memory, value, words),
         Test::Between(_, value, low, high) => {
-            tell_next(memory, value, words)?;
-            tell_next(memory, low, words)?;
-            tell_next(memory, high, words)
+            tell_expr(memory, value, words)?;
+            tell_expr(memory, low, words)?;
+            tell_expr(memory, high, words)
         }
         Test::In(_, value, first, more) => {
-            tell_next(memory, value, words)?;
-            tell_next(memory, first, words)?;
+            tell_expr(memory, value, words)?;
+            tell_expr(memory, first, words)?;
             tell_members(memory, more, words)
         }
         Test::Related(left, _, right) => {
@@ -185,7 +175,7 @@ fn tell_test(memory: Memory, test: &Test<'_>, words: &mut Words) -> Result<(), A
         }
         Test::ContainsPoint(left, right) => {
             tell_operand(memory, left, words)?;
-            tell_next(memory, right, words)
+            tell_expr(memory, right, words)
         }
     }
 }
@@ -231,7 +221,7 @@ pub(crate) fn first_calculation(
     memory: Memory,
     select: &SelectTree<'_>,
 ) -> Result<Words, AllocError> {
-    let mut words = Words::none(memory);
+    let mut words = String::new(memory);
     tell_chain(memory, &select.first, &mut words)?;
     for chain in &select.more {
         tell_chain(memory, chain, &mut words)?;

@@ -5,4 +5,3 @@ mod calculations;
 mod columns;
 mod references;
 pub mod told;
-mod words;

@@ -4,12 +4,12 @@ use crate::columns::{
     chain_column, chains_column, column_name, definition_of, is_key, reference_column,
 };
 use crate::references::joined_reference;
-use crate::words::Words;
 use std::alloc::AllocError;
 use tql_bound::query::Chain;
 use tql_bound::reference::Reference;
 use tql_catalog::catalog::Catalog;
 use tql_catalog::table_def::TableDef;
+use tql_detail::shown::{Words, push_behind};
 use tql_expr::equality::Equality;
 use tql_memory::Memory;
 use tql_plan::plan::Plan;
@@ -31,8 +31,8 @@ struct Told<'t, 's, 'r, 'p> {
 fn say_when(when: When, words: &mut Words) -> Result<(), AllocError> {
     match when {
         When::Now => Ok(()),
-        When::AsOf(_) => words.say(" as of a moment"),
-        When::FromTo(_, _) | When::Between(_, _) => words.say(" over a range of moments"),
+        When::AsOf(_) => words.push_str(" as of a moment"),
+        When::FromTo(_, _) | When::Between(_, _) => words.push_str(" over a range of moments"),
     }
 }
 
@@ -61,11 +61,11 @@ fn say_reference(
     words: &mut Words,
 ) -> Result<(), AllocError> {
     if let Some(definition) = definition_of(told.catalog, reference) {
-        words.show("", definition.name())?;
+        push_behind(words, "", definition.name())?;
     }
     if let Some(alias) = alias_at(told.select, place, number) {
         let name = alias.meant(told.memory)?;
-        words.show(" ", name.as_str())?;
+        push_behind(words, " ", name.as_str())?;
     }
     say_when(reference.when, words)
 }
@@ -80,16 +80,16 @@ fn say_columns(
     for place in stored {
         let column = definition.assignable().get(*place).copied();
         if let Some(name) = column.and_then(|number| column_name(definition, number)) {
-            words.show(mark, name)?;
+            push_behind(words, mark, name)?;
             mark = ", ";
         }
     }
-    words.say(")")
+    words.push_str(")")
 }
 
 /// Says the key or the reference of a table by whose columns rows are found.
 fn say_key(definition: &TableDef, stored: &[usize], words: &mut Words) -> Result<(), AllocError> {
-    words.say(if is_key(definition, stored) {
+    words.push_str(if is_key(definition, stored) {
         " by its key"
     } else {
         " by its reference"
@@ -99,10 +99,10 @@ fn say_key(definition: &TableDef, stored: &[usize], words: &mut Words) -> Result
 
 /// Says the application period of a table by which rows are found.
 fn say_period(definition: &TableDef, means: &str, words: &mut Words) -> Result<(), AllocError> {
-    words.say(means)?;
+    words.push_str(means)?;
     match definition.application() {
-        Some(application) => words.show(" its period ", application.name.as_str()),
-        None => words.say(" its period"),
+        Some(application) => push_behind(words, " its period ", application.name.as_str()),
+        None => words.push_str(" its period"),
     }
 }
 
@@ -113,7 +113,7 @@ fn say_sought(
     words: &mut Words,
 ) -> Result<(), AllocError> {
     match sought {
-        None => words.say(" read whole"),
+        None => words.push_str(" read whole"),
         Some(Sought::With(stored, _)) => say_key(definition, stored, words),
         Some(Sought::WithIn(stored, _, _, _, _)) => {
             say_key(definition, stored, words)?;
@@ -121,11 +121,11 @@ fn say_sought(
         }
         Some(Sought::Holding(_, _, _)) => {
             say_period(definition, " by", words)?;
-            words.say(" (CONTAINS)")
+            words.push_str(" (CONTAINS)")
         }
         Some(Sought::Sharing(_, _, _)) => {
             say_period(definition, " by", words)?;
-            words.say(" (OVERLAPS)")
+            words.push_str(" (OVERLAPS)")
         }
     }
 }
@@ -141,11 +141,11 @@ struct Equal<'t> {
 
 /// Says two such columns, and by which means partners can be found by them.
 fn say_equal(means: &str, equal: Equal<'_>, words: &mut Words) -> Result<(), AllocError> {
-    words.show(means, equal.near)?;
+    push_behind(words, means, equal.near)?;
     if equal.near == equal.far {
         Ok(())
     } else {
-        words.show(" = ", equal.far)
+        push_behind(words, " = ", equal.far)
     }
 }
 
@@ -163,11 +163,11 @@ fn say_index(
     };
     for number in columns {
         if let Some(name) = column_name(definition, *number) {
-            words.show(mark, name)?;
+            push_behind(words, mark, name)?;
             mark = ", ";
         }
     }
-    if is_one { Ok(()) } else { words.say(")") }
+    if is_one { Ok(()) } else { words.push_str(")") }
 }
 
 /// Whether a list of columns is this one alone.
@@ -195,7 +195,7 @@ fn say_partners(
             }
         }
         (_, _, Some(equal)) => say_equal(" by map on ", equal, words),
-        (_, _, None) => words.say(" by pairs"),
+        (_, _, None) => words.push_str(" by pairs"),
     }
 }
 
@@ -241,7 +241,7 @@ impl<'t, 'p> Told<'t, '_, '_, 'p> {
     /// Says the joins of a chain, each behind a comma.
     fn say_joins(self, place: usize, chain: &Chain, words: &mut Words) -> Result<(), AllocError> {
         for (at, join) in chain.joins.iter().enumerate() {
-            words.say(", ")?;
+            words.push_str(", ")?;
             say_reference(self, join.reference, place, at.saturating_add(1), words)?;
             self.say_step(place, at, chain, join.reference, words)?;
         }
@@ -303,14 +303,14 @@ impl<'t, 'p> Told<'t, '_, '_, 'p> {
     /// Says a chain behind others: one reference by itself, and several in parentheses.
     fn say_next(self, place: usize, chain: &Chain, words: &mut Words) -> Result<(), AllocError> {
         if chain.joins.is_empty() {
-            words.say(", ")?;
+            words.push_str(", ")?;
             say_reference(self, chain.first, place, 0, words)?;
         } else {
-            words.say(", (")?;
+            words.push_str(", (")?;
             say_reference(self, chain.first, place, 0, words)?;
-            words.say(" read whole")?;
+            words.push_str(" read whole")?;
             self.say_joins(place, chain, words)?;
-            words.say(")")?;
+            words.push_str(")")?;
         }
         self.say_product(place, chain, words)
     }
@@ -325,16 +325,15 @@ impl<'t, 'p> Told<'t, '_, '_, 'p> {
         }
     }
 
-    /// Says what may be out of range, where it keeps rows from being sought.
+    /// Says what may be out of range, where for it nothing is sought.
     fn say_reason(self, words: &mut Words) -> Result<(), AllocError> {
-        if self.plan.is_safe {
+        if self.plan.is_safe || self.plan.access.sought().is_some() {
             return Ok(());
         }
         let calculation = first_calculation(self.memory, self.select)?;
-        let calculation = calculation.into_text();
-        words.say(", since ")?;
-        words.say(calculation.as_str())?;
-        words.say(" may be out of range")
+        words.push_str(", since ")?;
+        words.push_str(calculation.as_str())?;
+        words.push_str(" may be out of range")
     }
 }
 
@@ -342,23 +341,23 @@ impl<'t, 'p> Told<'t, '_, '_, 'p> {
 /// found. The first one's are found by a key, a reference or the application period of its table, or it is read whole;
 /// the others' can be by an index of columns, which many rows do not ask, or by a map of their rows by a column, that
 /// ON or WHERE says to be equal to some before, or all pairs are compared. Where a calculation of ON or WHERE may be
-/// out of range, the first one is told, since for it nothing is sought. The only error is a refused growth.
+/// out of range and nothing is sought, the first one is told. The only error is a refused growth.
 pub fn plan_words(
     memory: Memory,
     catalog: &Catalog,
     select: &SelectTree<'_>,
     plan: &Plan<'_>,
-) -> Result<String<Memory>, AllocError> {
+) -> Result<Words, AllocError> {
     let told = Told {
         memory,
         catalog,
         select,
         plan,
     };
-    let mut words = Words::none(memory);
+    let mut words = String::new(memory);
     for (place, chain) in plan.query.chains.iter().enumerate() {
         told.say_chain(place, chain, &mut words)?;
     }
     told.say_reason(&mut words)?;
-    Ok(words.into_text())
+    Ok(words)
 }

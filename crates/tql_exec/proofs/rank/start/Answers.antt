@@ -7,7 +7,7 @@ use Rattle.tql_exec.specs.Rank.{start_of}
 use Rattle.tql_exec.proofs.Ranked.{start_more}
 use Rattle.tql_exec.proofs.rank.start.Goals as goal
 
--- what is read of fewer than eight bytes leaves room for one more
+-- a number of fewer than eight bytes has room for one more
 fits : (place number : ℕ) → place < 8 → number < 256 ^ place → number < 2 ^ 56
 fits place number h k =
     let w : 256 ^ place ≤ 256 ^ 7 = pow-le-pow_right (omega arith) {i = place} {j = 7} (omega arith) in

@@ -2,7 +2,7 @@ use Rattle.std.proofs.Common.{◌≡◌, ◌+◌, ◌-◌, ◌*◌, ◌^◌, ◌
 use Rattle.tql_exec.specs.Rank.{start_of}
 use Rattle.tql_exec.proofs.rank.start.Given as goal
 
--- what is read so far, before what stands for the places that are left, is the whole number
+-- invariant: the number so far, shifted by the bytes left, plus the number of those is the whole number
 abbrev pub invariant-loop-place : goal.invariant-loop-place
 invariant-loop-place l =
     (l.number < 256 ^ l.place)

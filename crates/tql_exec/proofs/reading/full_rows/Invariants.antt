@@ -4,7 +4,7 @@ use Rattle.tql_versions.specs.Readings.{version_shown as version_of}
 use Rattle.tql_exec.specs.Found.{completed}
 use Rattle.tql_exec.proofs.reading.full_rows.Given as goal
 
--- the rows so far, before those of the versions that are left, are all rows
+-- invariant: the rows so far, and those of the versions left, are all rows
 abbrev pub invariant-loop-version : goal.invariant-loop-version
 invariant-loop-version l =
     l.rows.items ++ map (completed (generated l.system)) (map version_of (drop l.version-index l.versions))

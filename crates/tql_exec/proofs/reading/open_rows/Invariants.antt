@@ -5,7 +5,7 @@ use Rattle.tql_versions.specs.Views.{versions_of}
 use Rattle.tql_exec.specs.Found.{completed}
 use Rattle.tql_exec.proofs.reading.open_rows.Given as goal
 
--- the rows so far, before those of the versions that are left, are all rows
+-- invariant: the rows so far, and those of the versions left, are all rows
 abbrev pub invariant-loop-id : goal.invariant-loop-id
 invariant-loop-id l =
     l.rows.items ++ map (completed (generated l.system)) (open_ones (versions_of (drop l.id l.versions)))

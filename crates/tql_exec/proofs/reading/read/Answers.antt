@@ -1,4 +1,4 @@
--- The rows are those of the versions that are found.
+-- The rows are those of the versions found.
 use Rattle.std.proofs.Common.{◌≡◌, ◌∙◌, ap, sym, subst, map, List}
 use Rattle.tql_spec.specs.Bag.{SameBag}
 use Rattle.tql_spec.specs.Datum.{Row}

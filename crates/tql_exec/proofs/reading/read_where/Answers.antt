@@ -1,4 +1,4 @@
--- What passes of the versions that are looked at, over bags.
+-- The rows of the versions read that pass, over bags.
 use Rattle.std.proofs.Common.{List, filter, map, subst}
 use Rattle.tql_spec.specs.Bag.{SameBag}
 use Rattle.tql_spec.specs.Definition.{Version}
@@ -22,7 +22,7 @@ returns g c copies working r wide =
     let rows = map (completed (generated c.args.source.system)) found in
     let all = bags_in c.args.snapshot.now copies working s in
     regiven (λ v. v.items) (keep conds rows) (keep conds all) c.passing_rows.result
-    (looked_same c.joins_keep_no_order.ensures c.safe_conjuncts_filter.ensures.filter c.args.snapshot.now copies
+    (looked_same c.joins_keep_no_order.ensures c.safe_part_decides.ensures.enough c.args.snapshot.now copies
     working s
     conds c.args.access.now c.requires.served wide found
     (subst (λ o. SameBag found (filter (λ (v : Version). is_looked_at o v.row.cells)
@@ -31,7 +31,7 @@ returns g c copies working r wide =
     (given (λ v. v.items) (keep conds rows) c.passing_rows.result
     (rw c.deref.ensures.value at c.passing_rows.ensures))
 
--- and of all rows now
+-- the same for the current rows
 pub returns-in-None-Some : goal.returns-in-None-Some
 returns-in-None-Some g c copies working r wide =
     let conds = map (cond c.args.terms.now) c.args.filter.now in

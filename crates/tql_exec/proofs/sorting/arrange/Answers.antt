@@ -1,4 +1,4 @@
--- Sorted, and each once where that is asked, rows are what is printed.
+-- Rows that are sorted, and without duplicates under DISTINCT, are the printed rows.
 use Rattle.std.proofs.Common.{map, ap, sym, ◌∙◌}
 use Rattle.tql_spec.proofs.Bags.{same-trans}
 use Rattle.tql_spec.specs.Query.{in_order, if_distinct}

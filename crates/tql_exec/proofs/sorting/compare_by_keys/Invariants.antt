@@ -4,7 +4,7 @@ use Rattle.tql_bound.specs.Queries.{order_of}
 use Rattle.tql_value.specs.Views.{row_of}
 use Rattle.tql_exec.proofs.sorting.compare_by_keys.Given as goal
 
--- the keys that are left decide
+-- invariant: the keys left decide
 abbrev pub invariant-loop-key : goal.invariant-loop-key
 invariant-loop-key l =
     by_keys (map order_of (drop l.key-index l.keys)) (row_of l.a) (row_of l.b)

@@ -1,4 +1,4 @@
--- Of equal rows side by side the first stays.
+-- The first of adjacent equal rows is kept.
 use Rattle.std.proofs.Common.{rules, map, Vec, ◌∙◌, ap}
 use Rattle.std.specs.List.{dedup}
 use Rattle.std.specs.Ordering.{is_eq}

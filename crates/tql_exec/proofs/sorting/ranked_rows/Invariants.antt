@@ -5,7 +5,7 @@ use Rattle.tql_value.specs.Views.{rows_of}
 use Rattle.tql_exec.specs.Rank.{row_in, HasRank}
 use Rattle.tql_exec.proofs.sorting.ranked_rows.Given as goal
 
--- the rows so far have their ranks, and with those that are left they are all rows
+-- invariant: the rows so far have their ranks, and with those left they are all rows
 abbrev pub invariant-loop-row : goal.invariant-loop-row
 invariant-loop-row l =
     All (HasRank l.column) l.ranked.items

@@ -1,4 +1,4 @@
--- The rows are sorted by their ranks, and are the same.
+-- Sorting by ranks sorts the rows and keeps the bag.
 use Rattle.std.proofs.Common.{rules, map, subst, sym, List, true, false}
 use Rattle.std.specs.List.Sorted.{IsSortedBy}
 use Rattle.std.specs.Ordering.{is_lt}

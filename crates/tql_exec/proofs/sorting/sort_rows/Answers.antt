@@ -1,4 +1,4 @@
--- The rows are sorted, and are the same.
+-- Sorting sorts the rows and keeps the bag.
 use Rattle.std.proofs.Common.{◌≡◌, ◌++◌, map, ap, sym, subst, ◌∙◌, List}
 use Rattle.std.specs.List.Sorted.{IsSorted}
 use Rattle.std.proofs.lemmas.List.Sorted.{IsPermutation-map, All-permutation}

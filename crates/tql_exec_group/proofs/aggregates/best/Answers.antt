@@ -1,4 +1,4 @@
--- The better of the best so far and of one more value is the best of both.
+-- The better of the best so far and one more value is the best of both.
 use Rattle.std.proofs.Common.{ap, []}
 use Rattle.std.specs.Prelude.{Option, Some, not, if◌then◌else◌, ◌∷◌}
 use Rattle.tql_spec.specs.Datum.{Datum, is_null}

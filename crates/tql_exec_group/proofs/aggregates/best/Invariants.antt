@@ -8,7 +8,7 @@ use Rattle.tql_exec_group.specs.Folds.{of_present, is_better}
 use Rattle.tql_exec_group.specs.Members.{members}
 use Rattle.tql_exec_group.proofs.aggregates.best.Given as goal
 
--- the best so far, with those of the rows that are left
+-- invariant: the best so far, compared with those left, is the best of all
 abbrev pub invariant-loop-place : goal.invariant-loop-place
 invariant-loop-place l =
     let better = is_better l.greatest in

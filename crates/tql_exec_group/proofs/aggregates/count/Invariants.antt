@@ -7,7 +7,7 @@ use Rattle.tql_exec_group.specs.Folds.{of_present}
 use Rattle.tql_exec_group.specs.Members.{members}
 use Rattle.tql_exec_group.proofs.aggregates.count.Given as goal
 
--- those found so far, and those among the rows that are left
+-- invariant: the count so far, plus that of the rows left, is the whole count
 abbrev pub invariant-loop-place : goal.invariant-loop-place
 invariant-loop-place l =
     (of_present (λ vs. Some (Int (pos (l.found + length vs)))) (expr l.terms l.x) (drop l.place (members l.rows))

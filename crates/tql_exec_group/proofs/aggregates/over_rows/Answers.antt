@@ -1,4 +1,4 @@
--- Rows that 64 bits can count are counted, so that an aggregate gives what it gives of their values.
+-- If 64 bits can count the rows, an aggregate is the function of their values.
 use Rattle.std.proofs.Common.{arith, ◌<◌, ◌^◌, length}
 use Rattle.std.proofs.lemmas.Int.{ints}
 use Rattle.tql_expr.specs.Meaning.{expr}

@@ -5,7 +5,7 @@ use Rattle.tql_exec_group.specs.Folds.{of_present, sum_behind, IsWithin}
 use Rattle.tql_exec_group.specs.Members.{members}
 use Rattle.tql_exec_group.proofs.aggregates.sum.Given as goal
 
--- the sum so far, and that of the rows that are left
+-- invariant: the sum so far, plus that of the rows left, is the whole sum
 abbrev pub invariant-loop-place : goal.invariant-loop-place
 invariant-loop-place l =
     (of_present (sum_behind l.sum) (expr l.terms l.x) (drop l.place (members l.rows))

@@ -1,4 +1,4 @@
--- Tuples that lie level are one.
+-- Tuples that tie are equal.
 use Rattle.std.proofs.Common.{ap, ◌∙◌, sym, ◌≡◌}
 use Rattle.std.specs.Ordering.{is_eq}
 use Rattle.tql_spec.specs.Query.{by_columns}

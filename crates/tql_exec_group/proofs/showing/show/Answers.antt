@@ -1,4 +1,4 @@
--- What the sorted rows show is what the rows show, as a bag.
+-- The result for the sorted rows is that for the rows, as a bag.
 use Rattle.std.proofs.Common.{map, subst, sym, ◌∷◌, ◌≡◌}
 use Rattle.std.specs.Prelude.{ℕ, List, Some}
 use Rattle.tql_spec.specs.Bag.{SameBag}

@@ -6,7 +6,7 @@ use Rattle.tql_expr.specs.Meaning.{cond, expr}
 use Rattle.tql_value.specs.Views.{rows_of}
 use Rattle.tql_exec_group.proofs.showing.show_rows.Given as goal
 
--- the rows so far, before those of the rows that are left, are those of all
+-- invariant: the results so far, and those of the rows left, are all
 abbrev pub invariant-loop-row : goal.invariant-loop-row
 invariant-loop-row l =
     let conds = map (cond l.terms) l.having in

@@ -1,4 +1,4 @@
--- The first run of what is left is its first group.
+-- The first run of the rows left is their first group.
 use Rattle.std.proofs.Common.{rules, ap, map, ◌∷◌, [], take, drop, length, ◌≡◌, ◌-◌}
 use Rattle.std.specs.Prelude.{◌+◌}
 use Rattle.tql_spec.specs.Query.{groups_by, of_group}

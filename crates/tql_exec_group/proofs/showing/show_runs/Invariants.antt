@@ -7,7 +7,7 @@ use Rattle.tql_value.specs.Views.{rows_of}
 use Rattle.tql_exec_join.specs.Keyed.{rows_in}
 use Rattle.tql_exec_group.proofs.showing.show_runs.Given as goal
 
--- the rows so far, before those of the groups that are left, are those of all
+-- invariant: the results so far, and those of the groups left, are all
 abbrev pub invariant-loop-start : goal.invariant-loop-start
 invariant-loop-start l =
     let conds = map (cond l.terms) l.having in

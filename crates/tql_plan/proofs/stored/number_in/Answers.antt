@@ -1,4 +1,4 @@
--- By how many of the two stand before the column.
+-- The number of generated columns before the column.
 use Rattle.std.proofs.Common.{◌≡◌, ◌-◌, refl, rules, tests, true, false, arith}
 use Rattle.tql_catalog.proofs.StoredNumbers.{fewer}
 use Rattle.tql_plan.proofs.StoredColumns.{stored_where}

@@ -1,24 +1,25 @@
-use Rattle.std.proofs.Common.{◌≡◌, sym, subst, map, if◌then◌else◌}
-use Rattle.std.specs.Prelude.{None, Option}
-use Rattle.tql_catalog.specs.Sought.{sought_columns}
+use Rattle.std.proofs.Common.{map}
 use Rattle.tql_expr.specs.Meaning.{cond}
-use Rattle.tql_store_index.specs.Basis.{Sought}
-use Rattle.tql_plan_access.specs.Access.{first_given, sought_in}
-use Rattle.tql_plan_access.specs.Said.{IsSaidBy}
-use Rattle.tql_plan_access.proofs.Serving.{by_weaker, ok_then, serves_safe}
+use Rattle.tql_plan_access.specs.Access.{sought_in}
+use Rattle.tql_plan_access.proofs.Serving.{ok_both, ok_then, serves_table, sought_for}
 use Rattle.tql_plan_access.proofs.choosing.access.Goals as goal
+
+pub returns-clause-sought : goal.returns-clause-sought
+returns-clause-sought c =
+    ok_then c.keyed.result (λ a s.
+    sought_for c.args.definition.now (map (cond c.args.terms.now) c.args.conjuncts.now) c.args.is_current
+    (map (cond c.args.terms.now) c.safe_conjuncts-decisive.result.now) c.safe_conjuncts-decisive.ensures.part
+    (sought_in c.current_manner-said.result) c.current_manner-said.ensures a s)
+    c.keyed.ensures.sought
 
 pub returns-clause-serves : goal.returns-clause-serves
 returns-clause-serves c =
+    let laws = c.constants_are_met.ensures in
     let d = c.args.definition.now in
     let conds = map (cond c.args.terms.now) c.args.conjuncts.now in
-    let laws = c.constants_are_met.ensures in
-    let said = sought_in c.current_manner-said.result in
-    let IsSaid : Option Sought → Type 0 =
-    λ o. IsSaidBy d conds (if c.args.is_current then d.application else None) o in
-    ok_then c.keyed.result (λ a s.
-    serves_safe d conds laws.values laws.points laws.stretches (sym c.if-not-are_safe.ensures)
-    c.keyed.ensures.right c.args.is_current a
-    (by_weaker d conds (first_given conds (sought_columns d)) (λ o. o ≡ said) IsSaid
-    (λ o e. subst IsSaid (sym e) c.current_manner-said.ensures) a s))
-    c.keyed.ensures.sought
+    ok_both c.keyed.result (λ a s right.
+    serves_table laws.values laws.points laws.stretches d right conds c.args.is_current a
+    (sought_for d conds c.args.is_current
+    (map (cond c.args.terms.now) c.safe_conjuncts-decisive.result.now) c.safe_conjuncts-decisive.ensures.part
+    (sought_in c.current_manner-said.result) c.current_manner-said.ensures a s))
+    c.keyed.ensures.sought c.keyed.ensures.right

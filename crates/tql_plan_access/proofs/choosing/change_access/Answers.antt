@@ -14,6 +14,6 @@ returns-in-Some-clause-serves c =
     let laws = c.constants_are_met.ensures in
     ok_then c.portion_access.result (λ a s.
     subst (λ (q : Option code.Period). ServesChange d (option_map points_of q) conds a) (sym c.in-Some.is)
-    (serves_portion d conds laws.values laws.points laws.stretches c.portion_access.ensures.right
+    (serves_portion laws.values laws.points laws.stretches d c.portion_access.ensures.right conds
     (points_of c.in-Some.portion) a s))
     c.portion_access.ensures.sought

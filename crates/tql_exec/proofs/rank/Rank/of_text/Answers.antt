@@ -1,4 +1,4 @@
--- The beginning of a text, and what follows.
+-- The first eight bytes of a text, and the next eight.
 use Rattle.std.proofs.Common.{rules, refl, ◌∙◌, ap, w64}
 use Rattle.std.specs.Prelude.{pos, ◌^◌, ◌+ℤ◌, neg_ℤ}
 use Rattle.std.proofs.lemmas.Int.{to_z-of_z}

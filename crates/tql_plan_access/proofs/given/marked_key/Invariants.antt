@@ -1,0 +1,13 @@
+use Rattle.std.proofs.Common.{◌≡◌, drop, map}
+use Rattle.std.specs.List.{find}
+use Rattle.tql_spec.specs.Definition.{Key}
+use Rattle.tql_catalog.specs.Definitions.{key_of}
+use Rattle.tql_catalog.specs.Sought.{key_columns}
+use Rattle.tql_plan_access.specs.Access.{are_marked}
+use Rattle.tql_plan_access.proofs.given.marked_key.Given as goal
+
+-- the first of those that are left is the first of all
+abbrev pub invariant-loop-key : goal.invariant-loop-key
+invariant-loop-key l =
+    find (are_marked l.marks) (map (λ (k : Key). k.columns) (map key_of (drop l.key-index l.key-items)))
+    ≡ find (are_marked l.marks) (key_columns l.definition)
