@@ -3,6 +3,7 @@
 
 mod distance;
 pub mod message;
+pub mod names;
 mod nearest;
 mod piece;
 mod wording;

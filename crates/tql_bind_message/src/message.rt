@@ -1,15 +1,15 @@
 //! The message of what a fault is about, with the words of the statement in it.
+use crate::names::push_key;
 use crate::nearest::{Nearest, Part, nearest_part, nearest_table};
 use crate::piece::{has_word, is_quoted_name, last_name, meant, piece};
-use crate::wording::wording;
+use crate::wording::parts;
 use std::alloc::AllocError;
 use tql_bind_expr::about::{About, Cause};
 use tql_catalog::catalog::Catalog;
-use tql_catalog::constraint::Key;
 use tql_catalog::table_def::TableDef;
 use tql_detail::detail::Detail;
 use tql_detail::place::Place;
-use tql_detail::shown::push_shown;
+use tql_detail::shown::{Words, push_shown};
 use tql_memory::Memory;
 use tql_value::value::Kind;
 
@@ -27,38 +27,8 @@ fn type_words(kind: Option<Kind>) -> &'static str {
     }
 }
 
-/// Adds the names of the columns of a key, with commas between them.
-fn push_columns(
-    words: &mut String<Memory>,
-    table: &TableDef,
-    numbers: &[usize],
-) -> Result<(), AllocError> {
-    let mut before = "(";
-    for number in numbers {
-        words.push_str(before)?;
-        if let Some(column) = table.columns().get(*number) {
-            push_shown(words, column.name.as_str())?;
-        }
-        before = ", ";
-    }
-    Ok(())
-}
-
-/// Adds a key of a table, as it is declared.
-fn push_key(words: &mut String<Memory>, table: &TableDef, key: &Key) -> Result<(), AllocError> {
-    push_columns(words, table, &key.columns)?;
-    if key.by_period
-        && let Some(application) = table.application()
-    {
-        words.push_str(", ")?;
-        push_shown(words, application.name.as_str())?;
-        words.push_str(" WITHOUT OVERLAPS")?;
-    }
-    words.push_str(")")
-}
-
 /// Adds the keys of a table.
-fn push_keys(words: &mut String<Memory>, table: &TableDef) -> Result<(), AllocError> {
+fn push_keys(words: &mut Words, table: &TableDef) -> Result<(), AllocError> {
     if table.keys().is_empty() {
         return words.push_str("it has no key");
     }
@@ -80,79 +50,60 @@ fn table_at(catalog: &Catalog, number: u32) -> Option<&TableDef> {
     }
 }
 
-/// Adds what a word in braces that is about a table represents.
-fn push_table_part(
-    words: &mut String<Memory>,
-    part: &str,
-    catalog: &Catalog,
-    about: About,
-) -> Result<(), AllocError> {
-    match table_at(catalog, about.count) {
-        Some(table) if part == "keys" => push_keys(words, table),
-        Some(table) if part == "table" => push_shown(words, table.name()),
-        _ => Ok(()),
-    }
-}
-
 /// Adds a number of things, in the singular or the plural.
-fn push_count(words: &mut String<Memory>, number: u32, thing: &str) -> Result<(), AllocError> {
+fn push_count(words: &mut Words, number: u32, thing: &str) -> Result<(), AllocError> {
     let plural = if number == 1 { "" } else { "s" };
     write!(words, "{number} {thing}{plural}")
 }
 
-/// Adds what a word in braces represents that is a number.
+/// Adds what a word in braces represents that is a number or about a table.
 fn push_number(
-    words: &mut String<Memory>,
+    words: &mut Words,
     part: &str,
     catalog: &Catalog,
     about: About,
 ) -> Result<(), AllocError> {
-    if part == "values" {
-        push_count(words, about.count, "value")
-    } else if part == "columns" {
-        push_count(words, about.count, "column")
-    } else if part == "wanted columns" {
-        push_count(words, about.wanted, "column")
-    } else if part == "number" {
-        write!(words, "{}", about.count.saturating_add(1))
-    } else if part == "wanted" {
-        write!(words, "{}", about.wanted)
-    } else {
-        push_table_part(words, part, catalog, about)
+    match part {
+        "values" => push_count(words, about.count, "value"),
+        "columns" => push_count(words, about.count, "column"),
+        "wanted columns" => push_count(words, about.wanted, "column"),
+        "number" => write!(words, "{}", about.count.saturating_add(1)),
+        "wanted" => write!(words, "{}", about.wanted),
+        _ => match table_at(catalog, about.count) {
+            Some(table) if part == "keys" => push_keys(words, table),
+            Some(table) => push_shown(words, table.name()),
+            None => Ok(()),
+        },
     }
 }
 
 /// Adds what a word in braces represents.
 fn push_part(
-    words: &mut String<Memory>,
+    words: &mut Words,
     part: &str,
     text: &str,
     catalog: &Catalog,
     about: About,
 ) -> Result<(), AllocError> {
-    if part == "at" {
-        push_shown(words, piece(text, about.at))
-    } else if part == "to" {
-        push_shown(words, piece(text, about.to))
-    } else if part == "also" {
-        push_shown(words, piece(text, about.also))
-    } else if part == "kind" {
-        words.push_str(type_words(about.kind))
-    } else if part == "other" {
-        words.push_str(type_words(about.other))
-    } else {
-        push_number(words, part, catalog, about)
+    match part {
+        "at" => push_shown(words, piece(text, about.at)),
+        "to" => push_shown(words, piece(text, about.to)),
+        "also" => push_shown(words, piece(text, about.also)),
+        "kind" => words.push_str(type_words(about.kind)),
+        "other" => words.push_str(type_words(about.other)),
+        _ => push_number(words, part, catalog, about),
     }
 }
 
-/// Adds the wording of a fault.
+/// Adds a part of a wording.
 fn push_wording(
-    words: &mut String<Memory>,
+    words: &mut Words,
+    wording: &str,
     text: &str,
     catalog: &Catalog,
     about: About,
 ) -> Result<(), AllocError> {
-    let mut left = wording(about.cause);
+    let mut left = wording;
     for _part in 0..MOST_PARTS {
         let Some((plain, rest)) = left.split_once('{') else {
             break;
@@ -184,10 +135,10 @@ fn literal_hint(text: &str, about: About) -> &'static str {
     }
     match (about.kind, about.other) {
         (Some(Kind::Text), Some(Kind::Day)) | (Some(Kind::Day), Some(Kind::Text)) => {
-            "; write a date as DATE 'YYYY-MM-DD'"
+            "write a date as DATE 'YYYY-MM-DD'"
         }
         (Some(Kind::Text), Some(Kind::Moment)) | (Some(Kind::Moment), Some(Kind::Text)) => {
-            "; write a timestamp as TIMESTAMP 'YYYY-MM-DD HH:MM:SS'"
+            "write a timestamp as TIMESTAMP 'YYYY-MM-DD HH:MM:SS'"
         }
         _ => "",
     }
@@ -223,7 +174,7 @@ fn nearest_name<'a>(
 }
 
 /// Adds a name as it is written in a statement.
-fn push_name(words: &mut String<Memory>, name: &str) -> Result<(), AllocError> {
+fn push_name(words: &mut Words, name: &str) -> Result<(), AllocError> {
     if !is_quoted_name(name) {
         return push_shown(words, name);
     }
@@ -236,7 +187,7 @@ fn push_name(words: &mut String<Memory>, name: &str) -> Result<(), AllocError> {
 /// in double quotes may also be meant as a text.
 fn push_name_hint(
     memory: Memory,
-    words: &mut String<Memory>,
+    words: &mut Words,
     text: &str,
     catalog: &Catalog,
     about: About,
@@ -244,31 +195,34 @@ fn push_name_hint(
     let written = last_name(piece(text, about.at));
     match nearest_name(memory, written, text, catalog, about.cause)? {
         Some(name) => {
-            words.push_str("; did you mean ")?;
+            words.push_str("did you mean ")?;
             push_name(words, name)?;
             words.push_str("?")
         }
         None if about.cause == Cause::NoColumn && written.starts_with('"') => {
-            words.push_str("; write a text in single quotes")
+            words.push_str("write a text in single quotes")
         }
         None => Ok(()),
     }
 }
 
-/// Adds what to write in place of what is at fault, where that depends on the tables.
-fn push_hint(
+/// Returns what to write in place of what is at fault, or no words: by this part of the wording, and by the tables.
+fn hint_for(
     memory: Memory,
-    words: &mut String<Memory>,
+    wording: &str,
     text: &str,
     catalog: &Catalog,
     about: About,
-) -> Result<(), AllocError> {
+) -> Result<Words, AllocError> {
+    let mut hint = String::new(memory);
+    push_wording(&mut hint, wording, text, catalog, about)?;
     match about.cause {
         Cause::NoTable | Cause::NoColumn | Cause::NoPeriod | Cause::NotOnePeriod => {
-            push_name_hint(memory, words, text, catalog, about)
+            push_name_hint(memory, &mut hint, text, catalog, about)?
         }
-        _ => words.push_str(literal_hint(text, about)),
+        _ => hint.push_str(literal_hint(text, about))?,
     }
+    Ok(hint)
 }
 
 /// Returns what a fault is about more exactly, as the words of the statement show it: a column is also ambiguous where
@@ -295,20 +249,27 @@ fn unknown_reference(text: &str, about: About) -> Option<&str> {
     }
 }
 
-/// Adds what is wrong and what to write.
-fn push_message(
+/// Returns what is wrong and what to write.
+fn detail_of(
     memory: Memory,
-    words: &mut String<Memory>,
     text: &str,
     catalog: &Catalog,
     about: About,
-) -> Result<(), AllocError> {
+) -> Result<Detail, AllocError> {
+    let mut words = String::new(memory);
     if let Some(reference) = unknown_reference(text, about) {
         words.push_str("no table reference is named ")?;
-        return push_shown(words, reference);
+        push_shown(&mut words, reference)?;
+        return Ok(Detail::of(words));
     }
-    push_wording(words, text, catalog, about)?;
-    push_hint(memory, words, text, catalog, about)
+    let (wrong, says) = parts(about.cause);
+    push_wording(&mut words, wrong, text, catalog, about)?;
+    let hint = hint_for(memory, says, text, catalog, about)?;
+    let mut detail = Detail::of(words);
+    if !hint.as_str().is_empty() {
+        detail.hint = Some(hint);
+    }
+    Ok(detail)
 }
 
 /// Returns the place at an offset of a text, if the offset is known.
@@ -322,9 +283,9 @@ fn place_at(text: &str, offset: u32) -> Option<Place> {
     }
 }
 
-/// Returns the message of a statement whose first fault is about this, and the place of the fault, where that is known.
-/// The message says what is wrong, and after a semicolon what to write. `text` is the text of the statement and
-/// `catalog` has the tables over which it was refused. Returns no message where the cause is not known.
+/// Returns the detail of a statement whose first fault is about this: what is wrong, what to write, and the place of
+/// the fault, each where it is known. `text` is the text of the statement and `catalog` has the tables over which it
+/// was refused. Returns none where the cause is not known.
 ///
 /// # Errors
 ///
@@ -342,8 +303,7 @@ pub fn message(
         return Ok(None);
     };
     let about = sharpened(text, about);
-    let mut words = String::new(memory);
-    push_message(memory, &mut words, text, catalog, about)?;
-    let place = place_at(text, about.at);
-    Ok(Some(Detail { place, words }))
+    let mut detail = detail_of(memory, text, catalog, about)?;
+    detail.place = place_at(text, about.at);
+    Ok(Some(detail))
 }

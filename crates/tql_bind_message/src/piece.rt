@@ -1,5 +1,6 @@
 //! The words of a statement at an offset of its text: a name, a literal, a call of an aggregate.
 use std::alloc::AllocError;
+use tql_detail::shown::Words;
 use tql_memory::Memory;
 
 /// Whether a byte belongs to a name or a number.
@@ -57,9 +58,14 @@ pub fn piece(text: &str, offset: u32) -> &str {
     rest.get(..length_of(rest.as_bytes())).unwrap_or(rest)
 }
 
+/// Whether a character is not one of a name.
+pub fn is_between_words(character: char) -> bool {
+    !(character.is_ascii_alphanumeric() || character == '_')
+}
+
 /// Whether a character is not one of a name with its table before it.
 fn is_apart(character: char) -> bool {
-    !(character.is_ascii_alphanumeric() || character == '_' || character == '.')
+    is_between_words(character) && character != '.'
 }
 
 /// Whether a text has a word that is this name, without a dot before or after it. Letters are compared without case.
@@ -82,7 +88,7 @@ pub fn last_name(piece: &str) -> &str {
 
 /// Returns the name that is meant: a word in upper case, or what is in double quotes. The only error is a refused
 /// allocation.
-pub fn meant(memory: Memory, name: &str) -> Result<String<Memory>, AllocError> {
+pub fn meant(memory: Memory, name: &str) -> Result<Words, AllocError> {
     match name.strip_prefix('"') {
         Some(name) => String::from_str(memory, name.strip_suffix('"').unwrap_or(name)),
         None => name.chars().map(|c| c.to_ascii_uppercase()).collect(memory),

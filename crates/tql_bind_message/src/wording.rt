@@ -4,8 +4,14 @@
 //! the table whose number is `count`, and `keys` says which keys it has.
 use tql_bind_expr::about::Cause;
 
+/// Returns what the wording of a cause says is wrong, and what it says to write.
+pub fn parts(cause: Cause) -> (&'static str, &'static str) {
+    let wording = wording(cause);
+    wording.split_once("; ").unwrap_or((wording, ""))
+}
+
 /// Returns the wording of a cause.
-pub fn wording(cause: Cause) -> &'static str {
+fn wording(cause: Cause) -> &'static str {
     match cause {
         Cause::NoTable => "no table {at}",
         Cause::TableThere => "table {at} already exists",

@@ -1,31 +1,103 @@
-//! What is told of a refused statement.
+//! What is reported of a refused statement besides its number and text.
 use crate::place::Place;
 use std::alloc::AllocError;
+use std::fmt;
 use tql_memory::Memory;
 
-/// What is told of a refused statement beside the refusal: of that fault alone, or nothing.
-#[derive(Drop)]
+/// What is known of the fault for which a statement is refused, in parts. A line of the standard error has the words
+/// and the hint; a host reads the fields. What is not known is `None`, or an empty list.
 pub struct Detail {
-    /// Where the fault stands, where that is known.
+    /// Where the fault is.
     pub place: Option<Place>,
-    /// What the fault is about, in a line.
+    /// What is wrong, as one line without the hint.
     pub words: String<Memory>,
+    /// What to write instead, or what else helps.
+    pub hint: Option<String<Memory>>,
+    /// The name of the constraint that a row fails: the written one, or else the one that PostgreSQL would give it.
+    pub constraint: Option<String<Memory>>,
+    /// The names of the columns of that constraint, or of those in which a row fails otherwise.
+    pub columns: Vec<String<Memory>, Memory>,
+    /// The number of that row among the rows of an INSERT, counted from 1.
+    pub row: Option<u64>,
+}
+
+impl Drop for Detail {
+    fn drop(self) {
+        let Detail {
+            place: _,
+            words,
+            hint,
+            constraint,
+            columns,
+            row: _,
+        } = self;
+        drop(words);
+        drop(hint);
+        drop(constraint);
+        drop(columns);
+    }
 }
 
 impl Detail {
-    /// The detail of a statement whose text begins on this line, behind so many characters of it.
+    /// Returns the detail of which these words alone are known.
+    pub fn of(words: String<Memory>) -> Detail {
+        let memory = *words.allocator();
+        Detail {
+            place: None,
+            words,
+            hint: None,
+            constraint: None,
+            columns: Vec::new(memory),
+            row: None,
+        }
+    }
+
+    /// Sets the hint. The only error is a refused allocation, which leaves the detail as it was.
+    pub fn advise(&mut self, hint: &str) -> Result<(), AllocError> {
+        self.hint = Some(String::from_str(*self.words.allocator(), hint)?);
+        Ok(())
+    }
+
+    /// Adds the name of a column. The only error is a refused allocation, which leaves the detail as it was.
+    pub fn add_column(&mut self, name: &str) -> Result<(), AllocError> {
+        let name = String::from_str(*self.words.allocator(), name)?;
+        self.columns.push(name)?;
+        Ok(())
+    }
+
+    /// Moves the place from a statement's text to the script, in which the text begins on this line, after this number
+    /// of its characters.
     pub fn stand_behind(&mut self, line: u64, before: u64) {
         if let Some(place) = self.place {
             self.place = Some(place.within(line, before));
         }
     }
 
-    /// The same in this memory. The only error is a refused growth.
+    /// Returns the same detail in this memory. The only error is a refused allocation.
     pub fn copied(&self, memory: Memory) -> Result<Detail, AllocError> {
-        let words = String::from_str(memory, self.words.as_str())?;
-        Ok(Detail {
-            place: self.place,
-            words,
-        })
+        let mut copy = Detail::of(String::from_str(memory, self.words.as_str())?);
+        copy.place = self.place;
+        copy.row = self.row;
+        if let Some(hint) = &self.hint {
+            copy.advise(hint.as_str())?;
+        }
+        if let Some(name) = &self.constraint {
+            copy.constraint = Some(String::from_str(memory, name.as_str())?);
+        }
+        for name in &self.columns {
+            copy.add_column(name.as_str())?;
+        }
+        Ok(copy)
+    }
+}
+
+impl fmt::Display for Detail {
+    /// Writes what is wrong and, after a semicolon, the hint.
+    fn fmt<W: fmt::Write>(&self, f: &mut fmt::Formatter<W>) -> fmt::Result {
+        f.write_str(self.words.as_str())?;
+        match &self.hint {
+            Some(hint) => write!(f, "; {hint}"),
+            None => Ok(()),
+        }
     }
 }

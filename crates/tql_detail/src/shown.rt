@@ -2,6 +2,9 @@
 use std::alloc::AllocError;
 use tql_memory::Memory;
 
+/// The words of a line, while they are put together.
+pub type Words = String<Memory>;
+
 /// The most characters of a text that are shown.
 const MOST_SHOWN: usize = 40;
 
@@ -14,7 +17,7 @@ fn shown(character: char) -> char {
 }
 
 /// Puts a text behind the words, as it is shown: its first 40 characters, and two dots where there are more.
-pub fn push_shown(words: &mut String<Memory>, text: &str) -> Result<(), AllocError> {
+pub fn push_shown(words: &mut Words, text: &str) -> Result<(), AllocError> {
     let mut left = MOST_SHOWN;
     for character in text.chars() {
         if left == 0 {
@@ -25,4 +28,10 @@ pub fn push_shown(words: &mut String<Memory>, text: &str) -> Result<(), AllocErr
         left -= 1;
     }
     Ok(())
+}
+
+/// Puts words and a text behind the others, the text as it is shown.
+pub fn push_behind(words: &mut Words, before: &str, text: &str) -> Result<(), AllocError> {
+    words.push_str(before)?;
+    push_shown(words, text)
 }

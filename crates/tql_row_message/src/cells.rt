@@ -1,8 +1,9 @@
 //! Columns and values of a row in words.
 use std::alloc::AllocError;
+use tql_bind_message::names::push_names;
 use tql_catalog::table_def::TableDef;
-use tql_detail::shown::push_shown;
-use tql_memory::Memory;
+use tql_detail::detail::Detail;
+use tql_detail::shown::{Words, push_shown};
 use tql_result::cell::{is_printable, write_cell};
 use tql_result::vec_sink::VecSink;
 use tql_value::value::{Value, View};
@@ -16,6 +17,16 @@ pub enum Subject {
     Changed,
 }
 
+impl Subject {
+    /// The number of the row in the statement, from 1, where it has one.
+    pub fn row(self) -> Option<u64> {
+        match self {
+            Subject::Numbered(row) => Some((row as u64).saturating_add(1)),
+            Subject::Changed => None,
+        }
+    }
+}
+
 /// The cells that a row of a table stores: those of the columns that are not generated.
 #[derive(Clone, Copy)]
 pub struct Cells<'a> {
@@ -23,31 +34,18 @@ pub struct Cells<'a> {
     pub values: &'a [Value],
 }
 
-/// The name of a column, by its number.
-pub fn push_column(
-    words: &mut String<Memory>,
-    definition: &TableDef,
-    number: usize,
-) -> Result<(), AllocError> {
-    match definition.columns().get(number) {
-        Some(column) => push_shown(words, column.name.as_str()),
-        None => Ok(()),
-    }
-}
-
-/// The names of columns: `(A, B)`.
-pub fn push_names(
-    words: &mut String<Memory>,
+/// Adds columns of a table, by their numbers, to those of a detail.
+pub fn add_columns(
+    detail: &mut Detail,
     definition: &TableDef,
     columns: &[usize],
 ) -> Result<(), AllocError> {
-    let mut before = "(";
     for number in columns {
-        words.push_str(before)?;
-        push_column(words, definition, *number)?;
-        before = ", ";
+        if let Some(column) = definition.columns().get(*number) {
+            detail.add_column(column.name.as_str())?;
+        }
     }
-    words.push(')')
+    Ok(())
 }
 
 /// The most bytes of a value as a query prints it.
@@ -59,15 +57,12 @@ fn room_for(value: View<'_>) -> usize {
 }
 
 /// A value as a query prints it, or the first characters of that.
-pub fn push_view(
-    memory: Memory,
-    words: &mut String<Memory>,
-    value: View<'_>,
-) -> Result<(), AllocError> {
+pub fn push_view(words: &mut Words, value: View<'_>) -> Result<(), AllocError> {
     if !is_printable(value) {
         return words.push('?');
     }
-    let mut sink = VecSink::new(Vec::with_capacity(memory, room_for(value))?);
+    let room = Vec::with_capacity(*words.allocator(), room_for(value))?;
+    let mut sink = VecSink::new(room);
     if write_cell(&mut sink, value).is_err() {
         return words.push('?');
     }
@@ -89,51 +84,36 @@ impl<'a> Cells<'a> {
     }
 
     /// The value of a column.
-    pub fn push_value(
-        self,
-        memory: Memory,
-        words: &mut String<Memory>,
-        number: usize,
-    ) -> Result<(), AllocError> {
-        push_view(memory, words, self.value(number))
+    pub fn push_value(self, words: &mut Words, number: usize) -> Result<(), AllocError> {
+        push_view(words, self.value(number))
     }
 
     /// The values of columns: `(1, 'x')`.
-    pub fn push_values(
-        self,
-        memory: Memory,
-        words: &mut String<Memory>,
-        columns: &[usize],
-    ) -> Result<(), AllocError> {
+    pub fn push_values(self, words: &mut Words, columns: &[usize]) -> Result<(), AllocError> {
         let mut before = "(";
         for number in columns {
             words.push_str(before)?;
-            self.push_value(memory, words, *number)?;
+            self.push_value(words, *number)?;
             before = ", ";
         }
         words.push(')')
     }
 
     /// The names of columns and their values: `(A, B) = (1, 'x')`.
-    pub fn push_tuple(
-        self,
-        memory: Memory,
-        words: &mut String<Memory>,
-        columns: &[usize],
-    ) -> Result<(), AllocError> {
+    pub fn push_tuple(self, words: &mut Words, columns: &[usize]) -> Result<(), AllocError> {
         push_names(words, self.definition, columns)?;
         words.push_str(" = ")?;
-        self.push_values(memory, words, columns)
+        self.push_values(words, columns)
     }
 
     /// The application period, where the table has one: ` from 2024-01-01 to 2025-01-01`.
-    pub fn push_period(self, memory: Memory, words: &mut String<Memory>) -> Result<(), AllocError> {
+    pub fn push_period(self, words: &mut Words) -> Result<(), AllocError> {
         match self.definition.application() {
             Some(application) => {
                 words.push_str(" from ")?;
-                self.push_value(memory, words, application.start)?;
+                self.push_value(words, application.start)?;
                 words.push_str(" to ")?;
-                self.push_value(memory, words, application.end)
+                self.push_value(words, application.end)
             }
             None => Ok(()),
         }
@@ -142,8 +122,7 @@ impl<'a> Cells<'a> {
 
 /// A row of a change: `row 3`, or `changed row with (A) = (1)`, by its first key.
 pub fn push_subject(
-    memory: Memory,
-    words: &mut String<Memory>,
+    words: &mut Words,
     subject: Subject,
     cells: Cells<'_>,
 ) -> Result<(), AllocError> {
@@ -154,14 +133,14 @@ pub fn push_subject(
     match cells.definition.keys().first() {
         Some(key) => {
             words.push_str(" with ")?;
-            cells.push_tuple(memory, words, &key.columns)
+            cells.push_tuple(words, &key.columns)
         }
         None => Ok(()),
     }
 }
 
 /// A row of a change that has values: `row 3 has `, or `a changed row has `.
-pub fn push_owner(words: &mut String<Memory>, subject: Subject) -> Result<(), AllocError> {
+pub fn push_owner(words: &mut Words, subject: Subject) -> Result<(), AllocError> {
     match subject {
         Subject::Numbered(row) => write!(words, "row {} has ", row.saturating_add(1)),
         Subject::Changed => words.push_str("a changed row has "),

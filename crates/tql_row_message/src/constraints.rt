@@ -1,103 +1,32 @@
-//! The names of constraints, as PostgreSQL gives them to those without a name: of the table, the columns and the kind.
-use crate::cells::push_column;
+//! The names of constraints in words.
+use crate::cells::add_columns;
 use std::alloc::AllocError;
-use tql_catalog::constraint::{Key, Reference};
 use tql_catalog::table_def::TableDef;
-use tql_detail::shown::push_shown;
-use tql_memory::Memory;
+use tql_detail::detail::Detail;
+use tql_detail::shown::{Words, push_shown};
 
-/// The table's name, and each of these columns.
-pub(crate) fn push_table_and_columns(
-    words: &mut String<Memory>,
-    definition: &TableDef,
-    columns: &[usize],
-) -> Result<(), AllocError> {
-    push_shown(words, definition.name())?;
-    for number in columns {
-        words.push('_')?;
-        push_column(words, definition, *number)?;
+/// Appends the name of a constraint. A long name is shown whole if its parts are short, as those of its table and its
+/// columns are.
+fn push_constraint_name(words: &mut Words, name: &str) -> Result<(), AllocError> {
+    let mut is_first = true;
+    for part in name.split('_') {
+        if !is_first {
+            words.push('_')?;
+        }
+        is_first = false;
+        push_shown(words, part)?;
     }
     Ok(())
 }
 
-/// The application period's name behind an underscore, where periods count.
-fn push_period_name(
-    words: &mut String<Memory>,
+/// Sets the constraint of a detail to this name and these columns of a table, and appends the name to its words.
+pub(crate) fn name_constraint(
+    detail: &mut Detail,
+    name: &str,
     definition: &TableDef,
-    by_period: bool,
+    columns: &[usize],
 ) -> Result<(), AllocError> {
-    match definition.application() {
-        Some(application) if by_period => {
-            words.push('_')?;
-            push_shown(words, application.name.as_str())
-        }
-        _ => Ok(()),
-    }
-}
-
-/// Whether each of these columns refuses NULL.
-fn are_required(definition: &TableDef, columns: &[usize]) -> bool {
-    columns.iter().all(|number| match definition.columns().get(*number) {
-        Some(column) => column.is_required,
-        None => false,
-    })
-}
-
-/// Whether a key, by its number, is named as the PRIMARY KEY: it is the first whose columns refuse NULL. The catalog
-/// does not keep which key was declared as that, and a UNIQUE key of such columns serves as well.
-fn is_primary(definition: &TableDef, number: usize) -> bool {
-    let first = definition
-        .keys()
-        .iter()
-        .position(|key| are_required(definition, &key.columns));
-    first == Some(number)
-}
-
-/// The name of a key, by its number: `PAY_PKEY`, `PAY_EMPLOYEE_KEY`.
-pub fn push_key_name(
-    words: &mut String<Memory>,
-    definition: &TableDef,
-    number: usize,
-    key: &Key,
-) -> Result<(), AllocError> {
-    if is_primary(definition, number) {
-        push_table_and_columns(words, definition, &[])?;
-        return words.push_str("_PKEY");
-    }
-    push_table_and_columns(words, definition, &key.columns)?;
-    push_period_name(words, definition, key.by_period)?;
-    words.push_str("_KEY")
-}
-
-/// The columns of a key, and its period: `(EMPLOYEE, VALID WITHOUT OVERLAPS)`.
-pub fn push_key_columns(
-    words: &mut String<Memory>,
-    definition: &TableDef,
-    key: &Key,
-) -> Result<(), AllocError> {
-    let mut before = "(";
-    for number in &key.columns {
-        words.push_str(before)?;
-        push_column(words, definition, *number)?;
-        before = ", ";
-    }
-    match definition.application() {
-        Some(application) if key.by_period => {
-            words.push_str(before)?;
-            push_shown(words, application.name.as_str())?;
-            words.push_str(" WITHOUT OVERLAPS)")
-        }
-        _ => words.push(')'),
-    }
-}
-
-/// The name of a reference: `HOURS_EMPLOYEE_FKEY`.
-pub fn push_reference_name(
-    words: &mut String<Memory>,
-    definition: &TableDef,
-    reference: &Reference,
-) -> Result<(), AllocError> {
-    push_table_and_columns(words, definition, &reference.columns)?;
-    push_period_name(words, definition, reference.by_period)?;
-    words.push_str("_FKEY")
+    push_constraint_name(&mut detail.words, name)?;
+    detail.constraint = Some(String::from_str(*detail.words.allocator(), name)?);
+    add_columns(detail, definition, columns)
 }

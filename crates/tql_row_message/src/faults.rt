@@ -1,19 +1,16 @@
 //! Rows that fail by themselves: in a column, their period or a CHECK.
-use crate::cells::{Cells, Subject, push_column, push_subject};
-use crate::checks::{push_check_name, push_values_read};
+use crate::cells::{Cells, Subject, add_columns, push_subject};
+use crate::checks::{name_check, push_values_read};
 use std::alloc::AllocError;
+use tql_bind_message::names::push_column;
 use tql_catalog::table_def::TableDef;
 use tql_detail::detail::Detail;
-use tql_detail::shown::push_shown;
+use tql_detail::shown::{Words, push_shown};
 use tql_dml::failures::Failed;
 use tql_memory::Memory;
 
 /// The type of a column whose texts are too long: `VARCHAR(20)`.
-fn push_limit(
-    words: &mut String<Memory>,
-    definition: &TableDef,
-    column: usize,
-) -> Result<(), AllocError> {
+fn push_limit(words: &mut Words, definition: &TableDef, column: usize) -> Result<(), AllocError> {
     match definition.columns().get(column) {
         Some(column) => match column.limit {
             Some(limit) => write!(words, "VARCHAR({limit})"),
@@ -32,75 +29,68 @@ fn column_number(cells: Cells<'_>, stored: usize) -> usize {
 }
 
 /// A text that is too long: `: NAME = 'a text' is longer than VARCHAR(5)`.
-fn push_long_text(
-    memory: Memory,
-    words: &mut String<Memory>,
-    cells: Cells<'_>,
-    column: usize,
-) -> Result<(), AllocError> {
+fn push_long_text(words: &mut Words, cells: Cells<'_>, column: usize) -> Result<(), AllocError> {
     words.push_str(": ")?;
     push_column(words, cells.definition, column)?;
     words.push_str(" = ")?;
-    cells.push_value(memory, words, column)?;
+    cells.push_value(words, column)?;
     words.push_str(" is longer than ")?;
     push_limit(words, cells.definition, column)
 }
 
-/// A period that does not rise: `: VALID from 2025-01-01 to 2024-01-01 does not rise`.
-fn push_fallen(
-    memory: Memory,
-    words: &mut String<Memory>,
-    cells: Cells<'_>,
-) -> Result<(), AllocError> {
-    words.push_str(": ")?;
-    if let Some(application) = cells.definition.application() {
-        push_shown(words, application.name.as_str())?;
-    }
-    cells.push_period(memory, words)?;
-    words.push_str(" does not rise")
+/// NULL in a column: `: column NAME is NULL`.
+fn push_null(words: &mut Words, cells: Cells<'_>, column: usize) -> Result<(), AllocError> {
+    words.push_str(": column ")?;
+    push_column(words, cells.definition, column)?;
+    words.push_str(" is NULL")
 }
 
-/// What a row fails in, behind the row itself.
-fn push_failed(
-    memory: Memory,
-    words: &mut String<Memory>,
+/// Tells of a period that does not rise: `: VALID from 2025-01-01 to 2024-01-01 does not rise`.
+fn tell_fallen(detail: &mut Detail, cells: Cells<'_>) -> Result<(), AllocError> {
+    detail.words.push_str(": ")?;
+    if let Some(application) = cells.definition.application() {
+        push_shown(&mut detail.words, application.name.as_str())?;
+        let ends = [application.start, application.end];
+        add_columns(detail, cells.definition, &ends)?;
+    }
+    cells.push_period(&mut detail.words)?;
+    detail.words.push_str(" does not rise")
+}
+
+/// Tells of a CHECK: its name between these words, and the values of the columns that it reads.
+fn tell_check(
+    detail: &mut Detail,
     cells: Cells<'_>,
-    failed: Failed,
+    check: usize,
+    before: &str,
+    behind: &str,
 ) -> Result<(), AllocError> {
+    detail.words.push_str(before)?;
+    name_check(detail, cells.definition, check)?;
+    detail.words.push_str(behind)?;
+    push_values_read(detail, cells, check)
+}
+
+/// Tells what a row fails in, behind the row itself.
+fn tell_failed(detail: &mut Detail, cells: Cells<'_>, failed: Failed) -> Result<(), AllocError> {
     match failed {
         Failed::LongText(stored) => {
-            push_long_text(memory, words, cells, column_number(cells, stored))
+            let column = column_number(cells, stored);
+            push_long_text(&mut detail.words, cells, column)?;
+            add_columns(detail, cells.definition, &[column])
         }
         Failed::Null(stored) => {
-            words.push_str(": column ")?;
-            push_column(words, cells.definition, column_number(cells, stored))?;
-            words.push_str(" is NULL")
+            let column = column_number(cells, stored);
+            push_null(&mut detail.words, cells, column)?;
+            add_columns(detail, cells.definition, &[column])
         }
-        Failed::Period => push_fallen(memory, words, cells),
+        Failed::Period => tell_fallen(detail, cells),
         Failed::CheckRange(check) => {
-            words.push_str(": a number that ")?;
-            push_check_name(words, cells.definition, check)?;
-            words.push_str(" calculates is out of range")?;
-            push_values_read(memory, words, cells, check)
+            let behind = " calculates is out of range";
+            tell_check(detail, cells, check, ": a number that ", behind)
         }
-        Failed::Check(check) => {
-            words.push_str(" fails ")?;
-            push_check_name(words, cells.definition, check)?;
-            push_values_read(memory, words, cells, check)
-        }
+        Failed::Check(check) => tell_check(detail, cells, check, " fails ", ""),
     }
-}
-
-/// The words of a row that fails.
-fn push_fault(
-    memory: Memory,
-    words: &mut String<Memory>,
-    subject: Subject,
-    cells: Cells<'_>,
-    failed: Failed,
-) -> Result<(), AllocError> {
-    push_subject(memory, words, subject, cells)?;
-    push_failed(memory, words, cells, failed)
 }
 
 /// The detail of a row that fails by itself (E30 and E32 to E34). None where no memory is there for it.
@@ -110,21 +100,22 @@ pub fn fault_detail(
     cells: Cells<'_>,
     failed: Failed,
 ) -> Option<Detail> {
-    let mut words = String::new(memory);
-    push_fault(memory, &mut words, subject, cells, failed).ok()?;
-    Some(Detail { place: None, words })
+    let mut detail = Detail::of(String::new(memory));
+    detail.row = subject.row();
+    push_subject(&mut detail.words, subject, cells).ok()?;
+    tell_failed(&mut detail, cells, failed).ok()?;
+    Some(detail)
 }
 
-/// The words of a value that is out of range.
-fn push_value_fault(
-    words: &mut String<Memory>,
-    row: usize,
+/// Tells that what is set in a column is out of range, behind the words for that.
+pub(crate) fn tell_range(
+    detail: &mut Detail,
     definition: &TableDef,
     column: usize,
 ) -> Result<(), AllocError> {
-    write!(words, "row {}: the value of ", row.saturating_add(1))?;
-    push_column(words, definition, column)?;
-    words.push_str(" is out of range")
+    push_column(&mut detail.words, definition, column)?;
+    detail.words.push_str(" is out of range")?;
+    add_columns(detail, definition, &[column])
 }
 
 /// The detail of a value of an INSERT that is out of range (E30), by the numbers of its row and of its column, from 0.
@@ -134,7 +125,10 @@ pub fn value_detail(
     row: usize,
     column: usize,
 ) -> Option<Detail> {
-    let mut words = String::new(memory);
-    push_value_fault(&mut words, row, definition, column).ok()?;
-    Some(Detail { place: None, words })
+    let number = row.saturating_add(1);
+    let words = format!(in memory; "row {number}: the value of ").ok()?;
+    let mut detail = Detail::of(words);
+    detail.row = Subject::Numbered(row).row();
+    tell_range(&mut detail, definition, column).ok()?;
+    Some(detail)
 }

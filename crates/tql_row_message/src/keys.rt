@@ -1,9 +1,11 @@
 //! Rows that clash in a key.
 use crate::cells::{Cells, Subject, push_owner};
-use crate::constraints::{push_key_columns, push_key_name};
+use crate::constraints::name_constraint;
 use std::alloc::AllocError;
+use tql_bind_message::names::push_key;
 use tql_catalog::constraint::Key;
 use tql_detail::detail::Detail;
+use tql_detail::shown::Words;
 use tql_memory::Memory;
 
 /// The row that a row clashes with: its cells, and which row of the change it is, or none where it is a row of the
@@ -16,30 +18,24 @@ pub struct Rival<'a> {
 
 /// The row with its values: `row 2 has (A) = (7), which `.
 fn push_row(
-    memory: Memory,
-    words: &mut String<Memory>,
+    words: &mut Words,
     subject: Subject,
     cells: Cells<'_>,
     key: &Key,
 ) -> Result<(), AllocError> {
     push_owner(words, subject)?;
-    cells.push_tuple(memory, words, &key.columns)?;
+    cells.push_tuple(words, &key.columns)?;
     if key.by_period {
-        cells.push_period(memory, words)?;
+        cells.push_period(words)?;
     }
     words.push_str(", which ")
 }
 
 /// The row that has these values already: ` already holds in row 1 of the statement`.
-fn push_rival(
-    memory: Memory,
-    words: &mut String<Memory>,
-    key: &Key,
-    rival: Rival<'_>,
-) -> Result<(), AllocError> {
+fn push_rival(words: &mut Words, key: &Key, rival: Rival<'_>) -> Result<(), AllocError> {
     words.push_str(" already holds")?;
     if key.by_period {
-        rival.cells.push_period(memory, words)?;
+        rival.cells.push_period(words)?;
     }
     match rival.subject {
         Some(Subject::Numbered(row)) => {
@@ -50,25 +46,20 @@ fn push_rival(
     }
 }
 
-/// The words of a row that clashes with another.
-fn push_clash(
-    memory: Memory,
-    words: &mut String<Memory>,
+/// Tells of a row that clashes with another.
+fn tell_clash(
+    detail: &mut Detail,
     subject: Subject,
     cells: Cells<'_>,
-    number: usize,
+    key: &Key,
     rival: Rival<'_>,
 ) -> Result<(), AllocError> {
-    match cells.definition.keys().get(number) {
-        Some(key) => {
-            push_row(memory, words, subject, cells, key)?;
-            push_key_name(words, cells.definition, number, key)?;
-            words.push(' ')?;
-            push_key_columns(words, cells.definition, key)?;
-            push_rival(memory, words, key, rival)
-        }
-        None => Ok(()),
-    }
+    let definition = cells.definition;
+    push_row(&mut detail.words, subject, cells, key)?;
+    name_constraint(detail, key.name.as_str(), definition, &key.columns)?;
+    detail.words.push(' ')?;
+    push_key(&mut detail.words, definition, key)?;
+    push_rival(&mut detail.words, key, rival)
 }
 
 /// The detail of a row that clashes with another in a key, by its number (E35). None where no memory is there for it.
@@ -76,10 +67,12 @@ pub fn key_detail(
     memory: Memory,
     subject: Subject,
     cells: Cells<'_>,
-    key: usize,
+    number: usize,
     rival: Rival<'_>,
 ) -> Option<Detail> {
-    let mut words = String::new(memory);
-    push_clash(memory, &mut words, subject, cells, key, rival).ok()?;
-    Some(Detail { place: None, words })
+    let key = cells.definition.keys().get(number)?;
+    let mut detail = Detail::of(String::new(memory));
+    detail.row = subject.row();
+    tell_clash(&mut detail, subject, cells, key, rival).ok()?;
+    Some(detail)
 }

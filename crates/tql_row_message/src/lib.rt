@@ -1,6 +1,7 @@
 //! Details of refused statements in words: of their rows, and of the state of transactions and readers.
 #![tactic(auto)]
 
+pub mod calculations;
 pub mod cells;
 pub mod checks;
 pub mod constraints;

@@ -1,80 +1,80 @@
 //! Rows of a child table that no row of the parent table matches.
-use crate::cells::{Cells, Subject, push_names, push_owner};
-use crate::constraints::push_reference_name;
+use crate::cells::{Cells, Subject, push_owner};
+use crate::constraints::name_constraint;
 use std::alloc::AllocError;
+use tql_bind_message::names::push_names;
 use tql_catalog::constraint::Reference;
 use tql_catalog::table_def::TableDef;
 use tql_detail::detail::Detail;
-use tql_detail::shown::push_shown;
+use tql_detail::shown::{Words, push_shown};
 use tql_memory::Memory;
 
 /// The values of a child row: `(A) = (7)`, and its period with PERIOD.
 fn push_values(
-    memory: Memory,
-    words: &mut String<Memory>,
+    words: &mut Words,
     cells: Cells<'_>,
     reference: &Reference,
 ) -> Result<(), AllocError> {
-    cells.push_tuple(memory, words, &reference.columns)?;
+    cells.push_tuple(words, &reference.columns)?;
     if reference.by_period {
-        cells.push_period(memory, words)?;
+        cells.push_period(words)?;
     }
     Ok(())
 }
 
 /// The name of the reference in parentheses.
-fn push_name(
-    words: &mut String<Memory>,
+fn name_reference(
+    detail: &mut Detail,
     cells: Cells<'_>,
     reference: &Reference,
 ) -> Result<(), AllocError> {
-    words.push_str(" (")?;
-    push_reference_name(words, cells.definition, reference)?;
-    words.push(')')
+    detail.words.push_str(" (")?;
+    let name = reference.name.as_str();
+    name_constraint(detail, name, cells.definition, &reference.columns)?;
+    detail.words.push(')')
 }
 
-/// The words of a new child row.
-fn push_missing(
-    memory: Memory,
-    words: &mut String<Memory>,
+/// Tells of a new child row.
+fn tell_missing(
+    detail: &mut Detail,
     subject: Subject,
     cells: Cells<'_>,
     reference: &Reference,
 ) -> Result<(), AllocError> {
+    let words = &mut detail.words;
     push_owner(words, subject)?;
-    push_values(memory, words, cells, reference)?;
-    if reference.by_period {
-        words.push_str(", which the rows of ")?;
-        push_shown(words, reference.parent.as_str())?;
-        words.push_str(" do not cover")?;
+    push_values(words, cells, reference)?;
+    let (before, behind) = if reference.by_period {
+        (", which the rows of ", " do not cover")
     } else {
-        words.push_str(", which no row of ")?;
-        push_shown(words, reference.parent.as_str())?;
-        words.push_str(" has")?;
-    }
-    push_name(words, cells, reference)
+        (", which no row of ", " has")
+    };
+    words.push_str(before)?;
+    push_shown(words, reference.parent.as_str())?;
+    words.push_str(behind)?;
+    name_reference(detail, cells, reference)
 }
 
-/// The words of a child row whose parent is changed or removed.
-fn push_still_referenced(
-    memory: Memory,
-    words: &mut String<Memory>,
+/// Tells of a child row whose parent is changed or removed.
+fn tell_still_referenced(
+    detail: &mut Detail,
     cells: Cells<'_>,
     reference: &Reference,
     parent: &TableDef,
 ) -> Result<(), AllocError> {
+    let words = &mut detail.words;
     words.push_str("row of ")?;
     push_shown(words, reference.parent.as_str())?;
     words.push_str(" with ")?;
     push_names(words, parent, &reference.parent_columns)?;
     words.push_str(" = ")?;
-    cells.push_values(memory, words, &reference.columns)?;
+    cells.push_values(words, &reference.columns)?;
     words.push_str(" is still referenced by ")?;
     push_shown(words, cells.definition.name())?;
     if reference.by_period {
-        cells.push_period(memory, words)?;
+        cells.push_period(words)?;
     }
-    push_name(words, cells, reference)
+    name_reference(detail, cells, reference)
 }
 
 /// The detail of a new row of a child table that no row of the parent table matches in a reference, by its number
@@ -85,10 +85,11 @@ pub fn missing_detail(
     cells: Cells<'_>,
     reference: usize,
 ) -> Option<Detail> {
-    let mut words = String::new(memory);
     let reference = cells.definition.references().get(reference)?;
-    push_missing(memory, &mut words, subject, cells, reference).ok()?;
-    Some(Detail { place: None, words })
+    let mut detail = Detail::of(String::new(memory));
+    detail.row = subject.row();
+    tell_missing(&mut detail, subject, cells, reference).ok()?;
+    Some(detail)
 }
 
 /// The detail of a row of a child table, which a change of the parent table leaves without a match in a reference, by
@@ -99,8 +100,8 @@ pub fn referenced_detail(
     reference: usize,
     parent: &TableDef,
 ) -> Option<Detail> {
-    let mut words = String::new(memory);
     let reference = cells.definition.references().get(reference)?;
-    push_still_referenced(memory, &mut words, cells, reference, parent).ok()?;
-    Some(Detail { place: None, words })
+    let mut detail = Detail::of(String::new(memory));
+    tell_still_referenced(&mut detail, cells, reference, parent).ok()?;
+    Some(detail)
 }

@@ -2,7 +2,7 @@
 use crate::cells::push_view;
 use std::alloc::AllocError;
 use tql_detail::detail::Detail;
-use tql_detail::shown::push_shown;
+use tql_detail::shown::{Words, push_shown};
 use tql_memory::Memory;
 use tql_value::calendar::HIGH;
 use tql_value::value::View;
@@ -10,18 +10,18 @@ use tql_value::value::View;
 /// A detail of these words alone. None where no memory is there for it.
 pub fn plain_detail(memory: Memory, words: &str) -> Option<Detail> {
     let words = String::from_str(memory, words).ok()?;
-    Some(Detail { place: None, words })
+    Some(Detail::of(words))
 }
 
 /// Words, and a moment after them.
-fn with_moment(memory: Memory, words: &str, moment: i64) -> Result<String<Memory>, AllocError> {
+fn with_moment(memory: Memory, words: &str, moment: i64) -> Result<Words, AllocError> {
     let mut words = String::from_str(memory, words)?;
-    push_view(memory, &mut words, View::Moment(moment))?;
+    push_view(&mut words, View::Moment(moment))?;
     Ok(words)
 }
 
 /// Words, and a name after them.
-fn with_name(memory: Memory, words: &str, name: &str) -> Result<String<Memory>, AllocError> {
+fn with_name(memory: Memory, words: &str, name: &str) -> Result<Words, AllocError> {
     let mut words = String::from_str(memory, words)?;
     push_shown(&mut words, name)?;
     Ok(words)
@@ -29,12 +29,14 @@ fn with_name(memory: Memory, words: &str, name: &str) -> Result<String<Memory>, 
 
 /// The detail of a statement that does not fit the state of the transaction (E40), by whether one is open.
 pub fn transaction_detail(memory: Memory, is_open: bool) -> Option<Detail> {
-    let words = if is_open {
-        "a transaction is open; end it with COMMIT or ROLLBACK"
+    let (words, hint) = if is_open {
+        ("a transaction is open", "end it with COMMIT or ROLLBACK")
     } else {
-        "no transaction is open; open one with START TRANSACTION"
+        ("no transaction is open", "open one with START TRANSACTION")
     };
-    plain_detail(memory, words)
+    let mut detail = plain_detail(memory, words)?;
+    detail.advise(hint).ok()?;
+    Some(detail)
 }
 
 /// The detail of a moment that the clock cannot take (E41), by the clock and the moment of the last commit, in
@@ -44,17 +46,17 @@ pub fn clock_detail(memory: Memory, clock: i64, last: Option<i64>) -> Option<Det
         return plain_detail(memory, "the clock has no moment left");
     }
     let words = with_moment(memory, "the last commit was at ", last?).ok()?;
-    Some(Detail { place: None, words })
+    Some(Detail::of(words))
 }
 
 /// The detail of a moment before the horizon (E45), which is in microseconds since 1970-01-01.
 pub fn horizon_detail(memory: Memory, horizon: i64) -> Option<Detail> {
     let words = with_moment(memory, "the horizon is ", horizon).ok()?;
-    Some(Detail { place: None, words })
+    Some(Detail::of(words))
 }
 
 /// The words of whether a reader is open.
-fn open_words(memory: Memory, name: &str, is_open: bool) -> Result<String<Memory>, AllocError> {
+fn open_words(memory: Memory, name: &str, is_open: bool) -> Result<Words, AllocError> {
     let mut words = with_name(memory, "reader ", name)?;
     words.push_str(if is_open {
         " is already open"
@@ -70,11 +72,11 @@ pub fn reader_detail(memory: Memory, name: &str, opens: bool, is_open: bool) -> 
         return plain_detail(memory, "READ takes tables WITH SYSTEM VERSIONING only");
     }
     let words = open_words(memory, name, is_open).ok()?;
-    Some(Detail { place: None, words })
+    Some(Detail::of(words))
 }
 
 /// The words of an open reader that is in the way.
-fn reader_words(memory: Memory, name: &str, others: usize) -> Result<String<Memory>, AllocError> {
+fn reader_words(memory: Memory, name: &str, others: usize) -> Result<Words, AllocError> {
     let mut words = with_name(memory, "reader ", name)?;
     if others == 0 {
         words.push_str(" is open")?;
@@ -87,5 +89,5 @@ fn reader_words(memory: Memory, name: &str, others: usize) -> Result<String<Memo
 /// The detail of readers that are in the way (E47): the name of one that is open, and the number of the others.
 pub fn readers_detail(memory: Memory, name: &str, others: usize) -> Option<Detail> {
     let words = reader_words(memory, name, others).ok()?;
-    Some(Detail { place: None, words })
+    Some(Detail::of(words))
 }

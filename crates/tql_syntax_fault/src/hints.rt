@@ -17,11 +17,19 @@ use tql_lex::token::Token;
 /// characters of which no token begins. Where one of the two is empty, anything fits.
 struct Hint(&'static str, &'static str, &'static str);
 
+const ALL_MOMENTS: &str = "write BETWEEN, with the first and the last moment";
+
 const ALL_ROWS: &str = "all rows are printed: there is no limit";
+
+const AT_ONCE: &str = "leave it out: each statement is checked at once";
 
 const CENTS: &str = "write BIGINT, in the smallest unit: whole cents";
 
+const FOREIGN: &str = "write FOREIGN KEY (x) REFERENCES t (x)";
+
 const FROM_SELECT: &str = "write CREATE TABLE, then INSERT from SELECT";
+
+const INSERT_MISSING: &str = "write UPDATE, then INSERT what is missing";
 
 const IN_KEY: &str = "write a key, as UNIQUE (x), in CREATE TABLE";
 
@@ -35,6 +43,8 @@ const MOMENT: &str = "write a moment: TIMESTAMP 'YYYY-MM-DD HH:MM:SS'";
 
 const NAMES: &str = "write names in double quotes";
 
+const NOTHING_OUTLASTS: &str = "write CREATE TABLE: nothing outlasts the run";
+
 const NO_ACTION: &str = "only NO ACTION is supported";
 
 const NO_ALIAS: &str = "a changed table takes no other name";
@@ -45,11 +55,17 @@ const NO_CASE: &str = "there is no CASE: choose in your program";
 
 const NO_INDEX: &str = "leave it out: keys and references are indexed";
 
+const NO_JOINED_TEXT: &str = "there is no operator for texts: join them in your program";
+
 const NO_LIMIT: &str = "there is no LIMIT: choose the rows by WHERE";
 
 const NO_LISTING: &str = "there is no list of tables and columns";
 
+const NO_PARTITIONS: &str = "leave it out: there are no partitions";
+
 const NO_PATTERN: &str = "there is no pattern match: filter in your program";
+
+const NO_PORTION: &str = "write WHERE, and that the period CONTAINS the day";
 
 const NO_PREPARED: &str = "there are no prepared statements";
 
@@ -62,8 +78,6 @@ const NO_VARIABLE: &str = "there are no variables: write the value";
 const NO_VIEW: &str = "write the query itself";
 
 const NO_ZONES: &str = "write TIMESTAMP alone: there are no time zones";
-
-const NOTHING_OUTLASTS: &str = "write CREATE TABLE: nothing outlasts the run";
 
 const NULL_APART: &str = "write OR x IS NULL";
 
@@ -79,11 +93,26 @@ const OWN_TABLE: &str = "UPDATE reads its own table only";
 
 const POINT: &str = "write DATE '..' or TIMESTAMP '..'";
 
+const PRIMARY: &str = "write it after a comma: PRIMARY KEY (x)";
+
 const PRUNING: &str = "write PRUNE HISTORY BEFORE TIMESTAMP '..', for all tables";
+
+const ROW_END: &str = "write GENERATED ALWAYS AS ROW END";
+
+const SERIAL: &str = "write INTEGER, and the number in each INSERT";
 
 const SHOWN: &str = "leave it out: every column is shown";
 
+const SPAN_FIRST: &str = "write it before the table's other name";
+
+const SYSTEM: &str = "write PERIOD FOR SYSTEM_TIME (s, e)";
+
+const TWO_QUERIES: &str =
+    "write two queries: a LEFT JOIN, and the other table's rows without a partner";
+
 const TYPES: &str = "the types are INTEGER, VARCHAR(n), DATE and TIMESTAMP";
+
+const UNORDERED: &str = "leave ORDER BY out: it has no effect here";
 
 const WHOLE: &str = "only the whole transaction can be rolled back";
 
@@ -141,17 +170,9 @@ static STATEMENTS: [Hint; 56] = [
     Hint("UPDATE ..", "FROM", OWN_TABLE),
     Hint("^ INSERT", "", "write INSERT INTO"),
     Hint("^ INSERT INTO _", "SET", "write the columns, then VALUES"),
-    Hint(
-        "INSERT ..",
-        "ON DUPLICATE",
-        "write UPDATE, then INSERT what is missing",
-    ),
+    Hint("INSERT ..", "ON DUPLICATE", INSERT_MISSING),
     Hint("INSERT ..", "ON CONFLICT", MISSING_KEYS),
-    Hint(
-        "INSERT ..",
-        "ORDER",
-        "leave ORDER BY out: it has no effect here",
-    ),
+    Hint("INSERT ..", "ORDER", UNORDERED),
     Hint("INSERT ..", "WITH", NO_SUBQUERY),
     Hint("^ DROP TABLE _", ",", "write one DROP TABLE for each table"),
     Hint("^ DROP TABLE _", "CASCADE", "leave CASCADE out"),
@@ -181,11 +202,7 @@ static TABLES: [Hint; 48] = [
     Hint("AS ROW", "", "write ROW START or ROW END"),
     Hint("GENERATED", "", ONLY_ROW),
     Hint("ALWAYS AS", "", ONLY_ROW),
-    Hint(
-        "CREATE ..",
-        "AS ROW END",
-        "write GENERATED ALWAYS AS ROW END",
-    ),
+    Hint("CREATE ..", "AS ROW END", ROW_END),
     Hint("CREATE ..", "AS ROW", "write GENERATED ALWAYS AS ROW START"),
     Hint("CREATE ..", "INVISIBLE", SHOWN),
     Hint("CREATE ..", "HIDDEN", SHOWN),
@@ -209,11 +226,7 @@ static TABLES: [Hint; 48] = [
     Hint("CREATE ..", "DATETIME", "write TIMESTAMP"),
     Hint("TIMESTAMP", "WITH", NO_ZONES),
     Hint("CREATE .. )", "WITH TIME", NO_ZONES),
-    Hint(
-        "CREATE ..",
-        "SERIAL",
-        "write INTEGER, and the number in each INSERT",
-    ),
+    Hint("CREATE ..", "SERIAL", SERIAL),
     Hint("CREATE ..", "AUTO_INCREMENT", NUMBERS),
     Hint("CREATE ..", "AUTOINCREMENT", NUMBERS),
     Hint("CREATE ..", "IDENTITY", NUMBERS),
@@ -228,39 +241,19 @@ static ELEMENTS: [Hint; 43] = [
     Hint("ON UPDATE", "", NO_ACTION),
     Hint("ON DELETE NO", "", NO_ACTION),
     Hint("ON UPDATE NO", "", NO_ACTION),
-    Hint(
-        "CREATE ..",
-        "DEFERRABLE",
-        "leave it out: each statement is checked at once",
-    ),
+    Hint("CREATE ..", "DEFERRABLE", AT_ONCE),
     Hint("REFERENCES _", "", "write the columns: REFERENCES t (x)"),
-    Hint(
-        "CREATE ..",
-        "REFERENCES",
-        "write FOREIGN KEY (x) REFERENCES t (x)",
-    ),
-    Hint(
-        "CREATE ..",
-        "PRIMARY",
-        "write it after a comma: PRIMARY KEY (x)",
-    ),
+    Hint("CREATE ..", "REFERENCES", FOREIGN),
+    Hint("CREATE ..", "PRIMARY", PRIMARY),
     Hint("UNIQUE", "KEY", "write UNIQUE (x)"),
     Hint("UNIQUE", "INDEX", "write UNIQUE (x)"),
     Hint("CREATE ..", "UNIQUE", "write it after a comma: UNIQUE (x)"),
     Hint("CREATE ..", "CHECK", "write it after a comma: CHECK (..)"),
     Hint("CREATE ..", "INDEX", NO_INDEX),
     Hint("CREATE ..", "KEY", NO_INDEX),
-    Hint(
-        "PERIOD",
-        "SYSTEM_TIME",
-        "write PERIOD FOR SYSTEM_TIME (s, e)",
-    ),
+    Hint("PERIOD", "SYSTEM_TIME", SYSTEM),
     Hint("CREATE .. PERIOD", "_", "write PERIOD FOR and its name"),
-    Hint(
-        "CREATE ..",
-        "PARTITION",
-        "leave it out: there are no partitions",
-    ),
+    Hint("CREATE ..", "PARTITION", NO_PARTITIONS),
     Hint("CREATE ..", "ENGINE", "leave ENGINE out"),
     Hint("^ CREATE TABLE _ ( _", "_", TYPES),
     Hint("CREATE .. INTEGER , _", "_", TYPES),
@@ -271,11 +264,7 @@ static ELEMENTS: [Hint; 43] = [
     Hint("CREATE .. NULL , _", "_", TYPES),
     Hint("CREATE .. ) , _", "_", TYPES),
     // Moments and periods.
-    Hint(
-        "SYSTEM_TIME",
-        "ALL",
-        "write BETWEEN, with the first and the last moment",
-    ),
+    Hint("SYSTEM_TIME", "ALL", ALL_MOMENTS),
     Hint("SYSTEM_TIME AS OF", "", MOMENT),
     Hint("SYSTEM_TIME FROM", "", MOMENT),
     Hint("SYSTEM_TIME FROM TIMESTAMP ' TO", "", MOMENT),
@@ -284,17 +273,9 @@ static ELEMENTS: [Hint; 43] = [
     Hint("PORTION OF _ FROM", "", POINT),
     Hint("PORTION OF _ FROM DATE ' TO", "", POINT),
     Hint("PORTION OF _ FROM TIMESTAMP ' TO", "", POINT),
-    Hint(
-        "SELECT .. _",
-        "FOR SYSTEM_TIME",
-        "write it before the table's other name",
-    ),
+    Hint("SELECT .. _", "FOR SYSTEM_TIME", SPAN_FIRST),
     Hint("FOR", "UPDATE", "leave FOR UPDATE out"),
-    Hint(
-        "SELECT .. FOR",
-        "_",
-        "write WHERE, and that the period CONTAINS the day",
-    ),
+    Hint("SELECT .. FOR", "_", NO_PORTION),
     Hint("DATE", "#", "write DATE 'YYYY-MM-DD'"),
     Hint("DATE", "\"", "write DATE 'YYYY-MM-DD'"),
     Hint("TIMESTAMP", "#", MOMENT),
@@ -321,11 +302,7 @@ static QUERIES: [Hint; 54] = [
     Hint("", "EXCEPT", NO_SUBQUERY),
     Hint("", "INTERSECT", NO_SUBQUERY),
     Hint("SELECT ..", "USING", "write ON, and the columns"),
-    Hint(
-        "",
-        "FULL",
-        "write two queries: a LEFT JOIN, and the other table's rows without a partner",
-    ),
+    Hint("", "FULL", TWO_QUERIES),
     Hint("", "RIGHT", "write LEFT JOIN, with the tables swapped"),
     Hint("BY ..", "NULLS", "NULL sorts first, with DESC last"),
     Hint("ORDER BY _", ".", "write the column's heading alone"),
@@ -352,11 +329,7 @@ static QUERIES: [Hint; 54] = [
     Hint("", "%", NO_QUOTIENT),
     Hint("", "!=", "write <>"),
     Hint("=", "=", "write = once"),
-    Hint(
-        "",
-        "||",
-        "there is no operator for texts: join them in your program",
-    ),
+    Hint("", "||", NO_JOINED_TEXT),
     Hint("", "&&", "write OVERLAPS for periods, AND for conditions"),
     Hint("", "@>", "write CONTAINS"),
     Hint("", "`", NAMES),
@@ -385,26 +358,6 @@ fn first_hint(
     None
 }
 
-/// Returns the hint for a habit of whole statements.
-fn statement_hint(before: &[Token<'_>], behind: &[Token<'_>], rest: &str) -> Option<&'static str> {
-    first_hint(&STATEMENTS, before, behind, rest)
-}
-
-/// Returns the hint for a habit of CREATE TABLE and its columns.
-fn table_hint(before: &[Token<'_>], behind: &[Token<'_>], rest: &str) -> Option<&'static str> {
-    first_hint(&TABLES, before, behind, rest)
-}
-
-/// Returns the hint for a habit of keys, references, checks, periods and moments.
-fn element_hint(before: &[Token<'_>], behind: &[Token<'_>], rest: &str) -> Option<&'static str> {
-    first_hint(&ELEMENTS, before, behind, rest)
-}
-
-/// Returns the hint for a habit of queries, expressions and conditions.
-fn query_hint(before: &[Token<'_>], behind: &[Token<'_>], rest: &str) -> Option<&'static str> {
-    first_hint(&QUERIES, before, behind, rest)
-}
-
 /// Returns the hint for a text of a habit, if it is one: by the tokens before the place where reading stopped, those
 /// from there on, and the text from there on.
 pub(crate) fn habit_hint(
@@ -412,14 +365,14 @@ pub(crate) fn habit_hint(
     behind: &[Token<'_>],
     rest: &str,
 ) -> Option<&'static str> {
-    if let Some(says) = statement_hint(before, behind, rest) {
+    if let Some(says) = first_hint(&STATEMENTS, before, behind, rest) {
         return Some(says);
     }
-    if let Some(says) = table_hint(before, behind, rest) {
+    if let Some(says) = first_hint(&TABLES, before, behind, rest) {
         return Some(says);
     }
-    if let Some(says) = element_hint(before, behind, rest) {
+    if let Some(says) = first_hint(&ELEMENTS, before, behind, rest) {
         return Some(says);
     }
-    query_hint(before, behind, rest)
+    first_hint(&QUERIES, before, behind, rest)
 }

@@ -22,42 +22,34 @@ fn begins_operand(token: &Token<'_>) -> bool {
 }
 
 /// Whether a token is one of these words.
-fn is_one_of(token: &Token<'_>, words: &[&str]) -> bool {
-    words.iter().any(|word| token.is_word(word))
+fn is_one_of(token: &Token<'_>, words: &str) -> bool {
+    for word in words.split(' ') {
+        if token.is_word(word) {
+            return true;
+        }
+    }
+    false
 }
 
-/// The types of columns, here and in other systems.
-const TYPES: [&str; 20] = [
-    "INTEGER",
-    "INT",
-    "BIGINT",
-    "VARCHAR",
-    "DATE",
-    "TIMESTAMP",
-    "SMALLINT",
-    "TINYINT",
-    "TEXT",
-    "CHAR",
-    "CHARACTER",
-    "DECIMAL",
-    "NUMERIC",
-    "FLOAT",
-    "REAL",
-    "DOUBLE",
-    "BOOLEAN",
-    "BOOL",
-    "DATETIME",
-    "SERIAL",
-];
+/// The types of columns here, and those of other systems.
+const TYPES: &str = "INTEGER INT BIGINT VARCHAR DATE TIMESTAMP";
+
+const OTHER_TYPES: &str =
+    "SMALLINT TINYINT TEXT CHAR CHARACTER DECIMAL NUMERIC FLOAT REAL DOUBLE BOOLEAN BOOL DATETIME SERIAL";
+
+/// Whether a token is a type, here or in other systems.
+fn is_type(token: &Token<'_>) -> bool {
+    is_one_of(token, TYPES) || is_one_of(token, OTHER_TYPES)
+}
 
 /// The reserved words with which literals begin.
-const LITERALS: [&str; 2] = ["DATE", "TIMESTAMP"];
+const LITERALS: &str = "DATE TIMESTAMP";
 
 /// The reserved words with which aggregates begin.
-const AGGREGATES: [&str; 4] = ["COUNT", "SUM", "MIN", "MAX"];
+const AGGREGATES: &str = "COUNT SUM MIN MAX";
 
 /// What other systems let stand in the place of a column of CREATE TABLE; here they are read as a column's name.
-const ELEMENTS: [&str; 5] = ["INDEX", "KEY", "LIKE", "FULLTEXT", "SPATIAL"];
+const ELEMENTS: &str = "INDEX KEY LIKE FULLTEXT SPATIAL";
 
 /// Whether these are the tokens of a CREATE.
 fn are_create(tokens: &[Token<'_>]) -> bool {
@@ -76,9 +68,7 @@ fn begins_element(before: &[Token<'_>]) -> bool {
 /// Whether a reserved word and a type stand where a column of CREATE TABLE begins.
 fn is_reserved_column(before: &[Token<'_>], behind: &[Token<'_>]) -> bool {
     match behind {
-        [word, kind, ..] => {
-            word.is_reserved() && is_one_of(kind, &TYPES) && begins_element(before)
-        }
+        [word, kind, ..] => { word.is_reserved() && is_type(kind) && begins_element(before) }
         _ => false,
     }
 }
@@ -89,7 +79,7 @@ fn goes_on(word: &Token<'_>, next: Option<&Token<'_>>) -> bool {
     let Some(next) = next else {
         return false;
     };
-    if is_one_of(word, &LITERALS) {
+    if is_one_of(word, LITERALS) {
         matches!(
             next.kind,
             TokenKind::Quote | TokenKind::Number | TokenKind::QuotedName
@@ -106,10 +96,10 @@ fn is_bare_beginning(before: &[Token<'_>], behind: &[Token<'_>]) -> bool {
         return false;
     };
     let is_created = are_create(before);
-    let is_type = is_created && before.last().is_some_and(|last| is_name(last));
+    let is_kind = is_created && before.last().is_some_and(|last| is_name(last));
     let is_length = matches!(before, [.., kind, _] if kind.is_word("VARCHAR"));
-    let is_beginning = is_one_of(word, &LITERALS) && !is_type
-        || is_one_of(word, &AGGREGATES) && !is_length
+    let is_beginning = is_one_of(word, LITERALS) && !is_kind
+        || is_one_of(word, AGGREGATES) && !is_length
         || word.is_word("PERIOD") && !is_created;
     is_beginning && !before.is_empty() && !goes_on(word, rest.first())
 }
@@ -124,7 +114,7 @@ pub(crate) fn is_name_meant(before: &[Token<'_>], behind: &[Token<'_>]) -> bool 
 fn is_element(before: &[Token<'_>], behind: &[Token<'_>]) -> bool {
     match behind {
         [word, next, ..] => {
-            is_one_of(word, &ELEMENTS) && !is_one_of(next, &TYPES) && begins_element(before)
+            is_one_of(word, ELEMENTS) && !is_type(next) && begins_element(before)
         }
         _ => false,
     }
@@ -137,7 +127,7 @@ fn is_alias(last: &Token<'_>, behind: &[Token<'_>]) -> bool {
         [word, next, ..] => {
             ends_operand(last)
                 && is_plain(word)
-                && !is_one_of(word, &["ASC", "DESC"])
+                && !is_one_of(word, "ASC DESC")
                 && begins_operand(next)
         }
         _ => false,

@@ -5,7 +5,7 @@ use crate::places::{is_name_meant, shown_place};
 use std::alloc::AllocError;
 use tql_detail::detail::Detail;
 use tql_detail::place::Place;
-use tql_detail::shown::push_shown;
+use tql_detail::shown::{Words, push_shown};
 use tql_lex::token::{Symbol, Token};
 use tql_memory::Memory;
 use tql_syntax::stop::{Stopped, depth_stop_of, stop_of};
@@ -66,7 +66,7 @@ fn hint_for(before: &[Token<'_>], behind: &[Token<'_>], rest: &str) -> Option<&'
 }
 
 /// Adds a token to the words, and whether it is a word that is never a name.
-fn push_token(words: &mut String<Memory>, token: &Token<'_>) -> Result<(), AllocError> {
+fn push_token(words: &mut Words, token: &Token<'_>) -> Result<(), AllocError> {
     words.push_str("at \"")?;
     push_shown(words, token.text)?;
     words.push('"')?;
@@ -77,7 +77,7 @@ fn push_token(words: &mut String<Memory>, token: &Token<'_>) -> Result<(), Alloc
 }
 
 /// Adds the first character of a text to the words, or that the text has ended.
-fn push_character(words: &mut String<Memory>, text: &str) -> Result<(), AllocError> {
+fn push_character(words: &mut Words, text: &str) -> Result<(), AllocError> {
     let Some(character) = text.chars().next() else {
         return words.push_str("at the end");
     };
@@ -91,52 +91,38 @@ fn push_character(words: &mut String<Memory>, text: &str) -> Result<(), AllocErr
     }
 }
 
-/// Adds the hint to the words, where there is one.
-fn push_hint(words: &mut String<Memory>, hint: Option<&str>) -> Result<(), AllocError> {
-    if let Some(says) = hint {
-        words.push_str("; ")?;
-        words.push_str(says)?;
-    }
-    Ok(())
-}
-
-/// Returns the words for a text at which reading stopped, at this of its tokens or, behind them all, at this rest of
-/// the text. The only error is a refused allocation.
-fn words_of(
-    memory: Memory,
-    stopped: &Stopped<'_>,
-    place: usize,
-    rest: &str,
-) -> Result<String<Memory>, AllocError> {
+/// Returns the words for a text at which reading stopped, at these tokens or, behind them all, at this rest of the
+/// text. The only error is a refused allocation.
+fn words_of(memory: Memory, behind: &[Token<'_>], rest: &str) -> Result<Words, AllocError> {
     let mut words = String::new(memory);
-    let tokens = stopped.front.tokens.as_slice();
-    let before = tokens.get(..place).unwrap_or(&[]);
-    let behind = tokens.get(place..).unwrap_or(&[]);
     match behind {
         [token, ..] => push_token(&mut words, token)?,
         [] => push_character(&mut words, rest)?,
     }
-    let hint = if stopped.is_deep && place == stopped.read {
-        Some(DEEP)
-    } else {
-        hint_for(before, behind, rest)
-    };
-    push_hint(&mut words, hint)?;
     Ok(words)
 }
 
 /// Returns the detail for a text at which reading stopped, at this of its tokens.
 fn detail_at(memory: Memory, text: &str, stopped: &Stopped<'_>, place: usize) -> Option<Detail> {
-    let start = match stopped.front.tokens.get(place) {
-        Some(token) => token.start,
-        None => stopped.front.broken.unwrap_or(text.len()),
+    let tokens = stopped.front.tokens.as_slice();
+    let before = tokens.get(..place).unwrap_or(&[]);
+    let behind = tokens.get(place..).unwrap_or(&[]);
+    let start = match behind {
+        [token, ..] => token.start,
+        [] => stopped.front.broken.unwrap_or(text.len()),
     };
     let rest = text.get(start..).unwrap_or("");
-    let words = words_of(memory, stopped, place, rest).ok()?;
-    Some(Detail {
-        place: Some(Place::behind(front_of(text, start).as_bytes())),
-        words,
-    })
+    let hint = if stopped.is_deep && place == stopped.read {
+        Some(DEEP)
+    } else {
+        hint_for(before, behind, rest)
+    };
+    let mut detail = Detail::of(words_of(memory, behind, rest).ok()?);
+    detail.place = Some(Place::behind(front_of(text, start).as_bytes()));
+    if let Some(says) = hint {
+        detail.advise(says).ok()?;
+    }
+    Some(detail)
 }
 
 /// Returns the detail of a finished statement's text that is refused as not a statement: where reading it stopped, and
