@@ -57,6 +57,19 @@ fn ask(rt: &impl Print, engine: &mut Engine, question: &[u8]) -> io::Result<()> 
     }
 }
 
+/// Says what is known of each refusal: what is wrong, and what to write.
+fn say_details(rt: &impl Print, notes: &Notes) -> io::Result<()> {
+    for told in &notes.told {
+        let words = told.detail.words.as_str();
+        let hint = match &told.detail.hint {
+            Some(hint) => hint.as_str(),
+            None => "none",
+        };
+        println!(rt; "statement {}: {words}; hint: {hint}", told.statement)?;
+    }
+    Ok(())
+}
+
 /// Enters the payments, and says which statements were refused and how many there were.
 fn enter(rt: &impl Print, memory: Memory, engine: &mut Engine) -> io::Result<()> {
     let mut source = SliceSource::new(ENTERED);
@@ -67,6 +80,7 @@ fn enter(rt: &impl Print, memory: Memory, engine: &mut Engine) -> io::Result<()>
         let text = note.refusal.text();
         println!(rt; "statement {}, line {}: {text}", note.statement, note.line)?;
     }
+    say_details(rt, &notes)?;
     match end {
         Ok(summary) => {
             println!(rt;

@@ -164,18 +164,30 @@ fn write_json(
     write_held(out, sink)
 }
 
-/// Answers a line about a refusal with the column and the detail of its fault, `-` where one is not known.
-fn answer_fault(memory: Memory, input: &str, out: &mut String) -> Result<(), Stop> {
-    let (number, known) = two(input)?;
-    let (column, detail) = two(known)?;
-    let diagnostic = Diagnostic {
-        column: if column == "-" {
-            None
-        } else {
-            Some(count(column)? as u64)
-        },
-        detail: if detail == "-" { None } else { Some(detail) },
-    };
+/// Writes a refusal as a line of JSON: by its number, the column of its fault, its row and the detail, each `-` where it
+/// is not known. The constraint has these columns, and the name of the first; so has the hint.
+fn write_fault<'a>(
+    out: &mut String,
+    memory: Memory,
+    columns: &'a [String<Memory>],
+    input: &'a str,
+) -> Result<(), Stop> {
+    let (number, others) = two(input)?;
+    let (column, others) = two(others)?;
+    let (row, detail) = two(others)?;
+    let mut diagnostic = Diagnostic::NONE;
+    diagnostic.column = column.parse().ok();
+    diagnostic.row = row.parse().ok();
+    if detail != "-" {
+        diagnostic.detail = Some(detail);
+    }
+    if let [name, ..] = columns
+        && name.as_str() != "-"
+    {
+        diagnostic.hint = Some(name.as_str());
+        diagnostic.constraint = Some(name.as_str());
+        diagnostic.columns = Some(columns);
+    }
     let reply = Reply::Refused(refusal(number)?);
     write_json(out, memory, &Answer::Replied(reply), diagnostic)
 }
@@ -187,7 +199,11 @@ fn answer_json(memory: Memory, line: &Line<'_>, out: &mut String) -> Result<(), 
         "json_refused" => Reply::Refused(refusal(line.input)?),
         "json_rows" => table(memory, line.input)?,
         "json_accepted" => return write_json(out, memory, &Answer::Accepted, Diagnostic::NONE),
-        "json_fault" => return answer_fault(memory, line.input, out),
+        "json_fault" => {
+            let (names, known) = two(line.input)?;
+            let columns = headings(memory, names)?;
+            return write_fault(out, memory, columns.as_slice(), known);
+        }
         _ => return Err(Stop::Form),
     };
     write_json(out, memory, &Answer::Replied(reply), Diagnostic::NONE)

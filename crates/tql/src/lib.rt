@@ -19,13 +19,14 @@
 //!
 //! A script runs by `run`, over a `Source` that gives its bytes and a `Sink` that takes the replies' bytes, as
 //! `SliceSource` and `VecSink` are in memory, and `StdSource` and `StdSink` over files and streams. A `Listener` hears
-//! which statements were refused, on which lines, and which word or name is meant, where that is known: `Notes` keeps
-//! that, `Silence` does not listen. `run_in` writes the replies in another `Form` (`CsvForm`, `JsonForm`, `JsonlForm`,
-//! `BoxForm`), and stops at the first refusal where that is asked for. Where none of this is needed, `run_bytes` runs a
-//! script in memory. A host whose bytes come part by part has a `Session`: it is fed them as they come, and gives each
-//! answer as soon as its statement is whole. A table is written as comma-separated values by `write_csv_table`, and as
-//! JSON Lines by `write_json_rows`. An answer is written as JSON by `write_json_answer`, with a `Diagnostic` of a
-//! refusal.
+//! which statements were refused, on which lines, and the `Detail` of each, where it is known, in parts: the `place`,
+//! what is wrong (`words`), what to write (`hint`), and of a row that fails the `constraint`, its `columns` and the
+//! number of the `row`. `Notes` keeps that, `Silence` does not listen. `run_in` writes the replies in another `Form`
+//! (`CsvForm`, `JsonForm`, `JsonlForm`, `BoxForm`), and stops at the first refusal where that is asked for. Where none
+//! of this is needed, `run_bytes` runs a script in memory. A host whose bytes come part by part has a `Session`: it is
+//! fed them as they come, and gives each answer as soon as its statement is whole. A table is written as
+//! comma-separated values by `write_csv_table`, and as JSON Lines by `write_json_rows`. An answer is written as JSON
+//! by `write_json_answer`, with a `Diagnostic` of a refusal, which has the parts of a detail.
 //!
 //! Values are put into a statement by `literal`, which doubles each quote. Which tables are there, with their columns
 //! and kinds, `Engine::table_count` and `Engine::table_definition` tell; which kinds the columns of a query have,

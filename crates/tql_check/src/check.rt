@@ -22,6 +22,7 @@ use tql_run::responder::Responder;
 use tql_run::runner::{Fault, Summary, run_in};
 use tql_syntax::text::read_text;
 use tql_syntax_fault::told::{depth_detail, syntax_detail};
+use tql_syntax_fault::unfinished::unfinished_detail;
 use tql_syntax_tree::width::is_too_wide;
 use tql_value::refusal::Refusal;
 
@@ -71,6 +72,7 @@ impl Responder for Checker {
         match refusal {
             Refusal::NotAStatement => syntax_detail(self.memory, text),
             Refusal::NestedTooDeep => depth_detail(self.memory, text),
+            Refusal::UnfinishedStatement => unfinished_detail(self.memory, text),
             _ => None,
         }
     }

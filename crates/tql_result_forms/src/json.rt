@@ -1,10 +1,10 @@
 //! The text of an answer as one JSON object on one line.
-ghost use Rattle.std.specs.Prelude.{◌≡◌, ◌∷◌, ◌++◌, [], codes, decimal, drop, option_map};
+ghost use Rattle.std.specs.Prelude.{◌≡◌, ◌∷◌, ◌++◌, [], codes, decimal, drop, map, option_map, string_bytes};
 ghost use Rattle.std.specs.List.{flat_map};
 ghost use Rattle.tql_spec.specs.Answer.{Replied};
-ghost use Rattle.tql_result_laws.specs.Json.{member, count_members, column_members, detail_members, done_members};
+ghost use Rattle.tql_result_laws.specs.Json.{string, member, known, name_array, done_members};
 ghost use Rattle.tql_result_laws.specs.Json.{table_members, refusal_members, members_of, json_text};
-ghost use Rattle.tql_result_forms.specs.Diagnostics.{detail_of};
+ghost use Rattle.tql_result_forms.specs.Diagnostics.{fault_of, place_members, constraint_members};
 ghost use Rattle.tql_spec.specs.Machine.{Refused};
 ghost use Rattle.tql_spec.specs.Text.{wording};
 ghost use Rattle.tql_value.specs.Refusals.{refusal_of};
@@ -15,6 +15,7 @@ ghost use Rattle.tql_result.specs.Replies.{IsPrintableReply, IsPrintableAnswer};
 
 use crate::escape::push_string;
 use crate::json_rows::{push_names, push_rows};
+use tql_memory::Memory;
 use tql_result::answer::Answer;
 use tql_result::device::DeviceFault;
 use tql_result::number::push_decimal;
@@ -24,13 +25,21 @@ use tql_result::sink::Sink;
 use tql_value::refusal::Refusal;
 use tql_value::value::ResultTable;
 
-/// What is known of a refusal besides its number: where the statement is at fault, and why.
+/// What is known of the fault of a refused statement besides its number, text and line. What is not known is `None`.
 #[derive(Clone, Copy, Debug)]
 pub struct Diagnostic<'a> {
     /// The column on the line, counted in characters from 1.
     pub column: Option<u64>,
-    /// What is wrong there, or what to write.
+    /// What is wrong there.
     pub detail: Option<&'a str>,
+    /// What to write instead.
+    pub hint: Option<&'a str>,
+    /// The name of the constraint that a row fails.
+    pub constraint: Option<&'a str>,
+    /// The names of the columns in which it fails.
+    pub columns: Option<&'a [String<Memory>]>,
+    /// The number of the row in the statement, counted from 1.
+    pub row: Option<u64>,
 }
 
 impl Diagnostic<'_> {
@@ -38,6 +47,10 @@ impl Diagnostic<'_> {
     pub const NONE: Diagnostic<'static> = Diagnostic {
         column: None,
         detail: None,
+        hint: None,
+        constraint: None,
+        columns: None,
+        row: None,
     };
 }
 
@@ -63,16 +76,58 @@ fn push_place<S: Sink>(sink: &mut S, statement: u64, line: u64) -> Result<(), De
     push_decimal(sink, line)
 }
 
-/// Pushes the count, where there is one.
-fn push_count<S: Sink>(sink: &mut S, count: Option<u64>) -> Result<(), DeviceFault>
-    ensures { Pushes (flat_map (λ m. 44 ∷ 32 ∷ m) (count_members count)) result
+/// Pushes the name of a member, behind a comma.
+fn push_name<S: Sink>(sink: &mut S, name: &[u8]) -> Result<(), DeviceFault>
+    ensures { Pushes (44 ∷ 32 ∷ (string name.now ++ (58 ∷ 32 ∷ []))) result
         (S.written sink.old) (S.written sink.new) (S.failures sink.old) (S.failures sink.new) }
 {
-    match count {
+    push_all(sink, b", ")?;
+    push_string(sink, name)?;
+    push_all(sink, b": ")
+}
+
+/// Pushes a number with its name, where it is known.
+fn push_number<S: Sink>(sink: &mut S, name: &[u8], number: Option<u64>) -> Result<(), DeviceFault>
+    ensures { Pushes (flat_map (λ m. 44 ∷ 32 ∷ m) (known name.now decimal number [])) result
+        (S.written sink.old) (S.written sink.new) (S.failures sink.old) (S.failures sink.new) }
+{
+    match number {
         None => Ok(()),
-        Some(n) => {
-            push_all(sink, b", \"count\": ")?;
-            push_decimal(sink, n)
+        Some(number) => {
+            push_name(sink, name)?;
+            push_decimal(sink, number)
+        }
+    }
+}
+
+/// Pushes a text with its name, where it is known.
+fn push_text<S: Sink>(sink: &mut S, name: &[u8], text: Option<&str>) -> Result<(), DeviceFault>
+    ensures { Pushes (flat_map (λ m. 44 ∷ 32 ∷ m) (known name.now string (option_map (λ s. s.now) text.entry) []))
+        result (S.written sink.old) (S.written sink.new) (S.failures sink.old) (S.failures sink.new) }
+{
+    match text {
+        None => Ok(()),
+        Some(text) => {
+            push_name(sink, name)?;
+            push_string(sink, text.as_bytes())
+        }
+    }
+}
+
+/// Pushes the names of the columns of a fault, where they are known.
+fn push_columns<S: Sink>(
+    sink: &mut S,
+    columns: Option<&[String<Memory>]>,
+) -> Result<(), DeviceFault>
+    ensures { Pushes (flat_map (λ m. 44 ∷ 32 ∷ m)
+        (known (codes "columns") name_array (option_map (λ l. map string_bytes l.now) columns.entry) [])) result
+        (S.written sink.old) (S.written sink.new) (S.failures sink.old) (S.failures sink.new) }
+{
+    match columns {
+        None => Ok(()),
+        Some(columns) => {
+            push_name(sink, b"columns")?;
+            push_names(sink, columns)
         }
     }
 }
@@ -84,7 +139,7 @@ fn push_done<S: Sink>(sink: &mut S, verb: Verb, count: Option<u64>) -> Result<()
 {
     push_all(sink, b", \"reply\": ")?;
     push_string(sink, verb.text().as_bytes())?;
-    push_count(sink, count)
+    push_number(sink, b"count", count)
 }
 
 /// Pushes the headings and the rows of a table.
@@ -100,34 +155,6 @@ fn push_table<S: Sink>(sink: &mut S, table: &ResultTable) -> Result<(), DeviceFa
     push_rows(sink, table.rows.as_slice())
 }
 
-/// Pushes the column of a fault, where it is known.
-fn push_column<S: Sink>(sink: &mut S, column: Option<u64>) -> Result<(), DeviceFault>
-    ensures { Pushes (flat_map (λ m. 44 ∷ 32 ∷ m) (column_members column)) result
-        (S.written sink.old) (S.written sink.new) (S.failures sink.old) (S.failures sink.new) }
-{
-    match column {
-        None => Ok(()),
-        Some(number) => {
-            push_all(sink, b", \"column\": ")?;
-            push_decimal(sink, number)
-        }
-    }
-}
-
-/// Pushes the detail of a fault, where there is one.
-fn push_detail<S: Sink>(sink: &mut S, detail: Option<&str>) -> Result<(), DeviceFault>
-    ensures { Pushes (flat_map (λ m. 44 ∷ 32 ∷ m) (detail_members (option_map (λ s. s.now) detail.entry))) result
-        (S.written sink.old) (S.written sink.new) (S.failures sink.old) (S.failures sink.new) }
-{
-    match detail {
-        None => Ok(()),
-        Some(words) => {
-            push_all(sink, b", \"detail\": ")?;
-            push_string(sink, words.as_bytes())
-        }
-    }
-}
-
 /// Pushes the number and the words of a refusal.
 fn push_words<S: Sink>(sink: &mut S, refusal: Refusal) -> Result<(), DeviceFault>
     ensures { Pushes (flat_map (λ m. 44 ∷ 32 ∷ m) (refusal_members (refusal_of refusal))) result
@@ -139,6 +166,26 @@ fn push_words<S: Sink>(sink: &mut S, refusal: Refusal) -> Result<(), DeviceFault
     push_string(sink, words(refusal))
 }
 
+/// Pushes where the fault of a refusal is, what is wrong there, and what to write.
+fn push_fault_place<S: Sink>(sink: &mut S, diagnostic: Diagnostic<'_>) -> Result<(), DeviceFault>
+    ensures { Pushes (flat_map (λ m. 44 ∷ 32 ∷ m) (place_members (fault_of diagnostic.entry))) result
+        (S.written sink.old) (S.written sink.new) (S.failures sink.old) (S.failures sink.new) }
+{
+    push_number(sink, b"column", diagnostic.column)?;
+    push_text(sink, b"detail", diagnostic.detail)?;
+    push_text(sink, b"hint", diagnostic.hint)
+}
+
+/// Pushes which constraint a row fails, in which columns, and which row that is.
+fn push_fault_row<S: Sink>(sink: &mut S, diagnostic: Diagnostic<'_>) -> Result<(), DeviceFault>
+    ensures { Pushes (flat_map (λ m. 44 ∷ 32 ∷ m) (constraint_members (fault_of diagnostic.entry))) result
+        (S.written sink.old) (S.written sink.new) (S.failures sink.old) (S.failures sink.new) }
+{
+    push_text(sink, b"constraint", diagnostic.constraint)?;
+    push_columns(sink, diagnostic.columns)?;
+    push_number(sink, b"row", diagnostic.row)
+}
+
 /// Pushes a refusal, and what is known of it.
 fn push_refusal<S: Sink>(
     sink: &mut S,
@@ -146,13 +193,12 @@ fn push_refusal<S: Sink>(
     diagnostic: Diagnostic<'_>,
 ) -> Result<(), DeviceFault>
     ensures { Pushes (flat_map (λ m. 44 ∷ 32 ∷ m)
-        (members_of diagnostic.entry.column (detail_of diagnostic.entry) (Replied (Refused (refusal_of refusal)))))
-        result
+        (members_of (fault_of diagnostic.entry) (Replied (Refused (refusal_of refusal))))) result
         (S.written sink.old) (S.written sink.new) (S.failures sink.old) (S.failures sink.new) }
 {
     push_words(sink, refusal)?;
-    push_column(sink, diagnostic.column)?;
-    push_detail(sink, diagnostic.detail)
+    push_fault_place(sink, diagnostic)?;
+    push_fault_row(sink, diagnostic)
 }
 
 /// Pushes what a reply says.
@@ -163,7 +209,7 @@ fn push_reply<S: Sink>(
 ) -> Result<(), DeviceFault>
     requires { IsPrintableReply (reply_of reply.now) }
     ensures { Pushes (flat_map (λ m. 44 ∷ 32 ∷ m)
-        (members_of diagnostic.entry.column (detail_of diagnostic.entry) (Replied (reply_of reply.now)))) result
+        (members_of (fault_of diagnostic.entry) (Replied (reply_of reply.now)))) result
         (S.written sink.old) (S.written sink.new) (S.failures sink.old) (S.failures sink.new) }
 {
     match reply {
@@ -181,7 +227,7 @@ fn push_answer<S: Sink>(
 ) -> Result<(), DeviceFault>
     requires { IsPrintableAnswer (answer_of answer.now) }
     ensures { Pushes (flat_map (λ m. 44 ∷ 32 ∷ m)
-        (members_of diagnostic.entry.column (detail_of diagnostic.entry) (answer_of answer.now))) result
+        (members_of (fault_of diagnostic.entry) (answer_of answer.now))) result
         (S.written sink.old) (S.written sink.new) (S.failures sink.old) (S.failures sink.new) }
 {
     match answer {
@@ -196,8 +242,8 @@ fn push_answer<S: Sink>(
 /// - `reply` and `count`: the words of a statement that is done, and how many rows it changed, where these are counted.
 ///   A statement that was only checked and has no fault has the reply `OK`.
 /// - `columns` and `rows`: the headings of a table, and its rows.
-/// - `refused` and `text`: the number of a refusal and its words. `column` and `detail` follow where `diagnostic` has
-///   them. Other answers ignore `diagnostic`.
+/// - `refused` and `text`: the number of a refusal and its words. `column`, `detail`, `hint`, `constraint`, `columns`
+///   and `row` follow, each where `diagnostic` has it. Other answers ignore `diagnostic`.
 ///
 /// A number is a JSON number, NULL is `null`, and a text is a string. A day is the string `YYYY-MM-DD`, and a moment is
 /// the string `YYYY-MM-DD HH:MM:SS`, with a point and six digits where its microseconds are not zero: the literals
@@ -214,8 +260,7 @@ pub fn write_json_answer<S: Sink>(
     diagnostic: Diagnostic<'_>,
 ) -> Result<(), DeviceFault>
     requires { IsPrintableAnswer (answer_of answer.now) }
-    ensures { Pushes
-        (json_text statement line diagnostic.entry.column (detail_of diagnostic.entry) (answer_of answer.now)) result
+    ensures { Pushes (json_text statement line (fault_of diagnostic.entry) (answer_of answer.now)) result
         (S.written sink.old) (S.written sink.new) (S.failures sink.old) (S.failures sink.new) }
 {
     push_place(sink, statement, line)?;

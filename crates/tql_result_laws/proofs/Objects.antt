@@ -1,25 +1,25 @@
 -- Values, lists and objects of JSON, and where they end.
-use Rattle.std.proofs.Common.{◌≡◌, ℕ, ◌^◌, ◌<◌, List, [], ◌∷◌, ◌++◌, true, false, refl, sym, ◌∙◌, ap, arith}
+use Rattle.std.proofs.Common.{◌≡◌, ℕ, ◌^◌, ◌<◌, List, [], ◌∷◌, ◌++◌, true, false, refl, sym, ◌∙◌, ap, subst, arith}
 use Rattle.std.proofs.Common.{append_assoc, length, map, decimal, get_or, drop}
 use Rattle.std.proofs.lemmas.Fmt.{decimal_injective, signed_decimal_injective}
 use Rattle.std.proofs.lemmas.List.Folds.{flat_map-map}
-use Rattle.std.specs.Prelude.{◌==◌, ◌||◌, codes, ℤ, pos, negsuc, Option, Some, None}
+use Rattle.std.specs.Prelude.{◌==◌, ◌||◌, ◌&&◌, Bool, codes, ℤ, pos, negsuc, Option, Some, None}
 use Rattle.std.specs.List.{flat_map, list_all}
 use Rattle.std.specs.Fmt.{signed_decimal}
 use Rattle.std.specs.Int.Signed.{mag}
 use Rattle.tql_spec.specs.Calendar.{day_parts}
 use Rattle.tql_spec.specs.Datum.{Datum, Null, Int, Text, Day, Moment, Row}
 use Rattle.tql_spec.specs.Definition.{Name}
-use Rattle.tql_result_laws.specs.Json.{string, in_quotes, json_value, array, row_array, member, count_members}
-use Rattle.tql_result_laws.specs.Json.{column_members, detail_members, done_members, table_members, refusal_members}
+use Rattle.tql_result_laws.specs.Json.{string, in_quotes, json_value, array, row_array, member, known, name_array}
+use Rattle.tql_result_laws.specs.Json.{Fault, fault_members, done_members, table_members, refusal_members}
 use Rattle.tql_result_laws.specs.Json.{members_of, json_text}
 use Rattle.tql_spec.specs.Machine.{Verb, Done, Table, Refused}
 use Rattle.tql_spec.specs.Refusal.{Refusal}
 use Rattle.tql_spec.specs.Answer.{Answer, Replied, Accepted}
 use Rattle.tql_spec.specs.Text.{cell_text, line, verb_text, wording, number}
 use Rattle.tql_result_laws.specs.ReadBack.{IsKept, IsTable, IsCount, IsWhole}
-use Rattle.tql_result_laws.specs.JsonReadBack.{Said, Nothing, Number, Words, said, SayTheSame, SameFault}
-use Rattle.tql_result_laws.specs.JsonReadBack.{LinesReadBack}
+use Rattle.tql_result_laws.specs.JsonReadBack.{Said, Nothing, Number, Words, said, SayTheSame, Same, SameFault}
+use Rattle.tql_result_laws.specs.JsonReadBack.{IsFault, LinesReadBack}
 use Rattle.tql_result_laws.proofs.Cuts.{Each, IsRow, begins, begins_append, cancel, Cuts, word_cut, tails_cut}
 use Rattle.tql_result_laws.proofs.Cells.{fits_mag, int_long, digit_other, moment_word}
 use Rattle.tql_result_laws.proofs.Dates.{day_short}
@@ -185,10 +185,6 @@ rows_said : (rows : List Row) → Each (IsRow IsKept) rows → Each (Each IsSaid
 rows_said [] h = tt
 rows_said (r ∷ rows) h = (values_said r h.0.1, rows_said rows h.1)
 
-names : (xs : List Name) → Each (λ n. Unit {0}) xs
-names [] = tt
-names (x ∷ xs) = (tt, names xs)
-
 -- ---- members
 
 -- a name, and what stands before and behind it
@@ -229,14 +225,62 @@ string_member name s t ms ns e =
     (cancel (named name) (string s ++ rest_text ms) (string t ++ rest_text ns)
     (sym (member_parts name (string s) ms) ∙ e ∙ member_parts name (string t) ns))
 
+-- ---- members of what is known
+
+-- a test of what follows, which a member of this name does not change
+ahead : {A : Type 0} (name : List ℕ) (text : A → List ℕ) (test : List ℕ → Bool) (b : Bool)
+    → ((v : List ℕ) (ms : List (List ℕ)) → test (rest_text (member name v ∷ ms)) ≡ b) → (x : Option A)
+    (ms : List (List ℕ)) → test (rest_text ms) ≡ b → test (rest_text (known name text x ms)) ≡ b
+ahead name text test b here None ms h = h
+ahead name text test b here (Some a) ms h = here (text a) ms
+
+-- what is known under one name, where no other member has that name
+known_same : {A : Type 0} (P : A → Type 0) (name : List ℕ) (text : A → List ℕ) (test : List ℕ → Bool)
+    → Cuts P text is_stop → ((v : List ℕ) (ms : List (List ℕ)) → test (rest_text (member name v ∷ ms)) ≡ true)
+    → (x y : Option A) (ms ns : List (List ℕ)) → ((a : A) → x ≡ Some a → P a) → ((a : A) → y ≡ Some a → P a)
+    → test (rest_text ms) ≡ false → test (rest_text ns) ≡ false → begins is_stop (rest_text ms) ≡ true
+    → begins is_stop (rest_text ns) ≡ true → rest_text (known name text x ms) ≡ rest_text (known name text y ns)
+    → (x ≡ y) × (rest_text ms ≡ rest_text ns)
+known_same P name text test cut here None None ms ns hx hy tm tn sm sn e = (refl, e)
+known_same P name text test cut here None (Some b) ms ns hx hy tm tn sm sn e =
+    let never : false ≡ true = sym tm ∙ ap test e ∙ here (text b) ns in absurd (cc)
+known_same P name text test cut here (Some a) None ms ns hx hy tm tn sm sn e =
+    let never : true ≡ false = sym (here (text a) ms) ∙ ap test e ∙ tn in absurd (cc)
+known_same P name text test cut here (Some a) (Some b) ms ns hx hy tm tn sm sn e =
+    let both = cancel (named name) (text a ++ rest_text ms) (text b ++ rest_text ns)
+    (sym (member_parts name (text a) ms) ∙ e ∙ member_parts name (text b) ns) in
+    let same = cut a b (rest_text ms) (rest_text ns) (hx a refl) (hy b refl) sm sn both in
+    (ap Some same.0, same.1)
+
+-- a number of 64 bits, a text, and names
+decimal_cut : Cuts (λ (n : ℕ). n < 2 ^ 64) decimal is_stop
+decimal_cut n m u v hn hm su sv e =
+    let cut = word_cut is_word is_stop apart (decimal n) (decimal m) u v (decimal_word n hn) (decimal_word m hm) su sv
+    e in
+    (decimal_injective n m hn hm cut.0, cut.1)
+
+text_cut : Cuts (λ (t : List ℕ). Unit {0}) string is_stop
+text_cut s t u v hs ht su sv e = string_cut s t u v e
+
+names : (xs : List Name) → Each (λ n. Unit {0}) xs
+names [] = tt
+names (x ∷ xs) = (tt, names xs)
+
+names_cut : Cuts (λ (l : List Name). Unit {0}) name_array is_stop
+names_cut xs ys u v hx hy su sv e =
+    array_cut (λ n. Unit {0}) string text_cut string_end xs ys (names xs) (names ys) u v e
+
+counted : (c : Option ℕ) → IsCount c → (n : ℕ) → c ≡ Some n → n < 2 ^ 64
+counted None h n e = absurd (cc)
+counted (Some m) h n e = let same : m ≡ n = cc in subst (λ (x : ℕ). x < 2 ^ 64) same h
+
 -- ---- answers
 
-counts_same : (n m : Option ℕ) → IsCount n → IsCount m → rest_text (count_members n) ≡ rest_text (count_members m)
-    → n ≡ m
-counts_same None None hn hm e = refl
-counts_same None (Some m) hn hm e = let never : false ≡ true = ap (begins (λ b. b == 44)) e in absurd (cc)
-counts_same (Some n) None hn hm e = let never : true ≡ false = ap (begins (λ b. b == 44)) e in absurd (cc)
-counts_same (Some n) (Some m) hn hm e = ap Some (number_cut (codes "count") n m [] [] hn hm refl refl e).0
+counts_same : (n m : Option ℕ) → IsCount n → IsCount m
+    → rest_text (known (codes "count") decimal n []) ≡ rest_text (known (codes "count") decimal m []) → n ≡ m
+counts_same n m hn hm e =
+    (known_same (λ (x : ℕ). x < 2 ^ 64) (codes "count") decimal (begins (λ b. b == 44)) decimal_cut (λ v ms. refl) n m
+    [] [] (counted n hn) (counted m hm) refl refl refl refl e).0
 
 verbs_same : (v w : Verb) → verb_text v ≡ verb_text w → v ≡ w
 verbs_same v w e =
@@ -250,41 +294,117 @@ dones_same : (v w : Verb) (n m : Option ℕ) → IsCount n → IsCount m
     → rest_text (done_members v n) ≡ rest_text (done_members w m)
     → Replied (Done v n) ≡ Replied (Done w m)
 dones_same v w n m hn hm e =
-    let cut = string_member (codes "reply") (verb_text v) (verb_text w) (count_members n) (count_members m) e in
+    let cut = string_member (codes "reply") (verb_text v) (verb_text w) (known (codes "count") decimal n [])
+    (known (codes "count") decimal m []) e in
     let verbs : v ≡ w = verbs_same v w cut.0 in
     let counts : n ≡ m = counts_same n m hn hm cut.1 in cc
 
 no_done : (v : Verb) (n : Option ℕ)
     → rest_text (done_members v n) ≡ rest_text (member (codes "reply") (string (codes "OK")) ∷ []) → ⊥
-no_done v n e = no_verb v (string_member (codes "reply") (verb_text v) (codes "OK") (count_members n) [] e).0
+no_done v n e = no_verb v (string_member (codes "reply") (verb_text v) (codes "OK") (known (codes "count") decimal n [])
+    [] e).0
 
--- the detail, where there is one, and the end of the line
-details_stop : (s : Option (List ℕ)) → begins is_stop (rest_text (detail_members s)) ≡ true
-details_stop None = refl
-details_stop (Some s) = refl
+-- the members behind the column, behind the detail, and so on
+abbrev pub from_row : Fault → List (List ℕ)
+from_row f = known (codes "row") decimal f.row []
 
-details_same : (s t : Option (List ℕ)) → rest_text (detail_members s) ≡ rest_text (detail_members t) → s ≡ t
-details_same None None e = refl
-details_same None (Some t) e = let never : false ≡ true = ap (begins (λ b. b == 44)) e in absurd (cc)
-details_same (Some s) None e = let never : true ≡ false = ap (begins (λ b. b == 44)) e in absurd (cc)
-details_same (Some s) (Some t) e = ap Some (string_member (codes "detail") s t [] [] e).0
+abbrev pub from_columns : Fault → List (List ℕ)
+from_columns f = known (codes "columns") name_array f.columns (from_row f)
 
--- no detail begins as a column does
-no_column : (s : Option (List ℕ)) (n : ℕ) (ms : List (List ℕ))
-    → rest_text (detail_members s) ≡ rest_text (member (codes "column") (decimal n) ∷ ms) → ⊥
-no_column None n ms e = let never : false ≡ true = ap (begins (λ b. b == 44)) e in absurd (cc)
-no_column (Some s) n ms e = let never : true ≡ false = ap (λ l. get_or l 3 0 == 100) e in absurd (cc)
+abbrev pub from_constraint : Fault → List (List ℕ)
+from_constraint f = known (codes "constraint") string f.constraint (from_columns f)
 
-faults_same : (c d : Option ℕ) (s t : Option (List ℕ)) → IsCount c → IsCount d
-    → rest_text (column_members c ++ detail_members s) ≡ rest_text (column_members d ++ detail_members t)
-    → (c ≡ d) × (s ≡ t)
-faults_same None None s t hc hd e = (refl, details_same s t e)
-faults_same None (Some m) s t hc hd e = absurd (no_column s m (detail_members t) e)
-faults_same (Some n) None s t hc hd e = absurd (no_column t n (detail_members s) (sym e))
-faults_same (Some n) (Some m) s t hc hd e =
-    let cut = number_cut (codes "column") n m (detail_members s) (detail_members t) hc hd (details_stop s)
-    (details_stop t) e in
-    (ap Some cut.0, details_same s t cut.1)
+abbrev pub from_hint : Fault → List (List ℕ)
+from_hint f = known (codes "hint") string f.hint (from_constraint f)
+
+abbrev pub from_detail : Fault → List (List ℕ)
+from_detail f = known (codes "detail") string f.detail (from_hint f)
+
+-- a test of the first bytes that no such member changes
+abbrev pub Passes : (List ℕ → Bool) → Bool → List ℕ → Type 0
+Passes test b name = (v : List ℕ) (ms : List (List ℕ)) → test (rest_text (member name v ∷ ms)) ≡ b
+
+row_ahead : (test : List ℕ → Bool) (b : Bool) → Passes test b (codes "row") → test (rest_text []) ≡ b → (f : Fault)
+    → test (rest_text (from_row f)) ≡ b
+row_ahead test b row end f = ahead (codes "row") decimal test b row f.row [] end
+
+columns_ahead : (test : List ℕ → Bool) (b : Bool) → Passes test b (codes "columns") → Passes test b (codes "row")
+    → test (rest_text []) ≡ b → (f : Fault) → test (rest_text (from_columns f)) ≡ b
+columns_ahead test b columns row end f =
+    ahead (codes "columns") name_array test b columns f.columns (from_row f) (row_ahead test b row end f)
+
+constraint_ahead : (test : List ℕ → Bool) (b : Bool) → Passes test b (codes "constraint")
+    → Passes test b (codes "columns") → Passes test b (codes "row") → test (rest_text []) ≡ b → (f : Fault)
+    → test (rest_text (from_constraint f)) ≡ b
+constraint_ahead test b constraint columns row end f =
+    ahead (codes "constraint") string test b constraint f.constraint (from_columns f)
+    (columns_ahead test b columns row end f)
+
+hint_ahead : (test : List ℕ → Bool) (b : Bool) → Passes test b (codes "hint") → Passes test b (codes "constraint")
+    → Passes test b (codes "columns") → Passes test b (codes "row") → test (rest_text []) ≡ b → (f : Fault)
+    → test (rest_text (from_hint f)) ≡ b
+hint_ahead test b hint constraint columns row end f =
+    ahead (codes "hint") string test b hint f.hint (from_constraint f)
+    (constraint_ahead test b constraint columns row end f)
+
+detail_ahead : (test : List ℕ → Bool) (b : Bool) → Passes test b (codes "detail") → Passes test b (codes "hint")
+    → Passes test b (codes "constraint") → Passes test b (codes "columns") → Passes test b (codes "row")
+    → test (rest_text []) ≡ b → (f : Fault) → test (rest_text (from_detail f)) ≡ b
+detail_ahead test b detail hint constraint columns row end f =
+    ahead (codes "detail") string test b detail f.detail (from_hint f)
+    (hint_ahead test b hint constraint columns row end f)
+
+-- whether a member is the column: `columns` goes on, and `constraint` differs before that
+abbrev pub is_column : List ℕ → Bool
+is_column l = (get_or l 3 0 == 99) && (get_or l 9 0 == 34)
+
+abbrev pub begins_at : ℕ → ℕ → List ℕ → Bool
+begins_at i b l = get_or l i 0 == b
+
+faults_same : (f g : Fault) → IsFault f → IsFault g → rest_text (fault_members f) ≡ rest_text (fault_members g)
+    → Same f g
+faults_same f g hf hg e =
+    let column = known_same (λ (x : ℕ). x < 2 ^ 64) (codes "column") decimal is_column decimal_cut (λ v ms. refl)
+    f.column g.column (from_detail f) (from_detail g) (counted f.column hf.0) (counted g.column hg.0)
+    (detail_ahead is_column false (λ v ms. refl) (λ v ms. refl) (λ v ms. refl) (λ v ms. refl) (λ v ms. refl) refl f)
+    (detail_ahead is_column false (λ v ms. refl) (λ v ms. refl) (λ v ms. refl) (λ v ms. refl) (λ v ms. refl) refl g)
+    (detail_ahead (begins is_stop) true (λ v ms. refl) (λ v ms. refl) (λ v ms. refl) (λ v ms. refl) (λ v ms. refl) refl
+    f)
+    (detail_ahead (begins is_stop) true (λ v ms. refl) (λ v ms. refl) (λ v ms. refl) (λ v ms. refl) (λ v ms. refl) refl
+    g) e in
+    let detail = known_same (λ (t : List ℕ). Unit {0}) (codes "detail") string (begins_at 3 100) text_cut (λ v ms. refl)
+    f.detail g.detail (from_hint f) (from_hint g) (λ t is. tt) (λ t is. tt)
+    (hint_ahead (begins_at 3 100) false (λ v ms. refl) (λ v ms. refl) (λ v ms. refl) (λ v ms. refl) refl f)
+    (hint_ahead (begins_at 3 100) false (λ v ms. refl) (λ v ms. refl) (λ v ms. refl) (λ v ms. refl) refl g)
+    (hint_ahead (begins is_stop) true (λ v ms. refl) (λ v ms. refl) (λ v ms. refl) (λ v ms. refl) refl f)
+    (hint_ahead (begins is_stop) true (λ v ms. refl) (λ v ms. refl) (λ v ms. refl) (λ v ms. refl) refl g) column.1 in
+    let hint = known_same (λ (t : List ℕ). Unit {0}) (codes "hint") string (begins_at 3 104) text_cut (λ v ms. refl)
+    f.hint g.hint (from_constraint f) (from_constraint g) (λ t is. tt) (λ t is. tt)
+    (constraint_ahead (begins_at 3 104) false (λ v ms. refl) (λ v ms. refl) (λ v ms. refl) refl f)
+    (constraint_ahead (begins_at 3 104) false (λ v ms. refl) (λ v ms. refl) (λ v ms. refl) refl g)
+    (constraint_ahead (begins is_stop) true (λ v ms. refl) (λ v ms. refl) (λ v ms. refl) refl f)
+    (constraint_ahead (begins is_stop) true (λ v ms. refl) (λ v ms. refl) (λ v ms. refl) refl g) detail.1 in
+    let constraint = known_same (λ (t : List ℕ). Unit {0}) (codes "constraint") string (begins_at 6 115) text_cut
+    (λ v ms. refl) f.constraint g.constraint (from_columns f) (from_columns g) (λ t is. tt) (λ t is. tt)
+    (columns_ahead (begins_at 6 115) false (λ v ms. refl) (λ v ms. refl) refl f)
+    (columns_ahead (begins_at 6 115) false (λ v ms. refl) (λ v ms. refl) refl g)
+    (columns_ahead (begins is_stop) true (λ v ms. refl) (λ v ms. refl) refl f)
+    (columns_ahead (begins is_stop) true (λ v ms. refl) (λ v ms. refl) refl g) hint.1 in
+    let columns = known_same (λ (l : List Name). Unit {0}) (codes "columns") name_array (begins_at 3 99) names_cut
+    (λ v ms. refl) f.columns g.columns (from_row f) (from_row g) (λ l is. tt) (λ l is. tt)
+    (row_ahead (begins_at 3 99) false (λ v ms. refl) refl f) (row_ahead (begins_at 3 99) false (λ v ms. refl) refl g)
+    (row_ahead (begins is_stop) true (λ v ms. refl) refl f) (row_ahead (begins is_stop) true (λ v ms. refl) refl g)
+    constraint.1 in
+    let row = known_same (λ (x : ℕ). x < 2 ^ 64) (codes "row") decimal (begins_at 3 114) decimal_cut (λ v ms. refl)
+    f.row g.row [] [] (counted f.row hf.1) (counted g.row hg.1) refl refl refl refl columns.1 in
+    record {
+      column = column.0;
+      detail = detail.0;
+      hint = hint.0;
+      constraint = constraint.0;
+      columns = columns.0;
+      row = row.0;
+    }
 
 refusals_same : (e f : Refusal) (ms ns : List (List ℕ))
     → rest_text (refusal_members e ++ ms) ≡ rest_text (refusal_members f ++ ns)
@@ -322,46 +442,44 @@ tables_same hs ks rs qs tr tq e =
     (heads.0, same.0)
 
 -- the sixth byte tells what kind of members they are
-answers_say : (c d : Option ℕ) (s t : Option (List ℕ)) (a b : Answer) → IsCount c → IsCount d → IsWhole a → IsWhole b
-    → rest_text (members_of c s a) ≡ rest_text (members_of d t b) → SayTheSame a b × SameFault a c d s t
-answers_say c d s t (Replied (Done v n)) (Replied (Done w m)) hc hd ha hb e = (dones_same v w n m ha hb e, tt)
-answers_say c d s t (Replied (Done v n)) (Replied (Table ks qs)) hc hd ha hb e =
+answers_say : (f g : Fault) (a b : Answer) → IsFault f → IsFault g → IsWhole a → IsWhole b
+    → rest_text (members_of f a) ≡ rest_text (members_of g b) → SayTheSame a b × SameFault a f g
+answers_say f g (Replied (Done v n)) (Replied (Done w m)) hf hg ha hb e = (dones_same v w n m ha hb e, tt)
+answers_say f g (Replied (Done v n)) (Replied (Table ks qs)) hf hg ha hb e =
     let never : true ≡ false = ap (λ l. get_or l 5 0 == 112) e in absurd (cc)
-answers_say c d s t (Replied (Done v n)) (Replied (Refused y)) hc hd ha hb e =
+answers_say f g (Replied (Done v n)) (Replied (Refused y)) hf hg ha hb e =
     let never : true ≡ false = ap (λ l. get_or l 5 0 == 112) e in absurd (cc)
-answers_say c d s t (Replied (Done v n)) Accepted hc hd ha hb e = absurd (no_done v n e)
-answers_say c d s t (Replied (Table hs rs)) (Replied (Done w m)) hc hd ha hb e =
+answers_say f g (Replied (Done v n)) Accepted hf hg ha hb e = absurd (no_done v n e)
+answers_say f g (Replied (Table hs rs)) (Replied (Done w m)) hf hg ha hb e =
     let never : true ≡ false = ap (λ l. get_or l 5 0 == 108) e in absurd (cc)
-answers_say c d s t (Replied (Table hs rs)) (Replied (Table ks qs)) hc hd ha hb e =
+answers_say f g (Replied (Table hs rs)) (Replied (Table ks qs)) hf hg ha hb e =
     (tables_same hs ks rs qs ha hb e, tt)
-answers_say c d s t (Replied (Table hs rs)) (Replied (Refused y)) hc hd ha hb e =
+answers_say f g (Replied (Table hs rs)) (Replied (Refused y)) hf hg ha hb e =
     let never : true ≡ false = ap (λ l. get_or l 5 0 == 108) e in absurd (cc)
-answers_say c d s t (Replied (Table hs rs)) Accepted hc hd ha hb e =
+answers_say f g (Replied (Table hs rs)) Accepted hf hg ha hb e =
     let never : true ≡ false = ap (λ l. get_or l 5 0 == 108) e in absurd (cc)
-answers_say c d s t (Replied (Refused x)) (Replied (Done w m)) hc hd ha hb e =
+answers_say f g (Replied (Refused x)) (Replied (Done w m)) hf hg ha hb e =
     let never : true ≡ false = ap (λ l. get_or l 5 0 == 102) e in absurd (cc)
-answers_say c d s t (Replied (Refused x)) (Replied (Table ks qs)) hc hd ha hb e =
+answers_say f g (Replied (Refused x)) (Replied (Table ks qs)) hf hg ha hb e =
     let never : true ≡ false = ap (λ l. get_or l 5 0 == 102) e in absurd (cc)
-answers_say c d s t (Replied (Refused x)) (Replied (Refused y)) hc hd ha hb e =
-    let same = refusals_same x y (column_members c ++ detail_members s) (column_members d ++ detail_members t) e in
-    (same.0, faults_same c d s t hc hd same.1)
-answers_say c d s t (Replied (Refused x)) Accepted hc hd ha hb e =
+answers_say f g (Replied (Refused x)) (Replied (Refused y)) hf hg ha hb e =
+    let same = refusals_same x y (fault_members f) (fault_members g) e in (same.0, faults_same f g hf hg same.1)
+answers_say f g (Replied (Refused x)) Accepted hf hg ha hb e =
     let never : true ≡ false = ap (λ l. get_or l 5 0 == 102) e in absurd (cc)
-answers_say c d s t Accepted (Replied (Done w m)) hc hd ha hb e = absurd (no_done w m (sym e))
-answers_say c d s t Accepted (Replied (Table ks qs)) hc hd ha hb e =
+answers_say f g Accepted (Replied (Done w m)) hf hg ha hb e = absurd (no_done w m (sym e))
+answers_say f g Accepted (Replied (Table ks qs)) hf hg ha hb e =
     let never : true ≡ false = ap (λ l. get_or l 5 0 == 112) e in absurd (cc)
-answers_say c d s t Accepted (Replied (Refused y)) hc hd ha hb e =
+answers_say f g Accepted (Replied (Refused y)) hf hg ha hb e =
     let never : true ≡ false = ap (λ l. get_or l 5 0 == 112) e in absurd (cc)
-answers_say c d s t Accepted Accepted hc hd ha hb e = (refl, tt)
+answers_say f g Accepted Accepted hf hg ha hb e = (refl, tt)
 
 -- ---- lines
 
-members_stop : (c : Option ℕ) (s : Option (List ℕ)) (a : Answer)
-    → begins is_stop (rest_text (members_of c s a)) ≡ true
-members_stop c s (Replied (Done v n)) = refl
-members_stop c s (Replied (Table hs rs)) = refl
-members_stop c s (Replied (Refused e)) = refl
-members_stop c s Accepted = refl
+members_stop : (f : Fault) (a : Answer) → begins is_stop (rest_text (members_of f a)) ≡ true
+members_stop f (Replied (Done v n)) = refl
+members_stop f (Replied (Table hs rs)) = refl
+members_stop f (Replied (Refused e)) = refl
+members_stop f Accepted = refl
 
 -- what stands before the statement's number
 abbrev pub opened : List ℕ
@@ -377,23 +495,23 @@ line_is : (n v l w f : List ℕ)
     ≡ (123 ∷ (n ++ (58 ∷ 32 ∷ []))) ++ (v ++ ((44 ∷ 32 ∷ (l ++ (58 ∷ 32 ∷ []))) ++ (w ++ (f ++ (125 ∷ 10 ∷ [])))))
 line_is n v l w f = pieces (123 ∷ []) n (58 ∷ 32 ∷ []) v (44 ∷ 32 ∷ []) l w f (125 ∷ []) (10 ∷ [])
 
-line_parts : (statement at : ℕ) (c : Option ℕ) (s : Option (List ℕ)) (a : Answer)
-    → json_text statement at c s a
-    ≡ opened ++ (decimal statement ++ (named (codes "line") ++ (decimal at ++ rest_text (members_of c s a))))
-line_parts statement at c s a =
+line_parts : (statement at : ℕ) (f : Fault) (a : Answer)
+    → json_text statement at f a
+    ≡ opened ++ (decimal statement ++ (named (codes "line") ++ (decimal at ++ rest_text (members_of f a))))
+line_parts statement at f a =
     line_is (string (codes "statement")) (decimal statement) (string (codes "line")) (decimal at)
-    (flat_map (λ m. 44 ∷ 32 ∷ m) (members_of c s a))
+    (flat_map (λ m. 44 ∷ 32 ∷ m) (members_of f a))
 
 pub lines_same : LinesReadBack
-lines_same m n k l c d s t a b hm hn hk hl hc hd ha hb e =
-    let rest_a = rest_text (members_of c s a) in let rest_b = rest_text (members_of d t b) in
+lines_same m n k l f g a b hm hn hk hl hf hg ha hb e =
+    let rest_a = rest_text (members_of f a) in let rest_b = rest_text (members_of g b) in
     let after_a = decimal k ++ rest_a in let after_b = decimal l ++ rest_b in
     let first = word_cut is_word is_stop apart (decimal m) (decimal n) (named (codes "line") ++ after_a)
     (named (codes "line") ++ after_b) (decimal_word m hm) (decimal_word n hn) refl refl
     (cancel opened (decimal m ++ (named (codes "line") ++ after_a)) (decimal n ++ (named (codes "line") ++ after_b))
-    (sym (line_parts m k c s a) ∙ e ∙ line_parts n l d t b)) in
+    (sym (line_parts m k f a) ∙ e ∙ line_parts n l g b)) in
     let second = word_cut is_word is_stop apart (decimal k) (decimal l) rest_a rest_b (decimal_word k hk)
-    (decimal_word l hl) (members_stop c s a) (members_stop d t b)
+    (decimal_word l hl) (members_stop f a) (members_stop g b)
     (cancel (named (codes "line")) after_a after_b first.1) in
-    let same = answers_say c d s t a b hc hd ha hb second.1 in
+    let same = answers_say f g a b hf hg ha hb second.1 in
     (decimal_injective m n hm hn first.0, decimal_injective k l hk hl second.0, same.0, same.1)

@@ -59,45 +59,62 @@ object members = 123 ∷ parted members ++ 125 ∷ []
 abbrev pub row_array : Row → List ℕ
 row_array r = array (map json_value r)
 
--- the count, where there is one
-abbrev pub count_members : Option ℕ → List (List ℕ)
-count_members None = []
-count_members (Some n) = member (codes "count") (decimal n) ∷ []
+-- a member in front of others, where what it names is known
+abbrev pub known : {A : Type 0} → List ℕ → (A → List ℕ) → Option A → List (List ℕ) → List (List ℕ)
+known name text None others = others
+known name text (Some a) others = member name (text a) ∷ others
 
--- the column of a fault, where it is known
-abbrev pub column_members : Option ℕ → List (List ℕ)
-column_members None = []
-column_members (Some n) = member (codes "column") (decimal n) ∷ []
+-- names
+abbrev pub name_array : List Name → List ℕ
+name_array names = array (map string names)
 
--- the detail of a fault, where there is one
-abbrev pub detail_members : Option (List ℕ) → List (List ℕ)
-detail_members None = []
-detail_members (Some t) = member (codes "detail") (string t) ∷ []
+-- what is known of the fault of a refused statement: its column on the line, what is wrong, what to write instead, the
+-- constraint that a row fails, the names of the columns that it fails in, and the number of the row
+pub record Fault : Type 0 where
+  pub column : Option ℕ
+  pub detail : Option (List ℕ)
+  pub hint : Option (List ℕ)
+  pub constraint : Option (List ℕ)
+  pub columns : Option (List Name)
+  pub row : Option ℕ
+
+-- nothing is known
+abbrev pub unknown : Fault
+unknown = record { column = None; detail = None; hint = None; constraint = None; columns = None; row = None }
+
+-- what is known of a fault
+abbrev pub fault_members : Fault → List (List ℕ)
+fault_members f =
+    known (codes "column") decimal f.column
+    (known (codes "detail") string f.detail
+    (known (codes "hint") string f.hint
+    (known (codes "constraint") string f.constraint
+    (known (codes "columns") name_array f.columns
+    (known (codes "row") decimal f.row [])))))
 
 -- what is done, and how often
 abbrev pub done_members : Verb → Option ℕ → List (List ℕ)
-done_members v n = member (codes "reply") (string (verb_text v)) ∷ count_members n
+done_members v n = member (codes "reply") (string (verb_text v)) ∷ known (codes "count") decimal n []
 
 -- a table
 abbrev pub table_members : List Name → List Row → List (List ℕ)
 table_members headings rows =
-    member (codes "columns") (array (map string headings)) ∷ member (codes "rows") (array (map row_array rows)) ∷ []
+    member (codes "columns") (name_array headings) ∷ member (codes "rows") (array (map row_array rows)) ∷ []
 
 -- the number of a refusal and its words
 abbrev pub refusal_members : Refusal → List (List ℕ)
 refusal_members e =
     member (codes "refused") (decimal (number e)) ∷ member (codes "text") (string (drop 4 (wording e))) ∷ []
 
--- what an answer says; a refusal has the column and the detail of its fault
-abbrev pub members_of : Option ℕ → Option (List ℕ) → Answer → List (List ℕ)
-members_of column detail (Replied (Done v n)) = done_members v n
-members_of column detail (Replied (Table headings rows)) = table_members headings rows
-members_of column detail (Replied (Refused e)) = refusal_members e ++ column_members column ++ detail_members detail
-members_of column detail Accepted = member (codes "reply") (string (codes "OK")) ∷ []
+-- what an answer says; a refusal has what is known of its fault
+abbrev pub members_of : Fault → Answer → List (List ℕ)
+members_of fault (Replied (Done v n)) = done_members v n
+members_of fault (Replied (Table headings rows)) = table_members headings rows
+members_of fault (Replied (Refused e)) = refusal_members e ++ fault_members fault
+members_of fault Accepted = member (codes "reply") (string (codes "OK")) ∷ []
 
--- the bytes of the answer to the statement of this number, on this line, with the column and the detail of its fault
-abbrev pub json_text : ℕ → ℕ → Option ℕ → Option (List ℕ) → Answer → List ℕ
-json_text statement at column detail a =
+-- the bytes of the answer to the statement of this number, on this line, with what is known of its fault
+abbrev pub json_text : ℕ → ℕ → Fault → Answer → List ℕ
+json_text statement at fault a =
     line (object
-    (member (codes "statement") (decimal statement) ∷ member (codes "line") (decimal at)
-    ∷ members_of column detail a))
+    (member (codes "statement") (decimal statement) ∷ member (codes "line") (decimal at) ∷ members_of fault a))

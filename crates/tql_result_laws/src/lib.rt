@@ -18,7 +18,7 @@ pub fn csv_tables_read_back()
 {}
 
 /// Two lines of JSON that are equal have one statement's number, one line's number and one answer. Of a refusal they
-/// have one column and one detail too. A day or a moment cannot be told from a text that spells it.
+/// say the same of its fault too. A day or a moment cannot be told from a text that spells it.
 pub fn json_lines_read_back()
     ensures { LinesReadBack }
 {}

@@ -4,7 +4,7 @@ use tql_detail::detail::Detail;
 use tql_value::refusal::Refusal;
 
 /// A refused statement, to be written as a line: its number, the line and, where it is known, the column of the fault,
-/// the refusal, and the words of its detail.
+/// the refusal, and the words and the hint of its detail.
 #[derive(Drop)]
 pub struct Complaint<'a> {
     pub statement: u64,
@@ -21,17 +21,16 @@ impl fmt::Display for Complaint<'_> {
         let Some(detail) = self.detail else {
             return write!(f, "statement {statement}, line {line}: {text}");
         };
-        let words = detail.words.as_str();
         match detail.place {
             Some(place) => {
                 let line = place.line;
                 let column = place.column;
                 write!(
                     f,
-                    "statement {statement}, line {line}, column {column}: {text}: {words}"
+                    "statement {statement}, line {line}, column {column}: {text}: {detail}"
                 )
             }
-            None => write!(f, "statement {statement}, line {line}: {text}: {words}"),
+            None => write!(f, "statement {statement}, line {line}: {text}: {detail}"),
         }
     }
 }

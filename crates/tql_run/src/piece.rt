@@ -38,7 +38,7 @@ pub fn answer_piece<R: Responder>(responder: &mut R, piece: Piece<'_>) -> Answer
     }
 }
 
-/// Returns the detail of the answer to a piece, where it is wanted and the answer is a refusal of a finished text. The
+/// Returns the detail of the answer to a piece, where it is wanted and the answer is a refusal of a text. The
 /// allocations that this makes are not counted, so that later statements find the same budget with it and without it.
 pub fn detail_of<R: Responder>(
     responder: &R,
@@ -46,12 +46,14 @@ pub fn detail_of<R: Responder>(
     answer: &Answer,
     is_wanted: bool,
 ) -> Option<Detail> {
-    let Piece::Text(text) = piece else {
-        return None;
-    };
     if !is_wanted {
         return None;
     }
+    let text = match piece {
+        Piece::Text(text) => text,
+        Piece::Unfinished(text) => text,
+        Piece::TooLong | Piece::NoMemory => return None,
+    };
     let Answer::Replied(Reply::Refused(refusal)) = answer else {
         return None;
     };

@@ -11,10 +11,10 @@ use Rattle.tql_spec.specs.Machine.{Done, Table, Refused}
 use Rattle.tql_detail.specs.declared.detail.Detail.{Detail}
 use Rattle.tql_detail.specs.declared.place.Place.{Place}
 use Rattle.tql_result.specs.Devices.{Pushes}
-use Rattle.tql_result_laws.specs.Json.{json_text}
+use Rattle.tql_result_laws.specs.Json.{Fault, unknown, json_text}
 use Rattle.tql_run.specs.Runs.{is_refused}
 use Rattle.tql_run.specs.Texts.{Texts, Writes}
-use Rattle.tql_run_forms.specs.Faults.{json_of, line_at, line_of_detail, column_of_detail, words_of_detail}
+use Rattle.tql_run_forms.specs.Faults.{json_of, line_at, line_of_detail, fault_of_detail}
 use Rattle.tql_run_forms.specs.Forms.{is_table, csv_answer, csv_texts, IsJsonAnswer, json_texts, json_wrote}
 use Rattle.tql_run_forms.specs.Forms.{IsBoxAnswer, accepted_answer, most_numbers}
 
@@ -66,8 +66,7 @@ json_is : (number line : ℕ) (detail : Option (Bor Detail)) (a : Answer)
     → IsJsonAnswer number line a (json_of number line detail a)
 json_is number line detail (Replied (Refused e)) = record {
   at = line_of_detail line detail;
-  column = column_of_detail detail;
-  words = words_of_detail detail;
+  fault = fault_of_detail detail;
   is_at = placed detail;
   is = refl;
 }
@@ -76,7 +75,7 @@ json_is number line detail (Replied (Refused e)) = record {
     placed_at None e = refl
     placed_at (Some p) e = cc
 
-    placed : (detail : Option (Bor Detail)) → column_of_detail detail ≡ None → line_of_detail line detail ≡ line
+    placed : (detail : Option (Bor Detail)) → (fault_of_detail detail).column ≡ None → line_of_detail line detail ≡ line
     placed None e = refl
     placed (Some d) e = placed_at d.now.place e
 json_is number line detail (Replied (Done v n)) = refl
@@ -84,25 +83,21 @@ json_is number line detail (Replied (Table headings rows)) = refl
 json_is number line detail Accepted = refl
 
 -- the line of a refusal, by its detail
-pub refusal_line : (number line : ℕ) (detail : Option (Bor Detail)) (a : Answer) (at : ℕ) (column : Option ℕ)
-    (words : Option (List ℕ)) → is_refused a ≡ true → at ≡ line_of_detail line detail
-    → column ≡ column_of_detail detail → words ≡ words_of_detail detail
-    → json_text number at column words a ≡ json_of number line detail a
-refusal_line number line detail (Replied (Refused e)) at column words is here there why =
-    ap (λ (l : ℕ). json_text number l column words (Replied (Refused e))) here
-    ∙ ap (λ (c : Option ℕ). json_text number (line_of_detail line detail) c words (Replied (Refused e))) there
-    ∙ ap (λ (w : Option (List ℕ)). json_text number (line_of_detail line detail) (column_of_detail detail) w
-    (Replied (Refused e))) why
-refusal_line number line detail (Replied (Done v n)) at column words is here there why =
+pub refusal_line : (number line : ℕ) (detail : Option (Bor Detail)) (a : Answer) (at : ℕ) (fault : Fault)
+    → is_refused a ≡ true → at ≡ line_of_detail line detail → fault ≡ fault_of_detail detail
+    → json_text number at fault a ≡ json_of number line detail a
+refusal_line number line detail (Replied (Refused e)) at fault is here known =
+    ap (λ (l : ℕ). json_text number l fault (Replied (Refused e))) here
+    ∙ ap (λ (f : Fault). json_text number (line_of_detail line detail) f (Replied (Refused e))) known
+refusal_line number line detail (Replied (Done v n)) at fault is here known =
     let bad : false ≡ true = is in absurd cc
-refusal_line number line detail (Replied (Table headings rows)) at column words is here there why =
+refusal_line number line detail (Replied (Table headings rows)) at fault is here known =
     let bad : false ≡ true = is in absurd cc
-refusal_line number line detail Accepted at column words is here there why =
-    let bad : false ≡ true = is in absurd cc
+refusal_line number line detail Accepted at fault is here known = let bad : false ≡ true = is in absurd cc
 
 -- any other line
 pub other_line : (number line : ℕ) (detail : Option (Bor Detail)) (a : Answer) → is_refused a ≡ false
-    → json_text number line None None a ≡ json_of number line detail a
+    → json_text number line unknown a ≡ json_of number line detail a
 other_line number line detail (Replied (Refused e)) is = let bad : true ≡ false = is in absurd cc
 other_line number line detail (Replied (Done v n)) is = refl
 other_line number line detail (Replied (Table headings rows)) is = refl

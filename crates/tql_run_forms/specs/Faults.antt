@@ -1,11 +1,11 @@
 -- The line of JSON of an answer, by the detail of its fault.
-use Rattle.std.specs.Prelude.{ℕ, List, Option, Some, None, option_map, string_bytes}
+use Rattle.std.specs.Prelude.{ℕ, List, [], ◌∷◌, Option, Some, None, map, option_map, string_bytes}
 use Rattle.std.specs.Borrow.{Bor}
 use Rattle.tql_spec.specs.Answer.{Answer, Replied, Accepted}
 use Rattle.tql_spec.specs.Machine.{Done, Table, Refused}
 use Rattle.tql_detail.specs.declared.detail.Detail.{Detail}
 use Rattle.tql_detail.specs.declared.place.Place.{Place}
-use Rattle.tql_result_laws.specs.Json.{json_text}
+use Rattle.tql_result_laws.specs.Json.{Fault, unknown, json_text}
 
 -- the line of a place, or else that of the statement
 abbrev pub line_at : ℕ → Option Place → ℕ
@@ -17,22 +17,28 @@ abbrev pub line_of_detail : ℕ → Option (Bor Detail) → ℕ
 line_of_detail line (Some d) = line_at line d.now.place
 line_of_detail line None = line
 
--- its column
-abbrev pub column_of_detail : Option (Bor Detail) → Option ℕ
-column_of_detail (Some d) = option_map (λ (p : Place). p.column) d.now.place
-column_of_detail None = None
+-- a list that has a member
+abbrev pub listed : {A : Type 0} → List A → Option (List A)
+listed [] = None
+listed (x ∷ xs) = Some (x ∷ xs)
 
--- its words
-abbrev pub words_of_detail : Option (Bor Detail) → Option (List ℕ)
-words_of_detail (Some d) = Some (string_bytes d.now.words)
-words_of_detail None = None
+-- what is known of it
+abbrev pub fault_of_detail : Option (Bor Detail) → Fault
+fault_of_detail (Some d) = record {
+  column = option_map (λ (p : Place). p.column) d.now.place;
+  detail = Some (string_bytes d.now.words);
+  hint = option_map string_bytes d.now.hint;
+  constraint = option_map string_bytes d.now.constraint;
+  columns = option_map (map string_bytes) (listed d.now.columns.items);
+  row = d.now.row;
+}
+fault_of_detail None = unknown
 
 -- a line of JSON: a refusal has what its detail says
 abbrev pub json_of : (number line : ℕ) → Option (Bor Detail) → Answer → List ℕ
 json_of number line detail (Replied (Refused e)) =
-    json_text number (line_of_detail line detail) (column_of_detail detail) (words_of_detail detail) (Replied (Refused
-    e))
-json_of number line detail (Replied (Done v n)) = json_text number line None None (Replied (Done v n))
+    json_text number (line_of_detail line detail) (fault_of_detail detail) (Replied (Refused e))
+json_of number line detail (Replied (Done v n)) = json_text number line unknown (Replied (Done v n))
 json_of number line detail (Replied (Table headings rows)) =
-    json_text number line None None (Replied (Table headings rows))
-json_of number line detail Accepted = json_text number line None None Accepted
+    json_text number line unknown (Replied (Table headings rows))
+json_of number line detail Accepted = json_text number line unknown Accepted

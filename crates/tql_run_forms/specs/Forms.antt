@@ -1,6 +1,6 @@
 -- The texts of the answers of a run in each form.
 use Rattle.std.specs.Prelude.{◌≡◌, ◌⊎◌, ℕ, suc, ◌-◌, ◌^◌, min, Bool, true, false, List, [], ◌∷◌, ◌++◌, length}
-use Rattle.std.specs.Prelude.{Option, None, if◌then◌else◌}
+use Rattle.std.specs.Prelude.{None, if◌then◌else◌}
 use Rattle.std.specs.List.{list_any}
 use Rattle.tql_spec.specs.Answer.{Answer, Replied, Accepted}
 use Rattle.tql_spec.specs.Datum.{Row}
@@ -9,7 +9,7 @@ use Rattle.tql_spec.specs.Machine.{Done, Table, Refused}
 use Rattle.tql_spec.specs.Text.{answer_text}
 use Rattle.tql_result_box.specs.Box.{box_layouts, box_text}
 use Rattle.tql_result_laws.specs.Csv.{csv_text}
-use Rattle.tql_result_laws.specs.Json.{json_text}
+use Rattle.tql_result_laws.specs.Json.{Fault, unknown, json_text}
 use Rattle.tql_result_laws.specs.Jsonl.{jsonl_text}
 use Rattle.tql_run.specs.Texts.{Texts, Written}
 
@@ -82,22 +82,20 @@ box_texts earlier number line answer text = IsBoxAnswer answer text
 abbrev pub most_numbers : ℕ
 most_numbers = 2 ^ 64 - 1
 
--- a refusal, with some column and words of its fault, each where it is known; without a column the line is that of the
--- statement
+-- a refusal, with what is known of some fault; without a column the line is that of the statement
 pub record IsJsonRefusal (number line : ℕ) (answer : Answer) (text : List ℕ) : Type 0 where
   pub at : ℕ
-  pub column : Option ℕ
-  pub words : Option (List ℕ)
-  pub is_at : column ≡ None → at ≡ line
-  pub is : text ≡ json_text number at column words answer
+  pub fault : Fault
+  pub is_at : fault.column ≡ None → at ≡ line
+  pub is : text ≡ json_text number at fault answer
 
 -- the answer to the statement of this number, on this line
 abbrev pub IsJsonAnswer : (number line : ℕ) → Answer → List ℕ → Type 0
 IsJsonAnswer number line (Replied (Refused e)) text = IsJsonRefusal number line (Replied (Refused e)) text
-IsJsonAnswer number line (Replied (Done v n)) text = text ≡ json_text number line None None (Replied (Done v n))
+IsJsonAnswer number line (Replied (Done v n)) text = text ≡ json_text number line unknown (Replied (Done v n))
 IsJsonAnswer number line (Replied (Table headings rows)) text =
-    text ≡ json_text number line None None (Replied (Table headings rows))
-IsJsonAnswer number line Accepted text = text ≡ json_text number line None None Accepted
+    text ≡ json_text number line unknown (Replied (Table headings rows))
+IsJsonAnswer number line Accepted text = text ≡ json_text number line unknown Accepted
 
 -- the answers that a form may have written that counts these statements
 abbrev pub json_wrote : ℕ → Written

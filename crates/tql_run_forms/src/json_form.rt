@@ -1,46 +1,77 @@
 //! Answers as JSON.
-ghost use Rattle.std.specs.Prelude.{◌≡◌, ◌+◌, min, []};
+ghost use Rattle.std.specs.Prelude.{◌≡◌, ◌+◌, min, [], option_map, string_bytes};
 ghost use Rattle.tql_result.specs.Devices.{Pushes};
 ghost use Rattle.tql_result.specs.Replies.{answer_of, IsPrintableAnswer};
-ghost use Rattle.tql_result_forms.specs.Diagnostics.{detail_of};
+ghost use Rattle.tql_result_forms.specs.Diagnostics.{fault_of};
 ghost use Rattle.tql_run.specs.Runs.{is_refused as refused_of};
 ghost use Rattle.tql_run.specs.Texts.{Writes};
 ghost use Rattle.tql_run_forms.specs.Forms.{json_texts, json_wrote, most_numbers};
-ghost use Rattle.tql_run_forms.specs.Faults.{json_of, line_of_detail, column_of_detail, words_of_detail};
+ghost use Rattle.tql_run_forms.specs.Faults.{json_of, line_of_detail, fault_of_detail, listed as listed_of};
 
 use crate::kinds::is_refused;
 use tql_detail::detail::Detail;
+use tql_detail::place::Place;
+use tql_memory::Memory;
 use tql_result::answer::Answer;
 use tql_result::device::DeviceFault;
 use tql_result::sink::Sink;
 use tql_result_forms::json::{Diagnostic, write_json_answer};
 use tql_run::form::Form;
 
-/// Returns the line of a fault, and its diagnostic. A fault without a place is on the line of its statement.
-fn diagnostic_of(line: u64, detail: Option<&Detail>) -> (u64, Diagnostic<'_>)
-    ensures line { result.0 ≡ line_of_detail line detail.entry }
-    ensures column { result.1.column ≡ column_of_detail detail.entry }
-    ensures words { detail_of result.1 ≡ words_of_detail detail.entry }
+/// Returns the words of a text, if there is one.
+fn words_of(text: &Option<String<Memory>>) -> Option<&str>
+    ensures { option_map (λ s. s.now) result ≡ option_map string_bytes text.now }
 {
-    let Some(detail) = detail else {
-        return (line, Diagnostic::NONE);
-    };
-    let words = Some(detail.words.as_str());
-    match detail.place {
-        Some(place) => (
-            place.line,
-            Diagnostic {
-                column: Some(place.column),
-                detail: words,
-            },
-        ),
-        None => (
-            line,
-            Diagnostic {
-                column: None,
-                detail: words,
-            },
-        ),
+    match text {
+        Some(text) => Some(text.as_str()),
+        None => None,
+    }
+}
+
+/// Returns the line of a fault, which is that of its statement where its place is not known.
+fn line_of(line: u64, detail: Option<&Detail>) -> u64
+    ensures { result ≡ line_of_detail line detail.entry }
+{
+    match detail {
+        Some(detail) => match detail.place {
+            Some(place) => place.line,
+            None => line,
+        },
+        None => line,
+    }
+}
+
+/// Returns the column of a place, if it is known.
+fn column_of(place: Option<Place>) -> Option<u64>
+    ensures { result ≡ option_map (λ p. p.column) place }
+{
+    match place {
+        Some(place) => Some(place.column),
+        None => None,
+    }
+}
+
+/// Returns a list of names, if it has one.
+fn listed(names: &[String<Memory>]) -> Option<&[String<Memory>]>
+    ensures { option_map (λ l. l.now) result ≡ listed_of names.now }
+{
+    if names.is_empty() { None } else { Some(names) }
+}
+
+/// Returns what is known of a fault.
+fn diagnostic_of(detail: Option<&Detail>) -> Diagnostic<'_>
+    ensures { fault_of result ≡ fault_of_detail detail.entry }
+{
+    match detail {
+        Some(detail) => Diagnostic {
+            column: column_of(detail.place),
+            detail: Some(detail.words.as_str()),
+            hint: words_of(&detail.hint),
+            constraint: words_of(&detail.constraint),
+            columns: listed(detail.columns.as_slice()),
+            row: detail.row,
+        },
+        None => Diagnostic::NONE,
     }
 }
 
@@ -57,8 +88,8 @@ fn push_answer<O: Sink>(
         (O.written sink.old) (O.written sink.new) (O.failures sink.old) (O.failures sink.new) }
 {
     if is_refused(answer) {
-        let (line, diagnostic) = diagnostic_of(line, detail);
-        write_json_answer(sink, statement, line, answer, diagnostic)
+        let line = line_of(line, detail);
+        write_json_answer(sink, statement, line, answer, diagnostic_of(detail))
     } else {
         write_json_answer(sink, statement, line, answer, Diagnostic::NONE)
     }

@@ -33,10 +33,9 @@ impl Responder for Lengths {
     }
 
     fn detail(&self, _text: &[u8], _refusal: Refusal) -> Option<Detail> {
-        Some(Detail {
-            place: Some(Place::first()),
-            words: String::from_str(self.memory, "no").ok()?,
-        })
+        let mut detail = Detail::of(String::from_str(self.memory, "no").ok()?);
+        detail.place = Some(Place::first());
+        Some(detail)
     }
 
     ghost refuses = { record { at_once = λ _ _ _ _. tt; for_memory = λ _ _ _. tt } };

@@ -71,8 +71,15 @@ fn tells_where_refused_statements_stand(rt: HostRuntime) -> Result<(), Fail> {
     Ok(())
 }
 
-/// The places of what is told beside the refusals of the script: of finished statements.
-const PLACES: [Place; 2] = [Place { line: 3, column: 4 }, Place { line: 8, column: 2 }];
+/// The places of what is told beside the refusals of the script, also of its unfinished statement.
+const PLACES: [Place; 3] = [
+    Place { line: 3, column: 4 },
+    Place { line: 8, column: 2 },
+    Place {
+        line: 10,
+        column: 2,
+    },
+];
 
 #[test]
 fn tells_where_what_is_told_beside_stands(rt: HostRuntime) -> Result<(), Fail> {
@@ -81,7 +88,8 @@ fn tells_where_what_is_told_beside_stands(rt: HostRuntime) -> Result<(), Fail> {
     for told in &notes.told {
         places.push(told.detail.place)?;
     }
-    assert!(rt; places.as_slice() == [Some(PLACES[0]), Some(PLACES[1])].as_slice());
+    let wanted = [Some(PLACES[0]), Some(PLACES[1]), Some(PLACES[2])];
+    assert!(rt; places.as_slice() == wanted.as_slice());
     Ok(())
 }
 

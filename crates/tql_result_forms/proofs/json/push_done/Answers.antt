@@ -16,4 +16,4 @@ pub returns : goal.returns
 returns g c =
     joined c.in_ok-push_all.ensures
     (joined (as_text (ap string (c.as_bytes.ensures.value ∙ c.text.ensures)) c.in_ok-push_string.ensures)
-    c.push_count.ensures)
+    c.push_number.ensures)

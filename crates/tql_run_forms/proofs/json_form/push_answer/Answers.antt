@@ -5,8 +5,8 @@ use Rattle.tql_run_forms.proofs.json_form.push_answer.Goals as goal
 
 pub returns-then-is_refused : goal.returns-then-is_refused
 returns-then-is_refused g c =
-    as_text (refusal_line _ _ c.args.detail _ _ _ _ (sym c.is_refused.ensures ∙ c.if-is_refused.true)
-    c.diagnostic_of-line.ensures.line c.diagnostic_of-line.ensures.column c.diagnostic_of-line.ensures.words)
+    as_text (refusal_line _ _ c.args.detail _ _ _ (sym c.is_refused.ensures ∙ c.if-is_refused.true)
+    c.line_of-line.ensures c.diagnostic_of.ensures)
     c.write_json_answer.ensures
 
 pub returns-else-is_refused : goal.returns-else-is_refused
