@@ -1,14 +1,7 @@
-pub mod SenseLaws
-pub mod Stepping
-pub mod Joining
 pub mod Bytes
 pub mod PointRuns
 pub mod Unseen
 pub mod ReaderRuns
 pub mod Agreeing
 pub mod SessionRuns
-pub mod HoldPoints
-pub mod Ending
-pub mod KnownKinds
-pub mod ReaderNames
-pub mod ColumnKinds
+pub mod RunHolds

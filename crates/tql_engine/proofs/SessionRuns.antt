@@ -13,9 +13,9 @@ use Rattle.tql_lex.specs.Pieces.{MayFollow}
 use Rattle.tql_lex.specs.Stream.{Stream}
 use Rattle.tql_result.specs.Replies.{answer_of}
 use Rattle.tql_run.specs.Responding.{Answered}
-use Rattle.tql_engine.proofs.HoldPoints.{step_holds}
+use Rattle.tql_engine_step.proofs.HoldPoints.{step_holds}
 use Rattle.tql_run.specs.Ending.{AllEndSurely, EndsSurely, Responds}
-use Rattle.tql_engine.specs.HoldPoints.{HoldsFor}
+use Rattle.tql_engine_step.specs.HoldPoints.{HoldsFor}
 use Rattle.tql_engine.specs.ReaderRuns.{RunsReadStably}
 use Rattle.tql_engine.specs.Sessions.{Call, Feed, Finish, Next, Calls, fed, given, SessionsHold}
 use Rattle.tql_engine_state.specs.Stands.{EngineModel, StandsFor}

@@ -15,7 +15,7 @@ use Rattle.tql_result.specs.Replies.{answer_of}
 use Rattle.tql_result.specs.declared.answer.Answer as code
 use Rattle.tql_run.specs.Writing.{AnswersNext}
 use Rattle.tql_run.specs.Ending.{AllEndSurely, Responds}
-use Rattle.tql_engine.specs.HoldPoints.{HoldsFor}
+use Rattle.tql_engine_step.specs.HoldPoints.{HoldsFor}
 use Rattle.tql_engine.specs.ReaderRuns.{ReadsStably}
 use Rattle.tql_engine_state.specs.Stands.{EngineModel, StandsFor}
 

@@ -1,10 +1,8 @@
-//! The engine: statements in, replies out.
+//! Runs and sessions over an engine, and what is promised of them.
 #![tactic(auto)]
 
-mod committing;
 pub mod engine;
 pub mod points;
 pub mod readers;
 pub mod runner;
-mod sense;
 pub mod sessions;

@@ -1,11 +1,11 @@
-//! What an engine says of single points: whoever reasons day by day need not think of periods.
+//! Snapshot reducibility: for each point of time, an engine does what one without periods would do.
 ghost use Rattle.tql_engine.specs.PointRuns.{StepsAgreeAtPoints};
 
-/// Statements given to `Engine::step` one after another agree with the machines of all points: where the first of them
-/// make tables in scope, and those behind them are in scope, each statement that is done is done by the machine of each
-/// point; each change that is refused, though its names, kinds, forms and literals have no fault and there is memory,
-/// is refused as the first of these machines that refuses it; and behind each reply the slice at a point of every
-/// table, now and as of each moment, is what the machine of the point answers.
+/// Statements given to `Engine::step` in order agree with the reference models of all points of time, if the first of
+/// them create tables in scope and the later ones are in scope. A statement that is done is done by the model of each
+/// point. A change that binds without a fault, and is not refused for memory, is refused as the first of these models
+/// refuses it. After each reply, the slice of every table at a point, now and as of each moment, is what the model of
+/// that point answers.
 pub fn steps_agree_at_points()
     ensures { StepsAgreeAtPoints }
 {}

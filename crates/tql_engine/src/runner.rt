@@ -9,7 +9,7 @@ ghost use Rattle.tql_run.specs.RunsIn.{RunsIn, manner};
 ghost use Rattle.tql_run.specs.Texts.{plain_style, style_after, written_after};
 ghost use Rattle.tql_engine.specs.Bytes.{RunsBytes};
 ghost use Rattle.tql_run.specs.Ending.{Responds};
-ghost use Rattle.tql_engine.specs.HoldPoints.{HoldsFor};
+ghost use Rattle.tql_engine_step.specs.HoldPoints.{HoldsFor};
 ghost use Rattle.tql_engine.specs.PointRuns.{BytesAgreeAtPoints};
 ghost use Rattle.tql_engine.specs.ReaderRuns.{BytesReadStably};
 ghost use Rattle.tql_engine.specs.Agreeing.{RunsAgreeing};
@@ -32,26 +32,31 @@ use tql_run::silence::Silence;
 use tql_run::slice_source::SliceSource;
 use tql_spec::pruned_history;
 
-/// From so many bytes on a script in memory is not read, as a source of so many is not: `run` says `Read` of both.
+/// The length in bytes from which a script in memory is refused with `Read`, as `run` refuses a source of that length.
 const TOO_MANY_BYTES: usize = MOST_PULLS as usize;
 
-/// Runs the statements of a script one after another, writes each reply in a form to the sink, and tells the listener
-/// of it, behind the push of the reply. Each statement runs as soon as it is whole: the source is pulled only where no
-/// whole statement is left, and where the sink has passed on all replies before. The form may have written the answers
-/// of other scripts before: its texts are then those of replies that follow these. Where the source
-/// fails, the statements that came whole before that have run and stand, and the run says `Read`; where the sink fails,
-/// no statement runs behind the one whose reply it did not take, and the run says `Write`. Where `bail` says so, the
-/// first refusal stops the run, which ends well then: no statement behind it runs, and nothing is pulled behind it.
-/// Else a refused statement does not stop the run. Memory for a whole script is not asked for: where a statement finds
-/// none it is refused, and `Memory` is said only of what a run takes at its start.
+/// Runs the statements of a script in order, writes each reply to the sink in a form, and reports it to the listener
+/// after the push. Each statement runs as soon as it is complete: the source is pulled only if no complete statement is
+/// left and the sink has flushed all earlier replies. The form may have written the answers of earlier scripts; its
+/// texts then follow those.
 ///
-/// What ran agrees with the machines of all points: where its first statements make tables in scope and those behind
-/// them are in scope, it is at each point what a plain machine without periods does. What a READ answers is what its
-/// query would have been answered when the reader was opened, by this run or an earlier one, whatever was written
-/// since; that is said of each that is not refused for the horizon, the reader or memory. What the run prunes is not
-/// seen: without the statements that pruned, or were refused for the horizon, all others are answered the same (all
-/// three by clause `agrees`). Where keys and references hold at every point of time in each copy before it, the working
-/// one too, they do behind it (clause `holds`).
+/// A refused statement does not stop the run, unless `bail` is set: then the run ends after the first refusal, without
+/// an error, runs no later statement and pulls nothing more. A script is never held in memory as a whole.
+///
+/// # Errors
+///
+/// `Read` if the source fails: the statements that were complete before have run. `Write` if the sink fails: no
+/// statement runs after the one whose reply it did not take. `Memory` only for what a run allocates at its start; a
+/// statement that finds no memory is refused.
+///
+/// # What is proved besides
+///
+/// Clause `agrees`: if its first statements create tables in scope and the later ones are in scope, the run does at
+/// each point of time what a reference model without periods does. A READ that is not refused for the horizon, the
+/// reader or memory has the reply that its query would have had when the reader was opened, whatever was written since.
+/// Pruning is not visible: without the statements that pruned, or were refused for the horizon, all others have the
+/// same replies. Clause `holds`: if keys and references hold at every point of time in each copy of the reference
+/// model, they still do after the run.
 pub fn run_in<I: IntervalIndex, S: Source<O>, O: Sink, L: Listener, F: Form>(
     engine: &mut Engine<I>,
     source: &mut S,
@@ -84,7 +89,7 @@ pub fn run_in<I: IntervalIndex, S: Source<O>, O: Sink, L: Listener, F: Form>(
     tql_run::runner::run_in(engine, source, sink, listener, form, bail)
 }
 
-/// Runs the statements of a script as `run_in` does, in the plain form; a refused statement does not stop the run.
+/// Runs the statements of a script as `run_in` does, in the plain form. A refused statement does not stop the run.
 pub fn run<I: IntervalIndex, S: Source<O>, O: Sink, L: Listener>(
     engine: &mut Engine<I>,
     source: &mut S,
@@ -108,18 +113,22 @@ pub fn run<I: IntervalIndex, S: Source<O>, O: Sink, L: Listener>(
     run_in(engine, source, sink, listener, &mut PlainForm, false)
 }
 
-/// Runs a script that is in memory, and puts its replies behind the output. Where the output finds no memory, no
-/// statement runs behind the one whose reply it did not take whole, and the run says `Write`; it never says that where
-/// the output has all replies whole. Where there is no memory for what a run takes at its start, nothing runs, and the
-/// run says `Memory`. Where the script has 2^48 - 1 bytes or more, nothing runs, and the run says `Read`; it says that
-/// of no shorter script. A refused statement does not stop the run. What ran agrees with the machines of all points
-/// (clause `points`): where its first statements make tables in scope and those behind them are in scope, it is at each
-/// point what a plain machine without periods does. What it prunes is not seen (clause `unseen`): without the
-/// statements that pruned, or were refused for the horizon, all others are answered the same. What a READ answers is
-/// what its query would have been answered when the reader was opened, by this run or an earlier one, whatever was
-/// written since (clause `readers`); that is said of each that is not refused for the horizon, the reader or memory.
-/// Where keys and references hold at every point of time in each copy before it, the working one too, they do behind
-/// it (clause `holds`).
+/// Runs a script in memory, and appends its replies to the output. A refused statement does not stop the run.
+///
+/// # Errors
+///
+/// `Write` if the output finds no memory for a reply: no statement runs after that one, and it is never said if the
+/// output has all replies whole. `Memory` if there is none for what a run allocates at its start: nothing runs. `Read`
+/// if, and only if, the script has 2^48 - 1 bytes or more: nothing runs.
+///
+/// # What is proved besides
+///
+/// Clause `points`: if its first statements create tables in scope and the later ones are in scope, the run does at
+/// each point of time what a reference model without periods does. Clause `unseen`: without the statements that pruned,
+/// or were refused for the horizon, all others have the same replies. Clause `readers`: a READ that is not refused for
+/// the horizon, the reader or memory has the reply that its query would have had when the reader was opened, by this
+/// run or an earlier one, whatever was written since. Clause `holds`: if keys and references hold at every point of
+/// time in each copy of the reference model, they still do after the run.
 pub fn run_bytes<I: IntervalIndex>(
     engine: &mut Engine<I>,
     script: &[u8],

@@ -1,15 +1,15 @@
-//! What a session over an engine says: its answers are a run's, and keys and references hold behind each of them.
+//! What is proved of a session over an engine: its answers are those of a run, and keys and references hold after each
+//! of them.
 ghost use Rattle.tql_engine.specs.Sessions.{SessionsHold};
 
 use crate::readers::readers_agree;
 use tql_spec::pruned_history;
 
 /// A host feeds a new `tql_run::session::Session` bytes as they come, and takes its answers over an engine, call by
-/// call. Where keys and references hold at every point of time in each copy before that, the working one too, they do
-/// behind each call. The answers that were taken are the machine's replies to the first statements of what was fed,
-/// however that was cut into parts, and agree with the machines of all points. What a READ among them answers is what
-/// its query would have been answered when the reader was opened, and what they prune is not seen, as `run_in` says of
-/// a run.
+/// call. The answers are the replies of the reference model to the first statements of the bytes, however these were
+/// cut into parts. They agree with the reference models of all points of time, their READs have the replies that
+/// `run_in` promises, and pruning is not visible. If keys and references hold at every point of time in each copy of
+/// the reference model before, they do after each call.
 pub fn sessions_hold()
     ensures { SessionsHold }
 {

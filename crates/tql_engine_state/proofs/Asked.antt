@@ -43,7 +43,7 @@ rows_fit (q ∷ ps) (suc t) p e (rows ∷ copy) f = rows_fit ps t p e copy f.1
 
 -- ---- versions that can be printed
 
--- a version of a table: its cells are a row of it, and the two ends moments of the calendar
+-- a version of a table: its cells are a row of the table, and its two ends are moments of the calendar
 pub record VersionFits (d : TableDef) (v : Version) : Type 0 where
   pub cells : IsRowOf d v.row.cells
   start : IsMoment v.row.start
@@ -52,7 +52,7 @@ pub record VersionFits (d : TableDef) (v : Version) : Type 0 where
 abbrev pub VersionsFit : TableDef → List Version → Type 0
 VersionsFit d vs = AllByRecursion (VersionFits d) vs
 
--- the ends that are known are moments of the calendar
+-- the ends of all rows are moments of the calendar
 abbrev EndsInCalendar : (Stamped → ℤ) → Type 0
 EndsInCalendar ends = (r : Stamped) → IsMoment (ends r)
 
@@ -134,7 +134,7 @@ module _ (p : TableDef) where
     found_fit (FromTo a b) es f = range_fit high still a b es still_in f
     found_fit (Between a b) es f = range_fit high still a (b +ℤ pos 1) es still_in f
 
--- ---- what an engine that stands for a state finds
+-- ---- what an engine that represents a state finds
 
 pub past_fit : (ps : List TableDef) (bound : ℤ) (es : List Entry) → bound ≤ℤ high → AreSince first_moment es
     → FallingFrom bound es → HistoryFits ps es → EntriesFit ps es
@@ -182,14 +182,14 @@ pub definition_in : (tables : List Table) (s : State) (t : ℕ) (p : Table) → 
 definition_in tables s t p f e =
     ap (λ (ds : List TableDef). table_at ds t) f.definitions ∙ definition_of tables t p e
 
--- they are these versions
+-- these rows are those versions
 pub rows_are : (tables : List Table) (s : State) (t : ℕ) (p : Table) (when : When) → FitsTables tables s
     → slice_get tables t ≡ Some p
     → rows_when s t when ≡ map (full p.definition) (versions_found s t when)
 rows_are tables s t p when f e =
     ap (λ (d : TableDef). map (full d) (versions_found s t when)) (definition_in tables s t p f e)
 
--- the copies that the store answers from are those that the machine does
+-- the copies that the store answers from are those of the reference model
 seen_copies : (tables : List Table) (es : List Entry) (o : Option Entry) (id : ℕ)
     → seen_by (open_moment o) (copies_of tables es) (working_of tables o) id ≡ copies_of tables (listed o ++ es) id
 seen_copies tables es None id = refl
@@ -204,7 +204,7 @@ seen_law h s t p f e =
     ∙ seen_copies h.tables s.history s.transaction p.id
     ∙ history_found h.store h.tables t p f.placed e (entries s)
 
--- the store shows them
+-- the tables of the engine fit the state
 pub fits_now : (h : EngineModel) (s : State) → StandsFor h s → FitsTables h.tables s
 fits_now h s f = record {
   definitions = f.fits.definitions;
@@ -234,7 +234,7 @@ versions_print d (v ∷ vs) f = (version_prints d v f.0, versions_print d vs f.1
 
 -- ---- how wide they are
 
--- a row is as wide whenever its version ends
+-- the width of a row does not depend on when its version ends
 pub by_end : (s : Option System) (cells : Row) (m e f : ℤ)
     → length (with_generated s cells m e) ≡ length (with_generated s cells m f)
 by_end None cells m e f = refl
@@ -271,14 +271,14 @@ ordered_all : (P : Row → Type 0) (keys : List OrderKey) (rows : List Row) → 
 ordered_all P keys [] e = tt
 ordered_all P keys (r ∷ rows) e = placed_all P (row_order keys) r (in_order keys rows) e.0 (ordered_all P keys rows e.1)
 
--- rows that have texts have them in the printed order
+-- printable rows are printable in the order of the query too
 pub ordered_prints : (keys : List OrderKey) (rows : List Row) → All (All IsPrintable) rows
     → ArePrintable (in_order keys rows)
 ordered_prints keys rows h =
     All-from_recursion (All IsPrintable) (in_order keys rows)
     (ordered_all (All IsPrintable) keys rows (recursion_from_All (All IsPrintable) rows h))
 
--- the rows that a query finds have texts
+-- the rows that a query finds are printable
 pub found_print : (tables : List Table) (s : State) (t : ℕ) (p : Table) (when : When) → FitsTables tables s
     → slice_get tables t ≡ Some p → All (All IsPrintable) (rows_when s t when)
 found_print tables s t p when f e =

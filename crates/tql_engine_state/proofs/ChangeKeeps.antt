@@ -1,4 +1,4 @@
--- A change, or one given up on the way, keeps an engine that stands for a state.
+-- After a change, or one given up on the way, an engine still represents a state.
 use Rattle.std.proofs.Common.{◌≡◌, ℕ, zero, suc, Bool, true, false, cond, List, [], ◌∷◌, ◌++◌, map, filter, refl, sym}
 use Rattle.std.proofs.Common.{ap, subst, ◌∙◌, arith}
 use Rattle.std.specs.Prelude.{ℤ, pos, ◌+ℤ◌, ◌≤ℤ◌, ◌<ℤ◌, ◌&&◌, not, nat_eq, slice_get, slice_set, IsNone, Option, Some}
@@ -38,7 +38,7 @@ use Rattle.tql_engine_state.proofs.Asked.{rows_fit}
 abbrev pub working_now : State → Entry
 working_now s = working s s.transaction
 
--- the state where the working copy has other rows in a table
+-- the state in which the working copy has other rows in a table
 abbrev pub with_table_rows : State → ℕ → List Stamped → State
 with_table_rows s t rows =
     with_working s s.transaction (record {
@@ -50,7 +50,7 @@ with_table_rows s t rows =
 abbrev pub working_rows : State → ℕ → List Stamped
 working_rows s t = rows_in (working_now s).copy t
 
--- new rows of a moment
+-- new rows that start at a moment
 abbrev pub begun_at : ℤ → List Row → List Stamped
 begun_at m rows = map (λ cells. record { cells = cells; start = m }) rows
 
@@ -60,7 +60,7 @@ AreRowsOf d rows = AllByRecursion (IsRowOf d) rows
 
 -- ---- the last copy
 
--- its rows are those of the last copies as the store numbers its tables
+-- its rows are those of the last copies, by table id
 pub last_found : (tables : List Table) (defs : List TableDef) (es : List Entry) (id : ℕ)
     → last_rows (copies_of tables es id) ≡ rows_of_id tables (newest_copy defs es) id
 last_found tables defs [] id = sym (rows_empty tables defs id)
@@ -79,7 +79,7 @@ pub last_fits : (ps : List TableDef) (defs : List TableDef) (es : List Entry) �
     → CopyFits ps (newest_copy defs es)
 last_fits ps defs es e f = subst (λ (ds : List TableDef). CopyFits ps (newest_copy ds es)) (sym e) (newest_fits ps es f)
 
--- ---- the rows that stay and those that come
+-- ---- surviving and added rows
 
 pub rows_both : (p : TableDef) (xs ys : List Stamped) → RowsFit p xs → RowsFit p ys → RowsFit p (xs ++ ys)
 rows_both p [] ys f g = g
@@ -136,7 +136,7 @@ module _ (rows : store.StoreModel) (ps : List Table) (placed : ArePlaced rows ps
       ∙ sym (rows_set rows ps t p placed there copy (fits_length (definitions_of ps) copy fits
       ∙ length-map ps (λ (t : Table). t.definition)) (replaced_rows m gone added copy t) id)
 
-  -- what stands for the copy stands for the one after the change
+  -- a store that represents a copy represents the copy after the change
   pub replaced_stands : (r1 r2 : store.StoreModel) (copies : Copies) (copy : Copy) (m : ℤ) (gone : Stamped
       → Bool) (removed : List ℕ) (added : List Row)
       → CopyFits (definitions_of ps) copy → r1.working ≡ Some m → Judged r1 p.id gone removed
@@ -159,9 +159,9 @@ module _ (rows : store.StoreModel) (ps : List Table) (placed : ArePlaced rows ps
       (rows_left p.definition (λ r. not (gone r)) (rows_in copy t) old)
       (begun_fit p.definition m added from until ok))
 
--- ---- what begins
+-- ---- the start of a transaction
 
--- the working copy of a transaction that begins is the last one
+-- the working copy of a new transaction is the last copy
 pub begun_stands : (tables : List Table) (defs : List TableDef) (es : List Entry) (old new : store.StoreModel)
     → BeginCopies old new
     → Represents old (copies_of tables es) (working_of tables None)
@@ -170,13 +170,13 @@ begun_stands tables defs es old new begins r =
     same_working new (copies_of tables es) _ (rows_of_id tables (newest_copy defs es)) (last_found tables defs es)
     (begins (copies_of tables es) (working_of tables None) r)
 
--- ---- the tables stay
+-- ---- the tables stay the same
 
 pub same_count : (old new : store.StoreModel) (n : ℕ) → new.tables ≡ old.tables → store.table_count old ≡ n
     → store.table_count new ≡ n
 same_count old new n places e = ap (λ (xs : List TableSlot). store.table_count (record old { tables = xs })) places ∙ e
 
--- the readers behind a change
+-- the readers after a change
 readers_by : (h : EngineModel) (base : State) (defs : List TableDef) (es : List Entry) (next : ℤ) (o : Option Entry)
     (t : ℕ) (rows : List Stamped)
     → (let s : State = record base { definitions = defs; history = es; next = next; transaction = o } in
@@ -194,7 +194,7 @@ readers_after h s = readers_by h s s.definitions s.history s.next s.transaction
 
 -- in a transaction of its own
 module _ (h : EngineModel) (base : State) (defs : List TableDef) (es : List Entry) (next : ℤ) where
-  -- the machine, with no transaction open
+  -- the reference model, with no transaction open
   abbrev idle : State
   idle = record base { definitions = defs; history = es; next = next; transaction = None }
 
@@ -335,7 +335,7 @@ module _ (h : EngineModel) (base : State) (defs : List TableDef) (es : List Entr
       let same : r ≡ h.store = subst (λ w. KeepsRows w next h.store r) f.opened c in
       subst (λ (x : store.StoreModel). StandsFor (record h { store = x }) (within e)) (sym same) f
 
--- rows replaced, in the open transaction or in one of their own
+-- rows are replaced, in the open transaction or in one of their own
 pub change_law : (h : EngineModel) (s : State) (t : ℕ) (p : Table) (gone : Stamped
     → Bool) (removed : List ℕ) (added : List Row) (r : store.StoreModel) (after : ℤ) → StandsFor h s
     → slice_get h.tables t ≡ Some p → (IsNone h.store.working → h.next <ℤ high) → AreRowsOf p.definition added
@@ -361,12 +361,12 @@ all_stay : (xs : List Stamped) → filter (λ (r : Stamped). not false) xs ≡ x
 all_stay [] = refl
 all_stay (x ∷ xs) = ap {B = List Stamped} (λ ys. x ∷ ys) (all_stay xs)
 
--- rows that only come
+-- rows are only added
 pub only_added : (m : ℤ) (added : List Row) (rows : List Stamped)
     → rows_after m (λ (r : Stamped). false) added rows ≡ rows ++ begun_at m added
 only_added m added rows = ap (λ (xs : List Stamped). xs ++ begun_at m added) (all_stay rows)
 
--- no version is taken away
+-- no version is removed
 none_goes : (b c : Bool) → false ≡ (b && (c && false))
 none_goes false c = refl
 none_goes true false = refl

@@ -1,4 +1,4 @@
--- The copies of an engine's tables as the store numbers them.
+-- The copies of an engine's tables, by table id.
 use Rattle.std.proofs.Common.{◌≡◌, ℕ, zero, suc, Bool, true, false, List, [], ◌∷◌, ◌++◌, map, length, refl, sym, ap}
 use Rattle.std.proofs.Common.{subst, ◌∙◌, arith}
 use Rattle.std.specs.Prelude.{not, nat_eq, slice_get, slice_set, IsTrue, Some, None, if◌then◌else◌}
@@ -14,7 +14,7 @@ use Rattle.tql_engine_state.specs.Fitting.{CopyFits}
 use Rattle.tql_engine_state.specs.Stands.{ArePlaced, is_free, rows_of_id, copies_of}
 use Rattle.tql_engine_state.proofs.Standing.{some_is}
 
--- ---- numbers
+-- ---- table ids
 
 pub same_id : (n : ℕ) → nat_eq n n ≡ true
 same_id n = grind (arith, nat_tests)
@@ -27,7 +27,7 @@ pub not_true : (b : Bool) → not b ≡ true → b ≡ false
 not_true true e = cc
 not_true false e = refl
 
--- a table of a list stands at another number than the one that is free there
+-- a table of a list has another id than one that is free in the list
 pub apart : (id : ℕ) (ps : List Table) (t : ℕ) (p : Table) → IsTrue (is_free id ps) → slice_get ps t ≡ Some p
     → nat_eq p.id id ≡ false
 apart id [] t p f e = cc
@@ -99,14 +99,14 @@ nothing : (b : Bool) (xs : List Stamped) → xs ≡ [] → (if b then [] else xs
 nothing true xs e = refl
 nothing false xs e = e
 
--- a copy with no row
+-- in a copy without rows, no table has rows
 pub rows_empty : (ps : List Table) (defs : List TableDef) (id : ℕ) → rows_of_id ps (map (λ d. []) defs) id ≡ []
 rows_empty [] defs id = refl
 rows_empty (q ∷ ps) [] id = refl
 rows_empty (q ∷ ps) (d ∷ defs) id =
     nothing (nat_eq q.id id) (rows_of_id ps (map (λ d. []) defs) id) (rows_empty ps defs id)
 
--- one more table, with no row
+-- one more table, without rows
 pub rows_more : (ps : List Table) (q : Table) (copy : Copy) → length copy ≡ length ps → (id : ℕ)
     → rows_of_id (ps ++ q ∷ []) (copy ++ [] ∷ []) id ≡ rows_of_id ps copy id
 rows_more [] q [] k id = nothing (nat_eq q.id id) [] refl
@@ -122,18 +122,18 @@ fits_length [] (rows ∷ copy) f = absurd f
 fits_length (p ∷ ps) [] f = absurd f
 fits_length (p ∷ ps) (rows ∷ copy) f = ap suc (fits_length ps copy f.1)
 
--- ---- what stands for copies stands for the same copies
+-- ---- a store that represents copies also represents equal copies
 
 pub same_copies : (h : StoreModel) (copies others : Copies) (working : Working) → ((t : ℕ) → copies t ≡ others t)
     → Represents h copies working → Represents h others working
 same_copies h copies others working e r = subst (λ (c : Copies). Represents h c working) (λ i t. e t i) r
 
--- and for the same working copy
+-- and equal working copies
 pub same_working : (h : StoreModel) (copies : Copies) (working others : Working) → ((t : ℕ) → working t ≡ others t)
     → Represents h copies working → Represents h copies others
 same_working h copies working others e r = subst (λ (w : Working). Represents h copies w) (λ i t. e t i) r
 
--- with no transaction open there is no working copy
+-- without an open transaction, the working copy does not matter
 pub any_working : (h : StoreModel) (copies : Copies) (working others : Working) → h.working ≡ None
     → Represents h copies working → Represents h copies others
 any_working h copies working others idle r = record {
@@ -144,9 +144,9 @@ any_working h copies working others idle r = record {
       idle (r.stands t));
 }
 
--- ---- tables at their numbers
+-- ---- tables by their ids
 
--- the numbers and what stands there are the same
+-- if all table slots are the same, the tables stay in place
 pub same_places : (old new : StoreModel) (ps : List Table) → new.tables ≡ old.tables → ArePlaced old ps
     → ArePlaced new ps
 same_places old new [] e a = tt

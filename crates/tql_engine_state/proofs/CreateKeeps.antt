@@ -1,4 +1,4 @@
--- A new table keeps an engine that stands for a state.
+-- After CREATE TABLE, an engine represents the new state.
 use Rattle.std.proofs.Common.{◌≡◌, ℕ, ◌+◌, Bool, true, false, List, [], ◌∷◌, ◌++◌, map, length, refl, sym, ap, subst}
 use Rattle.std.proofs.Common.{◌∙◌, arith, length-append}
 use Rattle.std.specs.Prelude.{ℤ, ◌&&◌, not, nat_eq, IsTrue, IsNone, Option, None, is_some, if◌then◌else◌}
@@ -64,7 +64,7 @@ copies_more tables q (e ∷ older) id f =
       rows = sym (rows_more tables q e.copy long id) i;
     } ∷ copies_more tables q older id f.1 i
 
--- ---- the number of the new table
+-- ---- the id of the new table
 
 free_more : (id : ℕ) (ps : List Table) (q : Table) → IsTrue (is_free id ps) → nat_eq q.id id ≡ false
     → IsTrue (is_free id (ps ++ q ∷ []))
@@ -78,7 +78,7 @@ all_more : (P : TableDef → Type 0) (ps : List TableDef) (d : TableDef) → All
 all_more P [] d a k = (k, tt)
 all_more P (p ∷ ps) d a k = (a.0, all_more P ps d a.1 k)
 
--- a place that is filled is taken, and keeps its history where that is wanted
+-- a filled slot is taken, and is versioned if that is required
 taken_for : (b : Bool) → is_taken (place_for b) ≡ true
 taken_for true = refl
 taken_for false = refl
@@ -88,11 +88,11 @@ kept_for true = refl
 kept_for false = refl
 
 module _ (old new : StoreModel) (q : Table) (a : AddsTable (is_some q.definition.system) q.id old new) where
-  -- what is put there
+  -- the content of the new slot
   abbrev put : TableSlot
   put = place_for (is_some q.definition.system)
 
-  -- a table that is there stands at another number
+  -- an existing table has another id
   pub other_number : (p : Table) → IsTrue (has_table old p.id) → nat_eq p.id q.id ≡ false
   other_number p v = by_bool (nat_eq p.id q.id)
       (λ same. absurd (never (sym (ap is_taken (ap (slot_at old.tables) (decided p.id q.id same) ∙ a.free)) ∙ v)))

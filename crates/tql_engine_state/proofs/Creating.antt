@@ -35,7 +35,7 @@ use Rattle.tql_catalog.specs.Tables.{can_have}
 use Rattle.tql_spec.specs.Syntax.{PruneTree, OpenTree, ReadTree, CloseTree}
 use Rattle.tql_engine_state.specs.Readers.{KeptReader}
 
--- the tables that are there show no fault of a table that is bound
+-- the existing tables cause no fault for a table that is bound
 few : (n : ℕ) → n < 1000 → nat_le 1000 n ≡ false
 few n h = grind (arith, nat_tests)
 
@@ -44,9 +44,9 @@ no_fault defs d k = λ i. first
     (fault_if (is_some (k.free i)) TableUnknownOrAlreadyThere ++ fault_if (few (length defs) k.room i)
     TooManyTablesOrReaders)
 
--- ---- a table that is made
+-- ---- a table that is created
 
--- the engine with the new table stands for the state with it
+-- the engine with the new table represents the state with it
 pub made_law : (s : State) (tables more : List Table) (table : Table) (old new : StoreModel) (next : ℤ)
     (readers : List KeptReader) (versioned : Bool)
     → StandsFor (record { tables = tables; store = old; next = next; readers = readers }) s → IsNone old.working
@@ -68,10 +68,10 @@ made_law s tables more table old new next readers versioned st closed unread rig
       readers = readers;
     }) s table new st closed unread right few (subst (λ (b : Bool). AddsTable b table.id old new) same adds) keeps)
 
--- ---- a number that the store has given out
+-- ---- an id that the store has given out
 
 module _ (old mid : StoreModel) (q : Table) (a : AddsTable (is_some q.definition.system) q.id old mid) where
-  -- no table has it
+  -- no other table has it
   pub free_number : (ps : List Table) → ArePlaced old ps → IsFree q.id ps
   free_number [] k = All-nil _
   free_number (p ∷ ps) k =
@@ -81,7 +81,7 @@ module _ (old mid : StoreModel) (q : Table) (a : AddsTable (is_some q.definition
       differs : (n m : ℕ) → nat_eq n m ≡ false → n ≢ m
       differs n m e f = grind (arith, nat_tests)
 
-  -- a table is there now
+  -- the table exists now
   pub there_now : IsTrue (has_table mid q.id)
   there_now = (new_kept old mid q a).there
 
@@ -141,7 +141,7 @@ module _ (old mid new : StoreModel) (q : Table) (a : AddsTable (is_some q.defini
   less : (n m k : ℕ) → n + 1 ≡ m → m ≡ k + 1 → n ≡ k
   less n m k e f = omega arith
 
-  -- the engine stands for the state as it was
+  -- the engine represents the state as it was
   pub given_up_law : (s : State) (tables : List Table) (next : ℤ) (readers : List KeptReader)
       → StandsFor (record { tables = tables; store = old; next = next; readers = readers }) s → AddKeepsCopies old mid
       → StandsFor (record { tables = tables; store = new; next = next; readers = readers }) s
@@ -170,7 +170,7 @@ module _ (old mid new : StoreModel) (q : Table) (a : AddsTable (is_some q.defini
 same_table : (d e : TableDef) → CreateTable d ≡ CreateTable e → d ≡ e
 same_table d e k = cc
 
--- each is to a key that is there
+-- each is to a key of an existing table
 pub parents_there : (defs : List TableDef) (t : Statement) (d : TableDef) → (bind defs t).faults ≡ []
     → (bind defs t).value ≡ CreateTable d → list_all (can_have defs) d.references ≡ true
 parents_there defs (CreateTree n e es v) d h k =

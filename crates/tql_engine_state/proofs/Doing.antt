@@ -1,4 +1,4 @@
--- Each statement's step, from what the code has tested.
+-- The step of each statement, from what the code has tested.
 use Rattle.std.proofs.Common.{◌≡◌, refl, sym, ap, subst, ◌∙◌, arith, ℕ, zero, suc, Bool, true, false, List, [], ◌∷◌}
 use Rattle.std.proofs.Common.{◌++◌, map, filter, length, Some, None, Option}
 use Rattle.std.specs.Prelude.{ℤ, pos, ◌≤ℤ◌, ◌<ℤ◌, ◌+ℤ◌, ◌&&◌, int_le, int_lt, is_some, is_none, IsNone, IsSome}
@@ -58,12 +58,12 @@ use Rattle.tql_engine_state.proofs.ChangeKeeps.{working_now, working_rows, only_
 use Rattle.tql_engine_state.proofs.EarlyFaults.{insert_early}
 use Rattle.tql_engine_state.proofs.TransactionKeeps.{begun_law, ended_law, undone_law}
 
--- ---- what is done, by an equal step
+-- ---- the same effect, from an equal step
 
 pub by_step : (h : EngineModel) (reply : Reply) (a b : Reply × State) → a ≡ b → Does h reply b → Does h reply a
 by_step h reply a b e d = subst (Does h reply) (sym e) d
 
--- a refusal
+-- a refused statement
 abbrev pub refuses : (h : EngineModel) (s : State) (e : Refusal) → StandsFor h s → Does h (Refused e) (refused e s)
 refuses h s e st = record { replies = refl; stands = st }
 
@@ -78,7 +78,7 @@ pub open_entry : (h : EngineModel) (s : State) → StandsFor h s → IsSome h.st
     → (e : Entry) × (s.transaction ≡ Some e)
 open_entry h s st k = some_entry s.transaction (open_law h s st ∙ k)
 
--- none is open in both, or in neither
+-- a transaction is open in both or in neither
 pub idle_law : (h : EngineModel) (s : State) → StandsFor h s → is_none s.transaction ≡ is_none h.store.working
 idle_law h s st = same_test s.transaction ∙ ap is_none (sym st.opened)
   where
@@ -92,14 +92,14 @@ none_of None false e = refl
 none_of (Some x) true e = refl
 none_of (Some x) false e = cc
 
--- whether a change has no moment
+-- whether the clock has no moment left for a change
 pub lacks_law : (h : EngineModel) (s : State) → StandsFor h s
     → (is_none s.transaction && is_clock_at_end s) ≡ (is_none h.store.working && int_le high h.next)
 lacks_law h s st = λ i. idle_law h s st i && int_le high (sym st.clock i)
 
 -- ---- CREATE
 
--- no transaction is open, and no reader
+-- no transaction and no reader is open
 undefined : (h : EngineModel) (s : State) → StandsFor h s → IsNone h.store.working → IsUnread h
     → state_faults s Defines ≡ []
 undefined h s st e unread =
@@ -124,14 +124,14 @@ drop_does h new s t st e unread left =
 
 -- ---- AT
 
--- the clock set
+-- the clock is set
 abbrev set_to : ℤ → State → Reply × State
 set_to m s = (Done ClockSet None, record s { next = m })
 
 abbrev clock_left : ℤ → State → Reply × State
 clock_left m s = if is_not_later m s.history then refused MomentNotAllowed s else set_to m s
 
--- with a moment that is not later than the last commit's
+-- to a moment that is not later than the last commit
 pub clock_refused : (h : EngineModel) (s : State) (m : ℤ) → StandsFor h s → is_some h.store.working ≡ false
     → not_later_than m h.store.last ≡ true → Does h (Refused MomentNotAllowed) (step s (SetClock m))
 clock_refused h s m st c e =
@@ -141,7 +141,7 @@ clock_refused h s m st c e =
     ∙ chosen (is_not_later m s.history) (refused MomentNotAllowed s) (set_to m s) (last_law h s m st
     ∙ e)) (refuses h s MomentNotAllowed st)
 
--- with a later one
+-- to a later moment
 pub clock_set : (h : EngineModel) (s : State) (m : ℤ) → StandsFor h s → IsNone h.store.working
     → not_later_than m h.store.last ≡ false → first_moment ≤ℤ m → m ≤ℤ high
     → Does (record h { next = m }) (Done ClockSet None) (step s (SetClock m))
@@ -157,7 +157,7 @@ clock_set h s m st c e low up =
 
 -- ---- PRUNE HISTORY
 
--- the horizon set
+-- the horizon is set
 pub prune_does : (h : EngineModel) (s : State) (m : ℤ) (r : StoreModel) → StandsFor h s → IsNone h.store.working
     → h.store.horizon ≤ℤ m → PassesNone h m → StandsFor (record h { store = r }) (pruned_to m s)
     → Does (record h { store = r }) (Done Pruned None) (step s (Prune m))
@@ -175,7 +175,7 @@ prune_does h s m r st closed later passes stands =
 
 -- ---- SELECT
 
--- rows in order are those of an answer
+-- the ordered rows are those of an answer
 asked_table : (s : State) (q : Query) (o : Option (List Row)) (rows : List Row) → ordered q.ordering o ≡ Some rows
     → asked s q o ≡ (Table q.headings rows, s)
 asked_table s q None rows e = absurd (cc)
@@ -189,7 +189,7 @@ none_ordered : (keys : List OrderKey) (o : Option (List Row)) → ordered keys o
 none_ordered keys None e = refl
 none_ordered keys (Some bag) e = absurd (cc)
 
--- what asks for nothing before the store's horizon does not ask before the machine's
+-- a query that reads nothing before the store's horizon reads nothing before the model's
 pub within_law : (h : EngineModel) (s : State) (q : Query) → StandsFor h s → AsksWithin h q
     → query_faults s.horizon q ≡ []
 within_law h s q st e =
@@ -197,14 +197,14 @@ within_law h s q st e =
 
 module _ (h : EngineModel) (s : State) (b : Bound) (q : Query) (o : Option (List Row)) (st : StandsFor h s)
     (does : step s b ≡ asked s q o) where
-  -- the rows in order, under the headings
+  -- the ordered rows, with the headings
   pub asked_does : (headings : List Name) (rows : List Row) → ordered q.ordering o ≡ Some rows
       → headings ≡ q.headings → Does h (Table headings rows) (step s b)
   asked_does headings rows is heads =
       by_step h (Table headings rows) (step s b) (Table q.headings rows, s) (does ∙ asked_table s q o rows is)
       (record { replies = λ i. Table (heads i) rows; stands = st })
 
-  -- an evaluation is out of range, or there is no memory
+  -- an evaluation is out of range, or an allocation is refused
   pub asked_errs : (e : r.Refusal) → Fails (ordered q.ordering o) e → Refuses h s e (step s b)
   asked_errs variant.OutOfMemory f = st
   asked_errs variant.ValueOutOfRange f =
@@ -212,7 +212,7 @@ module _ (h : EngineModel) (s : State) (b : Bound) (q : Query) (o : Option (List
       (does ∙ ap (asked s q) (none_ordered q.ordering o f)) (refuses h s ValueOutOfRange st)
   asked_errs _ f = absurd f
 
--- a query is asked of what queries see
+-- a query is answered from the copies that queries see
 pub query_asked : (h : EngineModel) (s : State) (q : Query) → StandsFor h s → AsksWithin h q
     → step s (AnswerQuery q) ≡ asked s q (answer (bag_of s) q)
 query_asked h s q st within = free_step s (AnswerQuery q) refl (within_law h s q st within)
@@ -223,7 +223,7 @@ query_asked h s q st within = free_step s (AnswerQuery q) refl (within_law h s q
 usable : (h : EngineModel) (s : State) (b : Bound) → StandsFor h s → IsWithin h b → limit_faults s b ≡ []
 usable h s b st within = faults_held h s b st ∙ within
 
--- a READ is asked of what its reader set aside
+-- a READ is answered from the copies that its reader set aside
 pub read_asked : (h : EngineModel) (s : State) (n : Name) (q : Query) → StandsFor h s → IsWithin h (Read n q)
     → step s (Read n q) ≡ asked s q (answer (bag_in s.definitions (pinned_of n s.readers)) q)
 read_asked h s n q st within = free_step s (Read n q) refl (usable h s (Read n q) st within)
@@ -253,13 +253,13 @@ with_readers h s kept rs f k = record {
   readers = k;
 }
 
--- the last commit's moment is the pin of what a reader sets aside
+-- the moment of the last commit is the pin of a reader that is opened now
 last_pin : (tables : List CatalogTable) (es : List Entry) (last : Option ℤ) → newest (copies_of tables es 0) ≡ last
     → last ≡ pin es
 last_pin tables [] last e = sym e
 last_pin tables (x ∷ es) last e = sym e
 
--- opened
+-- OPEN READER
 pub open_does : (h : EngineModel) (s : State) (n : Name) → StandsFor h s → IsWithin h (OpenReader n)
     → Does (record h { readers = h.readers ++ record { name = n; pin = h.store.last } ∷ [] })
     (Done OpenedReader None) (step s (OpenReader n))
@@ -272,7 +272,7 @@ open_does h s n st within =
           (last_pin h.tables s.history h.store.last (st.stands.dated 0)) st.readers);
     })
 
--- closed
+-- CLOSE READER
 pub close_does : (h : EngineModel) (s : State) (n : Name) → StandsFor h s → IsWithin h (CloseReader n)
     → Does (record h { readers = filter (λ (r : KeptReader). not (same_text n r.name)) h.readers })
     (Done ClosedReader None) (step s (CloseReader n))
@@ -283,11 +283,11 @@ close_does h s n st within =
 
 -- ---- changes
 
--- the definition of each table of the state is right
+-- the definition of each table of the state is valid
 pub defined_all : (h : EngineModel) (s : State) → StandsFor h s → AllByRecursion IsDefinition s.definitions
 defined_all h s st = subst (AllByRecursion IsDefinition) (sym st.fits.definitions) st.fits.defined
 
--- with one
+-- if a moment is left
 no_moment : (w : Option ℤ) (n : ℤ) → (IsNone w → n <ℤ high) → (is_none w && int_le high n) ≡ false
 no_moment None n k = let below = k refl in grind (arith, ints, below)
 no_moment (Some m) n k = refl
@@ -301,12 +301,12 @@ change_step h s c st below within =
 
 -- ---- INSERT
 
--- what an INSERT makes of the rows that it sees
+-- the outcome of an INSERT on the rows that it sees
 abbrev insert_outcome_of : State → CatalogTable → Insertion → Outcome
 insert_outcome_of s p x =
     insert p.definition (working_now s).moment (working_rows s x.table) x.columns.items (tuples_in x)
 
--- it is the machine's
+-- it is that of the reference model
 insert_made : (h : EngineModel) (s : State) (p : CatalogTable) (x : Insertion) → StandsFor h s
     → slice_get h.tables x.table ≡ Some p
     → outcome s (working_now s).moment (working_now s).copy (insertion_of x) ≡ insert_outcome_of s p x
@@ -314,7 +314,7 @@ insert_made h s p x st e =
     ap {B = Outcome} (λ d. insert d (working_now s).moment (working_rows s x.table) x.columns.items (tuples_in x))
     (definition_law h s x.table p st e)
 
--- the first fault of the new rows
+-- it is refused for the first fault of the new rows
 pub insert_refused : (h : EngineModel) (s : State) (p : CatalogTable) (x : Insertion) (f : Refusal) → StandsFor h s
     → slice_get h.tables x.table ≡ Some p → (IsNone h.store.working → h.next <ℤ high)
     → ((m : ℤ) → first (inserted p.definition x m).faults ≡ Some f)
@@ -329,7 +329,7 @@ insert_refused h s p x f st e below k =
     (ap first (insert_faults p.definition m rows x.columns.items (tuples_in x)) ∙ k m))
     (refuses h s f st)
 
--- where there is none, what is computed is the machine's change
+-- without a fault, the computed change is that of the reference model
 pub insert_makes : (h : EngineModel) (s : State) (p : CatalogTable) (x : Insertion) (delta : Delta) → StandsFor h s
     → slice_get h.tables x.table ≡ Some p
     → Gives p.id [] (λ m. (inserted p.definition x m).rows) (inserted p.definition x) delta
@@ -367,7 +367,7 @@ none_there (d ∷ defs) (suc t) = none_there defs t
 
 -- ---- transactions
 
--- begun
+-- START TRANSACTION
 abbrev begun_so : State → Reply × State
 begun_so s = (Done Started None, record s { transaction = Some (working s None) })
 
@@ -410,7 +410,7 @@ commit_refused h s st e =
     (Done Committed None, with_commit s s.transaction) (closed_none h s st e))
     (refuses h s NotInThisTransactionState st)
 
--- committed
+-- COMMIT
 pub commit_does : (h : EngineModel) (s : State) (r : StoreModel) → StandsFor h s → IsSome h.store.working
     → CommitAppends h.store r → r.working ≡ None → r.tables ≡ h.store.tables → r.horizon ≡ h.store.horizon
     → Does (record h { store = r; next = h.next +ℤ pos 1 }) (Done Committed None) (step s Commit)
@@ -431,7 +431,7 @@ rollback_refused h s st e =
     (Done RolledBack None, record s { transaction = None }) (closed_none h s st e))
     (refuses h s NotInThisTransactionState st)
 
--- undone
+-- ROLLBACK
 pub rollback_does : (h : EngineModel) (s : State) (r : StoreModel) → StandsFor h s → IsSome h.store.working
     → RollbackRestores h.store r → r.working ≡ None → r.tables ≡ h.store.tables → r.horizon ≡ h.store.horizon
     → Does (record h { store = r }) (Done RolledBack None) (step s Rollback)

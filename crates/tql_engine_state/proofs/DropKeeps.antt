@@ -1,4 +1,4 @@
--- A dropped table keeps an engine that stands for a state.
+-- After DROP TABLE, an engine represents the new state.
 use Rattle.std.proofs.Common.{◌≡◌, ℕ, zero, suc, ◌+◌, ◌<◌, Bool, true, false, List, [], ◌∷◌, map, length, refl, sym}
 use Rattle.std.proofs.Common.{ap, subst, ◌∙◌, arith}
 use Rattle.std.specs.Prelude.{ℤ, ◌&&◌, not, nat_eq, remove, slice_get, IsTrue, IsNone, Option, None, Some}
@@ -54,7 +54,7 @@ since_less : (t : ℕ) (m : ℤ) (es : List Entry) → AreSince m es → AreSinc
 since_less t m [] f = tt
 since_less t m (e ∷ older) f = (f.0, since_less t m older f.1)
 
--- no table of a list is kept at a number that is free there
+-- in a list without a table of this id, no rows are found
 nobody : (ps : List Table) (id : ℕ) → IsTrue (is_free id ps) → (copy : Copy) → rows_of_id ps copy id ≡ []
 nobody [] id f copy = refl
 nobody (p ∷ ps) id f [] = refl
@@ -68,7 +68,7 @@ decided n m e = grind (arith, nat_tests)
 differs : (n m k : ℕ) → nat_eq n m ≡ true → nat_eq k n ≡ false → nat_eq m k ≡ false
 differs n m k e f = grind (arith, nat_tests)
 
--- of a copy without the rows of a table
+-- the rows by table id, in a copy without the rows of one table
 rows_less : (h : StoreModel) (ps : List Table) (t : ℕ) (p : Table) → ArePlaced h ps → slice_get ps t ≡ Some p
     → (copy : Copy) → length copy ≡ length ps → (id : ℕ)
     → rows_of_id (remove ps t) (remove copy t) id ≡ (if nat_eq id p.id then [] else rows_of_id ps copy id)
@@ -95,7 +95,7 @@ rows_less h (q ∷ ps) (suc t) p a e (old ∷ copy) k id =
     ∙ ap (λ (xs : List Stamped). if nat_eq id p.id then [] else xs)
     (sym (passed (nat_eq q.id id) old (rows_of_id ps copy id) b)))
 
--- the definitions of the tables that are left
+-- the definitions of the remaining tables
 definitions_less : (ps : List Table) (t : ℕ) → definitions_of (remove ps t) ≡ remove (definitions_of ps) t
 definitions_less [] zero = refl
 definitions_less [] (suc t) = refl
@@ -121,10 +121,10 @@ within [] t p e = cc
 within (q ∷ ps) zero p e = omega arith
 within (q ∷ ps) (suc t) p e = let l = within ps t p e in omega (arith, l)
 
--- ---- a table that the store lets go
+-- ---- a table that the store frees
 
 module _ (old new : StoreModel) (q : Table) (places : Takes q.id Free old.tables new.tables) where
-  -- a table at another number is kept
+  -- a table with another id stays
   still_kept : (p : Table) → nat_eq p.id q.id ≡ false → IsKept old p → IsKept new p
   still_kept p other k =
       let same : slot_at new.tables p.id ≡ slot_at old.tables p.id =
@@ -148,7 +148,7 @@ module _ (old new : StoreModel) (q : Table) (places : Takes q.id Free old.tables
         a.2 e,
   )
 
--- the copies of the tables that are left
+-- the copies of the remaining tables
 copies_less : (h : StoreModel) (ps : List Table) (t : ℕ) (p : Table) → ArePlaced h ps → slice_get ps t ≡ Some p
     → (es : List Entry) → HistoryFits (definitions_of ps) es → (id : ℕ)
     → copies_without p.id (copies_of ps es) id ≡ copies_of (remove ps t) (entries_less t es) id

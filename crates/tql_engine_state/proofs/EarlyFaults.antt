@@ -21,7 +21,7 @@ use Rattle.tql_spec.proofs.AtPoints.{all_in}
 use Rattle.tql_spec.proofs.FaultBags.{first_is}
 use Rattle.tql_spec.proofs.FirstFaults.{first_append, sooner}
 
--- whether a fault stands before those of keys and references in the order of report
+-- whether a fault precedes those of keys and references in the order of report
 abbrev pub is_early : Refusal → Bool
 is_early e = nat_lt (place e) 22
 
@@ -108,7 +108,7 @@ behind f true false h = ap (λ c. Some (if c then DuplicateKey else f)) (not_lat
 behind f false true h = ap (λ c. Some (if c then ReferenceNotMet else f)) (not_behind (place f) h)
 behind f false false h = refl
 
--- so a fault of rows is told, whatever keys and references say
+-- so the fault of a row is reported, whatever the keys and references do
 pub early_first : (xs : List Refusal) (f : Refusal) (defs : List TableDef) (copy : Copy) → are_early xs ≡ true
     → first xs ≡ Some f → first (xs ++ constraint_faults defs copy) ≡ Some f
 early_first xs f defs copy h e =

@@ -1,4 +1,4 @@
--- Steps that the state refuses, and those that it does not.
+-- Steps that the state refuses, and steps that it allows.
 use Rattle.std.specs.Prelude.{◌≡◌, refl, Bool, true, false, ◌&&◌, ◌++◌, ℤ, Some, None, is_some, is_none}
 use Rattle.std.specs.Prelude.{if◌then◌else◌, List, []}
 use Rattle.std.proofs.Common.{ap, ◌∙◌}
@@ -14,13 +14,13 @@ use Rattle.tql_spec.specs.Machine.{Changes, change_faults, class_of, effect, lim
 abbrev pub refused : Refusal → State → Reply × State
 refused e s = (Refused e, s)
 
--- the reply by one fault
+-- the reply if there is at most one fault
 one_fault : (a : Bool) (e : Refusal) (s : State) (reply : Reply) (new : State)
     → unless_refused (first (fault_if a e)) s reply new ≡ if a then refused e s else (reply, new)
 one_fault true e s reply new = refl
 one_fault false e s reply new = refl
 
--- the reply by two faults, of which the first comes before the second
+-- the reply if there are at most two faults, the first of which is reported first
 two_faults : (a b : Bool) (e f : Refusal) (s : State) (reply : Reply) (new : State) → earlier e (Some f) ≡ e
     → unless_refused (first (fault_if a e ++ fault_if b f)) s reply new ≡ if a then refused e s else
     (if b then refused f s else (reply, new))
@@ -29,14 +29,14 @@ two_faults true false e f s reply new k = refl
 two_faults false true e f s reply new k = refl
 two_faults false false e f s reply new k = refl
 
--- ---- what the machine does
+-- ---- the step of the reference model
 
 -- a statement without a fault
 pub free_step : (s : State) (b : Bound) → state_faults s (class_of b) ≡ [] → limit_faults s b ≡ []
     → step s b ≡ effect s b
 free_step s b own limits = λ i. unless_refused (first (limits i ++ own i)) s (effect s b).0 (effect s b).1
 
--- neither of two faults
+-- neither of two faults is present
 pub neither : (a b : Bool) (e f : Refusal) → a ≡ false → b ≡ false → fault_if a e ++ fault_if b f ≡ []
 neither a b e f k l = λ i. fault_if (k i) e ++ fault_if (l i) f
 
@@ -65,7 +65,7 @@ pub rollback_step : (s : State)
 rollback_step s = one_fault (is_none s.transaction) NotInThisTransactionState s (Done RolledBack None)
     (record s { transaction = None })
 
--- a change that asks for nothing before the horizon
+-- a change that reads nothing before the horizon
 pub alter_step : (s : State) (c : Change) → change_faults s.horizon c ≡ []
     → step s (ChangeRows c)
     ≡ if is_none s.transaction && is_clock_at_end s then refused MomentNotAllowed s else changed s c
@@ -74,6 +74,6 @@ alter_step s c within =
     within
     ∙ one_fault (is_none s.transaction && is_clock_at_end s) MomentNotAllowed s (changed s c).0 (changed s c).1
 
--- what a horizon leaves, and the horizon
+-- the history after pruning, and the new horizon
 abbrev pub pruned_to : ℤ → State → State
 pruned_to m s = record s { history = pruned m s.history; horizon = m }

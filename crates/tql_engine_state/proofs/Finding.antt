@@ -1,4 +1,4 @@
--- What a plan over what a store shows means is what the machine answers.
+-- The meaning of a plan over a store is the answer of the reference model.
 use Rattle.std.proofs.Common.{◌≡◌, ◌<◌, refl, sym, ap, subst, ◌∙◌, ℕ, zero, suc, List, [], ◌∷◌, ◌++◌, map, length}
 use Rattle.std.proofs.Common.{Option, Some, None, arith, Bool, true, false, inl, inr}
 use Rattle.std.specs.Prelude.{◌||◌, IsTrue, is_some, slice_get, All}
@@ -41,7 +41,7 @@ use Rattle.tql_engine_state.proofs.Shown.{found_rows}
 
 -- ---- a table
 
--- the table at a place
+-- the table at an index
 pub table_there : (ps : List Table) (t : ℕ) → t < length (definitions_of ps) → (p : Table) × (slice_get ps t ≡ Some p)
 table_there [] t h = absurd (omega (arith, h))
 table_there (p ∷ ps) zero h = (p, refl)
@@ -66,7 +66,7 @@ defined_as (q ∷ ps) (suc t) p e = defined_as ps t p e
 
 -- ---- references
 
--- the references of a query are those of the bound one
+-- the table references of a query are the bound ones
 joined_to : (t : Terms) (j : joined.Join) → joined_ref (join_of t j) ≡ reference_of j.reference
 joined_to t j = by_kind j.kind
   where
@@ -88,7 +88,7 @@ chains_refs t (c ∷ cs) =
     (λ i. (reference_of c.first ∷ joins_refs t c.joins.items i) ++ chains_refs t cs i)
     ∙ sym (map-append reference_of (references_in c) (flat_map references_in cs))
 
--- what is true of each reference of a query is true of each that is bound
+-- a property of all references of a query is a property of all bound ones
 pub each_reference : (x : BoundQuery) (P : Reference → Type 0)
     → ((r : Reference) → In (reference_of r) (refs (bound_query_of x)) → P r) → All P (references_of x)
 each_reference x P k =
@@ -100,7 +100,7 @@ each_reference x P k =
     members [] f = tt
     members (r ∷ rs) f = (f r (inl refl), members rs (λ q i. f q (inr i)))
 
--- each is to a table that is there
+-- each is to an existing table
 module _ (defs : List TableDef) where
   join_placed : (j : Join) → IsPlacedRef defs (ref_of j) → IsPlacedRef defs (joined_ref j)
   join_placed (Inner r on) h = h
@@ -128,7 +128,7 @@ module _ (defs : List TableDef) where
   pub placed_ref : (q : Query) → IsPlacedQuery defs q → (r : Ref) → In r (refs q) → IsPlacedRef defs r
   placed_ref q placed = chains_placed q.chains placed.references
 
--- a reference of the code to a table that is there
+-- a reference of the code to an existing table
 abbrev pub IsThere : List TableDef → Reference → Type 0
 IsThere defs r = IsPlacedRef defs (reference_of r)
 
@@ -137,7 +137,7 @@ pub references_there : (defs : List TableDef) (x : BoundQuery) → IsPlacedQuery
 references_there defs x placed =
     each_reference x (IsThere defs) (λ r i. placed_ref defs (bound_query_of x) placed (reference_of r) i)
 
--- what is true of the scan of each is true of each that a plan reads
+-- a property of the scans of all references is a property of all sources of a plan
 sources_all : (tables : List Table) (x : BoundQuery) (p : Plan) (P : Scan → Type 0)
     → sources_of p ≡ map (λ (r : Reference). source_for tables (reference_of r)) (references_of x)
     → ((r : Reference) → In (reference_of r) (refs (bound_query_of x)) → P (source_for tables (reference_of r)))
@@ -147,14 +147,14 @@ sources_all tables x p P same k =
     (All-map P (λ (r : Reference). source_for tables (reference_of r)) (references_of x)
     (each_reference x (λ r. P (source_for tables (reference_of r))) k))
 
--- ---- what is shown
+-- ---- what a store shows
 
 module _ (tables : List Table) (r : StoreModel) (s : State) (k : Shows tables r s) where
-  -- what each scan gives
+  -- the rows that each scan returns
   abbrev pub bags_of : Bags
   bags_of = bags_in r k.copies k.working
 
-  -- a reference finds what the machine's does
+  -- a reference finds the same rows as in the reference model
   bag_is : (q : Ref) → IsPlacedRef (definitions_of tables) q → IsTrue (has_table r (table_number_at tables q.table))
       → bags_of (source_for tables q) ≡ bag_of s q
   bag_is q placed there =
@@ -170,7 +170,7 @@ module _ (tables : List Table) (r : StoreModel) (s : State) (k : Shows tables r 
       ∙ ap (λ (ds : List TableDef). map (full (table_at ds q.table))
       (found q.when (table_history q.table (entries s)))) (sym k.fits.definitions)
 
-  -- so a plan means what the machine answers
+  -- so the meaning of a plan is the answer of the reference model
   pub meaning_is : (x : BoundQuery) (p : Plan) → IsPlacedQuery (definitions_of tables) (bound_query_of x)
       → ((q : Ref) → In q (refs (bound_query_of x)) → IsTrue (has_table r (table_number_at tables q.table)))
       → ((bag : Ref → List Row) (bags : Bags) → ((q : Ref) → bags (source_for tables q) ≡ bag q)
@@ -181,7 +181,7 @@ module _ (tables : List Table) (r : StoreModel) (s : State) (k : Shows tables r 
       ∙ answer_same (λ q. bags_of (source_for tables q)) (bag_of s) (bound_query_of x)
       (λ q i. bag_is q (placed_ref (definitions_of tables) (bound_query_of x) placed q i) (there q i))
 
-  -- the table of a scan has its past kept where it is asked for
+  -- the table of a scan is versioned if its past is read
   kept_there : (q : Ref) → IsPlacedRef (definitions_of tables) q
       → IsTrue (has_table r (table_number_at tables q.table))
       → IsTrue (is_now q.when || is_versioned r (table_number_at tables q.table))
@@ -208,7 +208,7 @@ module _ (tables : List Table) (r : StoreModel) (x : BoundQuery) (p : Plan)
   within_here q i =
       none_asks (λ (k : Ref). is_before r.horizon k.when) (refs (bound_query_of x)) can.within (reference_of q) i
 
-  -- can be read
+  -- each source can be read
   pub sources_readable : All (IsReadable r) (sources_of p)
   sources_readable = sources_all tables x p (IsReadable r) same (λ q i. record {
     there = can.there (reference_of q) i;
@@ -217,7 +217,7 @@ module _ (tables : List Table) (r : StoreModel) (x : BoundQuery) (p : Plan)
     within = within_here q i;
   })
 
-  -- and gives rows of its table, since of some state that the store shows they have the kinds of its columns
+  -- each source returns rows of its table, with the types of its columns
   pub sources_rows : (s : State) (k : Shows tables r s) → AreRows (bags_of tables r s k) (sources_of p)
   sources_rows s k =
       sources_all tables x p (λ (c : Scan). All (IsRow c.period c.width) (bags_of tables r s k c)) same scan_rows

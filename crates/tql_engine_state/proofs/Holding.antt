@@ -1,4 +1,4 @@
--- A step keeps keys and references in every copy.
+-- Each step keeps the keys and references of all copies.
 use Rattle.std.proofs.Common.{◌≡◌, refl, ap, subst, ◌∙◌, ℕ, zero, suc, Bool, true, false, List, [], ◌∷◌, ◌++◌}
 use Rattle.std.proofs.Common.{map, length}
 use Rattle.std.specs.Prelude.{not, remove, ℤ, Option, Some, None, if◌then◌else◌}
@@ -28,7 +28,7 @@ use Rattle.std.specs.Prelude.{int_le}
 
 -- ---- DROP TABLE
 
--- DROP TABLE without a fault drops such a table
+-- DROP TABLE without a fault drops a table that no reference names
 pub dropped : (defs : List TableDef) (st : Statement) → (bind defs st).faults ≡ [] → (t : ℕ)
     → (bind defs st).value ≡ DropTable t → IsDropped defs t
 dropped defs (DropTree n) e t q = by_place (place_of n defs) refl e q
@@ -59,7 +59,7 @@ dropped defs (OpenTree n) e t q = absurd (cc)
 dropped defs (ReadTree n s keys) e t q = absurd (cc)
 dropped defs (CloseTree n) e t q = absurd (cc)
 
--- the table at the place where a name is found has it
+-- the table at the index where a name is found has that name
 at_first : (d : TableDef) (defs : List TableDef) (t : ℕ) (n : Name) → Some zero ≡ Some t → n ≡ d.name
     → n ≡ (table_at (d ∷ defs) t).name
 at_first d defs t n k same =
@@ -89,14 +89,14 @@ name_there (d ∷ defs) t n e =
 abbrev pub EachHolds : List TableDef → List Entry → Type 0
 EachHolds defs es = AllByRecursion (λ (e : Entry). CopyHolds defs e.copy) es
 
--- what is done to every copy, for CREATE and DROP
+-- what CREATE and DROP do to every copy
 holds_in_each : (g : Copy → Copy) (defs new : List TableDef)
     → ((copy : Copy) → CopyHolds defs copy → CopyHolds new (g copy)) → (es : List Entry) → EachHolds defs es
     → EachHolds new (map (λ (e : Entry). record e { copy = g e.copy }) es)
 holds_in_each g defs new k [] h = tt
 holds_in_each g defs new k (e ∷ es) h = (k e.copy h.0, holds_in_each g defs new k es h.1)
 
--- they hold in the copies that a horizon leaves
+-- they hold in the copies that pruning leaves
 holds_pruned : (defs : List TableDef) (m : ℤ) (es : List Entry) → EachHolds defs es → EachHolds defs (pruned m es)
 holds_pruned defs m [] h = tt
 holds_pruned defs m (e ∷ es) h = (h.0, either (int_le e.moment m) (holds_pruned defs m es h.1))
@@ -110,12 +110,12 @@ pub newest_holds : (defs : List TableDef) (es : List Entry) → EachHolds defs e
 newest_holds defs [] h = holds_empty defs
 newest_holds defs (e ∷ es) h = h.0
 
--- a test whose contrary fails
+-- if the negation is false, the test is true
 not_not : (b : Bool) → not b ≡ false → b ≡ true
 not_not true e = refl
 not_not false e = cc
 
--- a change whose result no fault of keys or references refuses
+-- a change without a fault of keys or references keeps them
 changed_holds : (defs : List TableDef) (copy : Copy) → length copy ≡ length defs → constraint_faults defs copy ≡ []
     → CopyHolds defs copy
 changed_holds defs copy n e =

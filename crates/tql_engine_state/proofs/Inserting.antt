@@ -1,4 +1,4 @@
--- INSERT, from what the new rows were refused for.
+-- INSERT, given the fault for which the new rows were refused.
 use Rattle.std.proofs.Common.{◌≡◌, ℕ, [], Some, Err}
 use Rattle.std.specs.Prelude.{IsNone, ◌<ℤ◌, slice_get}
 use Rattle.tql_spec.specs.Calendar.{high}

@@ -1,4 +1,4 @@
--- The rows that a change sees, and those of them that it looks at: the others are not touched.
+-- The rows that a change sees, and those that it reads. The others are not affected.
 use Rattle.std.proofs.Common.{◌≡◌, refl, ap, sym, subst, ◌∙◌, arith, ℕ, Bool, true, false, cond, List, [], ◌∷◌, ◌++◌}
 use Rattle.std.proofs.Common.{map, filter, inl, inr, Option, Some, None}
 use Rattle.std.specs.Prelude.{ℤ, ◌≤ℤ◌, ◌<ℤ◌, ◌&&◌, IsNone, All, option_map, slice_get, if◌then◌else◌}
@@ -70,7 +70,7 @@ copy_fits_by h base defs es next (Some e) f = f.fits.working
 pub copy_fits : (h : EngineModel) (s : State) → StandsFor h s → CopyFits (definitions_of h.tables) (working_now s).copy
 copy_fits h s f = copy_fits_by h s s.definitions s.history s.next s.transaction f
 
--- the moment of a change is one of the calendar, below the highest
+-- the moment of a change is in the calendar, and before its end
 dated_by : (h : EngineModel) (base : State) (defs : List TableDef) (es : List Entry) (next : ℤ) (o : Option Entry)
     → (let s : State = record base { definitions = defs; history = es; next = next; transaction = o } in
     StandsFor h s → (IsNone h.store.working → h.next <ℤ high)
@@ -98,13 +98,13 @@ current_rows h s t p st e =
     same-sym (subst (SameBag (map (λ (v : Version). v.row) found)) (rows_of_completed (working_rows s t))
     (same-map (λ (v : Version). v.row) same))
 
--- ---- the rows that a change looks at
+-- ---- the rows that a change reads
 
--- versions of the table that were found, those whose rows are looked at
+-- the versions of a table that were found by an access path
 abbrev pub IsSeen : EngineModel → Table → Option Sought → List code.Version → Type 0
 IsSeen h p o seen = AnswersBy h.store p.id Now (is_looked_at o) (map version_of seen)
 
--- of these rows those that are looked at
+-- the rows that the access path selects
 abbrev pub looked_at : Option Sought → List Stamped → List Stamped
 looked_at o rows = filter (λ r. is_looked_at o r.cells) rows
 
@@ -126,7 +126,7 @@ looked_completed o (r ∷ rows) =
     either true vs e = ap {B = List Stamped} (λ xs. r ∷ xs) e
     either false vs e = e
 
--- the rows that were read are those of the change's that are looked at
+-- the rows that were read are the selected rows
 pub seen_rows : (h : EngineModel) (s : State) (t : ℕ) (p : Table) (o : Option Sought) (seen : List code.Version)
     → StandsFor h s → slice_get h.tables t ≡ Some p → IsSeen h p o seen
     → SameBag (dml.rows_in seen) (looked_at o (working_rows s t))
@@ -140,7 +140,7 @@ seen_rows h s t p o seen st e answers =
     (subst (SameBag (map (λ (v : Version). v.row) (map version_of seen))) (looked_completed o (working_rows s t))
     (same-map (λ (v : Version). v.row) same))
 
--- with the others they are all
+-- together with the others they are all rows
 pub all_rows : (h : EngineModel) (s : State) (t : ℕ) (p : Table) (o : Option Sought) (seen : List code.Version)
     → StandsFor h s → slice_get h.tables t ≡ Some p → IsSeen h p o seen
     → SameBag (dml.rows_in seen ++ unseen_of o (working_rows s t)) (working_rows s t)
@@ -174,7 +174,7 @@ read_fit h s t p o seen st e answers =
 
 -- ---- the others
 
--- the rows that a change sees have all columns, and their periods rise
+-- the rows that a change sees have all columns, and periods that are not empty
 working_shown : (h : EngineModel) (s : State) (t : ℕ) (p : Table) → StandsFor h s → slice_get h.tables t ≡ Some p
     → AreShown h.store p → AllByRecursion (IsShown p.definition) (working_rows s t)
 working_shown h s t p st e shown =
@@ -185,14 +185,14 @@ working_shown h s t p st e shown =
     each_shown [] k = tt
     each_shown (r ∷ rows) k = (k r (inl refl), each_shown rows (λ q m. k q (inr m)))
 
--- those that it does not look at are passed over
+-- the rows that are not selected are passed over
 pub rest_passed : (h : EngineModel) (s : State) (t : ℕ) (p : Table) (o : Option Sought) → StandsFor h s
     → slice_get h.tables t ≡ Some p → AreShown h.store p
     → AllByRecursion (IsPassedOver p.definition o) (unseen_of o (working_rows s t))
 rest_passed h s t p o st e shown =
     passed_over p.definition o (working_rows s t) (working_shown h s t p st e shown)
 
--- a current version of the table is of a row that the change sees
+-- a current version of the table has a row that the change sees
 version_seen : (h : EngineModel) (s : State) (t : ℕ) (p : Table) (i : ℕ) (v : Version) → StandsFor h s
     → slice_get h.tables t ≡ Some p → named h.store p.id i ≡ Some v → (alive v && is_current v) ≡ true
     → In v.row (working_rows s t)
@@ -204,7 +204,7 @@ version_seen h s t p i v st e at now =
           ∙ ap (λ (b : Bool). option_map (λ (x : Version). x.row) (if b then Some v else None)) now,
     ))
 
--- a current version whose row is not looked at is not touched
+-- a current version whose row is not selected is not affected
 pub version_untouched : SafeConditionsAreJudged → (h : EngineModel) (s : State) (p : Table) (x : Modification)
     (o : Option Sought) → ServesChange p.definition (portion_in x) (conds_in x) o → AreShown h.store p → StandsFor h s
     → slice_get h.tables x.table ≡ Some p → (i : ℕ) (v : Version) → named h.store p.id i ≡ Some v

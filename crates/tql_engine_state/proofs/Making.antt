@@ -1,4 +1,4 @@
--- A change of one table: its keys and references, and what it leaves, are the machine's.
+-- A change of one table: its test of keys and references, and its result, are those of the reference model.
 use Rattle.std.proofs.Common.{◌≡◌, refl, ap, sym, subst, ◌∙◌, ℕ, zero, suc, Bool, List, [], ◌∷◌, ◌++◌, length}
 use Rattle.std.proofs.Common.{filter, Option, Some, None, Result, Err, arith}
 use Rattle.std.specs.Prelude.{ℤ, ◌<ℤ◌, not, IsNone, slice_get, slice_set}
@@ -48,7 +48,7 @@ use Rattle.tql_engine_state.proofs.Holding.{newest_holds}
 use Rattle.tql_engine_state.proofs.Looking.{copy_fits, current_rows, moment_dated}
 use Rattle.tql_engine_state.proofs.Swapping.{rows_fit_same, swapped}
 
--- ---- the working copy is one of the store
+-- ---- the working copy is a copy of the store
 
 cells_wide : (d : TableDef) (rows : List Stamped) → RowsFit d rows
     → AllByRecursion (λ (x : Stamped). length x.cells ≡ stored_width d) rows
@@ -59,7 +59,7 @@ long_copy : (h : EngineModel) (s : State) → StandsFor h s → length (working_
 long_copy h s st = fits_length (definitions_of h.tables) (working_now s).copy (copy_fits h s st)
     ∙ length-map h.tables (λ (p : Table). p.definition)
 
--- so the working copy is one of the store
+-- so the working copy is a copy of the store
 pub copy_is : (h : EngineModel) (s : State) → StandsFor h s → IsCopyOf h.store h.tables (working_now s).copy
 copy_is h s st = record {
   as_many = long_copy h s st;
@@ -90,7 +90,7 @@ held_before h s st k =
     ap (λ (ds : List TableDef). constraint_faults ds (working_now s).copy) (sym st.fits.definitions)
     ∙ no_faults s.definitions (working_now s).copy (held_by s s.definitions s.history s.next s.transaction k)
 
--- ---- whichever state the engine stands for
+-- ---- for any state that the engine represents
 
 each_same : (tables : List Table) (xs ys : Copy) → length xs ≡ length tables → length ys ≡ length tables
     → ((t : ℕ) (p : Table) → slice_get tables t ≡ Some p → SameBag (rows_in xs t) (rows_in ys t)) → SameCopy xs ys
@@ -121,7 +121,7 @@ after_same : (m : ℤ) (gone : Stamped → Bool) (added : List Row) {xs ys : Lis
     → SameBag (rows_after m gone added xs) (rows_after m gone added ys)
 after_same m gone added k = same-append (same-filter (λ x. not (gone x)) k) (same-refl _)
 
--- the faults after a change of one state's copy are those of another's
+-- the faults after a change are the same for the copies of two such states
 pub faults_agree : (h : EngineModel) (own s : State) (t : ℕ) (gone : Stamped → Bool) (added : List Row)
     (rows : List Stamped) → StandsFor h own → StandsFor h s
     → SameBag rows (rows_after (working_now s).moment gone added (working_rows s t))
@@ -138,7 +138,7 @@ faults_agree h own s t gone added rows ot st bag =
     ∙ ap (λ (ds : List TableDef). constraint_faults ds (slice_set (working_now s).copy t rows))
     (sym st.fits.definitions)
 
--- what a check tells of one state's copy it tells of another's
+-- the result of a check for the copy of one state is right for that of another
 pub told_for : (h : EngineModel) (own s : State) (t : ℕ) (delta : Delta) (verb : Verb) (c : Change)
     (result : Result (Unit {0}) Refusal) → StandsFor h own → StandsFor h s → (k : Changes h t delta verb c s)
     → TellsFirst (first (constraint_faults (definitions_of h.tables) (slice_set (working_now own).copy t
@@ -148,12 +148,12 @@ told_for h own s t delta verb c result ot st k told =
     subst (λ (fs : List spec.Refusal). TellsFirst (first fs) result)
     (faults_agree h own s t k.gone (rows_of delta.added.items) k.made.rows ot st k.rows) told
 
--- ---- what the machine does
+-- ---- the step of the reference model
 
 module _ (h : EngineModel) (s : State) (t : ℕ) (p : Table) (delta : Delta) (verb : Verb) (c : Change)
     (st : StandsFor h s) (there : slice_get h.tables t ≡ Some p) (below : IsNone h.store.working → h.next <ℤ high)
     (k : Changes h t delta verb c s) where
-  -- the moment, the rows that the change sees, and those that come
+  -- the moment, the rows that the change sees, and the rows that it adds
   abbrev moment : ℤ
   moment = (working_now s).moment
 
@@ -198,7 +198,7 @@ module _ (h : EngineModel) (s : State) (t : ℕ) (p : Table) (delta : Delta) (ve
       (copy_fits h s st) (readers_after h s t k.made.rows st)
       (change_law h s t p k.gone delta.removed.items added x after st there below fit judged done)
 
-  -- made
+  -- the change is applied
   pub made_so : (x : StoreModel) (after : ℤ) → first (after_faults s t k.made.rows) ≡ None
       → AreRowsOf p.definition added → delta.table ≡ p.id
       → ChangesRows h.store.working h.next after delta.table delta.removed.items added h.store x
@@ -212,7 +212,7 @@ module _ (h : EngineModel) (s : State) (t : ℕ) (p : Table) (delta : Delta) (ve
       (with_table_rows s t k.made.rows)) none)
       (record { replies = refl; stands = left x after fit is c' })
 
--- ---- by what a check tells
+-- ---- by the result of the check
 
 module _ (h : EngineModel) (s : State) (t : ℕ) (p : Table) (delta : Delta) (verb : Verb) (c : Change)
     (st : StandsFor h s) (there : slice_get h.tables t ≡ Some p) (below : IsNone h.store.working → h.next <ℤ high)
@@ -221,7 +221,7 @@ module _ (h : EngineModel) (s : State) (t : ℕ) (p : Table) (delta : Delta) (ve
       → Does h (Refused f) (step s (ChangeRows c))
   told f e = refused_for h s t p delta verb c st there below k f e
 
-  -- the first fault, or memory
+  -- the first fault, or a refused allocation
   pub check_refuses : (e : Refusal) → TellsFirst {A = Unit {0}} (first (after_faults s t k.made.rows)) (Err e)
       → Refuses h s e (step s (ChangeRows c))
   check_refuses r.OutOfMemory q = st

@@ -1,4 +1,4 @@
--- UPDATE and DELETE, from what was made of the versions that the table has now.
+-- UPDATE and DELETE, given the result for the current versions of the table.
 use Rattle.std.proofs.Common.{◌≡◌, ◌<◌, refl, ap, sym, subst, ◌∙◌, arith, ℕ, Bool, true, false, List, [], ◌∷◌, ◌++◌}
 use Rattle.std.proofs.Common.{map, length, Option, Some, None, Ok, Err}
 use Rattle.std.specs.Prelude.{ℤ, ◌<ℤ◌, ◌&&◌, IsNone, slice_get, Result}
@@ -51,9 +51,9 @@ use Rattle.tql_engine_state.proofs.Looking.{IsSeen, all_rows, rest_passed, versi
 use Rattle.tql_engine_state.proofs.Standing.{definition_law}
 use Rattle.tql_engine_state.proofs.Doing.{by_step, refuses, change_step}
 
--- ---- what the machine does
+-- ---- the step of the reference model
 
--- the same new rows come
+-- the same rows are added
 same_coming : (o q : Option (List Fate)) → SameNews o q → coming o ≡ coming q
 same_coming None None h = refl
 same_coming None (Some gs) h = absurd h
@@ -76,15 +76,15 @@ module _ (law : SafeConditionsAreJudged) (no_order : ChangesKeepNoOrder) (by_par
   abbrev outcome : Outcome
   outcome = modify p.definition moment rows (portion_in x) work (conds_in x)
 
-  -- it is the machine's
+  -- the outcome is that of the reference model
   modify_made : machine_outcome s moment (working_now s).copy (modification_of x) ≡ outcome
   modify_made = ap {B = Outcome} (λ d. modify d moment rows (portion_in x) work (conds_in x))
       (definition_law h s x.table p st there)
 
-  -- what it makes of the versions that were looked at
+  -- the outcome for the versions that were read
   module _ (o : Option Sought) (serves : ServesChange p.definition (portion_in x) (conds_in x) o)
       (are_shown : AreShown h.store p) (seen : List code.Version) (answers : IsSeen h p o seen) where
-    -- their rows, and those that were not
+    -- their rows, and those that were not read
     abbrev all : List Stamped
     all = dml.rows_in seen ++ unseen_of o rows
 
@@ -122,7 +122,7 @@ module _ (law : SafeConditionsAreJudged) (no_order : ChangesKeepNoOrder) (by_par
         (modify_early p.definition moment rows (portion_in x) work (conds_in x)) (sym fault_is ∙ k moment))
         (refuses h s f st)
 
-    -- where there is none, what is computed is the machine's change
+    -- without a fault, the computed change is that of the reference model
     pub modify_makes : (delta : Delta) (verb : Verb)
         → verb_of_work work ≡ plain_verb verb
         → Judged h.store delta.table (touches p.definition (portion_in x) (conds_in x)) delta.removed.items
@@ -146,13 +146,13 @@ module _ (law : SafeConditionsAreJudged) (no_order : ChangesKeepNoOrder) (by_par
       word = word;
     }
 
-  -- refused for a fault of those that were looked at
+  -- refused for a fault of a row that was read
   modify_told : {result : Result Delta Refusal} (k : Made h.store p x result) (f : spec.Refusal)
       → ((m : ℤ) → first (modified p.definition k.seen x m).faults ≡ Some f)
       → Does h (Refused f) (step s (ChangeRows (modification_of x)))
   modify_told k f e = modify_refused k.sought k.serves k.shown k.seen k.found.copies f e
 
-  -- whatever it was refused for
+  -- whatever the reason for the refusal
   pub modify_errs : (e : Refusal) → Makes h.store p x (Err e) → Refuses h s e (step s (ChangeRows (modification_of x)))
   modify_errs r.OutOfMemory k = st
   modify_errs r.StatementTooLong k = modify_told k (refusal_of r.StatementTooLong) k.alters
@@ -188,13 +188,13 @@ makes_of h p x (Ok delta) k = k
 makes_of h p x (Err r.OutOfMemory) k = tt
 makes_of h p x (Err _) k = k
 
--- the table at a place that is there
+-- the table at an index within the list
 pub table_there : (ps : List Table) (t : ℕ) → t < length ps → (p : Table) × (slice_get ps t ≡ Some p)
 table_there [] t l = absurd (omega (arith, l))
 table_there (q ∷ ps) ℕ.zero l = (q, refl)
 table_there (q ∷ ps) (ℕ.suc t) l = table_there ps t (omega (arith, l))
 
--- the ids of the versions that go are of current ones
+-- the ids of the removed versions are ids of current ones
 pub gone_removable : (h : StoreModel) (p : Table) (x : Modification) (delta : Delta) → Made h p x (Ok delta)
     → AreRemovable h p.id delta.removed.items
 gone_removable h p x delta k =
@@ -204,7 +204,7 @@ gone_removable h p x delta k =
     (λ (v : code.Version). touches p.definition (portion_in x) (conds_in x) (version_of v).row)
     k.seen k.found.ids k.found.once)
 
--- and these are all whose rows are touched, since a version whose row is not looked at is not
+-- they are all affected versions, since a version that is not selected is not affected
 pub gone_judged : SafeConditionsAreJudged → (h : EngineModel) (s : State) (p : Table) (x : Modification) (delta : Delta)
     → StandsFor h s → slice_get h.tables x.table ≡ Some p → Made h.store p x (Ok delta)
     → Judged h.store p.id (touches p.definition (portion_in x) (conds_in x)) delta.removed.items

@@ -15,7 +15,7 @@ use Rattle.tql_engine_state.proofs.Standing.{under_law}
 moment_fits : (m : ℤ) → first_moment ≤ℤ m → m ≤ℤ high → FitsSigned w64 m
 moment_fits m low up = grind (arith, ints, low, up)
 
--- the clock is read as it is
+-- the clock is read without loss
 pub clock_reads : (h : EngineModel) (s : State) → StandsFor h s → to_z w64 (of_z w64 h.next) ≡ h.next
 clock_reads h s st = to_z-of_z
     (subst (λ m. FitsSigned w64 m) (sym st.clock) (moment_fits s.next st.not_before st.not_after))
@@ -28,11 +28,11 @@ clock_steps h s st below =
     ∙ to_z-of_z (let e = st.clock in let low = st.not_before in let low2 : first_moment ≤ℤ h.next = subst
     (λ m. first_moment ≤ℤ m) (sym e) low in moment_fits (h.next +ℤ pos 1) (omega (arith, ints)) (omega (arith, ints)))
 
--- it is past the last commit
+-- it is after the last commit
 pub clock_under : (h : EngineModel) (s : State) → StandsFor h s → Under h.store.last (to_z w64 (of_z w64 h.next))
 clock_under h s st = subst (λ m. Under h.store.last m) (sym (clock_reads h s st ∙ st.clock)) (under_law h s st)
 
--- where the clock is not at its end, it is before it
+-- if the clock is not at its end, it is before the end
 pub clock_left : (h : EngineModel) (s : State) → StandsFor h s → int_le high (to_z w64 (of_z w64 h.next)) ≡ false
     → h.next <ℤ high
 clock_left h s st e = before (h.next) (ap (int_le high) (sym (clock_reads h s st)) ∙ e)
@@ -40,7 +40,7 @@ clock_left h s st e = before (h.next) (ap (int_le high) (sym (clock_reads h s st
     before : (n : ℤ) → int_le high n ≡ false → n <ℤ high
     before n e = grind (arith, ints, e)
 
--- so does the clock after a change
+-- the same for the clock after a change
 after_within : (w : Option ℤ) (n after : ℤ) (t : ℕ) (removed : List ℕ) (rows : List Row) (old new : StoreModel)
     → first_moment ≤ℤ n → n ≤ℤ high → (IsNone w → n <ℤ high)
     → ChangesRows w n after t removed rows old new → (first_moment ≤ℤ after) × (after ≤ℤ high)

@@ -1,4 +1,4 @@
--- Every reply to a bound statement has a text.
+-- Every reply to a bound statement can be printed.
 use Rattle.std.proofs.Common.{◌≡◌, ◌<◌, ℕ, sym, subst, arith, Bool, true, false, List, [], ◌++◌, length, Option}
 use Rattle.std.proofs.Common.{Some, None, Result, Ok, Err, refl}
 use Rattle.std.specs.Prelude.{All, IfOk, nat_lt, slice_set, string_bytes, if◌then◌else◌}
@@ -43,7 +43,7 @@ use Rattle.tql_spec.specs.Machine.{bag_in, limit_faults}
 use Rattle.tql_spec.specs.Readers.{pinned_of}
 use Rattle.tql_spec.proofs.Horizons.{answer_same}
 
--- the reply of a step has a text
+-- the reply of a step can be printed
 abbrev Prints : machine.Reply × State → Type 0
 Prints r = IsPrintableReply r.0
 
@@ -66,7 +66,7 @@ altered_prints s c =
 
 -- ---- what a query answers
 
--- what each reference finds, and nothing where no table is
+-- the rows that each reference finds; none if there is no table
 abbrev bag_there : State → ℕ → Ref → List Row
 bag_there s n r = if nat_lt r.table n then bag_of s r else []
 
@@ -93,7 +93,7 @@ same_there tables s r placed =
     is_below : (n m : ℕ) → n < m → nat_lt n m ≡ true
     is_below n m h = grind (arith, nat_tests)
 
--- its rows have texts
+-- its rows can be printed
 pub answer_prints : (tables : List Table) (s : State) (x : BoundQuery) → FitsTables tables s
     → IsPlacedQuery (definitions_of tables) (bound_query_of x) → RowsPrint (answer (bag_of s) (bound_query_of x))
 answer_prints tables s x f placed =
@@ -102,7 +102,7 @@ answer_prints tables s x f placed =
     (answers_print (bag_there s (length (definitions_of tables))) (bound_query_of x) (there_prints tables s f)
     (items_literals x.terms x.items.items))
 
--- so have they in any order
+-- in any order
 pub rows_print : (keys : List OrderKey) (o : Option (List Row)) (rows : List Row) → RowsPrint o
     → ordered keys o ≡ Some rows → ArePrintable rows
 rows_print keys None rows k e = absurd (cc)
@@ -111,12 +111,12 @@ rows_print keys (Some bag) rows k e = subst ArePrintable (inside (in_order keys 
     inside : (xs ys : List Row) → Some xs ≡ Some ys → xs ≡ ys
     inside xs ys e = cc
 
--- what a query answers has one
+-- the reply to a query can be printed
 asked_prints : (s : State) (q : Query) (o : Option (List Row)) → RowsPrint o → Prints (asked s q o)
 asked_prints s q None k = tt
 asked_prints s q (Some rows) k = ordered_prints q.ordering rows k
 
--- the machine's reply has one
+-- the reply of the reference model can be printed
 step_prints : (h : EngineModel) (s : State) → StandsFor h s → (x : Bound) → IsSound (definitions_of h.tables) x
     → IsAllowed h x → Prints (step s (bound_of x))
 step_prints h s st (b.CreateTable d) k a = by_effect s (bound_of (b.CreateTable d)) tt
@@ -144,7 +144,7 @@ step_prints h s st b.Start k a = by_effect s machine.Start tt
 step_prints h s st b.Commit k a = by_effect s machine.Commit tt
 step_prints h s st b.Rollback k a = by_effect s machine.Rollback tt
 
--- so has the engine's
+-- and so can the reply of the engine
 pub does_print : (old new : EngineModel) (s : State) → StandsFor old s → (x : Bound)
     → IsSound (definitions_of old.tables) x → IsAllowed old x
     → (result : Result Reply Refusal)

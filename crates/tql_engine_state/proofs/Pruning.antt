@@ -1,4 +1,4 @@
--- PRUNE HISTORY keeps an engine that stands for a state.
+-- After PRUNE HISTORY, an engine still represents a state.
 use Rattle.std.proofs.Common.{◌≡◌, ◌∙◌, Bool, true, false, List, [], ◌∷◌, ap, refl, sym, subst, ℕ}
 use Rattle.std.specs.Prelude.{ℤ, ◌≤ℤ◌, int_le, if◌then◌else◌, IsNone, Option}
 use Rattle.tql_spec.specs.History.{Entry, TableEntry}
@@ -19,7 +19,7 @@ use Rattle.tql_engine_state.proofs.Copies.{same_copies, same_places}
 use Rattle.tql_engine_state.proofs.Faults.{pruned_to}
 use Rattle.tql_engine_state.proofs.ReadersKeep.{readers_pruned}
 
--- the copies that a horizon leaves, as the store numbers its tables
+-- the copies that pruning leaves, by table id
 copies_pruned : (tables : List Table) (m : ℤ) (es : List Entry) (id : ℕ)
     → forgotten m (copies_of tables es id) ≡ copies_of tables (pruned m es) id
 copies_pruned tables m [] id = refl
@@ -32,7 +32,7 @@ copies_pruned tables m (e ∷ es) id =
     either true k = refl
     either false k = k
 
--- their rows fit
+-- their rows fit the tables
 fits_pruned : (ds : List TableDef) (m : ℤ) (es : List Entry) → HistoryFits ds es → HistoryFits ds (pruned m es)
 fits_pruned ds m [] f = tt
 fits_pruned ds m (e ∷ es) f = (f.0, either (int_le e.moment m) (fits_pruned ds m es f.1))
@@ -41,7 +41,7 @@ fits_pruned ds m (e ∷ es) f = (f.0, either (int_le e.moment m) (fits_pruned ds
     either true k = tt
     either false k = k
 
--- none is older than the first moment
+-- none of them is older than the first moment
 since_pruned : (n m : ℤ) (es : List Entry) → AreSince n es → AreSince n (pruned m es)
 since_pruned n m [] f = tt
 since_pruned n m (e ∷ es) f = (f.0, either (int_le e.moment m) (since_pruned n m es f.1))

@@ -1,4 +1,4 @@
--- INSERT from a query, from what was made of the rows that it answers.
+-- INSERT from a query, given the result for the rows of the query.
 use Rattle.std.proofs.Common.{◌≡◌, refl, ap, sym, subst, ◌∙◌, ℕ, List, [], ◌++◌, Option, Some, None, Ok, Err}
 use Rattle.std.proofs.Common.{inl, inr, false}
 use Rattle.std.specs.Prelude.{ℤ, ◌<ℤ◌, ◌⊎◌, All, IfOk, IsNone, slice_get, Result}
@@ -43,12 +43,12 @@ use Rattle.tql_engine_state.proofs.Faults.{refused}
 use Rattle.tql_engine_state.proofs.Standing.{definition_law}
 use Rattle.tql_spec.specs.Machine.{query_faults}
 
--- ---- what is made of the rows
+-- ---- the result for the rows
 
 ordered_same : (keys : List OrderKey) (rows : List Row) → SameBag (in_order keys rows) rows
 ordered_same keys rows = record { totals = λ w. ordered_bag keys w rows }
 
--- the rows in order are those of the answer
+-- the ordered rows are those of the answer
 bag_behind : (keys : List OrderKey) (o : Option (List Row)) (rows : List Row) → ordered keys o ≡ Some rows
     → (bag : List Row) × (o ≡ Some bag) × SameBag rows bag
 bag_behind keys None rows e = absurd (cc)
@@ -62,7 +62,7 @@ none_behind : (keys : List OrderKey) (o : Option (List Row)) → ordered keys o 
 none_behind keys None e = refl
 none_behind keys (Some bag) e = absurd (cc)
 
--- no rows
+-- the query has no answer
 pub not_answered : (s : State) (p : Table) (x : QueryInsertion) (e : Refusal)
     → Fails (ordered (bound_query_of x.query).ordering (answer (bag_of s) (bound_query_of x.query))) e
     → Adds s p x (Err e)
@@ -77,7 +77,7 @@ by_result s p x (Ok delta) a fits = (a, fits)
 by_result s p x (Err r.OutOfMemory) a fits = tt
 by_result s p x (Err _) a fits = inr a
 
--- what is made of those that there are
+-- the result for the rows of the answer
 pub adds_of : (s : State) (p : Table) (x : QueryInsertion) (rows : List Row) (result : Result Delta Refusal)
     → ordered (bound_query_of x.query).ordering (answer (bag_of s) (bound_query_of x.query)) ≡ Some rows
     → Alters p.id [] (λ m. (added_rows p.definition x.columns.items (Some rows) m).rows)
@@ -87,13 +87,13 @@ adds_of s p x rows result e alters fits =
     let k = bag_behind (bound_query_of x.query).ordering (answer (bag_of s) (bound_query_of x.query)) rows e in
     by_result s p x result (record { bag = k.0; answered = k.1; rows = rows; same = k.2; alters = alters }) fits
 
--- ---- what the machine does
+-- ---- the step of the reference model
 
 module _ (no_order : InsertsKeepNoOrder) (h : EngineModel) (s : State) (p : Table) (x : QueryInsertion)
     (st : StandsFor h s)
     (there : slice_get h.tables x.table ≡ Some p) (below : IsNone h.store.working → h.next <ℤ high)
     (within : query_faults s.horizon (bound_query_of x.query) ≡ []) where
-  -- the moment, the rows that are there, and the columns that are filled
+  -- the moment, the rows of the table, and the columns that are filled
   abbrev moment : ℤ
   moment = (working_now s).moment
 
@@ -103,15 +103,15 @@ module _ (no_order : InsertsKeepNoOrder) (h : EngineModel) (s : State) (p : Tabl
   abbrev columns : List ℕ
   columns = x.columns.items
 
-  -- what the query answers
+  -- the answer to the query
   abbrev answers : Option (List Row)
   answers = answer (bag_of s) (bound_query_of x.query)
 
-  -- what the machine makes of any answer
+  -- the outcome of the reference model for any answer
   abbrev pub outcome_of : Option (List Row) → Outcome
   outcome_of o = insert p.definition moment rows columns o
 
-  -- it is the machine's
+  -- it is the outcome of the statement
   insert_made : (o : Option (List Row)) → answers ≡ o
       → outcome s moment (working_now s).copy (query_insertion_of x) ≡ outcome_of o
   insert_made o e =
@@ -126,7 +126,7 @@ module _ (no_order : InsertsKeepNoOrder) (h : EngineModel) (s : State) (p : Tabl
       ∙ altered_refused s (query_insertion_of x) (outcome_of o) f (insert_made o e)
       (insert_early p.definition moment rows columns o) k) (refuses h s f st)
 
-  -- refused, where the query is out of range
+  -- refused, since the query is out of range
   out_of_range : answers ≡ None → Does h (Refused ValueOutOfRange) (step s (ChangeRows (query_insertion_of x)))
   out_of_range e = refused_as None e ValueOutOfRange refl
 
@@ -142,7 +142,7 @@ module _ (no_order : InsertsKeepNoOrder) (h : EngineModel) (s : State) (p : Tabl
         refused_as (Some bag) answered f
         (sym same_made.fault ∙ ap first (insert_faults p.definition moment rows columns (Some got)) ∙ k moment)
 
-    -- where there is none, what is computed is the machine's change
+    -- without a fault, the computed change is that of the reference model
     pub query_makes : (delta : Delta)
         → Gives p.id [] (λ m. (added_rows p.definition columns (Some got) m).rows)
         (added_rows p.definition columns (Some got)) delta
@@ -168,7 +168,7 @@ module _ (no_order : InsertsKeepNoOrder) (h : EngineModel) (s : State) (p : Tabl
           word = refl;
         }
 
-  -- ---- whatever it was refused for
+  -- ---- whatever the reason for the refusal
 
   either : (f : spec.Refusal) (e : Refusal) → refusal_of e ≡ f
       → ((e ≡ r.ValueOutOfRange) × (answers ≡ None)) ⊎ Added s p x (Err e)

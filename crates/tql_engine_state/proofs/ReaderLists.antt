@@ -1,4 +1,4 @@
--- What is asked of a list of readers, of those of the code.
+-- Lists of readers, in the code and in the model of an engine.
 use Rattle.std.proofs.Common.{◌≡◌, refl, ap, ◌∙◌, Bool, true, false, cond, List, [], ◌∷◌, map, filter}
 use Rattle.std.proofs.Common.{Option, Some, None}
 use Rattle.std.specs.Prelude.{ℤ, ◌||◌, not, if◌then◌else◌, string_bytes}
@@ -8,14 +8,14 @@ use Rattle.tql_spec.specs.Words.{same_text}
 use Rattle.tql_bound.specs.declared.reader.Reader.{Reader}
 use Rattle.tql_engine_state.specs.Readers.{KeptReader, is_passed, pin_of, reader_of}
 
--- whether a horizon passes one
+-- whether a horizon passes one of them
 pub passed_kept : (m : ℤ) (rs : List Reader)
     → list_any (λ (r : Reader). is_passed m r.pin) rs
     ≡ list_any (λ (k : KeptReader). is_passed m k.pin) (map reader_of rs)
 passed_kept m [] = refl
 passed_kept m (r ∷ rs) = ap (λ b. is_passed m r.pin || b) (passed_kept m rs)
 
--- without those of a name
+-- the readers without those of a name
 pub others_kept : (n : Name) (rs : List Reader)
     → map reader_of (filter (λ (r : Reader). not (same_text n (string_bytes r.name))) rs)
     ≡ filter (λ (k : KeptReader). not (same_text n k.name)) (map reader_of rs)
@@ -27,7 +27,7 @@ others_kept n (r ∷ rs) = either (not (same_text n (string_bytes r.name))) _ _ 
     either true xs ys e = ap {B = List KeptReader} (λ zs. reader_of r ∷ zs) e
     either false xs ys e = e
 
--- the pin of the first that is found
+-- the pin of the reader that is found first
 abbrev pub pin_in : Option Reader → Option ℤ
 pin_in None = None
 pin_in (Some r) = r.pin

@@ -1,4 +1,4 @@
--- Each step keeps the readers: what they set aside the history answers still.
+-- Each step keeps the readers: the history still answers what they set aside.
 use Rattle.std.proofs.Common.{◌≡◌, refl, sym, ap, subst, ◌∙◌, ℕ, Bool, true, false, cond, List, [], ◌∷◌, ◌++◌, map}
 use Rattle.std.proofs.Common.{filter, Option, Some, None, inl, inr, arith}
 use Rattle.std.specs.Prelude.{ℤ, ◌≤ℤ◌, ◌<ℤ◌, ◌⊎◌, ◌||◌, not, int_le, int_lt, if◌then◌else◌}
@@ -19,9 +19,9 @@ use Rattle.tql_spec.proofs.MemberLists.{in_either, in_kept}
 use Rattle.tql_spec.proofs.Members.{le_tells}
 use Rattle.tql_engine_state.specs.Readers.{KeptReader, AreReaders, told, pin_of, is_passed}
 
--- ---- where the history and the horizon stay
+-- ---- if the history and the horizon stay
 
--- a copy of these has the moment
+-- some copy has the moment
 abbrev pub HasMoment : List Entry → ℤ → Type 0
 HasMoment es p = (e : Entry) × In e es × (e.moment ≡ p)
 
@@ -41,7 +41,7 @@ readers_stay kept s t rs es n k = record {
   read = λ r i. reads_stay s t r es n (k.read r (subst (λ (xs : List Reader). In r xs) rs i));
 }
 
--- where no reader is open nothing is to be kept
+-- without open readers, there is nothing to keep
 pub readers_none : (kept : List KeptReader) (s t : State) → kept ≡ [] → t.readers ≡ s.readers → AreReaders kept s
     → AreReaders kept t
 readers_none kept s t none rs k = record {
@@ -53,7 +53,7 @@ readers_none kept s t none rs k = record {
     nobody [] e r i = absurd i
     nobody (x ∷ xs) e r i = absurd (cc)
 
--- ---- one commit more
+-- ---- one more commit
 
 below_all : (until : ℤ) (es : List Entry) → FallingFrom until es → (e : Entry) → In e es → e.moment <ℤ until
 below_all until [] f e i = absurd i
@@ -89,7 +89,7 @@ readers_more kept s t e rs es n f k = record {
 
 -- ---- pruning
 
--- a horizon that a pin is not before leaves the same of the copies up to it
+-- pruning up to a horizon that is not after a pin keeps the copies up to the pin
 cut : (m p : ℤ) → m ≤ℤ p → (es : List Entry) → not_after p (pruned m es) ≡ pruned m (not_after p es)
 cut m p l [] = refl
 cut m p l (e ∷ es) = either (le_tells e.moment p) (cut m p l es)
@@ -106,7 +106,7 @@ cut m p l (e ∷ es) = either (le_tells e.moment p) (cut m p l es)
         (later e.moment m (let a = k.1 in omega (arith, ints)))
         ∙ g ∙ ap (λ b. pruned m (if b then e ∷ es else not_after p es)) (sym k.0)
 
--- and leaves the copy of the pin
+-- it keeps the copy at the pin
 stays : (m p : ℤ) → m ≤ℤ p → (n : ℤ) (es : List Entry) → FallingFrom n es → (x : Entry) → In x es → x.moment ≡ p
     → In x (pruned m es)
 stays m p l n [] f x i e = absurd i
@@ -130,14 +130,14 @@ falls_until (Some p) n (e ∷ es) f = either (int_le e.moment p) (falls_until (S
     either true g = f
     either false g = let a = f.0 in falls_lower e.moment n (not_after p es) (omega (arith, ints)) g
 
--- a question that does not ask before a horizon does not ask before an earlier one
+-- a query that reads nothing before a horizon reads nothing before an earlier one
 earlier : (g h : ℤ) → g ≤ℤ h → (w : When) → is_before h w ≡ false → is_before g w ≡ false
 earlier g h l Now e = refl
 earlier g h l (AsOf m) e = grind (arith, ints)
 earlier g h l (FromTo a b) e = grind (arith, ints)
 earlier g h l (Between a b) e = grind (arith, ints)
 
--- whether a horizon passes what was set aside is told by the pin
+-- the pin decides whether a horizon passes a reader
 passed_by : (m : ℤ) (es : List Entry) → passes m es ≡ is_passed m (pin es)
 passed_by m [] = refl
 passed_by m (e ∷ es) = refl
@@ -199,7 +199,7 @@ module _ (s : State) (m : ℤ) (back : s.horizon ≤ℤ m) (until : ℤ) (top : 
 
 -- ---- opening and closing
 
--- the copies up to the newest are all of them
+-- the copies up to the newest one are all copies
 until_newest : (es : List Entry) → until_pin (pin es) es ≡ es
 until_newest [] = refl
 until_newest (e ∷ es) = ap (λ b. if b then e ∷ es else not_after e.moment es) (itself e.moment)
@@ -254,9 +254,9 @@ readers_closed kept s n k = record {
       (k.read r (in_kept (λ (x : Reader). not (same_text n x.name)) r s.readers i).0);
 }
 
--- ---- by their names
+-- ---- readers by name
 
--- a reader that is open is found by its name
+-- an open reader is found by its name
 pub the_reader : (n : Name) (rs : List Reader) → is_live n rs ≡ true
     → (r : Reader) × In r rs × (pinned_of n rs ≡ r.pinned)
 the_reader n [] e = absurd (cc)
@@ -277,12 +277,12 @@ pin_named n (r ∷ rs) = either (same_text n r.name) (pin_named n rs)
     either true e = refl
     either false e = e
 
--- the names are those of the machine's
+-- the names are those of the model's readers
 pub names_told : (rs : List Reader) → map (λ (k : KeptReader). k.name) (map told rs) ≡ map (λ (r : Reader). r.name) rs
 names_told [] = refl
 names_told (r ∷ rs) = ap {B = List Name} (λ ns. r.name ∷ ns) (names_told rs)
 
--- none is open where none is kept
+-- if the model has no open reader, the engine keeps none
 pub none_open : (rs : List Reader) → is_any_open rs ≡ false → map told rs ≡ []
 none_open [] e = refl
 none_open (r ∷ rs) e = absurd (cc)

@@ -1,4 +1,4 @@
--- What a store shows at the pin of a reader: what the reader set aside, as the history answers it.
+-- What a store shows at the pin of a reader: the copies that the reader set aside, answered from the history.
 use Rattle.std.proofs.Common.{◌≡◌, refl, sym, ap, subst, ◌∙◌, ℕ, zero, suc, Bool, true, false, List, [], ◌∷◌, ◌++◌, map}
 use Rattle.std.proofs.Common.{Option, Some, None, inr}
 use Rattle.std.specs.Prelude.{ℤ, ◌||◌, not, int_le, is_none, is_some, if◌then◌else◌, IsTrue}
@@ -41,7 +41,7 @@ use Rattle.tql_engine_state.proofs.StateFaults.{names_same}
 
 -- ---- the state at a pin
 
--- the state as it was when the commit of a moment was the last one
+-- the state as it was when the commit at the pin was the last one
 abbrev pub at_pin : Option ℤ → State → State
 at_pin o s = record s { history = until_pin o s.history; transaction = None }
 
@@ -73,7 +73,7 @@ in_until (Some p) (x ∷ es) e i = either (int_le x.moment p) (in_until (Some p)
     either true k j = j
     either false k j = inr (k j)
 
--- and have values of their columns' kinds
+-- its values have the types of their columns
 typed_pinned : (s : State) (o : Option ℤ) → IsTypedState s → IsTypedState (at_pin o s)
 typed_pinned s o t = record {
   definitions = t.definitions;
@@ -92,7 +92,7 @@ slot_is [] t = refl
 slot_is (x ∷ slots) zero = refl
 slot_is (x ∷ slots) (suc t) = slot_is slots t
 
--- it shows the tables that are versioned
+-- it shows the versioned tables
 kept_is : (x : TableSlot) → is_kept (slot_pinned x) ≡ is_kept x
 kept_is Free = refl
 kept_is Versioned = refl
@@ -109,7 +109,7 @@ versioned_is o r t = ap is_kept (slot_is r.tables t) ∙ kept_is (slot_at r.tabl
 there_is : (o : Option ℤ) (r : StoreModel) (t : ℕ) → has_table (pinned o r) t ≡ is_versioned r t
 there_is o r t = ap is_taken (slot_is r.tables t) ∙ taken_is (slot_at r.tables t)
 
--- the copies up to a pin, as the store numbers its tables
+-- the copies up to a pin, by table id
 until_copies : (tables : List Table) (o : Option ℤ) (es : List Entry) (id : ℕ)
     → store.until_pin o (copies_of tables es id) ≡ copies_of tables (until_pin o es) id
 until_copies tables None es id = refl
@@ -129,7 +129,7 @@ is_pin tables None es k t = tt
 is_pin tables (Some p) es k t =
     let x = k p refl in (_, in_map _ x.0 es x.1, x.2)
 
--- so the store stands for the state at the pin
+-- so the store represents the state at the pin
 shows_pinned : (h : EngineModel) (s : State) → StandsFor h s → (o : Option ℤ)
     → ((p : ℤ) → o ≡ Some p → HasMoment s.history p) → PinCopies o h.store (pinned o h.store)
     → Shows h.tables (pinned o h.store) (at_pin o s)
@@ -148,7 +148,7 @@ shows_pinned h s f o there pins = record {
   versioned = λ t p e taken. versioned_is o h.store p.id ∙ versioned_law h s t p f e;
 }
 
--- ---- what is asked now
+-- ---- what is read now
 
 pub can_now : (h : EngineModel) (s : State) (q : Query) → StandsFor h s → IsTypedState s
     → IsPlacedQuery (definitions_of h.tables) q → AsksWithin h q → CanAnswer h.tables h.store q
@@ -165,7 +165,7 @@ can_now h s q f typed placed within = record {
 
 -- ---- READ
 
--- what a READ without a fault by the limits asks
+-- what a READ without a fault of the limits satisfies
 record IsUsable (l : Limits) (defs : List TableDef) (n : Name) (q : Query) : Type 0 where
   live : is_named n l.names ≡ true
   versioned : reads_plain defs q ≡ false
@@ -200,7 +200,7 @@ module _ (h : EngineModel) (s : State) (f : StandsFor h s) (n : Name) (q : Query
   pin_is : o ≡ pin found.0.pinned
   pin_is = named ∙ ap (pin_of n) f.readers.same ∙ pin_named n s.readers ∙ ap pin found.2
 
-  -- at its pin a query is answered as over what it set aside
+  -- at the reader's pin, a query has the same answer as over the copies that the reader set aside
   pub read_is : answer (bag_of (at_pin o s)) q ≡ answer (bag_in s.definitions (pinned_of n s.readers)) q
   read_is = answer_same (bag_of (at_pin o s)) (bag_in s.definitions (pinned_of n s.readers)) q (λ k i.
       ap (λ (x : Option ℤ). bag_in s.definitions (until_pin x s.history) k) pin_is
@@ -211,7 +211,7 @@ module _ (h : EngineModel) (s : State) (f : StandsFor h s) (n : Name) (q : Query
       ∙ ap (λ (es : List Entry). bag_in s.definitions es k) (sym found.2))
 
   module _ (r : StoreModel) (shown : r ≡ pinned o h.store) (pins : PinCopies o h.store r) where
-    -- the store at the pin shows that
+    -- the store at the pin shows these copies
     pub shows_read : Shows h.tables r (at_pin o s)
     shows_read =
         subst (λ (x : StoreModel). Shows h.tables x (at_pin o s)) (sym shown)

@@ -104,7 +104,7 @@ rows_bag (x ∷ xs) (y ∷ ys) h (suc t) = rows_bag xs ys h.1 t
 rows_bag [] (y ∷ ys) h t = absurd h
 rows_bag (x ∷ xs) [] h t = absurd h
 
--- with other rows of one table
+-- with other rows in one table
 pub set_bag : (xs ys : Copy) (t : ℕ) (us vs : List Stamped) → SameCopy xs ys → SameBag us vs
     → SameCopy (slice_set xs t us) (slice_set ys t vs)
 set_bag [] [] t us vs h k = tt

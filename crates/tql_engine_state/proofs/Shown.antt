@@ -1,4 +1,5 @@
--- What is found of a table are rows with all its columns, whose application period rises between points of one kind.
+-- The rows that are found in a table have all its columns. Their application period goes from one point to a later one
+-- of the same type.
 use Rattle.std.proofs.Common.{◌≡◌, refl, sym, ap, subst, ◌∙◌, ℕ, ◌+◌, Bool, true, false, List, [], ◌∷◌, map, filter}
 use Rattle.std.proofs.Common.{length, Option, Some, None, inl, inr}
 use Rattle.std.specs.Prelude.{ℤ, ◌||◌, All, IsTrue, option_map, slice_get}
@@ -47,7 +48,7 @@ use Rattle.tql_engine_state.proofs.Typed.{working_typed}
 -- ---- one row
 
 module _ (d : TableDef) (typed : IsTypedDefinition d) (row : Row) (kinds : AreOfKinds (kinds_of d) row) where
-  -- in the columns of its application period
+  -- the columns of its application period hold points of one type
   points_in : (a : Application) → d.application ≡ Some a → ArePoints row a.start a.end
   points_in a e =
       let ends = (typed.application a e).kinds in
@@ -77,7 +78,7 @@ module _ (d : TableDef) (typed : IsTypedDefinition d) (row : Row) (kinds : AreOf
 
 -- ---- what a change sees
 
--- each current row of the store is of its table
+-- each current row of the store is a row of its table
 pub current_shown : (h : EngineModel) (s : State) (t : ℕ) (p : Table) → StandsFor h s → IsTypedState s
     → slice_get h.tables t ≡ Some p → AreShown h.store p
 current_shown h s t p st typed e r m =
@@ -92,7 +93,7 @@ current_shown h s t p st typed e r m =
 
 -- ---- what a query finds
 
--- versions of a member
+-- each member of a list of fitting versions fits
 version_of_members : (d : TableDef) (vs : List Version) → VersionsFit d vs → (v : Version) → In v vs → VersionFits d v
 version_of_members d [] f v m = absurd m
 version_of_members d (w ∷ vs) f v (inl e) = subst (VersionFits d) (sym e) f.0
@@ -110,7 +111,7 @@ module _ (tables : List Table) (r : StoreModel) (s s' : State) (k : Shows tables
   abbrev d : TableDef
   d = p.definition
 
-  -- the same versions, whichever state the store shows
+  -- the versions are the same for any state that the store shows
   answered : Answers r p.id (when_of w) (filter (asked w) (live r p.id))
   answered = answers-found r p.id w (filter (asked w) (live r p.id)) kept (same-refl _)
 
@@ -124,7 +125,7 @@ module _ (tables : List Table) (r : StoreModel) (s s' : State) (k : Shows tables
       (map (λ (v : Version). v.row) (versions_found s' t (when_of w)))
   same_rows = same-map (λ (v : Version). v.row) (same-trans (same-sym (found_for s k)) (found_for s' k'))
 
-  -- their values are of their columns' kinds
+  -- their values have the types of their columns
   other_kinds : (v : Version) → In v (versions_found s' t (when_of w)) → AreOfKinds (kinds_of d) (full d v)
   other_kinds v m =
       let q : Ref = record { table = t; when = when_of w; width = 0 } in

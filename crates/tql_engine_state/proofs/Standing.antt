@@ -1,4 +1,4 @@
--- What an engine that stands for a state has in common with it, and how a new one and the clock keep that.
+-- What an engine has in common with the state that it represents, and how a new engine and the clock keep that.
 use Rattle.std.proofs.Common.{◌≡◌, ◌<◌, ℕ, zero, suc, true, false, List, [], ◌∷◌, length, refl, sym, ap, subst, ◌∙◌}
 use Rattle.std.specs.Prelude.{ℤ, ◌≤ℤ◌, slice_get, IsTrue, IsNone, is_some, Option, Some, None}
 use Rattle.std.specs.List.{AllByRecursion}
@@ -43,7 +43,7 @@ new_law r stands idle count horizon = record {
 
 -- ---- transactions
 
--- where the store has none open, the machine has none
+-- if the store has no open transaction, the reference model has none
 closed_is : (o : Option Entry) (w : Option ℤ) → w ≡ open_moment o → IsNone w → o ≡ None
 closed_is None w e c = refl
 closed_is (Some x) w e c = absurd (let f : true ≡ false = ap is_some (sym e) ∙ c in cc)
@@ -51,7 +51,7 @@ closed_is (Some x) w e c = absurd (let f : true ≡ false = ap is_some (sym e) �
 pub closed_law : (h : EngineModel) (s : State) → StandsFor h s → IsNone h.store.working → s.transaction ≡ None
 closed_law h s f c = closed_is s.transaction h.store.working f.opened c
 
--- one is open in both, or in neither
+-- a transaction is open in both or in neither
 pub open_law : (h : EngineModel) (s : State) → StandsFor h s → is_some s.transaction ≡ is_some h.store.working
 open_law h s f = same_test s.transaction ∙ ap is_some (sym f.opened)
   where
@@ -112,7 +112,7 @@ under_law h s f = under_next h.tables s.next s.history h.store.last (f.stands.da
 pub some_is : {X : Type 0} (x y : X) → Some x ≡ Some y → x ≡ y
 some_is x y e = cc
 
--- the place of a definition is that of its table
+-- the index of a definition is that of its table
 pub place_law : (ps : List Table) (t : ℕ) → t < length (definitions_of ps) → t < length ps
 place_law ps t h = subst (λ n. t < n) (length-map ps (λ (t : Table). t.definition)) h
 

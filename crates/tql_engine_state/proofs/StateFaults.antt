@@ -1,4 +1,4 @@
--- The faults of the transaction and the clock, by what the engine holds.
+-- The faults of the transaction and the clock, from the state of the engine.
 use Rattle.std.proofs.Common.{◌≡◌, refl, sym, ap, ◌∙◌, Bool, true, false, Option, Some, None, List, ◌∷◌, ◌++◌}
 use Rattle.std.proofs.Common.{arith, subst, [], map, length, ℕ, suc}
 use Rattle.std.specs.Prelude.{ℤ, ◌&&◌, ◌<ℤ◌, ◌≤ℤ◌, not, int_le, int_lt, is_some, is_none, nat_lt}
@@ -29,7 +29,7 @@ none_is : {A : Type 0} (o : Option A) → is_none o ≡ not (is_some o)
 none_is None = refl
 none_is (Some x) = refl
 
--- none is open
+-- no transaction is open
 pub closed_is : (h : EngineModel) (s : State) → StandsFor h s → is_none s.transaction ≡ not (is_some h.store.working)
 closed_is h s st = none_is s.transaction ∙ ap not (open_law h s st)
 
@@ -37,7 +37,7 @@ closed_is h s st = none_is s.transaction ∙ ap not (open_law h s st)
 pub end_is : (h : EngineModel) (s : State) → StandsFor h s → is_clock_at_end s ≡ int_le high h.next
 end_is h s st = ap (int_le high) (sym st.clock)
 
--- ---- where there is none
+-- ---- without a fault
 
 no_fault : (t : Bool) (e : Refusal) → first (fault_if t e) ≡ None → t ≡ false
 no_fault true e k = absurd cc
@@ -50,7 +50,7 @@ no_faults false false e f k = (refl, refl)
 
 -- ---- readers
 
--- as many are kept as are open
+-- the engine keeps as many readers as are open in the model
 pub unread_is : (h : EngineModel) (s : State) → StandsFor h s → is_any_open s.readers ≡ nat_lt 0 (length h.readers)
 unread_is h s st = by_readers s.readers ∙ ap (λ (ks : List KeptReader). nat_lt 0 (length ks)) (sym st.readers.same)
   where
@@ -66,12 +66,12 @@ pub passed_is : (h : EngineModel) (s : State) (m : ℤ) → StandsFor h s
 passed_is h s m st =
     some_passed m s.readers ∙ ap (list_any (λ (k : KeptReader). is_passed m k.pin)) (sym st.readers.same)
 
--- names are those of the machine's readers
+-- their names are those of the model's readers
 pub names_same : (h : EngineModel) (s : State) → StandsFor h s
     → names_of s.readers ≡ map (λ (k : KeptReader). k.name) h.readers
 names_same h s st = sym (names_told s.readers) ∙ ap (map (λ (k : KeptReader). k.name)) (sym st.readers.same)
 
--- and so are the limits
+-- so the limits are the same
 pub limits_same : (h : EngineModel) (s : State) → StandsFor h s → limits_of s ≡ limits_held h
 limits_same h s st = λ i. record { horizon = sym st.horizon i; names = names_same h s st i }
 
@@ -82,11 +82,11 @@ faults_held h s x st = λ i. bound_faults (limits_same h s st i) (st.fits.defini
 idle : (h : EngineModel) (s : State) → StandsFor h s → is_some s.transaction ≡ false → IsIdle h
 idle h s st k = sym (open_law h s st) ∙ k
 
--- none is open
+-- no reader is open
 unread : (h : EngineModel) (s : State) → StandsFor h s → is_any_open s.readers ≡ false → IsUnread h
 unread h s st k = st.readers.same ∙ none_open s.readers k
 
--- no transaction and no reader
+-- no transaction and no reader is open
 undefined : (h : EngineModel) (s : State) → StandsFor h s → first (state_faults s Defines) ≡ None
     → IsIdle h × IsUnread h
 undefined h s st k =
@@ -109,14 +109,14 @@ dated h s st k i =
     has_moment h s st (second (is_none s.transaction) (is_clock_at_end s)
     (no_fault (is_none s.transaction && is_clock_at_end s) MomentNotAllowed k) (closed_is h s st ∙ ap not i))
 
--- no reference asks for what lies before the store's horizon
+-- no reference of the query reads moments before the store's horizon
 asks_within : (h : EngineModel) (s : State) (q : Query) → StandsFor h s → query_faults s.horizon q ≡ []
     → AsksWithin h q
 asks_within h s q st l =
     ap (λ (n : ℤ). asks_before n q) st.horizon
     ∙ no_fault (asks_before s.horizon q) BeforeTheHorizon (ap first l)
 
--- the horizon does not go back
+-- the horizon does not move back
 not_back : (m n : ℤ) → int_lt m n ≡ false → n ≤ℤ m
 not_back m n e = grind (arith, ints, e)
 

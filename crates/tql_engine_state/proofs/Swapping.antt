@@ -1,4 +1,4 @@
--- A state stands as well with the rows of a table in another order.
+-- An engine also represents the state with the rows of a table in another order.
 use Rattle.std.proofs.Common.{◌≡◌, ◌<◌, cond, refl, sym, subst, ◌∙◌, ℕ, Bool, true, false, List, [], ◌∷◌, length}
 use Rattle.std.proofs.Common.{Option, Some, None, inl, inr}
 use Rattle.std.specs.Prelude.{ℤ, ◌⊎◌, nat_eq, slice_get, slice_set, if◌then◌else◌}
@@ -27,7 +27,7 @@ use Rattle.tql_engine_state.proofs.ChangeKeeps.{working_now, with_table_rows, se
 
 -- ---- rows that fit
 
--- what is true of each row of a list is true of its members
+-- a property of each row of a list is a property of its members
 pub of_members : (P : Stamped → Type 0) (xs : List Stamped) → AllByRecursion P xs → (r : Stamped) → In r xs → P r
 of_members P [] a r m = absurd m
 of_members P (x ∷ xs) a r (inl e) = subst P (sym e) a.0
@@ -37,7 +37,7 @@ all_members : (P : Stamped → Type 0) (xs : List Stamped) → ((r : Stamped) �
 all_members P [] k = tt
 all_members P (x ∷ xs) k = (k x (inl refl), all_members P xs (λ r m. k r (inr m)))
 
--- a member of a bag is one of any list that is the same bag
+-- a member of a bag is in any list with the same bag
 pub member_of_same : {xs ys : List Stamped} (r : Stamped) → SameBag xs ys → In r xs → In r ys
 member_of_same {xs} {ys} r b m =
     there_if r ys (subst (λ n. 0 < n) (b.totals (λ s. cond (same_stamped r s) 1 0)) (times_some r xs m))
@@ -83,7 +83,7 @@ stands_same horizon versions m xs ys older b f = record {
   told = told_same horizon f.rows f.ends high m xs ys older b f.told;
 }
 
--- the horizon is told by the copies' moments alone
+-- what pruning keeps depends only on the moments of the copies
 kept_same : (k m : ℤ) (xs ys : List Stamped) (older : List TableEntry)
     → kept_of k (record { moment = m; rows = xs } ∷ older) ≡ kept_of k (record { moment = m; rows = ys } ∷ older)
 kept_same k m xs ys [] = refl
@@ -136,7 +136,7 @@ working_same r m xs ys copies is_open b f = record {
 
 -- ---- a state with the rows of one table in another order
 
--- the rows of each table, as the store numbers them
+-- the rows of each table, by table id
 rows_same : (h : StoreModel) (ps : List Table) (t : ℕ) (p : Table) → ArePlaced h ps → slice_get ps t ≡ Some p
     → (copy : Copy) → CopyFits (definitions_of ps) copy → (xs ys : List Stamped) → SameBag xs ys
     → (id : ℕ) → SameBag (rows_of_id ps (slice_set copy t xs) id) (rows_of_id ps (slice_set copy t ys) id)

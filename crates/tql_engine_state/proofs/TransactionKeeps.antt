@@ -1,4 +1,4 @@
--- START TRANSACTION, COMMIT and ROLLBACK keep an engine that stands for a state.
+-- After START TRANSACTION, COMMIT and ROLLBACK, an engine still represents a state.
 use Rattle.std.proofs.Common.{◌≡◌, List, refl, sym, ap, subst, ◌∙◌, arith}
 use Rattle.std.specs.Prelude.{ℤ, pos, ◌+ℤ◌, ◌≤ℤ◌, ◌<ℤ◌, Option, Some, None}
 use Rattle.std.proofs.lemmas.Int.{ints}
@@ -16,15 +16,15 @@ use Rattle.tql_engine_state.proofs.ReadersKeep.{readers_stay, readers_more}
 
 module _ (h : EngineModel) (base : State) (defs : List TableDef) (es : List Entry) (next : ℤ) (r : StoreModel)
     (places : r.tables ≡ h.store.tables) (horizon : r.horizon ≡ h.store.horizon) where
-  -- the machine, with no transaction open
+  -- the reference model, with no transaction open
   abbrev idle : State
   idle = record base { definitions = defs; history = es; next = next; transaction = None }
 
-  -- and in one
+  -- the reference model, in a transaction
   abbrev within : Entry → State
   within e = record base { definitions = defs; history = es; next = next; transaction = Some e }
 
-  -- begun
+  -- START TRANSACTION
   begun : StandsFor h idle → next <ℤ high → BeginCopies h.store r → r.working ≡ Some next
       → StandsFor (record h { store = r }) (record idle { transaction = Some (working idle None) })
   begun f below begins is_open = record {
@@ -49,7 +49,7 @@ module _ (h : EngineModel) (base : State) (defs : List TableDef) (es : List Entr
     readers = readers_stay h.readers idle _ refl refl refl f.readers;
   }
 
-  -- committed
+  -- COMMIT
   ended : (e : Entry) → StandsFor h (within e) → CommitAppends h.store r → r.working ≡ None
       → StandsFor (record h { store = r; next = next +ℤ pos 1 }) (committed (within e) e)
   ended e f commits is_idle =
@@ -80,7 +80,7 @@ module _ (h : EngineModel) (base : State) (defs : List TableDef) (es : List Entr
             (subst (λ m. FallingFrom m es) (sym same) f.falls) f.readers;
       }
 
-  -- undone
+  -- ROLLBACK
   undone : (e : Entry) → StandsFor h (within e) → RollbackRestores h.store r → r.working ≡ None
       → StandsFor (record h { store = r }) idle
   undone e f restores is_idle = record {
@@ -106,7 +106,7 @@ module _ (h : EngineModel) (base : State) (defs : List TableDef) (es : List Entr
     readers = readers_stay h.readers (within e) _ refl refl refl f.readers;
   }
 
--- the state where its transaction is told
+-- the state, with its transaction given
 in_state : (h : EngineModel) (s : State) (o : Option Entry) → s.transaction ≡ o → StandsFor h s
     → StandsFor h (record s { transaction = o })
 in_state h s o e f = subst (λ x. StandsFor h (record s { transaction = x })) e f
@@ -133,6 +133,6 @@ pub undone_law : (h : EngineModel) (s : State) (e : Entry) (r : StoreModel) → 
 undone_law h s e r f is restores is_idle places horizon =
     undone h s s.definitions s.history s.next r places horizon e (in_state h s (Some e) is f) restores is_idle
 
--- an open transaction has its moment before the end
+-- the moment of an open transaction is before the end of the calendar
 pub dated_below : (h : EngineModel) (s : State) (e : Entry) → StandsFor h s → s.transaction ≡ Some e → h.next <ℤ high
 dated_below h s e f is = subst (λ m. m <ℤ high) (sym f.clock) (in_state h s (Some e) is f).dated.1

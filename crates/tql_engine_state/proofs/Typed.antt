@@ -1,5 +1,5 @@
--- An engine that does a step of the machine is sound, since the step keeps the kinds of values; and what a change reads
--- is of its table's kinds.
+-- An engine that does a step of the reference model stays sound, since the step keeps the types of values. What a
+-- change reads has the types of its table.
 use Rattle.std.proofs.Common.{◌≡◌, refl, sym, ap, subst, ◌∙◌, ℕ, List, [], ◌∷◌, Option, Some, None}
 use Rattle.std.proofs.Common.{inl, inr}
 use Rattle.std.specs.Prelude.{ℤ, slice_get}
@@ -59,7 +59,7 @@ working_typed base defs es next (Some e) typed t r m = typed.rows e (inl refl) t
 working_typed base defs [] next None typed t r m = absurd (subst (In r) (none_there defs t) m)
 working_typed base defs (e ∷ older) next None typed t r m = typed.rows e (inl refl) t r m
 
--- those of the versions that were read
+-- the rows of the versions that were read
 each_typed : (d : TableDef) (found : List code.Version) → ((r : Stamped) → In r (dml.rows_in found) → IsTyped d r)
     → AllByRecursion (λ (v : code.Version). AreOfKinds (kinds_of d) (shown d (version_of v).row)) found
 each_typed d [] h = tt

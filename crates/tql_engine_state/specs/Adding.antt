@@ -1,4 +1,4 @@
--- What an INSERT from a query adds, from what the machine's query answers.
+-- What an INSERT from a query adds, given the answer of the reference model to the query.
 use Rattle.std.specs.Prelude.{◌≡◌, ◌⊎◌, List, [], All, Some, None, Result, Ok, Err, ⊤}
 use Rattle.tql_spec.specs.Bag.{SameBag}
 use Rattle.tql_spec.specs.Datum.{Row}
@@ -14,7 +14,7 @@ use Rattle.tql_value.specs.Views.{rows_of}
 use Rattle.tql_value.specs.declared.refusal.Refusal.{Refusal}
 use Rattle.tql_value.specs.declared.refusal.Refusal.TheVariants.{OutOfMemory, ValueOutOfRange}
 
--- the rows that the query answers, in some order, are tested and added
+-- the rows of the answer, in some order, are tested and added
 pub record Added (s : State) (p : Table) (x : QueryInsertion) (result : Result Delta Refusal) : Type 0 where
   pub bag : List Row
   pub answered : answer (bag_of s) (bound_query_of x.query) ≡ Some bag
@@ -23,7 +23,7 @@ pub record Added (s : State) (p : Table) (x : QueryInsertion) (result : Result D
   pub alters : Alters p.id [] (λ m. (added_rows p.definition x.columns.items (Some rows) m).rows)
       (added_rows p.definition x.columns.items (Some rows)) result
 
--- by its result: the change; memory; or the query is out of range, or a new row has a fault
+-- the change; a refused allocation; or the query is out of range, or a new row has a fault
 abbrev pub Adds : State → Table → QueryInsertion → Result Delta Refusal → Type 0
 Adds s p x (Ok delta) = Added s p x (Ok delta) × All (IsRowOf p.definition) (rows_of delta.added.items)
 Adds s p x (Err OutOfMemory) = ⊤

@@ -1,4 +1,4 @@
--- What the transaction, the clock and the horizon allow.
+-- What the transaction, the clock, the horizon and open readers allow.
 use Rattle.std.specs.Prelude.{◌≡◌, ◌<ℤ◌, ◌≤ℤ◌, ℤ, false, IsNone, IsFalse, [], map}
 use Rattle.std.specs.List.{list_any}
 use Rattle.tql_spec.specs.Calendar.{high}
@@ -26,7 +26,7 @@ IsIdle h = IsNone h.store.working
 abbrev pub HasTimeLeft : EngineModel → Type 0
 HasTimeLeft h = h.next <ℤ high
 
--- no reference of the query asks for what lies before the horizon
+-- no reference of the query reads moments before the horizon
 abbrev pub AsksWithin : EngineModel → Query → Type 0
 AsksWithin h q = IsFalse (asks_before h.store.horizon q)
 
@@ -34,19 +34,20 @@ AsksWithin h q = IsFalse (asks_before h.store.horizon q)
 abbrev pub IsUnread : EngineModel → Type 0
 IsUnread h = h.readers ≡ []
 
--- a horizon passes no reader
+-- a horizon does not pass the pin of any reader
 abbrev pub PassesNone : EngineModel → ℤ → Type 0
 PassesNone h m = list_any (λ (r : KeptReader). is_passed m r.pin) h.readers ≡ false
 
--- what names are bound under
+-- the limits that statements are bound under
 abbrev pub limits_held : EngineModel → Limits
 limits_held h = record { horizon = h.store.horizon; names = map (λ (r : KeptReader). r.name) h.readers }
 
--- a bound statement has no fault by these
+-- a bound statement has no fault of these limits
 abbrev pub IsWithin : EngineModel → machine.Bound → Type 0
 IsWithin h b = bound_faults (limits_held h) (definitions_of h.tables) b ≡ []
 
--- a bound statement, but for the moment of AT; COMMIT and ROLLBACK answer for themselves
+-- the state of the engine allows a bound statement; the moment of AT is tested elsewhere, and so are COMMIT and
+-- ROLLBACK
 abbrev pub IsAllowed : EngineModel → Bound → Type 0
 IsAllowed h (CreateTable d) = IsIdle h × IsUnread h
 IsAllowed h (DropTable t) = IsIdle h × IsUnread h

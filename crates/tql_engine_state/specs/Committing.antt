@@ -1,10 +1,10 @@
--- What a change does to the store: in the open transaction, or in one of its own.
+-- The effect of a change on the store: in the open transaction, or in one of its own.
 use Rattle.std.specs.Prelude.{◌≡◌, ◌+ℤ◌, ℕ, ℤ, pos, List, Option, Some, None}
 use Rattle.tql_spec.specs.Datum.{Row}
 use Rattle.tql_store.specs.StoreModel.{StoreModel, named}
 use Rattle.tql_store.specs.Represents.{BeginCopies, ChangeReplaces, CommitAppends, RollbackRestores}
 
--- begun at the moment, changed, and committed
+-- a transaction is opened at the moment, changed and committed
 pub record CommitsRows (m : ℤ) (t : ℕ) (removed : List ℕ) (rows : List Row) (old new : StoreModel) : Type 0 where
   pub opened : StoreModel
   pub changed : StoreModel
@@ -18,7 +18,7 @@ pub record CommitsRows (m : ℤ) (t : ℕ) (removed : List ℕ) (rows : List Row
   pub places : new.tables ≡ old.tables
   pub horizon : new.horizon ≡ old.horizon
 
--- begun at the moment, and undone
+-- a transaction is opened at the moment and rolled back
 pub record Undoes (m : ℤ) (old new : StoreModel) : Type 0 where
   pub opened : StoreModel
   pub begins : BeginCopies old opened
@@ -28,19 +28,19 @@ pub record Undoes (m : ℤ) (old new : StoreModel) : Type 0 where
   pub places : new.tables ≡ old.tables
   pub horizon : new.horizon ≡ old.horizon
 
--- changed in the open transaction of the moment
+-- rows are changed in the open transaction of the moment
 pub record ReplacesRows (m : ℤ) (t : ℕ) (removed : List ℕ) (rows : List Row) (old new : StoreModel) : Type 0 where
   pub changes : ChangeReplaces t removed rows old new
   pub still_open : new.working ≡ Some m
   pub places : new.tables ≡ old.tables
   pub horizon : new.horizon ≡ old.horizon
 
--- by the transaction that is open: the change, and the clock's moment after it
+-- depending on the open transaction: the change, and the clock's moment after it
 abbrev pub ChangesRows : Option ℤ → ℤ → ℤ → ℕ → List ℕ → List Row → StoreModel → StoreModel → Type 0
 ChangesRows None clock next t removed rows old new = CommitsRows clock t removed rows old new × (next ≡ clock +ℤ pos 1)
 ChangesRows (Some m) clock next t removed rows old new = ReplacesRows m t removed rows old new × (next ≡ clock)
 
--- so is what a change leaves that was given up
+-- depending on the open transaction: the store after a change that was given up
 abbrev pub KeepsRows : Option ℤ → ℤ → StoreModel → StoreModel → Type 0
 KeepsRows None clock old new = Undoes clock old new
 KeepsRows (Some m) clock old new = new ≡ old

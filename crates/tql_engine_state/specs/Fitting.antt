@@ -8,28 +8,28 @@ use Rattle.tql_spec.specs.Machine.{State}
 use Rattle.tql_catalog.specs.Defined.{IsDefinition}
 use Rattle.tql_catalog.specs.Rows.{IsRowOf}
 
--- a row of the table, and a moment at which it began
+-- a row of the table that starts at a moment of the calendar, below its end
 pub record RowFits (d : TableDef) (r : Stamped) : Type 0 where
   pub cells : IsRowOf d r.cells
   pub not_before : first_moment ≤ℤ r.start
   pub below : r.start <ℤ high
 
--- each row of a bag
+-- each row of a bag fits
 abbrev pub RowsFit : TableDef → List Stamped → Type 0
 RowsFit d rows = AllByRecursion (RowFits d) rows
 
--- a copy has rows for each table, that fit it
+-- a copy has rows for each table, and they fit it
 abbrev pub CopyFits : List TableDef → Copy → Type 0
 CopyFits [] [] = Unit {0}
 CopyFits (d ∷ ds) (rows ∷ copy) = RowsFit d rows × CopyFits ds copy
 CopyFits _ _ = ⊥
 
--- each copy
+-- each copy fits
 abbrev pub HistoryFits : List TableDef → List Entry → Type 0
 HistoryFits ds [] = Unit {0}
 HistoryFits ds (e ∷ older) = CopyFits ds e.copy × HistoryFits ds older
 
--- the working copy of an open transaction
+-- the working copy of an open transaction fits
 abbrev pub WorkingFits : List TableDef → Option Entry → Type 0
 WorkingFits ds None = Unit {0}
 WorkingFits ds (Some e) = CopyFits ds e.copy
@@ -38,7 +38,7 @@ WorkingFits ds (Some e) = CopyFits ds e.copy
 abbrev pub IsNarrow : TableDef → Type 0
 IsNarrow d = length d.columns ≤ 64
 
--- the state has these tables, each of a right definition and not too wide, and rows that fit them
+-- the state has these tables; each definition is valid and not too wide, and the rows fit
 pub record StateFits (ds : List TableDef) (s : State) : Type 0 where
   pub definitions : s.definitions ≡ ds
   pub defined : AllByRecursion IsDefinition ds

@@ -1,4 +1,4 @@
--- A change of one table, as it is computed, and what the machine's own is to it.
+-- A computed change of one table, and the change of the reference model that it represents.
 use Rattle.std.specs.Prelude.{◌≡◌, ℕ, Bool, [], All, Some, slice_get}
 use Rattle.tql_spec.specs.Bag.{SameBag}
 use Rattle.tql_spec.specs.Change.{Outcome}
@@ -19,11 +19,11 @@ use Rattle.tql_store.specs.declared.store.Delta.{Delta}
 use Rattle.tql_value.specs.Views.{rows_of}
 use Rattle.tql_engine_state.specs.Stands.{EngineModel, StandsFor}
 
--- the entry that a change of the state works on
+-- the working copy that a change applies to
 abbrev pub working_now : State → Entry
 working_now s = working s s.transaction
 
--- a change of the table at a place is the machine's in a state: it leaves the same rows, and no row has a fault
+-- a change of the table at an index is that of the reference model: it leaves the same rows, and no row has a fault
 pub record Changes (h : EngineModel) (t : ℕ) (delta : Delta) (verb : Verb) (c : Change) (s : State) : Type 0 where
   pub place : changed_table c ≡ t
   pub made : Outcome
@@ -37,13 +37,13 @@ pub record Changes (h : EngineModel) (t : ℕ) (delta : Delta) (verb : Verb) (c 
   pub count : made.count ≡ delta.count
   pub word : verb_of c ≡ plain_verb verb
 
--- its rows that go are current, and those that come fit the table
+-- the removed rows are current, and the added rows fit the table
 pub record FitsTable (h : EngineModel) (t : ℕ) (delta : Delta) : Type 0 where
   pub table : (p : Table) → slice_get h.tables t ≡ Some p → delta.table ≡ p.id
   pub removable : AreRemovable h.store delta.table delta.removed.items
   pub fit : (p : Table) → slice_get h.tables t ≡ Some p → All (IsRowOf p.definition) (rows_of delta.added.items)
 
--- it fits, and it is a change of the machine in each state that the engine stands for
+-- it fits, and it is a change of the reference model in each state that the engine represents
 pub record IsMade (h : EngineModel) (t : ℕ) (delta : Delta) (verb : Verb) : Type 0 where
   pub change : Change
   pub typed : IsTypedChange (definitions_of h.tables) change

@@ -1,4 +1,4 @@
--- What a modification gives, from those versions of its table that were looked at.
+-- The result of an UPDATE or DELETE, from the versions of its table that were read.
 use Rattle.std.specs.Prelude.{List, map, filter, All, Option, Result, Ok, Err, IfOk, ⊤}
 use Rattle.tql_spec.specs.Bag.{In}
 use Rattle.tql_spec.specs.Definition.{Stamped}
@@ -19,13 +19,14 @@ use Rattle.tql_value.specs.declared.refusal.Refusal.{Refusal}
 use Rattle.tql_value.specs.declared.refusal.Refusal.TheVariants.{OutOfMemory}
 use Rattle.tql_value.specs.declared.when.When.TheVariants.{Now}
 
--- each current row of the table has its columns, and an application period that rises between points of one kind
+-- each current row of the table has all columns, and an application period from one point to a later one of the same
+-- type
 abbrev pub AreShown : StoreModel → Table → Type 0
 AreShown h p =
     (r : Stamped) → In r (map (λ (v : kept.Version). v.row) (filter is_current (live h p.id))) → IsShown p.definition r
 
--- the change, or its fault, by the versions that were looked at: of the table's current ones those that are sought,
--- which are all that it can touch
+-- the change or its fault, from the versions that were read; these are the current versions on the access path, and
+-- include all that the change can affect
 pub record Made (h : StoreModel) (p : Table) (x : Modification) (result : Result Delta Refusal) : Type 0 where
   pub sought : Option Sought
   pub serves : ServesChange p.definition (portion_in x) (conds_in x) sought
@@ -37,7 +38,7 @@ pub record Made (h : StoreModel) (p : Table) (x : Modification) (result : Result
   pub fits : All (IsVersionOf p.definition) seen → AreTyped p.definition seen x
       → IfOk result (λ delta. All (IsRowOf p.definition) (rows_of delta.added.items))
 
--- by its result; memory may have run out
+-- the result; an allocation may be refused
 abbrev pub Makes : StoreModel → Table → Modification → Result Delta Refusal → Type 0
 Makes h p x (Ok delta) = Made h p x (Ok delta)
 Makes h p x (Err OutOfMemory) = ⊤

@@ -1,5 +1,4 @@
--- What a store shows of the copies that queries see in a state: of every table now, at a pin of those that are
--- versioned.
+-- What a store shows of the copies that queries see: all tables now, and the versioned tables at a pin.
 use Rattle.std.specs.Prelude.{◌≡◌, ℕ, IsTrue, IsFalse, List, [], ◌∷◌, Some, slice_get, is_some}
 use Rattle.std.specs.List.{AllByRecursion}
 use Rattle.tql_spec.specs.Bag.{In}
@@ -18,7 +17,7 @@ use Rattle.tql_store.specs.StoreModel.{StoreModel, has_table, is_versioned}
 use Rattle.tql_value.specs.Points.{IsMoment}
 use Rattle.tql_engine_state.specs.Fitting.{CopyFits}
 
--- copies that fit the tables, made at moments of the calendar
+-- copies that fit the tables, committed at moments of the calendar
 abbrev pub EntriesFit : List TableDef → List Entry → Type 0
 EntriesFit ps [] = Unit {0}
 EntriesFit ps (e ∷ older) = CopyFits ps e.copy × (IsMoment e.moment × EntriesFit ps older)
@@ -29,7 +28,7 @@ pub record FitsTables (tables : List Table) (s : State) : Type 0 where
   pub defined : AllByRecursion IsDefinition (definitions_of tables)
   pub copies : EntriesFit (definitions_of tables) (entries s)
 
--- and of each table that it shows, a store stands for these copies
+-- the store represents the copies of each table that it shows
 pub record Shows (tables : List Table) (r : StoreModel) (s : State) : Type 0 where
   pub fits : FitsTables tables s
   pub copies : Copies
@@ -40,8 +39,8 @@ pub record Shows (tables : List Table) (r : StoreModel) (s : State) : Type 0 whe
   pub versioned : (t : ℕ) (p : Table) → slice_get tables t ≡ Some p → IsTrue (has_table r p.id)
       → is_versioned r p.id ≡ is_some p.definition.system
 
--- it shows each table that a query refers to, for some state of which values are of their columns' kinds, and nothing
--- before its horizon is asked for
+-- the store shows each table of a query, for some state whose values have the types of their columns; the query reads
+-- nothing before the horizon
 pub record CanAnswer (tables : List Table) (r : StoreModel) (q : Query) : Type 0 where
   pub state : State
   pub shows : Shows tables r state

@@ -1,7 +1,7 @@
 use Rattle.std.proofs.Common.{refl, ◌∙◌, ap, ◌<◌, length, arith, Some}
 use Rattle.tql_engine_state.specs.Stands.{StandsFor}
 use Rattle.tql_engine.proofs.Bytes.{runs_bytes}
-use Rattle.tql_engine.proofs.HoldPoints.{bytes_hold}
+use Rattle.tql_engine.proofs.RunHolds.{bytes_hold}
 use Rattle.tql_engine.proofs.PointRuns.{bytes_agree}
 use Rattle.tql_engine.proofs.ReaderRuns.{bytes_stable}
 use Rattle.tql_engine.proofs.Unseen.{bytes_unseen}

@@ -1,4 +1,4 @@
-use Rattle.tql_engine.proofs.HoldPoints.{run_in_holds}
+use Rattle.tql_engine.proofs.RunHolds.{run_in_holds}
 use Rattle.tql_engine.proofs.Agreeing.{runs_agreeing}
 use Rattle.tql_engine.proofs.runner.run_in.Goals as goal
 

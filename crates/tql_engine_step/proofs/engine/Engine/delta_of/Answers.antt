@@ -1,0 +1,73 @@
+use Rattle.std.proofs.Common.{◌≡◌, sym, subst, ◌∙◌, Some, List, map, length, All}
+use Rattle.std.specs.Prelude.{slice_get, IsTrue, Option}
+use Rattle.std.proofs.lemmas.List.{length-map}
+use Rattle.std.proofs.lemmas.List.Elements.{All-weaker}
+use Rattle.tql_bound.specs.declared.change.Modification.{Modification}
+use Rattle.tql_catalog.specs.Rows.{stored_width}
+use Rattle.tql_catalog.specs.declared.catalog.Table.{Table}
+use Rattle.tql_dml.specs.Alters.{IsVersionOf, portion_in}
+use Rattle.tql_expr.specs.Meaning.{cond}
+use Rattle.tql_expr.specs.declared.terms.CondId.{CondId}
+use Rattle.tql_plan_access.specs.Access.{ServesChange}
+use Rattle.tql_store.specs.StoreModel.{has_table}
+use Rattle.tql_store.specs.Views.{IsFound}
+use Rattle.tql_store_index.specs.Basis.{Sought, is_looked_at}
+use Rattle.tql_versions.specs.declared.version.Version.{Version}
+use Rattle.tql_value.specs.Views.{datum_of_value}
+use Rattle.tql_value.specs.declared.when.When.TheVariants.{Now}
+use Rattle.tql_engine_state.specs.Modifying.{Makes, Made}
+use Rattle.tql_engine_state.specs.Stands.{EngineModel, StandsFor}
+use Rattle.tql_engine_state.proofs.Looking.{read_fit}
+use Rattle.tql_engine_state.proofs.Modifying.{makes_of}
+use Rattle.tql_engine_state.proofs.Shown.{current_shown}
+use Rattle.tql_engine_state.proofs.Standing.{some_is, there_law}
+use Rattle.tql_engine_step.proofs.engine.Engine.delta_of.Goals as goal
+
+pub look-requires-clause-there : goal.look-requires-clause-there
+look-requires-clause-there g c =
+    let p : Table = c.table_at-table.result.now in
+    let stands = subst (λ h. StandsFor h c.self.invariant.state) c.self.view_is c.self.invariant.stands in
+    subst (λ (h : EngineModel). IsTrue (has_table h.store p.id)) (sym c.self.view_is)
+    (there_law c.args.self.now c.self.invariant.state c.args.modification.now.table p stands
+    c.table_at-table.ensures)
+
+pub modify-requires : goal.modify-requires
+modify-requires g c =
+    let p : Table = c.table_at-table.result.now in
+    let x : Modification = c.args.modification.now in
+    let o : Option Sought = c.in_ok-access.access in
+    let there = subst (λ (h : EngineModel). slice_get h.tables x.table ≡ Some p) (sym c.self.view_is)
+    c.table_at-table.ensures in
+    let found = subst (λ (w : Option Sought). IsFound c.self.inside.store p.id Now (is_looked_at w)
+    c.in_ok-seen.seen.items) c.sought.ensures c.in_ok-seen.ensures in
+    let fit = read_fit _ c.self.invariant.state x.table p o c.in_ok-seen.seen.items c.self.invariant.stands there
+    found.copies in
+    subst (λ (vs : List Version). All (λ (v : Version). length v.row.now ≡ stored_width p.definition) vs)
+    (sym c.deref-2.ensures.value)
+    (All-weaker (IsVersionOf p.definition) (λ (v : Version). length v.row.now ≡ stored_width p.definition)
+    (λ v k. sym (length-map v.row.now datum_of_value) ∙ k.cells.width) c.in_ok-seen.seen.items fit)
+
+pub returns : goal.returns
+returns g c p e =
+    let q : Table = c.table_at-table.result.now in
+    let x : Modification = c.args.modification.now in
+    let o : Option Sought = c.in_ok-access.access in
+    let there = subst (λ (h : EngineModel). slice_get h.tables x.table ≡ Some q) (sym c.self.view_is)
+    c.table_at-table.ensures in
+    let made : Made c.self.inside.store q x c.modify.result = record {
+      sought = o;
+      serves = subst (λ (ids : List CondId). ServesChange q.definition (portion_in x) (map (cond x.terms) ids) o)
+          c.deref.ensures.value c.in_ok-access.ensures.serves;
+      shown = current_shown _ c.self.invariant.state x.table q c.self.invariant.stands c.self.invariant.typed there;
+      seen = c.deref-2.result.now;
+      found = subst (λ (vs : List Version). IsFound c.self.inside.store q.id Now (is_looked_at o) vs)
+          (sym c.deref-2.ensures.value)
+          (subst (λ (w : Option Sought). IsFound c.self.inside.store q.id Now (is_looked_at w) c.in_ok-seen.seen.items)
+          c.sought.ensures c.in_ok-seen.ensures);
+      alters = c.modify.ensures.alters;
+      fits = c.modify.ensures.fits;
+    } in
+    subst (λ (t : Table). Makes c.args.self.now.store t x c.modify.result) (some_is q p (sym c.table_at-table.ensures
+    ∙ e))
+    (subst (λ (h : EngineModel). Makes h.store q x c.modify.result) c.self.view_is
+    (makes_of c.self.inside.store q x c.modify.result made))

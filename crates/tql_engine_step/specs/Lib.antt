@@ -1,0 +1,3 @@
+pub mod Sense
+pub mod HoldPoints
+pub mod ColumnKinds

@@ -1,0 +1,293 @@
+//! The engine: its state, and its reply to a statement.
+ghost use Rattle.std.specs.Prelude.{◌≡◌, ◌<◌, length, slice_get, IfOk, IsFalse, IsTrue, Some};
+
+mod changes;
+mod clock;
+mod column_kinds;
+mod creation;
+mod definitions;
+mod dropping;
+mod faults;
+mod horizon;
+mod messages;
+mod names;
+mod plans;
+mod queries;
+mod reading;
+mod transactions;
+
+use crate::sense::read_statement;
+use std::marker::Model;
+use tql_bind::binder::bind;
+use tql_bind::limits::Limits;
+use tql_bound::bound::Bound;
+use tql_bound::reader::Reader;
+use tql_catalog::catalog::{Catalog, Table};
+use tql_detail::detail::Detail;
+use tql_index::index::IntervalIndex;
+use tql_memory::Memory;
+use tql_result::answer::Answer;
+use tql_result::reply::Reply;
+use tql_run::responder::Responder;
+use tql_store::store::Store;
+use tql_syntax::ending::{TransactionEnd, transaction_end};
+use tql_syntax::text::read_text;
+use tql_syntax_fault::told::{depth_detail, syntax_detail};
+use tql_syntax_fault::unfinished::unfinished_detail;
+use tql_syntax_tree::statement::Statement;
+use tql_value::calendar::FIRST_MOMENT;
+use tql_value::refusal::Refusal;
+
+/// An engine: its tables in the order of their creation, the store of their rows, the moment of the next transaction,
+/// in microseconds since 1970-01-01, and the open readers in the order of their opening.
+pub struct Engine<I: IntervalIndex> {
+    memory: Memory,
+    tables: Catalog,
+    store: Store<I>,
+    next: i64,
+    readers: Vec<Reader, Memory>,
+}
+
+impl<I: IntervalIndex> Drop for Engine<I> {
+    fn drop(self) {
+        let Engine {
+            memory: _,
+            tables,
+            store,
+            next: _,
+            readers,
+        } = self;
+        drop(tables);
+        drop(store);
+        drop(readers);
+    }
+}
+
+impl<I: IntervalIndex> Model for Engine<I> {
+    ghost use Rattle.tql_index.specs.contracts.tree_index.TreeIndex.{the_row as tree_row};
+    ghost use Rattle.tql_index.specs.contracts.tree_index.TreeIndexIntervalIndex.TheImpl.{ghosts};
+    ghost use Rattle.tql_store.specs.contracts.store.Store.{the_row};
+    ghost use Rattle.std.specs.Prelude.{map};
+    ghost use Rattle.tql_engine_state.specs.Readers.{reader_of};
+    ghost use Rattle.tql_engine_state.specs.Stands.{EngineModel, held_code, IsSound};
+
+    ghost Value = { EngineModel };
+
+    ghost coded = { held_code (the_row tree_row ghosts).coded };
+
+    ghost view = { λ e. record {
+      tables = e.tables;
+      store = e.store;
+      next = e.next;
+      readers = map reader_of e.readers.items;
+    } };
+
+    ghost invariant = { λ e. IsSound (record {
+      tables = e.tables;
+      store = e.store;
+      next = e.next;
+      readers = map reader_of e.readers.items;
+    }) };
+}
+
+impl<I: IntervalIndex> Engine<I> {
+    ghost use Rattle.std.specs.Prelude.{ℕ};
+    ghost use Rattle.std.specs.List.{list_all};
+    ghost use Rattle.tql_spec.specs.Definition.{TableDef};
+    ghost use Rattle.tql_spec.specs.Machine.{State, CreateTable, DropTable, limits_of, new_state, step};
+    ghost use Rattle.tql_spec.specs.Run.{Answers, finished, respond};
+    ghost use Rattle.tql_spec.specs.Syntax.{is_too_wide};
+    ghost use Rattle.tql_spec.specs.TypingLaws.{IsTypedBound};
+    ghost use Rattle.tql_syntax_tree.specs.Statements.{statement_of};
+    ghost use Rattle.tql_run.specs.Responding.{Answered};
+    ghost use Rattle.tql_bind.specs.Limited.{bind_under};
+    ghost use Rattle.tql_bind_table.specs.Binds.{Binds};
+    ghost use Rattle.tql_bound.specs.Bounds.{IsSound, bound_of};
+    ghost use Rattle.tql_catalog.specs.Tables.{can_have, definitions_of};
+    ghost use Rattle.tql_result.specs.Replies.{reply_of, IsPrintableReply};
+    ghost use Rattle.tql_engine_step.specs.HoldPoints.{HoldsFor};
+    ghost use Rattle.tql_engine_state.specs.Stands.{StandsFor};
+    ghost use Rattle.tql_engine_state.specs.Allowed.{IsAllowed};
+    ghost use Rattle.tql_engine_state.specs.Dropping.{IsDropped};
+    ghost use Rattle.tql_run.specs.Ending.{EndsTransaction, IsEnded};
+    ghost use Rattle.tql_engine_state.specs.Effects.{DoesStep, reply_by};
+
+    /// Returns an engine without tables, whose clock is at the first moment of the calendar.
+    #[tactic(auto, using(tql_engine_state::proofs::Standing::new_law, crate::proofs::HoldPoints::new_holds))]
+    pub fn new(memory: Memory) -> Engine<I>
+        ensures stands { StandsFor result new_state }
+        ensures holds { HoldsFor result new_state }
+    {
+        Engine {
+            memory,
+            tables: Catalog::new(memory),
+            store: Store::new(memory),
+            next: FIRST_MOMENT,
+            readers: Vec::new(memory),
+        }
+    }
+
+    /// Returns the table at this index.
+    fn table_at(&self, place: usize) -> &Table
+        requires { place < length self.now.tables }
+        ensures { slice_get self.now.tables place ≡ Some result.now }
+    {
+        self.tables.table(place)
+    }
+
+    /// Runs a bound statement, which the transaction, the clock, the horizon and open readers allow. A refused
+    /// statement changes nothing.
+    pub(crate) fn perform(&mut self, bound: Bound) -> Result<Reply, Refusal>
+        requires sound { IsSound (definitions_of self.old.tables) bound }
+        requires allowed { IsAllowed self.old bound }
+        requires typed { IsTypedBound (definitions_of self.old.tables) (bound_of bound) }
+        requires dropped { (t : ℕ) → bound_of bound ≡ DropTable t → IsDropped (definitions_of self.old.tables) t }
+        requires parents { (d : TableDef) → bound_of bound ≡ CreateTable d
+            → IsTrue (list_all (can_have (definitions_of self.old.tables)) d.references) }
+        ensures { (s : State) → StandsFor self.old s → DoesStep self.new s result (step s (bound_of bound)) }
+    {
+        match bound {
+            Bound::CreateTable(definition) => self.create(definition),
+            Bound::DropTable(place) => Ok(self.drop_table(place)),
+            Bound::Insert(insertion) => self.insert(&insertion),
+            Bound::InsertFrom(insertion) => self.insert_from(&insertion),
+            Bound::Modify(modification) => self.modify(&modification),
+            Bound::AnswerQuery(query) => self.answer_query(&query),
+            Bound::SetClock(moment) => self.at(moment),
+            Bound::Prune(moment) => self.prune(moment),
+            Bound::OpenReader(name) => self.open_reader(name),
+            Bound::Read(read) => self.read(&read),
+            Bound::CloseReader(name) => Ok(self.close_reader(&name)),
+            Bound::Start => Ok(self.start()),
+            Bound::Commit => self.commit(),
+            Bound::Rollback => self.rollback(),
+        }
+    }
+
+    /// Binds a statement. Refused for its first fault of names, kinds, forms and literals, of the horizon and of open
+    /// readers, or for memory.
+    fn bound(&self, memory: Memory, statement: &Statement<'_>) -> Result<Bound, Refusal>
+        requires narrow { IsFalse (is_too_wide (statement_of statement.now)) }
+        ensures binds { (s : State) → StandsFor self.now s → Binds bound_of
+            (bind_under (limits_of s) s.definitions (statement_of statement.now)) result }
+        ensures sound { IfOk result (IsSound (definitions_of self.now.tables)) }
+    {
+        let limits = Limits {
+            horizon: self.store.horizon(),
+            readers: &self.readers,
+        };
+        bind(memory, &self.tables, statement, &limits)
+    }
+
+    /// Runs a statement. A refused statement changes nothing.
+    pub(crate) fn execute(&mut self, statement: &Statement<'_>) -> Result<Reply, Refusal>
+        requires narrow { IsFalse (is_too_wide (statement_of statement.now)) }
+        ensures answered { (s : State) → StandsFor self.old s
+            → DoesStep self.new s result (respond s (statement_of statement.now)) }
+        ensures printable { IfOk result (λ reply. IsPrintableReply (reply_of reply)) }
+    {
+        if let Some(fault) = self.state_fault(statement)? {
+            return Err(fault);
+        }
+        match self.bound(self.memory, statement) {
+            Ok(bound) => self.perform(bound),
+            Err(fault) => Err(fault),
+        }
+    }
+
+    /// Parses a text and runs its statement.
+    fn run_text(&mut self, text: &[u8]) -> Result<Reply, Refusal>
+        ensures answered { (s : State) → StandsFor self.old s
+            → Answered Answers s (finished text.now) (reply_by result) (StandsFor self.new) }
+        ensures printable { IfOk result (λ reply. IsPrintableReply (reply_of reply)) }
+    {
+        match read_statement(self.memory, text) {
+            Ok(tree) => self.execute(&tree.statement),
+            Err(refusal) => Err(refusal),
+        }
+    }
+
+    /// Runs the statement of a text. COMMIT and ROLLBACK are recognized without parsing, which takes no memory.
+    fn try_step(&mut self, text: &[u8]) -> Result<Reply, Refusal>
+        ensures answered { (s : State) → StandsFor self.old s
+            → Answered Answers s (finished text.now) (reply_by result) (StandsFor self.new) }
+        ensures printable { IfOk result (λ reply. IsPrintableReply (reply_of reply)) }
+        ensures ends { EndsTransaction text.now → IsEnded (reply_by result) }
+    {
+        match transaction_end(text) {
+            Some(TransactionEnd::Commit) => self.commit(),
+            Some(TransactionEnd::Rollback) => self.rollback(),
+            None => self.run_text(text),
+        }
+    }
+
+    /// Answers one statement, given by its text without its `;`. Any bytes are taken: a text of over 1,048,576 bytes,
+    /// bytes that are not UTF-8, and a text that is no statement are refused. A refused statement changes nothing.
+    ///
+    /// COMMIT and ROLLBACK, with WORK or without, take no memory, so a transaction can always be ended. If keys and
+    /// references hold at every point of time in each copy of the reference model, they still do afterwards (clause
+    /// `holds`).
+    pub fn step(&mut self, text: &[u8]) -> Reply
+        ensures answered { (s : State) → StandsFor self.old s
+            → Answered Answers s (finished text.now) (reply_of result) (StandsFor self.new) }
+        ensures printable { IsPrintableReply (reply_of result) }
+        ensures ends { EndsTransaction text.now → IsEnded (reply_of result) }
+        ensures holds { (s : State) → HoldsFor self.old s
+            → Answered Answers s (finished text.now) (reply_of result) (HoldsFor self.new) }
+    {
+        match self.try_step(text) {
+            Ok(reply) => reply,
+            Err(refusal) => Reply::Refused(refusal),
+        }
+    }
+}
+
+impl<I: IntervalIndex> Responder for Engine<I> {
+    ghost use Rattle.tql_run.specs.Ending.{Responds};
+    ghost use Rattle.tql_engine_state.specs.Stands.{StandsFor};
+    ghost use Rattle.tql_run.proofs.Faults.{responds_refuse};
+
+    ghost stands = { StandsFor };
+
+    ghost answering = { Responds };
+
+    fn memory(&self) -> Memory {
+        self.memory
+    }
+
+    fn answer(&mut self, text: &[u8]) -> Answer {
+        Answer::Replied(self.step(text))
+    }
+
+    fn detail(&self, text: &[u8], refusal: Refusal) -> Option<Detail> {
+        match refusal {
+            Refusal::NotAStatement => syntax_detail(self.memory, text),
+            Refusal::NestedTooDeep => depth_detail(self.memory, text),
+            Refusal::UnfinishedStatement => unfinished_detail(self.memory, text),
+            Refusal::TableUnknownOrAlreadyThere
+            | Refusal::NameUnknownAmbiguousOrRepeated
+            | Refusal::TypesDoNotFit
+            | Refusal::FormNotAllowedHere
+            | Refusal::TableIsReferenced
+            | Refusal::TooManyTablesOrReaders
+            | Refusal::PortionNotRising => self.name_detail(text),
+            Refusal::ValueOutOfRange => match self.name_detail(text) {
+                Some(detail) => Some(detail),
+                None => self.row_detail(text, refusal),
+            },
+            Refusal::NullNotAllowed
+            | Refusal::PeriodNotRising
+            | Refusal::CheckFailed
+            | Refusal::DuplicateKey
+            | Refusal::ReferenceNotMet => self.row_detail(text, refusal),
+            Refusal::NotInThisTransactionState
+            | Refusal::MomentNotAllowed
+            | Refusal::BeforeTheHorizon
+            | Refusal::ReaderNotUsable
+            | Refusal::ReadersAreOpen => self.state_detail(text, refusal),
+            _ => None,
+        }
+    }
+
+    ghost refuses = { responds_refuse };
+}

@@ -1,0 +1,333 @@
+//! Details of refused statements that depend on rows or on the state of the engine. A refused statement changed
+//! nothing, so it is bound and its rows are made again, and the tests are asked where they failed.
+ghost use Rattle.std.specs.Prelude.{◌<◌, length};
+
+use crate::engine::Engine;
+use crate::sense::read_statement;
+use std::alloc::AllocError;
+use tql_bind_expr::texts::{is_same_text, meant};
+use tql_bound::bound::Bound;
+use tql_bound::change::{Insertion, Modification, QueryInsertion};
+use tql_bound::query::BoundQuery;
+use tql_catalog::catalog::Table;
+use tql_detail::detail::Detail;
+use tql_dml::failures::{
+    first_failed_value, first_failure, inserted_rows, modified_rows, tuple_rows,
+};
+use tql_index::index::IntervalIndex;
+use tql_key_failures::failures::{RowRef, failed_key, failed_reference};
+use tql_memory::Memory;
+use tql_plan_access::choosing::change_access;
+use tql_row_message::calculations::{change_detail, query_detail};
+use tql_row_message::cells::{Cells, Subject};
+use tql_row_message::faults::{fault_detail, value_detail};
+use tql_row_message::keys::{Rival, key_detail};
+use tql_row_message::references::{missing_detail, referenced_detail};
+use tql_row_message::state::{
+    clock_detail, horizon_detail, reader_detail, readers_detail, transaction_detail,
+};
+use tql_store::store::Delta;
+use tql_syntax_tree::statement::Statement;
+use tql_value::refusal::Refusal;
+use tql_value::value::Value;
+use tql_value::when::When;
+
+/// How a detail names a row that comes: by its number, where it is one of an INSERT.
+fn subject(is_insert: bool, row: usize) -> Subject {
+    if is_insert {
+        Subject::Numbered(row)
+    } else {
+        Subject::Changed
+    }
+}
+
+impl<I: IntervalIndex> Engine<I> {
+    ghost use Rattle.std.specs.Prelude.{IsFalse, IsTrue};
+    ghost use Rattle.tql_spec.specs.Syntax.{is_too_wide};
+    ghost use Rattle.tql_bound.specs.Bounds.{IsSound};
+    ghost use Rattle.tql_bound.specs.Placed.{IsPlacedQuery};
+    ghost use Rattle.tql_bound.specs.Queries.{bound_query_of};
+    ghost use Rattle.tql_catalog.specs.Tables.{definitions_of};
+    ghost use Rattle.tql_store.specs.StoreModel.{has_table};
+    ghost use Rattle.tql_syntax_tree.specs.Statements.{statement_of};
+    ghost use Rattle.tql_engine_state.specs.Allowed.{AsksWithin, IsAllowed};
+
+    /// The detail of the first row that fails by itself (E30 and E32 to E34).
+    fn fault_of(
+        &self,
+        table: &Table,
+        rows: &[Vec<Value, Memory>],
+        is_insert: bool,
+        refusal: Refusal,
+    ) -> Option<Detail> {
+        let definition = &table.definition;
+        let failure = first_failure(definition, rows, refusal)?;
+        let values = rows.get(failure.row)?.as_slice();
+        let cells = Cells { definition, values };
+        let subject = subject(is_insert, failure.row);
+        fault_detail(self.memory, subject, cells, failure.failed)
+    }
+
+    /// The cells of the row that a row clashes with, and which row it is.
+    fn rival<'a>(
+        &'a self,
+        table: &'a Table,
+        delta: &'a Delta,
+        is_insert: bool,
+        other: RowRef,
+    ) -> Option<Rival<'a>>
+        requires there { IsTrue (has_table self.now.store table.now.id) }
+    {
+        let definition = &table.definition;
+        match other {
+            RowRef::Added(row) => {
+                let values = delta.added.get(row)?.as_slice();
+                Some(Rival {
+                    cells: Cells { definition, values },
+                    subject: Some(subject(is_insert, row)),
+                })
+            }
+            RowRef::Stored(id) => {
+                let values = self.store.row(table.id, id)?.row;
+                Some(Rival {
+                    cells: Cells { definition, values },
+                    subject: None,
+                })
+            }
+        }
+    }
+
+    /// The detail of the first key that fails (E35).
+    fn key_fault(&self, place: usize, delta: &Delta, is_insert: bool) -> Option<Detail>
+        requires within { place < length self.now.tables }
+    {
+        let table = self.table_at(place);
+        let found = failed_key(self.memory, &self.store, table, delta, self.next).ok()?;
+        let failure = found?;
+        let definition = &table.definition;
+        let values = delta.added.get(failure.row)?.as_slice();
+        let cells = Cells { definition, values };
+        let rival = self.rival(table, delta, is_insert, failure.other)?;
+        let subject = subject(is_insert, failure.row);
+        key_detail(self.memory, subject, cells, failure.key, rival)
+    }
+
+    /// The detail of the first reference that fails (E36).
+    fn reference_fault(&self, place: usize, delta: &Delta, is_insert: bool) -> Option<Detail>
+        requires within { place < length self.now.tables }
+    {
+        let found = failed_reference(
+            self.memory,
+            &self.tables,
+            &self.store,
+            place,
+            delta,
+            self.next,
+        )
+        .ok()?;
+        let failure = found?;
+        let child = self.table_at(failure.child);
+        let definition = &child.definition;
+        match failure.row {
+            RowRef::Added(row) => {
+                let values = delta.added.get(row)?.as_slice();
+                let cells = Cells { definition, values };
+                let subject = subject(is_insert, row);
+                missing_detail(self.memory, subject, cells, failure.reference)
+            }
+            RowRef::Stored(id) => {
+                let values = self.store.row(child.id, id)?.row;
+                let cells = Cells { definition, values };
+                let parent = &self.table_at(place).definition;
+                referenced_detail(self.memory, cells, failure.reference, parent)
+            }
+        }
+    }
+
+    /// The detail of a change whose rows do not fail by themselves.
+    fn change_fault(
+        &self,
+        place: usize,
+        delta: &Delta,
+        is_insert: bool,
+        refusal: Refusal,
+    ) -> Option<Detail>
+        requires within { place < length self.now.tables }
+    {
+        match refusal {
+            Refusal::DuplicateKey => self.key_fault(place, delta, is_insert),
+            Refusal::ReferenceNotMet => self.reference_fault(place, delta, is_insert),
+            _ => None,
+        }
+    }
+
+    /// The detail of rows that an INSERT adds.
+    fn added_fault(
+        &self,
+        place: usize,
+        added: Vec<Vec<Value, Memory>, Memory>,
+        refusal: Refusal,
+    ) -> Option<Detail>
+        requires within { place < length self.now.tables }
+    {
+        let table = self.table_at(place);
+        if let Some(detail) = self.fault_of(table, &added, true, refusal) {
+            return Some(detail);
+        }
+        let delta = Delta {
+            table: table.id,
+            removed: Vec::new(self.memory),
+            count: added.len() as u64,
+            added,
+        };
+        self.change_fault(place, &delta, true, refusal)
+    }
+
+    /// The detail of an INSERT of tuples.
+    fn insertion_fault(&self, insertion: &Insertion, refusal: Refusal) -> Option<Detail>
+        requires within { insertion.now.table < length self.now.tables }
+    {
+        let table = self.table_at(insertion.table);
+        match first_failed_value(insertion) {
+            Some(failure) if refusal == Refusal::ValueOutOfRange => {
+                let column = *insertion.columns.get(failure.value)?;
+                return value_detail(self.memory, &table.definition, failure.row, column);
+            }
+            _ => {}
+        }
+        let rows = tuple_rows(self.memory, table, insertion).ok()?;
+        self.added_fault(insertion.table, rows, refusal)
+    }
+
+    /// The detail of a query that cannot be calculated.
+    fn calculation_fault(&self, query: &BoundQuery, refusal: Refusal) -> Option<Detail> {
+        if refusal != Refusal::ValueOutOfRange {
+            return None;
+        }
+        query_detail(self.memory, query)
+    }
+
+    /// The detail of an INSERT from a query.
+    fn query_fault(&self, insertion: &QueryInsertion, refusal: Refusal) -> Option<Detail>
+        requires within { insertion.now.table < length self.now.tables }
+        requires placed { IsPlacedQuery (definitions_of self.now.tables) (bound_query_of insertion.now.query) }
+        requires asked { AsksWithin self.now (bound_query_of insertion.now.query) }
+    {
+        let table = self.table_at(insertion.table);
+        match self.answer_rows(&insertion.query) {
+            Ok(values) => {
+                let rows = inserted_rows(self.memory, table, &insertion.columns, values).ok()?;
+                self.added_fault(insertion.table, rows, refusal)
+            }
+            Err(_) => self.calculation_fault(&insertion.query, refusal),
+        }
+    }
+
+    /// The rows that an UPDATE or DELETE adds.
+    fn touched_rows(
+        &self,
+        modification: &Modification,
+    ) -> Result<Vec<Vec<Value, Memory>, Memory>, Refusal>
+        requires within { modification.now.table < length self.now.tables }
+    {
+        let table = self.table_at(modification.table);
+        let access = change_access(
+            self.memory,
+            &table.definition,
+            &modification.terms,
+            &modification.conjuncts,
+            modification.portion,
+        )?;
+        let seen = self.store.look(table.id, When::Now, access.sought())?;
+        modified_rows(self.memory, table, &seen, modification)
+    }
+
+    /// The detail of an UPDATE or DELETE.
+    fn modification_fault(&self, modification: &Modification, refusal: Refusal) -> Option<Detail>
+        requires within { modification.now.table < length self.now.tables }
+    {
+        if let Ok(delta) = self.delta_of(modification) {
+            return self.change_fault(modification.table, &delta, false, refusal);
+        }
+        let table = self.table_at(modification.table);
+        match self.touched_rows(modification) {
+            Ok(rows) => self.fault_of(table, &rows, false, refusal),
+            Err(_) => change_detail(self.memory, &table.definition, modification),
+        }
+    }
+
+    /// The detail of the rows of a bound statement.
+    fn bound_fault(&self, bound: &Bound, refusal: Refusal) -> Option<Detail>
+        requires sound { IsSound (definitions_of self.now.tables) bound.now }
+        requires allowed { IsAllowed self.now bound.now }
+    {
+        match bound {
+            Bound::Insert(insertion) => self.insertion_fault(insertion, refusal),
+            Bound::InsertFrom(insertion) => self.query_fault(insertion, refusal),
+            Bound::Modify(modification) => self.modification_fault(modification, refusal),
+            Bound::AnswerQuery(query) => self.calculation_fault(query, refusal),
+            Bound::Read(reading) => self.calculation_fault(&reading.query, refusal),
+            _ => None,
+        }
+    }
+
+    /// The detail of the rows of a statement that the transaction, the clock and open readers allow.
+    fn statement_fault(
+        &self,
+        statement: &Statement<'_>,
+        refusal: Refusal,
+    ) -> Result<Option<Detail>, AllocError>
+        requires narrow { IsFalse (is_too_wide (statement_of statement.now)) }
+    {
+        if let Some(_fault) = self.state_fault(statement)? {
+            return Ok(None);
+        }
+        match self.bound(self.memory, statement) {
+            Ok(bound) => Ok(self.bound_fault(&bound, refusal)),
+            Err(_) => Ok(None),
+        }
+    }
+
+    /// The detail of a statement that is refused for its rows (E30 and E32 to E36): the row, the column or the
+    /// constraint, and the values. None where it is refused for something else, or no memory is there for it.
+    pub(super) fn row_detail(&self, text: &[u8], refusal: Refusal) -> Option<Detail> {
+        match read_statement(self.memory, text) {
+            Ok(tree) => self.statement_fault(&tree.statement, refusal).ok()?,
+            Err(_) => None,
+        }
+    }
+
+    /// The detail of a reader that is open, or is not, against what a statement wants (E46).
+    fn reader_fault(&self, text: &[u8]) -> Option<Detail> {
+        let tree = read_statement(self.memory, text).ok()?;
+        let (name, opens) = match &tree.statement {
+            Statement::OpenReader(name) => (name, true),
+            Statement::Read(name, _) | Statement::CloseReader(name) => (name, false),
+            _ => return None,
+        };
+        let name = meant(self.memory, *name).ok()?;
+        let is_open = self
+            .readers
+            .iter()
+            .any(|reader| is_same_text(&name, &reader.name));
+        reader_detail(self.memory, name.as_str(), opens, is_open)
+    }
+
+    /// The detail that the state of the engine gives to a refused statement (E40, E41 and E45 to E47). None for any
+    /// other refusal, or where no memory is there for it.
+    pub(super) fn state_detail(&self, text: &[u8], refusal: Refusal) -> Option<Detail> {
+        match refusal {
+            Refusal::NotInThisTransactionState => {
+                transaction_detail(self.memory, self.store.has_transaction())
+            }
+            Refusal::MomentNotAllowed => clock_detail(self.memory, self.next, self.store.pin()),
+            Refusal::BeforeTheHorizon => horizon_detail(self.memory, self.store.horizon()),
+            Refusal::ReaderNotUsable => self.reader_fault(text),
+            Refusal::ReadersAreOpen => {
+                let name = self.readers.first()?.name.as_str();
+                readers_detail(self.memory, name, self.readers.len().saturating_sub(1))
+            }
+            _ => None,
+        }
+    }
+}
