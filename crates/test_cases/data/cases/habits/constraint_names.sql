@@ -1,0 +1,38 @@
+-- cases: in-turn
+-- Which names of constraints a refusal of rows is reported with: those written, and those made for the others. All by hand.
+CREATE TABLE pay (a INTEGER NOT NULL, b INTEGER, CONSTRAINT one UNIQUE (a), UNIQUE (b), CHECK (a < 100), CONSTRAINT "Sum" CHECK (a + b < 1000));
+INSERT INTO pay VALUES (1, 2);
+INSERT INTO pay VALUES (3, 4), (1, 3);
+INSERT INTO pay VALUES (3, 2);
+INSERT INTO pay VALUES (100, 4);
+INSERT INTO pay VALUES (9, 999);
+INSERT INTO pay VALUES (9, 9223372036854775807);
+CREATE TABLE staff (id INTEGER NOT NULL, room INTEGER, UNIQUE (id), PRIMARY KEY (room));
+INSERT INTO staff VALUES (1, 10), (2, 20);
+INSERT INTO staff VALUES (1, 30);
+INSERT INTO staff VALUES (3, 10);
+CREATE TABLE hours (worker INTEGER, chief INTEGER, FOREIGN KEY (worker) REFERENCES staff (id), CONSTRAINT led_by FOREIGN KEY (chief) REFERENCES staff (id));
+INSERT INTO hours VALUES (9, 1);
+INSERT INTO hours VALUES (1, 9);
+INSERT INTO hours VALUES (1, 2);
+UPDATE hours SET chief = 8;
+DELETE FROM staff WHERE id = 1;
+DELETE FROM staff WHERE id = 2;
+CREATE TABLE n (a INTEGER, b INTEGER, CHECK (a < 10), CONSTRAINT n_a_check1 CHECK (a > 0), CHECK (a <> 5), CHECK (a <> 6), CHECK (b < a), CHECK (b > 0 - a));
+INSERT INTO n VALUES (10, 1);
+INSERT INTO n VALUES (0, 1);
+INSERT INTO n VALUES (5, 1);
+INSERT INTO n VALUES (6, 1);
+INSERT INTO n VALUES (7, 8);
+INSERT INTO n VALUES (7, -8);
+CREATE TABLE late (a INTEGER, b INTEGER, UNIQUE (a), CONSTRAINT late_a_key UNIQUE (b), CONSTRAINT late_a_key CHECK (b < 10));
+INSERT INTO late VALUES (1, 2);
+INSERT INTO late VALUES (1, 3);
+INSERT INTO late VALUES (2, 2);
+INSERT INTO late VALUES (2, 10);
+CREATE TABLE job (e INTEGER, s DATE, t DATE, PERIOD FOR p (s, t), UNIQUE (e, p WITHOUT OVERLAPS), CONSTRAINT no_job_of_all_these_has_a_number_below_one CHECK (e > 0));
+INSERT INTO job VALUES (1, DATE '2024-01-01', DATE '2025-01-01');
+INSERT INTO job VALUES (1, DATE '2024-06-01', DATE '2026-01-01');
+INSERT INTO job VALUES (0, DATE '2024-06-01', DATE '2026-01-01');
+CREATE TABLE "j_1" (e INTEGER, "x y" INTEGER, UNIQUE ("x y", e));
+INSERT INTO "j_1" VALUES (1, 2), (1, 2);
