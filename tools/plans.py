@@ -5,8 +5,9 @@ Usage: tools/plans.py [COUNT [FIRST]]        (make try-plans COUNT=1000)
 
 COUNT scripts (by default 1,000), each by a counter that begins at FIRST (by default 0): tables with keys, references and periods, rows with NULLs
 and repeats, some of them changed later, and queries and changes with joins of all kinds whose conditions give keys, points, periods and equalities.
-Each is run twice: as it is, and with `AND 0 + 0 = 0` behind each WHERE. That conjunct is true of every row, but calculates, so that nothing is left
-out, sought or sorted: each row is compared with each. Both have to print the same bytes, since an order is asked for nowhere but in the answer.
+Each is run twice: as it is, and with `0 + 0 = 0 AND` before each condition of WHERE. That conjunct is true of every row, but calculates and is
+evaluated first, so that nothing is left out, sought or sorted: each row is compared with each. Both have to print the same bytes, since an order is
+asked for nowhere but in the answer. Of every fifth condition the plain one calculates too, behind the others.
 One script of twenty has tables of 66 to 150 rows, of which two are joined: enough that not each key is asked row by row. One of five has few key
 values: 20 to 150 periods of them in a table with a key WITHOUT OVERLAPS, a table that references it with PERIOD, and a row with a deep history.
 A script that differs is kept in a folder, which is named; the status is 1 then. The program is TQL=path, or ./tql where it is
@@ -32,7 +33,7 @@ KEYS = ["PRIMARY KEY (k)", "PRIMARY KEY (k, p WITHOUT OVERLAPS)", "UNIQUE (k)", 
 
 
 class Script:
-    """A script by a counter, twice: as it is, and with the slow conjunct behind each WHERE."""
+    """A script by a counter, twice: as it is, and with the slow conjunct first in each WHERE."""
 
     def __init__(self, counter: int) -> None:
         self.dice = random.Random(counter)
@@ -48,8 +49,9 @@ class Script:
 
     def say(self, plain: str, where: str | None = None) -> None:
         """A statement, with the condition behind its WHERE, where it has one."""
-        self.plain.append(plain if where is None else plain.replace("{}", f" WHERE {where}" if where else ""))
-        self.slow.append(plain if where is None else plain.replace("{}", f" WHERE {where} AND {SLOW}" if where else f" WHERE {SLOW}"))
+        behind = f" AND {SLOW}" if where and self.dice.random() < 0.2 else ""
+        self.plain.append(plain if where is None else plain.replace("{}", f" WHERE {where}{behind}" if where else ""))
+        self.slow.append(plain if where is None else plain.replace("{}", f" WHERE {SLOW} AND {where}" if where else f" WHERE {SLOW}"))
 
     def table(self, number: int) -> tuple[str, bool, bool]:
         """Creates a table: its name, whether it has days or moments in its period, whether it is versioned."""

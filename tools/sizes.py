@@ -5,10 +5,10 @@ Usage: tools/sizes.py [TIMES]        (make try-growth-times)
 
 Each row is a form of input, each column a size; a time is the least of TIMES runs (by default 3), in milliseconds of a processor, the program's start
 and what it says on the standard error included. What the program prints is compared with what docs/LANGUAGE.md says of such an input. The last column
-says by how much a doubling may multiply the time: 3, or 2.4 where a row of one key value must not cost more the more there are of it, or 1.5 where
-only what lies beside it is doubled. The status is 1 where an answer is wrong, where a doubling does more, or where a run takes over a minute; such a
-row ends there. What takes less than 50 ms is taken as 50. The program is TQL=path, or ./tql where it is newer than every source, or else ./tql-quick,
-which is compiled first where it has to be (make quick).
+says by how much a doubling may multiply the time: 3, or 2.4 where a row of one key value must not cost more the more there are of it, or a member of
+a list not more the longer the list is in which it is looked up, or 1.5 where only what lies beside it is doubled. The status is 1 where an answer is
+wrong, where a doubling does more, or where a run takes over a minute; such a row ends there. What takes less than 50 ms is taken as 50. The program is
+TQL=path, or ./tql where it is newer than every source, or else ./tql-quick, which is compiled first where it has to be (make quick).
 """
 import resource
 import subprocess
@@ -99,6 +99,55 @@ def unheaded(size: int) -> tuple[str, str]:
     """So many items and keys of ORDER BY, the last of which heads no item."""
     return (MADE + "SELECT " + "x," * (size - 1) + "x FROM t ORDER BY " + "x," * (size - 1) + "q;\n",
             ONE + refused("E21 name unknown, ambiguous or repeated"))
+
+
+def ordered(size: int) -> tuple[str, str]:
+    """So many items with a heading each, and as many keys of ORDER BY, from the last heading to the first."""
+    names = [f"a{it}" for it in range(size)]
+    return (MADE + "SELECT " + ",".join(f"x {it}" for it in names) + " FROM t ORDER BY " + ",".join(reversed(names)) + ";\n",
+            ONE + "|".join(names).upper() + "\n" + "1|" * (size - 1) + "1\n(1 rows)\n")
+
+
+def grouped(size: int) -> tuple[str, str]:
+    """So many items, and as many columns of GROUP BY, of which all items are the last."""
+    return (MADE + "SELECT " + "y," * (size - 1) + "y FROM t GROUP BY " + "x," * (size - 1) + "y;\n",
+            ONE + "Y|" * (size - 1) + "Y\n" + "'a'|" * (size - 1) + "'a'\n(1 rows)\n")
+
+
+# ---- lists of names in one statement
+
+UNKNOWN = refused("E21 name unknown, ambiguous or repeated")
+
+
+def listed(size: int) -> str:
+    """So many names that no column has."""
+    return ",".join(f"q{it}" for it in range(size))
+
+
+def filled(size: int) -> tuple[str, str]:
+    """An INSERT with so many unknown columns."""
+    return MADE + f"INSERT INTO t ({listed(size)}) VALUES (1);\n", ONE + UNKNOWN
+
+
+def assigned(size: int) -> tuple[str, str]:
+    """An UPDATE of so many unknown columns."""
+    return MADE + "UPDATE t SET " + ",".join(f"q{it}=1" for it in range(size)) + ";\n", ONE + UNKNOWN
+
+
+def keyed(size: int) -> tuple[str, str]:
+    """A key of so many unknown columns."""
+    return f"CREATE TABLE t (x INTEGER, UNIQUE ({listed(size)}));\n", UNKNOWN
+
+
+def referring(size: int) -> tuple[str, str]:
+    """A reference of so many unknown columns."""
+    return MADE + f"CREATE TABLE c (x INTEGER, FOREIGN KEY ({listed(size)}) REFERENCES t (x));\n", ONE + UNKNOWN
+
+
+def referred(size: int) -> tuple[str, str]:
+    """A reference to so many columns that its parent does not have."""
+    return MADE + f"CREATE TABLE c (x INTEGER, FOREIGN KEY (x) REFERENCES t ({listed(size)}));\n", ONE + UNKNOWN
+
 
 
 # ---- one key value with many periods, and one row with many versions
@@ -192,6 +241,12 @@ def beside(size: int) -> tuple[str, str]:
             "CREATE TABLE\n" * (size + 2) + "INSERT 1\n" * 20000)
 
 
+def keys(size: int) -> tuple[str, str]:
+    """So many keys of two columns, and a WHERE that gives these their values on both sides of so many conjuncts."""
+    made = "CREATE TABLE t (x INTEGER, y INTEGER, z INTEGER" + ", UNIQUE (x, z)" * size + ");\nINSERT INTO t VALUES (1, 1, 1);\n"
+    return made + "SELECT x FROM t WHERE x = 1 AND " + "y = 1 AND " * size + "z = 1;\n", ONE + ROW
+
+
 FORMS = (
     ("a text literal, bytes", 125000, literal, TRIPLE), ("a text literal that is too long, bytes", 1250000, literal, TRIPLE),
     ("empty statements", 1250000, empty, TRIPLE), ("a condition, terms", 12500, terms, TRIPLE), ("IN, members", 12500, members, TRIPLE),
@@ -200,6 +255,11 @@ FORMS = (
     ("tables", 125, tables, TRIPLE), ("table references, 2,000 queries", 1, references, TRIPLE),
     ("UPDATEs of one row in a transaction", 2500, updates, TRIPLE), ("a name that is not grouped, items", 25000, loose, TRIPLE),
     ("a key of ORDER BY without a heading, items", 12500, unheaded, TRIPLE),
+    ("an INSERT of unknown columns", 12500, filled, DOUBLE), ("an UPDATE of unknown columns", 12500, assigned, DOUBLE),
+    ("a key of unknown columns", 12500, keyed, DOUBLE), ("a reference of unknown columns", 12500, referring, DOUBLE),
+    ("a reference to unknown columns", 12500, referred, DOUBLE),
+    ("keys of two columns, and conjuncts of a WHERE", 2500, keys, TRIPLE),
+    ("keys of ORDER BY, each a heading", 6250, ordered, DOUBLE), ("items of the last column of GROUP BY", 25000, grouped, DOUBLE),
     ("INSERTs of one key value", 2500, one_by_one, DOUBLE), ("DELETE of half of the parents of one key value, beside children", 1250, half, DOUBLE),
     ("INSERTs of children of one key value, each over three parents", 2500, children, DOUBLE),
     ("SELECTs by key and day, periods of one key value", 2500, by_day, DOUBLE),

@@ -164,7 +164,7 @@ fn write_json(
     write_held(out, sink)
 }
 
-/// Writes a refusal as a line of JSON: by its number, the column of its fault, its row and the detail, each `-` where it
+/// Writes a refusal as a line of JSON: by its number, the column of its fault, its row and the detail, each `-` if it
 /// is not known. The constraint has these columns, and the name of the first; so has the hint.
 fn write_fault<'a>(
     out: &mut String,
