@@ -26,7 +26,11 @@ class Crowd(Maker):
         return [f"FOREIGN KEY (k, PERIOD {table.period}) REFERENCES {parent.name} (k, PERIOD {parent.period})" for parent in before[:1]]
 
     def checks(self, table: Table) -> list:
-        return super().checks(table)[:1] if self.one_in(8) else []
+        if not self.one_in(8):
+            return []
+        texts = super().checks(table)[:1]
+        del table.checks[1:]
+        return texts
 
     # ---- rows
 
